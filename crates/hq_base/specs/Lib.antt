@@ -1,0 +1,6 @@
+pub mod Due
+pub mod Text
+pub mod Refused
+pub mod Json
+pub mod Cells
+pub mod Lists

@@ -1,0 +1,18 @@
+//! Values, texts, lists and JSON: what every other crate of hq stands on.
+#![tactic(auto)]
+
+mod bytes;
+mod json;
+mod list;
+mod memory;
+mod reply;
+mod txt;
+mod value;
+
+pub use bytes::Bytes;
+pub use json::{Json, JsonList, Member, Members};
+pub use list::List;
+pub use memory::Memory;
+pub use reply::Reply;
+pub use txt::{Txt, TxtRefusal};
+pub use value::{Cell, Ty, Val};

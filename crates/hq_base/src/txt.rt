@@ -1,0 +1,138 @@
+ghost use Rattle.std.specs.Prelude.{◌≡◌, IfOk, MatchOption, true, false};
+ghost use Rattle.std.specs.Str.{is_utf8};
+ghost use Rattle.std.specs.Hash as fed;
+ghost use Rattle.std.specs.Cmp.Lexicographic.{pointwise, nat_list_eq_equiv};
+ghost use Rattle.std.specs.Cmp.{partial_equiv_from_equiv};
+ghost use Rattle.std.specs.Cmp.Rules.{hashing};
+ghost use Rattle.std.specs.Prelude.{nat_eq};
+ghost use Rattle.std.proofs.Common.{rules};
+ghost use Rattle.hq_base.specs.Due.{Gives};
+ghost use Rattle.hq_base.specs.Text.{has_zero};
+
+use crate::Memory;
+use std::alloc::Global;
+use std::convert::AsStr;
+use std::hash::{Hash, Hasher};
+use std::marker::Model;
+use std::str;
+use thiserror::Error;
+
+/// A text: UTF-8 without a zero byte.
+#[derive(Debug, Drop)]
+pub struct Txt {
+    text: String,
+}
+
+impl Model for Txt {
+    ghost use Rattle.std.specs.Prelude.{◌≡◌, ℕ, List, false, string_bytes};
+    ghost use Rattle.hq_base.specs.Text.{has_zero};
+
+    ghost Value = { List ℕ };
+
+    ghost view = { λ t. string_bytes t.text };
+
+    ghost invariant = { λ t. has_zero (string_bytes t.text) ≡ false };
+}
+
+/// Why bytes are no text.
+#[derive(Clone, Copy, Debug, PartialEq, Eq, Error)]
+pub enum TxtRefusal {
+    #[error("not UTF-8")]
+    NotUtf8,
+    #[error("has a zero byte")]
+    ZeroByte,
+    #[error("out of memory")]
+    Memory,
+}
+
+// The bytes as `str`, where they are UTF-8.
+fn utf8(bytes: &[u8]) -> Option<&str>
+    ensures { MatchOption result (is_utf8 bytes.now ≡ false) (λ text. (is_utf8 bytes.now ≡ true) × (text.now ≡ bytes.now)) }
+{
+    match str::from_utf8(bytes) {
+        Ok(text) => Some(text),
+        Err(_) => None,
+    }
+}
+
+// Whether a zero byte is among the bytes.
+fn holds_zero(bytes: &[u8]) -> bool
+    ensures { result ≡ has_zero bytes.now }
+{
+    bytes.iter().any(|b| *b == 0)
+}
+
+impl Txt {
+    ghost use Rattle.hq_base.specs.Refused.{text_of};
+
+    /// The text of these bytes: NotUtf8 or ZeroByte where they are none, in this order.
+    pub fn of(alloc: Global, bytes: &[u8]) -> Result<Txt, TxtRefusal>
+        ensures { Gives (λ text. text) TxtRefusal.Memory (text_of bytes.now) result }
+    {
+        let Some(text) = utf8(bytes) else {
+            return Err(TxtRefusal::NotUtf8);
+        };
+        if holds_zero(bytes) {
+            return Err(TxtRefusal::ZeroByte);
+        }
+        match String::from_str(alloc, text) {
+            Ok(text) => Ok(Txt { text }),
+            Err(_) => Err(TxtRefusal::Memory),
+        }
+    }
+
+    /// The text, as `str`.
+    pub fn as_str(&self) -> &str
+        ensures { result.now ≡ self.now }
+    {
+        self.text.as_str()
+    }
+
+    /// The text's bytes.
+    pub fn as_bytes(&self) -> &[u8]
+        ensures { result.now ≡ self.now }
+    {
+        self.text.as_bytes()
+    }
+
+    /// An equal text.
+    pub fn copy(&self, alloc: Global) -> Result<Txt, Memory>
+        ensures { IfOk result (λ copy. copy ≡ self.now) }
+    {
+        Ok(Txt {
+            text: String::from_str(alloc, self.text.as_str())?,
+        })
+    }
+}
+
+impl AsStr for Txt {
+    ghost text = { λ t. t };
+
+    fn as_str(&self) -> &str {
+        self.text.as_str()
+    }
+}
+
+impl PartialEq for Txt {
+    ghost eq = { pointwise nat_eq };
+
+    ghost laws = { partial_equiv_from_equiv nat_list_eq_equiv };
+
+    fn eq(&self, other: &Txt) -> bool {
+        self.as_bytes() == other.as_bytes()
+    }
+}
+
+impl Eq for Txt {
+    ghost laws = { nat_list_eq_equiv };
+}
+
+impl Hash for Txt {
+    ghost hash_input = { fed.slice fed.u8 };
+
+    ghost respects_eq = { Prim.search (hashing, rules) };
+
+    fn hash<H: Hasher>(&self, state: &mut H) {
+        self.as_bytes().hash(state);
+    }
+}

@@ -1,0 +1,71 @@
+ghost use Rattle.std.specs.Prelude.{◌≡◌};
+
+use hq_base::List;
+use std::marker::Model;
+
+/// A table of the catalog, by its place from 0.
+#[derive(Clone, Copy, Debug, PartialEq, Eq)]
+pub struct TableId {
+    at: usize,
+}
+
+impl Model for TableId {
+    ghost use Rattle.std.specs.Prelude.{ℕ};
+
+    ghost Value = { ℕ };
+
+    ghost view = { λ t. t.at };
+
+    ghost inverse = { λ n. record { at = n } };
+}
+
+impl TableId {
+    /// The table at this place.
+    pub fn new(at: usize) -> Self
+        ensures { result ≡ at }
+    {
+        TableId { at }
+    }
+
+    /// Its place.
+    pub fn at(self) -> usize
+        ensures { result ≡ self }
+    {
+        self.at
+    }
+}
+
+/// A column of its table, by its place from 0.
+#[derive(Clone, Copy, Debug, PartialEq, Eq)]
+pub struct ColId {
+    at: usize,
+}
+
+impl Model for ColId {
+    ghost use Rattle.std.specs.Prelude.{ℕ};
+
+    ghost Value = { ℕ };
+
+    ghost view = { λ c. c.at };
+
+    ghost inverse = { λ n. record { at = n } };
+}
+
+impl ColId {
+    /// The column at this place.
+    pub fn new(at: usize) -> Self
+        ensures { result ≡ at }
+    {
+        ColId { at }
+    }
+
+    /// Its place.
+    pub fn at(self) -> usize
+        ensures { result ≡ self }
+    {
+        self.at
+    }
+}
+
+/// A list of columns.
+pub type ColList = List<ColId>;

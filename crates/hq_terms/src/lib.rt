@@ -1,0 +1,14 @@
+//! The plain values of the engine: the catalog, and the database over it.
+#![tactic(auto)]
+
+mod catalog;
+mod ids;
+mod op;
+mod table;
+mod want;
+
+pub use catalog::Catalog;
+pub use ids::{ColId, ColList, TableId};
+pub use op::Op;
+pub use table::{Column, ColumnList, ForeignKey, ForeignKeyList, Table, TableList};
+pub use want::Want;
