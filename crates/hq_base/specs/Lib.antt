@@ -4,3 +4,4 @@ pub mod Refused
 pub mod Json
 pub mod Cells
 pub mod Lists
+pub mod Aggregates
