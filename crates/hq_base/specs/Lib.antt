@@ -2,6 +2,7 @@ pub mod Due
 pub mod Text
 pub mod Refused
 pub mod Json
+pub mod Body
 pub mod Cells
 pub mod Lists
 pub mod Aggregates
