@@ -3,6 +3,7 @@ pub mod Text
 pub mod Refused
 pub mod Json
 pub mod Body
+pub mod Look
 pub mod Cells
 pub mod Lists
 pub mod Aggregates

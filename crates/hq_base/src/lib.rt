@@ -5,6 +5,7 @@ mod body;
 mod bytes;
 mod json;
 mod list;
+mod look;
 mod memory;
 mod reply;
 mod txt;
