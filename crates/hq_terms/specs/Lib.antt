@@ -10,3 +10,9 @@ pub mod Seen
 pub mod Truth
 pub mod Permission
 pub mod Reading
+pub mod Binding
+pub mod Grants
+pub mod Permitted
+pub mod Related
+pub mod Selected
+pub mod View
