@@ -7,6 +7,8 @@ mod json;
 mod list;
 mod memory;
 mod reply;
+#[cfg(test)]
+mod tests;
 mod txt;
 mod value;
 
