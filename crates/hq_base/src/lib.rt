@@ -8,6 +8,8 @@ mod list;
 mod look;
 mod memory;
 mod reply;
+#[cfg(test)]
+mod tests;
 mod txt;
 mod value;
 
