@@ -1,2 +1,4 @@
 pub mod Looks
 pub mod Texts
+pub mod Views
+pub mod Reading

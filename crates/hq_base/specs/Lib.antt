@@ -4,5 +4,6 @@ pub mod Refused
 pub mod Json
 pub mod Look
 pub mod Path
+pub mod Body
 pub mod Cells
 pub mod Lists
