@@ -1,3 +1,5 @@
+pub mod Looks
+pub mod Texts
 pub mod Views
 pub mod Reading
 pub mod Looks

@@ -7,6 +7,7 @@ mod json;
 mod list;
 mod look;
 mod memory;
+mod path;
 mod reply;
 #[cfg(test)]
 mod tests;
@@ -18,6 +19,7 @@ pub use bytes::Bytes;
 pub use json::{Json, JsonList, Member, Members};
 pub use list::List;
 pub use memory::Memory;
+pub use path::{item_path, member_path, top_path};
 pub use reply::Reply;
 pub use txt::{Txt, TxtRefusal};
 pub use value::{Cell, Ty, Val};
