@@ -5,11 +5,17 @@
 #![tactic(auto)]
 
 mod calls;
+mod doors;
 mod files;
+mod link_row;
+mod links;
 mod sinks;
 mod sources;
 
 pub use calls::Calls;
+pub use doors::{MemDoor, MemLinkList, SureDoor, SureLinkList};
 pub use files::{MemFiles, SureFiles};
+pub use link_row::LinkRow;
+pub use links::{MemLink, SureLink};
 pub use sinks::{MemSink, SureSink};
 pub use sources::{MemSource, SureSource};

@@ -5,7 +5,7 @@ ghost use Rattle.hq_memory.specs.Calls.{calls_from, IsToFail, after};
 ghost use Rattle.hq_memory.specs.Contents.{Output, free};
 
 use crate::Calls;
-use hq_base::Memory;
+use hq_base::{List, Memory};
 use hq_outside::{NumList, Sink, WriteFailed};
 use std::alloc::Global;
 use std::marker::Model;
@@ -39,6 +39,17 @@ impl MemSink {
             room,
             calls: Calls::new(failing),
         })
+    }
+
+    /// A sink without room. It takes no memory.
+    pub fn full(alloc: Global) -> Self
+        ensures { result ≡ record { written = []; room = 0; calls = calls_from [] } }
+    {
+        MemSink {
+            out: Vec::new(alloc),
+            room: 0,
+            calls: Calls::new(List::new(alloc)),
+        }
     }
 
     /// What was written.
