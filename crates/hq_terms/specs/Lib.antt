@@ -1,2 +1,3 @@
 pub mod Catalog
 pub mod Database
+pub mod Reading
