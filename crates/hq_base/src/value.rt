@@ -1,7 +1,7 @@
 use crate::{Json, Txt};
 
 /// A value of a table's cell or of an operand.
-#[derive(Debug, Drop)]
+#[derive(Debug, Drop, PartialEq, Eq, PartialOrd, Ord)]
 pub enum Val {
     Null,
     Int(i64),
