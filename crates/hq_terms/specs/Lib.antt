@@ -16,3 +16,4 @@ pub mod Permitted
 pub mod Related
 pub mod Selected
 pub mod View
+pub mod Reading
