@@ -2,3 +2,4 @@ pub mod Tree
 pub mod View
 pub mod Word
 pub mod Spelling
+pub mod Form
