@@ -2,5 +2,6 @@ pub mod Due
 pub mod Text
 pub mod Refused
 pub mod Json
+pub mod Body
 pub mod Cells
 pub mod Lists
