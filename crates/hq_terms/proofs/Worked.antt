@@ -2,7 +2,7 @@
 use Rattle.std.specs.Prelude.{◌≡◌, ℕ, pos, List, [], ◌∷◌, map, Bool, true, false, Option, Some, None, Result, Ok, Err, codes, refl}
 use Rattle.hq_base.specs.declared.value.Ty.TheVariants.{Integer, Bigint, Text, Boolean}
 use Rattle.hq_base.specs.declared.value.Val.TheVariants as val
-use Rattle.hq_base.specs.Cells.{CellTree, int, text}
+use Rattle.hq_base.specs.Cells.{CellTree, null, int, text}
 use Rattle.hq_terms.specs.declared.op.Op.TheVariants.{Eq, Ne}
 use Rattle.hq_terms.specs.declared.table.Column.{Column}
 use Rattle.hq_terms.specs.declared.table.Table.{Table}
@@ -19,7 +19,7 @@ use Rattle.hq_terms.specs.Database.{Row, is_database}
 use Rattle.hq_terms.specs.Fits.{fits}
 use Rattle.hq_terms.specs.Grants.{Grants, grants_of, limits}
 use Rattle.hq_terms.specs.Meta.{PermTree, TrackedTree, MetaTree}
-use Rattle.hq_terms.specs.Permitted.{permitted, seen_by}
+use Rattle.hq_terms.specs.Permitted.{permitted, seen_by, shown}
 use Rattle.hq_terms.specs.Related.{related, related_first}
 use Rattle.hq_terms.specs.Schema.{Schema, schema_of}
 use Rattle.hq_terms.specs.Seen.{row_cell}
@@ -228,3 +228,26 @@ view_of_2 = refl
 -- a list gives the same over the view, where a row is its position
 over_view : selected schema (seen_in (view schema (grants (codes "2")) database)) 1 (record plain { distinct = 4 ∷ [] }) None (0 ∷ 1 ∷ 2 ∷ []) ≡ 0 ∷ 2 ∷ []
 over_view = refl
+
+-- with a rating that shows only where the author is user 1, all that a list does reads what is shown
+abbrev masked : Grants
+masked =
+    None ∷ Some (record {
+      columns = 0 ∷ 2 ∷ 4 ∷ [];
+      filter = always;
+      limit = None;
+      aggregations = true;
+      masks = record { column = 4; shown = comparison 1 Eq (operand.Const (val.Int (pos 1))) } ∷ [];
+    }) ∷ []
+
+abbrev listed_masked : Selection → List CellTree
+listed_masked a = ids (selected schema (seen_by schema masked database) 1 a None (permitted schema masked database 1))
+
+shown_ratings : map (λ row. shown schema masked database 1 row 4) (permitted schema masked database 1) ≡ int (pos 5) ∷ null ∷ null ∷ null ∷ []
+shown_ratings = refl
+
+masked_in_where : listed_masked (record plain { wanted = rating_is }) ≡ numbers (10 ∷ [])
+masked_in_where = refl
+
+masked_in_order : listed_masked (by_rating true true) ≡ numbers (11 ∷ 12 ∷ 13 ∷ 10 ∷ [])
+masked_in_order = refl
