@@ -17,3 +17,6 @@ pub mod Related
 pub mod Selected
 pub mod View
 pub mod Reading
+pub mod Filters
+pub mod SchemaNames
+pub mod Fits
