@@ -1,2 +1,9 @@
 pub mod Catalog
 pub mod Database
+pub mod Bexp
+pub mod Meta
+pub mod Schema
+pub mod Pattern
+pub mod Logic
+pub mod Seen
+pub mod Truth

@@ -69,3 +69,35 @@ impl ColId {
 
 /// A list of columns.
 pub type ColList = List<ColId>;
+
+/// A relationship of its tracked table, by its place from 0.
+#[derive(Clone, Copy, Debug, PartialEq, Eq)]
+pub struct RelId {
+    at: usize,
+}
+
+impl Model for RelId {
+    ghost use Rattle.std.specs.Prelude.{ℕ};
+
+    ghost Value = { ℕ };
+
+    ghost view = { λ r. r.at };
+
+    ghost inverse = { λ n. record { at = n } };
+}
+
+impl RelId {
+    /// The relationship at this place.
+    pub fn new(at: usize) -> Self
+        ensures { result ≡ at }
+    {
+        RelId { at }
+    }
+
+    /// Its place.
+    pub fn at(self) -> usize
+        ensures { result ≡ self }
+    {
+        self.at
+    }
+}

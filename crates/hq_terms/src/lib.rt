@@ -1,14 +1,26 @@
-//! The plain values of the engine: the catalog, and the database over it.
+//! The plain values of the engine: the catalog, the metadata, sessions, and the database over the catalog.
 #![tactic(auto)]
 
+mod bexp;
 mod catalog;
 mod ids;
+mod meta;
 mod op;
+mod perm;
+mod role;
+mod session;
 mod table;
 mod want;
 
+pub use bexp::{Bexp, BexpList, Operand, Operands};
 pub use catalog::Catalog;
-pub use ids::{ColId, ColList, TableId};
+pub use ids::{ColId, ColList, RelId, TableId};
+pub use meta::{
+    Meta, Pair, PairList, Perm, PermList, Rel, RelList, RootNames, Tracked, TrackedList, TxtList,
+};
 pub use op::Op;
+pub use perm::PermView;
+pub use role::Role;
+pub use session::{Session, Var, VarList};
 pub use table::{Column, ColumnList, ForeignKey, ForeignKeyList, Table, TableList};
 pub use want::Want;

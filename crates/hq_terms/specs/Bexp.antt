@@ -1,0 +1,48 @@
+-- Boolean expressions without where they lie in memory.
+use Rattle.std.specs.Prelude.{ℕ, Bool, List, [], ◌∷◌}
+use Rattle.hq_terms.specs.declared.op.Op.{Op}
+use Rattle.hq_terms.specs.declared.bexp.Operand.{Operand}
+use Rattle.hq_terms.specs.declared.bexp.Bexp.{Bexp, fold-Bexp}
+use Rattle.hq_terms.specs.declared.bexp.Bexp.TheOpen.{Bexp-F}
+
+-- a boolean expression over a table's columns and relationships, each named by its place
+mutual
+  pub data BexpTree : Type 0 where
+    always : BexpTree
+    and_of : BexpTrees → BexpTree
+    or_of : BexpTrees → BexpTree
+    not_of : BexpTree → BexpTree
+    comparison : (column : ℕ) → Op → Operand → BexpTree
+    within : (column : ℕ) → List Operand → (negated : Bool) → BexpTree
+    is_null : (column : ℕ) → (wanted : Bool) → BexpTree
+    like : (column : ℕ) → (fold negated : Bool) → Operand → BexpTree
+    through : (relationship : ℕ) → BexpTree → BexpTree
+
+  pub data BexpTrees : Type 0 where
+    no_bexp : BexpTrees
+    bexp : BexpTree → BexpTrees → BexpTrees
+
+-- the expression that is never true
+abbrev pub never : BexpTree
+never = not_of always
+
+-- the expressions of a list
+abbrev pub bexps_of : List BexpTree → BexpTrees
+bexps_of [] = no_bexp
+bexps_of (b ∷ bs) = bexp b (bexps_of bs)
+
+-- one level of an expression, whose parts are seen already
+abbrev pub bexp_step : Bexp-F BexpTree → BexpTree
+bexp_step Bexp-F.True = always
+bexp_step (Bexp-F.And bs) = and_of (bexps_of bs.items)
+bexp_step (Bexp-F.Or bs) = or_of (bexps_of bs.items)
+bexp_step (Bexp-F.Not b) = not_of b.value
+bexp_step (Bexp-F.Cmp column op operand) = comparison column op operand
+bexp_step (Bexp-F.Within column operands negated) = within column operands negated
+bexp_step (Bexp-F.IsNull column wanted) = is_null column wanted
+bexp_step (Bexp-F.Like column fold negated operand) = like column fold negated operand
+bexp_step (Bexp-F.Through relationship inner) = through relationship inner.value
+
+-- what an expression is seen as
+abbrev pub bexp_view : Bexp → BexpTree
+bexp_view = fold-Bexp BexpTree bexp_step

@@ -1,0 +1,70 @@
+use crate::{Bexp, ColId, ColList, TableId};
+use hq_base::{List, Txt};
+
+/// The names of a table's root fields.
+#[derive(Debug, Drop)]
+pub struct RootNames {
+    pub select: Txt,
+    pub select_aggregate: Txt,
+    pub select_by_pk: Txt,
+}
+
+/// A column of the table and the column of the remote table that is to equal it.
+#[derive(Clone, Copy, Debug, PartialEq, Eq)]
+pub struct Pair {
+    pub own: ColId,
+    pub remote: ColId,
+}
+
+/// The pairs of a relationship.
+pub type PairList = List<Pair>;
+
+/// A relationship: an array one where `many`, else an object one.
+#[derive(Debug, Drop)]
+pub struct Rel {
+    pub name: Txt,
+    pub remote: TableId,
+    pub pairs: PairList,
+    pub many: bool,
+}
+
+/// The relationships of a table, object ones first.
+pub type RelList = List<Rel>;
+
+/// A select permission of a role: the columns, the filter, the most rows of a list, and whether aggregates are allowed.
+#[derive(Debug, Drop)]
+pub struct Perm {
+    pub role: Txt,
+    pub cols: ColList,
+    pub filter: Bexp,
+    /// In rows.
+    pub limit: Option<u64>,
+    pub aggregations: bool,
+}
+
+/// The permissions of a table.
+pub type PermList = List<Perm>;
+
+/// Names, in order.
+pub type TxtList = List<Txt>;
+
+/// A tracked table: its GraphQL name, one GraphQL name for each column in the catalog's order, the names of its root
+/// fields, its relationships and its permissions.
+#[derive(Debug, Drop)]
+pub struct Tracked {
+    pub table: TableId,
+    pub name: Txt,
+    pub column_names: TxtList,
+    pub roots: RootNames,
+    pub rels: RelList,
+    pub perms: PermList,
+}
+
+/// The tracked tables, in the metadata's order.
+pub type TrackedList = List<Tracked>;
+
+/// What the metadata says: the tracked tables.
+#[derive(Debug, Drop)]
+pub struct Meta {
+    pub tracked: TrackedList,
+}
