@@ -2,5 +2,6 @@ pub mod Due
 pub mod Text
 pub mod Refused
 pub mod Json
+pub mod Look
 pub mod Cells
 pub mod Lists

@@ -4,6 +4,7 @@
 mod bytes;
 mod json;
 mod list;
+mod look;
 mod memory;
 mod reply;
 mod txt;
