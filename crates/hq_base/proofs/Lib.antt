@@ -1,2 +1,4 @@
 pub mod TextLemmas
 pub mod Looks
+pub mod Views
+pub mod Reading

@@ -1,6 +1,7 @@
 //! Values, texts, lists and JSON: what every other crate of hq stands on.
 #![tactic(auto)]
 
+mod body;
 mod bytes;
 mod json;
 mod list;
@@ -10,6 +11,7 @@ mod reply;
 mod txt;
 mod value;
 
+pub use body::JsonRefusal;
 pub use bytes::Bytes;
 pub use json::{Json, JsonList, Member, Members};
 pub use list::List;
