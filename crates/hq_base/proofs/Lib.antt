@@ -2,3 +2,4 @@ pub mod TextLemmas
 pub mod Looks
 pub mod Views
 pub mod Reading
+pub mod Looks

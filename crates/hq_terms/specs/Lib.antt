@@ -1,5 +1,6 @@
 pub mod Catalog
 pub mod Database
+pub mod Names
 pub mod Bexp
 pub mod Meta
 pub mod Schema
@@ -7,3 +8,11 @@ pub mod Pattern
 pub mod Logic
 pub mod Seen
 pub mod Truth
+pub mod Permission
+pub mod Reading
+pub mod Binding
+pub mod Grants
+pub mod Permitted
+pub mod Related
+pub mod Selected
+pub mod View

@@ -1,5 +1,5 @@
 -- What metadata says, without where it lies in memory.
-use Rattle.std.specs.Prelude.{ℕ, List, map, Bool, Option}
+use Rattle.std.specs.Prelude.{ℕ, List, map, find, Bool, Option, ◌==◌}
 use Rattle.hq_terms.specs.Bexp.{BexpTree, bexp_view}
 use Rattle.hq_terms.specs.declared.meta.RootNames.{RootNames}
 use Rattle.hq_terms.specs.declared.meta.Rel.{Rel}
@@ -50,3 +50,7 @@ tracked_view t = record {
 
 abbrev pub meta_view : Meta → MetaTree
 meta_view m = record { tracked = map tracked_view m.tracked }
+
+-- the entry of a table, where it is tracked
+abbrev pub tracked_table : MetaTree → ℕ → Option TrackedTree
+tracked_table m t = find (λ k. k.table == t) m.tracked

@@ -1,11 +1,11 @@
 -- A schema: the tables of a catalog, each with its relationships. It has no rows, and it is the same for every role.
-use Rattle.std.specs.Prelude.{ℕ, suc, List, [], ◌∷◌, ◌==◌, true, cond, slice_index_or}
+use Rattle.std.specs.Prelude.{ℕ, suc, List, [], ◌∷◌, option_map, unwrap_or, true, slice_index_or}
 use Rattle.hq_base.specs.declared.value.Ty.{Ty}
 use Rattle.hq_base.specs.declared.value.Ty.TheVariants.{Text}
 use Rattle.hq_terms.specs.declared.table.Column.{Column}
 use Rattle.hq_terms.specs.declared.table.Table.{Table}
 use Rattle.hq_terms.specs.declared.meta.Rel.{Rel}
-use Rattle.hq_terms.specs.Meta.{TrackedTree, MetaTree}
+use Rattle.hq_terms.specs.Meta.{MetaTree, tracked_table}
 
 -- a table: its schema's name, its name, its columns, the columns of its primary key, and its relationships
 pub record SchemaTable : Type 0 where
@@ -19,9 +19,8 @@ abbrev pub Schema : Type 0
 Schema = List SchemaTable
 
 -- the relationships of a table: those of its entry in the metadata, none where it is not tracked
-abbrev pub rels_of : List TrackedTree → ℕ → List Rel
-rels_of [] t = []
-rels_of (k ∷ ks) t = cond (k.table == t) k.rels (rels_of ks t)
+abbrev pub rels_of : MetaTree → ℕ → List Rel
+rels_of m t = unwrap_or (option_map (λ k. k.rels) (tracked_table m t)) []
 
 -- each item of a list with its place, counted from k
 abbrev pub numbered : {A B : Type 0} → (ℕ → A → B) → (k : ℕ) → List A → List B
@@ -34,7 +33,7 @@ schema_table meta t table = record {
   name = table.name;
   columns = table.columns;
   key = table.key;
-  rels = rels_of meta.tracked t;
+  rels = rels_of meta t;
 }
 
 -- the schema of a catalog and a metadata

@@ -35,7 +35,10 @@ pub enum Bexp {
         negated: bool,
     },
     /// Whether the column is NULL, or is not where `yes` is false.
-    IsNull { col: ColId, yes: bool },
+    IsNull {
+        col: ColId,
+        yes: bool,
+    },
     /// `_like`; without regard to the case of A to Z where `fold`, and the opposite where negated.
     Like {
         col: ColId,
@@ -44,5 +47,8 @@ pub enum Bexp {
         operand: Operand,
     },
     /// Some row behind the relationship meets the inner expression.
-    Through { rel: RelId, inner: Box<Bexp> },
+    Through {
+        rel: RelId,
+        inner: Box<Bexp>,
+    },
 }

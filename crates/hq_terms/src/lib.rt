@@ -2,6 +2,7 @@
 #![tactic(auto)]
 
 mod bexp;
+mod bind;
 mod catalog;
 mod ids;
 mod meta;
@@ -13,6 +14,7 @@ mod table;
 mod want;
 
 pub use bexp::{Bexp, BexpList, Operand, Operands};
+pub use bind::BindRefusal;
 pub use catalog::Catalog;
 pub use ids::{ColId, ColList, RelId, TableId};
 pub use meta::{

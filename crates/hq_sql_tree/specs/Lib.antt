@@ -1,0 +1,5 @@
+pub mod Tree
+pub mod View
+pub mod Word
+pub mod Spelling
+pub mod Meaning

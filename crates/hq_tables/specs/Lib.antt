@@ -1,0 +1,5 @@
+pub mod Causes
+pub mod Pins
+pub mod Store
+pub mod Databases
+pub mod Flaky

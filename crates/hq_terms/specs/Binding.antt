@@ -1,0 +1,73 @@
+-- A boolean expression for one session: each session name replaced by the session's value (Hasura, Authorization:
+-- session variables in permission rules).
+use Rattle.std.specs.Prelude.{ℕ, List, [], ◌∷◌, find, Bool, Option, Some, None, option_map, Result, Ok, Err, bytes_eq}
+use Rattle.hq_base.specs.declared.value.Val.{Val}
+use Rattle.hq_terms.specs.Bexp.{BexpTree, always, and_of, or_of, not_of, comparison, within, is_null, like, through, BexpTrees, no_bexp, bexp}
+use Rattle.hq_terms.specs.Permission.{Mask, Permission}
+use Rattle.hq_terms.specs.Reading.{read_as, read_pattern}
+use Rattle.hq_terms.specs.Schema.{Schema, column, rel}
+use Rattle.hq_terms.specs.declared.bexp.Operand.{Operand}
+use Rattle.hq_terms.specs.declared.bexp.Operand.TheVariants.{Const, Session}
+use Rattle.hq_terms.specs.declared.bind.BindRefusal.{BindRefusal}
+use Rattle.hq_terms.specs.declared.bind.BindRefusal.TheVariants.{NoVariable, BadVariable}
+use Rattle.hq_terms.specs.declared.session.Var.{Var}
+use Rattle.hq_terms.specs.declared.want.Want.{Want}
+
+-- the next step, where this one gave a value
+abbrev pub and_then : {X Y E : Type 0} → (X → Result Y E) → Result X E → Result Y E
+and_then f (Ok x) = f x
+and_then f (Err e) = Err e
+
+-- the value under f
+abbrev pub mapped : {X Y E : Type 0} → (X → Y) → Result X E → Result Y E
+mapped f (Ok x) = Ok (f x)
+mapped f (Err e) = Err e
+
+-- the text of a variable; of a name that is given twice the first
+abbrev pub variable : List Var → List ℕ → Option (List ℕ)
+variable vars name = option_map (λ v. v.value) (find (λ v. bytes_eq v.name name) vars)
+
+-- a constant that was read, or the fault of the variable that gave the text
+abbrev pub constant : (name : List ℕ) → Result Val Want → Result Operand BindRefusal
+constant name (Ok v) = Ok (Const v)
+constant name (Err wanted) = Err (BadVariable name wanted)
+
+abbrev pub constant_of : (List ℕ → Result Val Want) → (name : List ℕ) → Option (List ℕ) → Result Operand BindRefusal
+constant_of read name None = Err (NoVariable name)
+constant_of read name (Some text) = constant name (read text)
+
+-- an operand whose text is read in this way
+abbrev pub bound_operand : (List ℕ → Result Val Want) → List Var → Operand → Result Operand BindRefusal
+bound_operand read vars (Const v) = Ok (Const v)
+bound_operand read vars (Session name) = constant_of read name (variable vars name)
+
+abbrev pub bound_operands : (List ℕ → Result Val Want) → List Var → List Operand → Result (List Operand) BindRefusal
+bound_operands read vars [] = Ok []
+bound_operands read vars (o ∷ os) = and_then (λ b. mapped (λ bs. b ∷ bs) (bound_operands read vars os)) (bound_operand read vars o)
+
+-- the bound expression over table t, or the fault of its first operand from the left that has no value
+abbrev mutual
+  pub bound : BexpTree → Schema → List Var → ℕ → Result BexpTree BindRefusal
+  bound always s vars t = Ok always
+  bound (and_of bs) s vars t = mapped and_of (bound_all bs s vars t)
+  bound (or_of bs) s vars t = mapped or_of (bound_all bs s vars t)
+  bound (not_of b) s vars t = mapped not_of (bound b s vars t)
+  bound (comparison c op v) s vars t = mapped (comparison c op) (bound_operand (read_as (column s t c).ty) vars v)
+  bound (within c vs negated) s vars t = mapped (λ os. within c os negated) (bound_operands (read_as (column s t c).ty) vars vs)
+  bound (is_null c wanted) s vars t = Ok (is_null c wanted)
+  bound (like c fold negated v) s vars t = mapped (like c fold negated) (bound_operand read_pattern vars v)
+  bound (through r b) s vars t = mapped (through r) (bound b s vars (rel s t r).remote)
+
+  pub bound_all : BexpTrees → Schema → List Var → ℕ → Result BexpTrees BindRefusal
+  bound_all no_bexp s vars t = Ok no_bexp
+  bound_all (bexp b bs) s vars t = and_then (λ x. mapped (bexp x) (bound_all bs s vars t)) (bound b s vars t)
+
+abbrev pub bound_masks : List Mask → Schema → List Var → ℕ → Result (List Mask) BindRefusal
+bound_masks [] s vars t = Ok []
+bound_masks (m ∷ ms) s vars t =
+    and_then (λ shown. mapped (λ rest. record { column = m.column; shown = shown } ∷ rest) (bound_masks ms s vars t)) (bound m.shown s vars t)
+
+-- a permission on table t with its filter and masks bound; the filter's fault comes first
+abbrev pub bound_permission : Permission → Schema → List Var → ℕ → Result Permission BindRefusal
+bound_permission p s vars t =
+    and_then (λ filter. mapped (λ masks. record p { filter = filter; masks = masks }) (bound_masks p.masks s vars t)) (bound p.filter s vars t)

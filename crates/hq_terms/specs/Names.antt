@@ -1,0 +1,26 @@
+-- Names of GraphQL (October 2021, 2.1.9 Names, 2.1.9 Reserved names).
+use Rattle.std.specs.Prelude.{ℕ, List, [], ◌∷◌, Bool, false, not, ◌&&◌, ◌||◌, ◌==◌}
+use Rattle.std.specs.Char.{is_ascii_alphabetic, is_ascii_alphanumeric}
+use Rattle.std.specs.List.{list_all}
+
+-- a letter of A to Z or a to z, or an underscore
+abbrev pub starts_name : ℕ → Bool
+starts_name c = is_ascii_alphabetic c || (c == 95)
+
+abbrev pub continues_name : ℕ → Bool
+continues_name c = is_ascii_alphanumeric c || (c == 95)
+
+-- a Name
+abbrev pub is_name : List ℕ → Bool
+is_name [] = false
+is_name (c ∷ cs) = starts_name c && list_all continues_name cs
+
+-- a Name that is kept for introspection begins with two underscores
+abbrev pub is_reserved : List ℕ → Bool
+is_reserved [] = false
+is_reserved (a ∷ []) = false
+is_reserved (a ∷ b ∷ cs) = (a == 95) && (b == 95)
+
+-- a Name that a schema may give
+abbrev pub is_free_name : List ℕ → Bool
+is_free_name n = is_name n && not (is_reserved n)

@@ -1,0 +1,42 @@
+-- Texts that are read as values of a column's type (PostgreSQL, the output form of COPY: whole numbers, booleans).
+use Rattle.std.specs.Prelude.{ℕ, ℤ, List, [], ◌∷◌, length, Bool, true, false, cond, ◌&&◌, ◌||◌, ◌==◌, nat_lt, Option, Some, None, Result, Ok, Err, ok_or, option_map, bytes_eq, codes}
+use Rattle.std.specs.Char.{is_ascii_digit}
+use Rattle.std.specs.List.{list_all}
+use Rattle.std.specs.Str.Parse.{signed_digits_value}
+use Rattle.hq_base.specs.declared.value.Ty.{Ty}
+use Rattle.hq_base.specs.declared.value.Ty.TheVariants.{Integer, Bigint, Text, Boolean}
+use Rattle.hq_base.specs.declared.value.Val.{Val}
+use Rattle.hq_base.specs.declared.value.Val.TheVariants as val
+use Rattle.hq_terms.specs.Database.{int_fits}
+use Rattle.hq_terms.specs.Pattern.{ends_in_escape}
+use Rattle.hq_terms.specs.declared.want.Want.{Want}
+use Rattle.hq_terms.specs.declared.want.Want.TheVariants as want
+
+abbrev pub are_digits : List ℕ → Bool
+are_digits ds = nat_lt 0 (length ds) && list_all is_ascii_digit ds
+
+-- an optional minus sign, then one or more digits
+abbrev pub is_whole_number : List ℕ → Bool
+is_whole_number [] = false
+is_whole_number (c ∷ cs) = cond (c == 45) (are_digits cs) (are_digits (c ∷ cs))
+
+-- the whole number that a text spells, where the type holds it
+abbrev pub whole_number : Ty → List ℕ → Option ℤ
+whole_number ty s = cond (is_whole_number s && int_fits ty (signed_digits_value 10 s)) (Some (signed_digits_value 10 s)) None
+
+-- the truth value that a text spells
+abbrev pub truth_value : List ℕ → Option Bool
+truth_value s =
+    cond (bytes_eq s (codes "t") || bytes_eq s (codes "true")) (Some true)
+    (cond (bytes_eq s (codes "f") || bytes_eq s (codes "false")) (Some false) None)
+
+-- a text as a value of this type: a text as it stands. Else what it is not
+abbrev pub read_as : Ty → List ℕ → Result Val Want
+read_as Integer s = ok_or (option_map val.Int (whole_number Integer s)) want.Integer
+read_as Bigint s = ok_or (option_map val.Int (whole_number Bigint s)) want.Bigint
+read_as Text s = Ok (val.Text s)
+read_as Boolean s = ok_or (option_map val.Bool (truth_value s)) want.Boolean
+
+-- a text as a pattern, which must not end in an escape
+abbrev pub read_pattern : List ℕ → Result Val Want
+read_pattern s = cond (ends_in_escape false s) (Err want.Pattern) (Ok (val.Text s))
