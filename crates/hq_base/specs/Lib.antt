@@ -2,6 +2,8 @@ pub mod Due
 pub mod Text
 pub mod Refused
 pub mod Json
+pub mod Look
+pub mod Path
 pub mod Body
 pub mod Look
 pub mod Cells

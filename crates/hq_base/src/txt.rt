@@ -1,4 +1,4 @@
-ghost use Rattle.std.specs.Prelude.{◌≡◌, IfOk, MatchOption, None, Some, true, false};
+ghost use Rattle.std.specs.Prelude.{◌≡◌, ◌++◌, [], IfOk, OnOk, OnErr, MatchOption, None, Some, true, false};
 ghost use Rattle.std.specs.Str.{is_utf8};
 ghost use Rattle.std.specs.Hash as fed;
 ghost use Rattle.std.specs.Cmp.Lexicographic.{pointwise, nat_list_eq_equiv};
@@ -86,6 +86,34 @@ impl Txt {
             Ok(text) => Ok(Txt { text }),
             Err(_) => Err(TxtRefusal::Memory),
         }
+    }
+
+    /// The empty text. Takes no memory: later calls do.
+    pub fn new(alloc: Global) -> Txt
+        ensures { result ≡ [] }
+    {
+        Txt {
+            text: String::new(alloc),
+        }
+    }
+
+    /// Adds a piece without a zero byte at the end.
+    pub fn push_str(&mut self, piece: &str) -> Result<(), Memory>
+        requires { has_zero piece.now ≡ false }
+        ensures ok { OnOk result (self.new ≡ self.old ++ piece.now) }
+        ensures err { OnErr result (self.new ≡ self.old) }
+    {
+        self.text.push_str(piece)?;
+        Ok(())
+    }
+
+    /// Adds a text at the end.
+    pub fn push_txt(&mut self, piece: &Txt) -> Result<(), Memory>
+        ensures ok { OnOk result (self.new ≡ self.old ++ piece.now) }
+        ensures err { OnErr result (self.new ≡ self.old) }
+    {
+        self.text.push_str(piece.text.as_str())?;
+        Ok(())
     }
 
     /// The text, as `str`.
