@@ -1,7 +1,7 @@
-ghost use Rattle.std.specs.Prelude.{◌≡◌, ◌+◌, ◌-◌, ◌^◌, min, ℕ, List, IsSome, OnOk, OnErr, Some};
+ghost use Rattle.std.specs.Prelude.{◌≡◌, ℕ, List, IsSome, OnOk, OnErr, Some};
 ghost use Rattle.std.specs.Borrow.{sem, Lends};
 ghost use Rattle.std.specs.declared.option.Option.{Option};
-ghost use Rattle.hq_outside.specs.Causes.{HasCause};
+ghost use Rattle.hq_outside.specs.Causes.{HasCause, one_more};
 ghost use Rattle.hq_outside.specs.Doorway.{IsNext, with_present};
 
 use crate::Link;
@@ -50,7 +50,7 @@ pub trait Door {
     /// for a peer.
     fn accept(&mut self) -> Result<(), DoorFailed>
         ensures next { OnOk result (IsNext Self.Link.left (links self.old) (accepted self.old) (present self.new)) }
-        ensures accepted { OnOk result (accepted self.new ≡ min (accepted self.old + 1) (2 ^ 64 - 1)) }
+        ensures accepted { OnOk result (accepted self.new ≡ one_more (accepted self.old)) }
         ensures links { links self.new ≡ links self.old }
         ensures accepted_err { OnErr result (accepted self.new ≡ accepted self.old) }
         ensures present_err { OnErr result (present self.new ≡ present self.old) }

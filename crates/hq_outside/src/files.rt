@@ -1,5 +1,7 @@
-ghost use Rattle.std.specs.Prelude.{◌≡◌, ◌≤◌, ℕ, List as Items, [], OnErr, IsErrOf, IfSome};
+ghost use Rattle.std.specs.Prelude.{◌≡◌, ◌≤◌, ◌↔◌, ℕ, List as Items, [], OnErr, IsErrOf, IfSome, IsTrue};
 ghost use Rattle.std.specs.declared.option.Option.{Option};
+ghost use Rattle.std.specs.List.{list_any};
+ghost use Rattle.std.specs.Str.{bytes_eq};
 ghost use Rattle.hq_outside.specs.declared.files.File.{File};
 ghost use Rattle.hq_outside.specs.Causes.{Rose};
 ghost use Rattle.hq_outside.specs.Folder.{Loads, NamesDiffer};
@@ -70,4 +72,25 @@ pub trait Files {
 
     /// The names of a folder differ.
     ghost names_differ: { (files : Self) → IfSome (folder files) NamesDiffer };
+}
+
+// Whether one of the files has this name.
+fn has_name(files: &[File], name: &Txt) -> bool
+    ensures { result ≡ list_any (λ file. bytes_eq name.now file.name) files.now }
+{
+    files.iter().any(|file| name.as_str() == file.name.as_str())
+}
+
+/// Whether the names of the files differ, as those of a folder do.
+pub fn names_differ(files: &[File]) -> bool
+    ensures { IsTrue result ↔ NamesDiffer files.now }
+{
+    let mut rest = files;
+    while let [file, others @ ..] = rest {
+        if has_name(others, &file.name) {
+            return false;
+        }
+        rest = others;
+    }
+    true
 }

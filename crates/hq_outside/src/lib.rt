@@ -15,7 +15,7 @@ mod streams;
 
 pub use count::{NumList, count_fault};
 pub use door::{Door, DoorFailed};
-pub use files::{File, FileList, FileRefusal, Files, LARGEST_FILE};
+pub use files::{File, FileList, FileRefusal, Files, LARGEST_FILE, names_differ};
 pub use link::Link;
 pub use sink::{Sink, WriteFailed};
 pub use source::{ReadFailed, Source};
