@@ -1,5 +1,5 @@
 -- Boolean expressions without where they lie in memory.
-use Rattle.std.specs.Prelude.{ℕ, Bool, List, [], ◌∷◌}
+use Rattle.std.specs.Prelude.{ℕ, suc, max, Bool, List, [], ◌∷◌}
 use Rattle.hq_terms.specs.declared.op.Op.{Op}
 use Rattle.hq_terms.specs.declared.bexp.Operand.{Operand}
 use Rattle.hq_terms.specs.declared.bexp.Bexp.{Bexp, fold-Bexp}
@@ -46,3 +46,20 @@ bexp_step (Bexp-F.Through relationship inner) = through relationship inner.value
 -- what an expression is seen as
 abbrev pub bexp_view : Bexp → BexpTree
 bexp_view = fold-Bexp BexpTree bexp_step
+
+-- how many expressions stand inside one another, itself among them
+abbrev mutual
+  pub depth : BexpTree → ℕ
+  depth always = 1
+  depth (and_of bs) = suc (depth_of_all bs)
+  depth (or_of bs) = suc (depth_of_all bs)
+  depth (not_of b) = suc (depth b)
+  depth (comparison column op operand) = 1
+  depth (within column operands negated) = 1
+  depth (is_null column wanted) = 1
+  depth (like column fold negated operand) = 1
+  depth (through relationship b) = suc (depth b)
+
+  pub depth_of_all : BexpTrees → ℕ
+  depth_of_all no_bexp = 0
+  depth_of_all (bexp b bs) = max (depth b) (depth_of_all bs)

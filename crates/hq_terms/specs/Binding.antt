@@ -1,6 +1,7 @@
 -- A boolean expression for one session: each session name replaced by the session's value (Hasura, Authorization:
 -- session variables in permission rules).
 use Rattle.std.specs.Prelude.{ℕ, List, [], ◌∷◌, find, Bool, Option, Some, None, option_map, Result, Ok, Err, bytes_eq}
+use Rattle.hq_base.specs.Due.{and_then, mapped}
 use Rattle.hq_base.specs.declared.value.Val.{Val}
 use Rattle.hq_terms.specs.Bexp.{BexpTree, always, and_of, or_of, not_of, comparison, within, is_null, like, through, BexpTrees, no_bexp, bexp}
 use Rattle.hq_terms.specs.Permission.{Mask, Permission}
@@ -12,16 +13,6 @@ use Rattle.hq_terms.specs.declared.bind.BindRefusal.{BindRefusal}
 use Rattle.hq_terms.specs.declared.bind.BindRefusal.TheVariants.{NoVariable, BadVariable}
 use Rattle.hq_terms.specs.declared.session.Var.{Var}
 use Rattle.hq_terms.specs.declared.want.Want.{Want}
-
--- the next step, where this one gave a value
-abbrev pub and_then : {X Y E : Type 0} → (X → Result Y E) → Result X E → Result Y E
-and_then f (Ok x) = f x
-and_then f (Err e) = Err e
-
--- the value under f
-abbrev pub mapped : {X Y E : Type 0} → (X → Y) → Result X E → Result Y E
-mapped f (Ok x) = Ok (f x)
-mapped f (Err e) = Err e
 
 -- the text of a variable; of a name that is given twice the first
 abbrev pub variable : List Var → List ℕ → Option (List ℕ)

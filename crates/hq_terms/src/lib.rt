@@ -4,6 +4,7 @@
 mod bexp;
 mod bind;
 mod catalog;
+mod copy;
 mod ids;
 mod meta;
 mod op;

@@ -1,0 +1,58 @@
+-- When an expression is one over a table: its columns and relationships are there, and operators and operands are of the
+-- column's type (Hasura, boolean expressions: operators).
+use Rattle.std.specs.Prelude.{ℕ, List, [], ◌∷◌, Bool, true, false, not, ◌&&◌, Option, Some, None, option_map, is_some, slice_get}
+use Rattle.std.specs.List.{list_all}
+use Rattle.hq_base.specs.declared.value.Ty.{Ty}
+use Rattle.hq_base.specs.declared.value.Val.{Val}
+use Rattle.hq_base.specs.declared.value.Val.TheVariants as val
+use Rattle.hq_terms.specs.Bexp.{BexpTree, always, and_of, or_of, not_of, comparison, within, is_null, like, through, BexpTrees, no_bexp, bexp}
+use Rattle.hq_terms.specs.Database.{int_fits, is_text, is_boolean}
+use Rattle.hq_terms.specs.Pattern.{ends_in_escape}
+use Rattle.hq_terms.specs.Schema.{Schema, table, rel}
+use Rattle.hq_terms.specs.declared.bexp.Operand.{Operand}
+use Rattle.hq_terms.specs.declared.bexp.Operand.TheVariants.{Const, Session}
+
+-- the type of a column, where the table has it
+abbrev pub column_ty : Schema → ℕ → ℕ → Option Ty
+column_ty s t c = option_map (λ column. column.ty) (slice_get (table s t).columns c)
+
+-- a constant of a type, which is never NULL
+abbrev pub constant_fits : Ty → Val → Bool
+constant_fits ty val.Null = false
+constant_fits ty (val.Int n) = int_fits ty n
+constant_fits ty (val.Text s) = is_text ty
+constant_fits ty (val.Bool b) = is_boolean ty
+
+abbrev pub operand_fits : Ty → Operand → Bool
+operand_fits ty (Const v) = constant_fits ty v
+operand_fits ty (Session name) = true
+
+-- a pattern is a text that does not end in an escape
+abbrev pub is_pattern : Val → Bool
+is_pattern (val.Text s) = not (ends_in_escape false s)
+is_pattern _ = false
+
+abbrev pub pattern_fits : Operand → Bool
+pattern_fits (Const v) = is_pattern v
+pattern_fits (Session name) = true
+
+-- a test of the column's type; false where there is no such column
+abbrev pub of_type : (Ty → Bool) → Option Ty → Bool
+of_type test None = false
+of_type test (Some ty) = test ty
+
+abbrev mutual
+  pub is_filter : BexpTree → Schema → ℕ → Bool
+  is_filter always s t = true
+  is_filter (and_of bs) s t = are_filters bs s t
+  is_filter (or_of bs) s t = are_filters bs s t
+  is_filter (not_of b) s t = is_filter b s t
+  is_filter (comparison c op v) s t = of_type (λ ty. operand_fits ty v) (column_ty s t c)
+  is_filter (within c vs negated) s t = of_type (λ ty. list_all (operand_fits ty) vs) (column_ty s t c)
+  is_filter (is_null c wanted) s t = is_some (column_ty s t c)
+  is_filter (like c fold negated v) s t = of_type is_text (column_ty s t c) && pattern_fits v
+  is_filter (through r b) s t = is_some (slice_get (table s t).rels r) && is_filter b s (rel s t r).remote
+
+  pub are_filters : BexpTrees → Schema → ℕ → Bool
+  are_filters no_bexp s t = true
+  are_filters (bexp b bs) s t = is_filter b s t && are_filters bs s t
