@@ -3,4 +3,3 @@ pub mod Looks
 pub mod Texts
 pub mod Views
 pub mod Reading
-pub mod Looks
