@@ -1,3 +1,4 @@
+pub mod TextLemmas
 pub mod Looks
 pub mod Texts
 pub mod Views

@@ -5,7 +5,6 @@ pub mod Json
 pub mod Look
 pub mod Path
 pub mod Body
-pub mod Look
 pub mod Cells
 pub mod Lists
 pub mod Aggregates

@@ -1,4 +1,4 @@
-ghost use Rattle.std.specs.Prelude.{◌≡◌, ◌++◌, [], IfOk, OnOk, OnErr, MatchOption, true, false};
+ghost use Rattle.std.specs.Prelude.{◌≡◌, ◌++◌, [], IfOk, OnOk, OnErr, MatchOption, None, Some, true, false};
 ghost use Rattle.std.specs.Str.{is_utf8};
 ghost use Rattle.std.specs.Hash as fed;
 ghost use Rattle.std.specs.Cmp.Lexicographic.{pointwise, slice_cmp, nat_list_eq_equiv};
@@ -8,7 +8,7 @@ ghost use Rattle.std.specs.Ordering.{as_partial_cmp, nat_cmp};
 ghost use Rattle.std.specs.Prelude.{nat_eq};
 ghost use Rattle.std.proofs.Common.{rules};
 ghost use Rattle.hq_base.specs.Due.{Gives};
-ghost use Rattle.hq_base.specs.Text.{has_zero};
+ghost use Rattle.hq_base.specs.Text.{has_zero, after};
 
 use crate::Memory;
 use std::alloc::Global;
@@ -62,6 +62,13 @@ fn holds_zero(bytes: &[u8]) -> bool
     ensures { result ≡ has_zero bytes.now }
 {
     bytes.iter().any(|b| *b == 0)
+}
+
+// What follows a front, where the text begins with it.
+fn behind<'a>(text: &'a str, front: &str) -> Option<&'a str>
+    ensures { MatchOption result (after front.now text.now ≡ None) (λ rest. after front.now text.now ≡ Some rest.now) }
+{
+    text.strip_prefix(front)
 }
 
 impl Txt {
@@ -132,6 +139,17 @@ impl Txt {
         Ok(Txt {
             text: String::from_str(alloc, self.text.as_str())?,
         })
+    }
+
+    /// What follows this front, or None where the text does not begin with it.
+    pub fn after(&self, alloc: Global, front: &str) -> Result<Option<Txt>, Memory>
+        ensures { IfOk result (λ rest. rest ≡ after front.now self.now) }
+    {
+        let Some(rest) = behind(self.text.as_str(), front) else {
+            return Ok(None);
+        };
+        let text = String::from_str(alloc, rest)?;
+        Ok(Some(Txt { text }))
     }
 }
 

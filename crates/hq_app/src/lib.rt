@@ -1,0 +1,4 @@
+//! The program over a world that is handed in.
+#![tactic(auto)]
+
+pub mod words;
