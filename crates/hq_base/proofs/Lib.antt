@@ -3,5 +3,4 @@ pub mod Looks
 pub mod Texts
 pub mod Views
 pub mod Reading
-pub mod Looks
 pub mod Names

@@ -16,7 +16,6 @@ pub mod Permitted
 pub mod Related
 pub mod Selected
 pub mod View
-pub mod Reading
 pub mod Filters
 pub mod SchemaNames
 pub mod Fits
