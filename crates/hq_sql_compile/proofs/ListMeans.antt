@@ -9,7 +9,7 @@ use Rattle.hq_terms.specs.Permitted.{columns_cmp, by_key}
 use Rattle.hq_terms.specs.Schema.{Schema, table}
 use Rattle.hq_terms.specs.Seen.{row_cell, table_rows}
 use Rattle.hq_terms.specs.declared.table.Table.{Table}
-use Rattle.hq_sql_tree.specs.Tree.{PairTrees, column, object, OutTree, JoinTrees, no_join, no_filter, rows, table as from_table}
+use Rattle.hq_sql_tree.specs.Tree.{PairTrees, column, object, OutTree, JoinTrees, no_join, no_filter, rows, table as from_table, orders_of}
 use Rattle.hq_sql_tree.specs.Meaning.{NamedRow, cell_named, Scope, with_alias, World, named_row, value, members, orders_cmp, order_cmp, outputs, rows_of, joined, kept, rows_named}
 use Rattle.hq_sql_compile.specs.Compiled.{table_alias, fold_alias, value_name, key_name, key_orders, key_outputs, output_orders, list_rows, list_select}
 use Rattle.hq_sql_compile.proofs.Lists.{Each, each_sort, map_on, flat_map_on, sort_map_on, map_map, flat_map_map, filter_all}
@@ -20,16 +20,16 @@ use Rattle.hq_sql_compile.proofs.Sound.{Sound}
 use Rattle.hq_sql_compile.proofs.Extends.{Extends, shows_kept}
 
 -- ORDER BY the key's columns orders scopes as their rows
-pub key_orders_alike : (s : Schema) (t : ℕ) (alias : List ℕ) (cs : List ℕ) (x y : Scope) (a b : Row) → Shows s x t alias a → Shows s y t alias b → order_cmp (key_orders s t alias cs) x y ≡ columns_cmp cs a b
+pub key_orders_alike : (s : Schema) (t : ℕ) (alias : List ℕ) (cs : List ℕ) (x y : Scope) (a b : Row) → Shows s x t alias a → Shows s y t alias b → order_cmp (key_orders (table s t).columns alias cs) x y ≡ columns_cmp cs a b
 key_orders_alike s t alias [] x y a b f g = refl
 key_orders_alike s t alias (c ∷ cs) x y a b f g = rw (f c, g c, key_orders_alike s t alias cs x y a b f g) refl
 
 -- the sort keys of the fold are those outputs: nx and ny show, from the output of number i on, the cells of the rows a and b
 outputs_alike : (s : Schema) (t : ℕ) (alias fold : List ℕ) (cs : List ℕ) (i : ℕ) (x y p q : Scope) (a b : Row) → i + length cs ≤ 2 ^ 64
     → Shows s x t alias a → Shows s y t alias b
-    → ((j : ℕ) → i ≤ j → j < 2 ^ 64 → cell_named (p fold) (key_name j) ≡ cell_named (outputs (key_outputs s t alias cs i) [] x) (key_name j))
-    → ((j : ℕ) → i ≤ j → j < 2 ^ 64 → cell_named (q fold) (key_name j) ≡ cell_named (outputs (key_outputs s t alias cs i) [] y) (key_name j))
-    → orders_cmp (output_orders s t fold cs i) p q ≡ columns_cmp cs a b
+    → ((j : ℕ) → i ≤ j → j < 2 ^ 64 → cell_named (p fold) (key_name j) ≡ cell_named (outputs (key_outputs (table s t).columns alias cs i) [] x) (key_name j))
+    → ((j : ℕ) → i ≤ j → j < 2 ^ 64 → cell_named (q fold) (key_name j) ≡ cell_named (outputs (key_outputs (table s t).columns alias cs i) [] y) (key_name j))
+    → orders_cmp (orders_of (output_orders (table s t).columns fold cs i)) p q ≡ columns_cmp cs a b
 outputs_alike s t alias fold [] i x y p q a b bound f g u v = refl
 outputs_alike s t alias fold (c ∷ cs) i x y p q a b bound f g u v =
     let first_p : cell_named (p fold) (key_name i) ≡ row_cell a c = u i (omega arith) (omega arith) ∙ rw (same_text (key_name i)) (f c) in
@@ -56,7 +56,7 @@ module _ (s : Schema) (tables : List Table) (d : List (List Row)) (sound : Sound
   behind_shows row narrow = shows_kept s world x (at_row row) row u n row (shows_bound s scope u (table_alias n) row (sound.differ u) narrow)
 
   abbrev outs : List OutTree
-  outs = record { value = object values; name = value_name } ∷ key_outputs s u (table_alias n) (table s u).key 0
+  outs = record { value = object values; name = value_name } ∷ key_outputs (table s u).columns (table_alias n) (table s u).key 0
 
   abbrev output_row : Row → NamedRow
   output_row row = outputs outs [] (behind row)
@@ -77,12 +77,12 @@ module _ (s : Schema) (tables : List Table) (d : List (List Row)) (sound : Sound
           ∙ flat_map_on (Narrow s u) (λ row. joined (J no_join) world (at_row row)) behind
             (λ row h. x.goes (at_row row) row no_join (shows_bound s scope u (table_alias n) row (sound.differ u) h)) all narrow in
       let kept_all : (l : List Scope) → filter (kept no_filter world) l ≡ l = λ l. filter_all (kept no_filter world) (λ z. refl) l in
-      let sorted : sort (order_cmp (key_orders s u (table_alias n) key)) (map behind all) ≡ map behind (by_key s d u) =
-          sort_map_on (Narrow s u) behind (columns_cmp key) (order_cmp (key_orders s u (table_alias n) key))
+      let sorted : sort (order_cmp (key_orders (table s u).columns (table_alias n) key)) (map behind all) ≡ map behind (by_key s d u) =
+          sort_map_on (Narrow s u) behind (columns_cmp key) (order_cmp (key_orders (table s u).columns (table_alias n) key))
           (λ a b f g. key_orders_alike s u (table_alias n) key (behind a) (behind b) a b (behind_shows a f) (behind_shows b g)) all narrow in
-      let step : List Scope → List NamedRow = λ l. map (outputs outs []) (sort (order_cmp (key_orders s u (table_alias n) key)) (filter (kept no_filter world) l)) in
+      let step : List Scope → List NamedRow = λ l. map (outputs outs []) (sort (order_cmp (key_orders (table s u).columns (table_alias n) key)) (filter (kept no_filter world) l)) in
       ap step one_each
-      ∙ ap (λ l. map (outputs outs []) (sort (order_cmp (key_orders s u (table_alias n) key)) l)) (kept_all (map behind all))
+      ∙ ap (λ l. map (outputs outs []) (sort (order_cmp (key_orders (table s u).columns (table_alias n) key)) l)) (kept_all (map behind all))
       ∙ ap (map (outputs outs [])) sorted
       ∙ map_map (outputs outs []) behind (by_key s d u)
 
@@ -90,10 +90,10 @@ module _ (s : Schema) (tables : List Table) (d : List (List Row)) (sound : Sound
   abbrev folded : Row → Scope
   folded row = with_alias scope (fold_alias n) (output_row row)
 
-  key_outputs_of : (row : Row) (j : ℕ) → cell_named (folded row (fold_alias n)) (key_name j) ≡ cell_named (outputs (key_outputs s u (table_alias n) key 0) [] (behind row)) (key_name j)
+  key_outputs_of : (row : Row) (j : ℕ) → cell_named (folded row (fold_alias n)) (key_name j) ≡ cell_named (outputs (key_outputs (table s u).columns (table_alias n) key 0) [] (behind row)) (key_name j)
   key_outputs_of row j = rw (with_alias_same scope (fold_alias n) (output_row row), value_is_no_key j) refl
 
-  folded_orders : (a b : Row) → Narrow s u a → Narrow s u b → orders_cmp (output_orders s u (fold_alias n) key 0) (folded a) (folded b) ≡ columns_cmp key a b
+  folded_orders : (a b : Row) → Narrow s u a → Narrow s u b → orders_cmp (orders_of (output_orders (table s u).columns (fold_alias n) key 0)) (folded a) (folded b) ≡ columns_cmp key a b
   folded_orders a b f g =
       outputs_alike s u (table_alias n) (fold_alias n) key 0 (behind a) (behind b) (folded a) (folded b) a b (omega arith)
       (behind_shows a f) (behind_shows b g) (λ j h i. key_outputs_of a j) (λ j h i. key_outputs_of b j)
@@ -108,7 +108,7 @@ module _ (s : Schema) (tables : List Table) (d : List (List Row)) (sound : Sound
   pub list_means : ((row : Row) → Narrow s u row → members values [] (behind row) ≡ resolved row)
       → rows_of (list_select s u n values (J no_join)) world scope ≡ ((value_name, json (arr (elements_of (map (λ row. obj (resolved row)) (by_key s d u))))) ∷ []) ∷ []
   list_means means =
-      let os = output_orders s u (fold_alias n) key 0 in
+      let os = orders_of (output_orders (table s u).columns (fold_alias n) key 0) in
       let array : List Scope → List NamedRow = λ l. ((value_name, json (arr (elements_of (map (λ z. json_of (value (column (fold_alias n) value_name false) [] z)) (sort (orders_cmp os) l))))) ∷ []) ∷ [] in
       let rows_as : map (with_alias scope (fold_alias n)) (rows_of (list_rows s u n values (J no_join)) world scope) ≡ map folded (by_key s d u) =
           ap (map (with_alias scope (fold_alias n))) list_rows_are ∙ map_map (with_alias scope (fold_alias n)) output_row (by_key s d u) in

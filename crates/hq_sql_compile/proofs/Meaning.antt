@@ -10,7 +10,7 @@ use Rattle.hq_terms.specs.Grants.{Grants, grant, limits}
 use Rattle.hq_terms.specs.Meta.{MetaTree}
 use Rattle.hq_terms.specs.Permission.{Permission, Mask}
 use Rattle.hq_terms.specs.Permitted.{by_key, columns_cmp, permitted, shown, shown_under, seen_by, mask_of}
-use Rattle.hq_terms.specs.Schema.{Schema, schema_of, table, no_table, column as schema_column}
+use Rattle.hq_terms.specs.Schema.{Schema, schema_of, table, no_table}
 use Rattle.hq_terms.specs.Seen.{all_of, row_cell, table_rows}
 use Rattle.hq_terms.specs.Selected.{selected, sorts_cmp, limited, smaller}
 use Rattle.hq_terms.specs.Truth.{keeps}
@@ -19,7 +19,7 @@ use Rattle.hq_ask_tree.specs.Request.{FieldTrees, no_field, field, FieldTree, co
 use Rattle.hq_ask_tree.specs.Resolve.{no_arguments, resolve_all, resolve, resolved}
 use Rattle.hq_sql_tree.specs.Tree.{object, no_join, no_filter, JoinTrees}
 use Rattle.hq_sql_tree.specs.Meaning.{NamedRow, cell_named, Scope, nothing, with_alias, World, value, members, joined, or_null_row, first_value, order_cmp, outputs, kept, meaning}
-use Rattle.hq_sql_compile.specs.Compiled.{table_alias, join_alias, value_name, numbers_all, numbers, field_value, values_of, joins_of, field_joins, statement}
+use Rattle.hq_sql_compile.specs.Compiled.{name_of, table_alias, join_alias, value_name, numbers_all, numbers, field_value, values_of, joins_of, field_joins, statement}
 use Rattle.hq_sql_compile.specs.Correct.{IsPlain, ArePlain, IsPlainField, MeansResolved}
 use Rattle.hq_sql_compile.proofs.Lists.{filter_all, sort_equal}
 use Rattle.hq_sql_compile.proofs.Names.{Shows, Narrow, shows_bound, same_text, with_alias_same, with_alias_other, join_aliases_differ, join_is_no_table}
@@ -88,7 +88,7 @@ module _ (s : Schema) (tables : List Table) (d : List (List Row)) (g : Grants) w
   value_one : (f : FieldTree) (fs : FieldTrees) (t p n : ℕ) (scope : Scope) (row : Row) → n + numbers f + numbers_all fs ≤ 2 ^ 64 → Shows s scope t (table_alias p) row → Unmasked t row
       → json_of (value (field_value f s t (table_alias p) n) [] (with_fields fs t (n + numbers f) row (with_field f t n row scope))) ≡ given f t row
   value_one (column_field c) fs t p n scope row bound shows own =
-      ap (λ r. json_of (cell_named r (schema_column s t c).name)) (fields_other fs t (n + 0) row scope (table_alias p) (λ m h k. join_is_no_table m p))
+      ap (λ r. json_of (cell_named r (name_of (table s t).columns c))) (fields_other fs t (n + 0) row scope (table_alias p) (λ m h k. join_is_no_table m p))
       ∙ ap json_of (shows c) ∙ ap json_of (sym (own c))
   value_one (list u gs) fs t p n scope row bound shows own =
       ap (λ r. json_of (cell_named r value_name))
