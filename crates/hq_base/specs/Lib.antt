@@ -3,5 +3,6 @@ pub mod Text
 pub mod Refused
 pub mod Json
 pub mod Body
+pub mod Compact
 pub mod Cells
 pub mod Lists

@@ -3,6 +3,7 @@
 
 mod body;
 mod bytes;
+mod compact;
 mod json;
 mod list;
 mod memory;

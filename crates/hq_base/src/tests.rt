@@ -35,3 +35,27 @@ fn bodies(rt: HostRuntime) -> Result<(), Fail> {
     }
     Ok(())
 }
+
+#[test]
+fn compact_texts(rt: HostRuntime) -> Result<(), Fail> {
+    let table = [
+        (" [ ] ", "[]"),
+        ("{ }", "{}"),
+        ("[1, -20, [true, false], null]", "[1,-20,[true,false],null]"),
+        (
+            "{\"b\": 1, \"a\": {\"c\": [0]}}",
+            "{\"a\":{\"c\":[0]},\"b\":1}",
+        ),
+        (
+            "\"\\u0001\\u001f\\u007f\\/ \\b\\f\\n\\r\\t\\\"\\\\ \\u00e9\"",
+            "\"\\u0001\\u001f\u{7f}/ \\b\\f\\n\\r\\t\\\"\\\\ é\"",
+        ),
+    ];
+    for (body, text) in table {
+        let mut out = Bytes::from_slice(rt.alloc(), b">")?;
+        Json::from_body(rt.alloc(), body.as_bytes())?.write_to(rt.alloc(), &mut out)?;
+        assert_eq!(rt; out.as_slice().len(), text.len() + 1, "{body}");
+        assert!(rt; &out.as_slice()[1..] == text.as_bytes(), "{body}");
+    }
+    Ok(())
+}
