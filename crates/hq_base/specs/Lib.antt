@@ -4,5 +4,6 @@ pub mod Refused
 pub mod Json
 pub mod Body
 pub mod Compact
+pub mod Values
 pub mod Cells
 pub mod Lists

@@ -7,6 +7,7 @@ mod compact;
 mod json;
 mod list;
 mod memory;
+mod order;
 mod reply;
 #[cfg(test)]
 mod tests;
@@ -18,6 +19,7 @@ pub use bytes::Bytes;
 pub use json::{Json, JsonList, Member, Members};
 pub use list::List;
 pub use memory::Memory;
+pub use order::compare;
 pub use reply::Reply;
 pub use txt::{Txt, TxtRefusal};
 pub use value::{Cell, Ty, Val};
