@@ -7,3 +7,5 @@ pub mod Compact
 pub mod Values
 pub mod Cells
 pub mod Lists
+pub mod Patterns
+pub mod Fronts

@@ -8,6 +8,7 @@ mod json;
 mod list;
 mod memory;
 mod order;
+mod pattern;
 mod reply;
 #[cfg(test)]
 mod tests;
@@ -20,6 +21,7 @@ pub use json::{Json, JsonList, Member, Members};
 pub use list::List;
 pub use memory::Memory;
 pub use order::compare;
+pub use pattern::{Pattern, PatternRefusal};
 pub use reply::Reply;
 pub use txt::{Txt, TxtRefusal};
 pub use value::{Cell, Ty, Val};

@@ -59,3 +59,50 @@ fn compact_texts(rt: HostRuntime) -> Result<(), Fail> {
     }
     Ok(())
 }
+
+#[test]
+fn patterns(rt: HostRuntime) -> Result<(), Fail> {
+    // pattern, text, matches, matches under fold
+    let table = [
+        ("", "", true, true),
+        ("", "a", false, false),
+        ("%", "", true, true),
+        ("%", "añ€𝄞", true, true),
+        ("_", "ñ", true, true),
+        ("_", "€", true, true),
+        ("_", "𝄞", true, true),
+        ("__", "€", false, false),
+        ("_", "", false, false),
+        ("a_c", "añc", true, true),
+        ("A_C", "añc", false, true),
+        ("Ñ", "ñ", false, false),
+        ("%b%", "abc", true, true),
+        ("%b", "abcb", true, true),
+        ("%b", "abc", false, false),
+        ("a%b%c", "abxbc", true, true),
+        ("a%b%c", "acb", false, false),
+        ("%ab%ab", "abab", true, true),
+        ("%ab%ab", "aba", false, false),
+        ("%aab", "aaab", true, true),
+        ("\\%", "%", true, true),
+        ("\\%", "a", false, false),
+        ("\\_", "_", true, true),
+        ("\\_", "a", false, false),
+        ("\\\\", "\\", true, true),
+        ("\\a", "a", true, true),
+        ("\\A", "a", false, true),
+        (
+            "%a%a%a%a%a%a%a%a%a%a%b",
+            "aaaaaaaaaaaaaaaaaaaaaaaaaaaaaaaaaaaaaaaaaaaaaaaa",
+            false,
+            false,
+        ),
+    ];
+    for (pattern, text, exact, folded) in table {
+        let made = Pattern::new(rt.alloc(), &Txt::of(rt.alloc(), pattern.as_bytes())?)?;
+        let told = Txt::of(rt.alloc(), text.as_bytes())?;
+        assert_eq!(rt; made.matches(&told, false), exact, "{text} like {pattern}");
+        assert_eq!(rt; made.matches(&told, true), folded, "{text} ilike {pattern}");
+    }
+    Ok(())
+}
