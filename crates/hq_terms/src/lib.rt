@@ -7,8 +7,10 @@ mod catalog;
 mod copy;
 mod ids;
 mod meta;
+mod name;
 mod op;
 mod perm;
+mod permission;
 mod role;
 mod session;
 mod table;
@@ -21,6 +23,7 @@ pub use ids::{ColId, ColList, RelId, TableId};
 pub use meta::{
     Meta, Pair, PairList, Perm, PermList, Rel, RelList, RootNames, Tracked, TrackedList, TxtList,
 };
+pub use name::is_free_name;
 pub use op::Op;
 pub use perm::PermView;
 pub use role::Role;
