@@ -1,2 +1,3 @@
 mod Lists
 mod Worked
+pub mod Numbers

@@ -20,3 +20,4 @@ pub mod View
 pub mod Filters
 pub mod SchemaNames
 pub mod Fits
+pub mod Reading

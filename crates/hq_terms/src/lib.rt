@@ -11,6 +11,7 @@ mod name;
 mod op;
 mod perm;
 mod permission;
+mod reading;
 mod role;
 mod session;
 mod table;
@@ -26,6 +27,7 @@ pub use meta::{
 pub use name::is_free_name;
 pub use op::Op;
 pub use perm::PermView;
+pub use reading::{truth_value, whole_number};
 pub use role::Role;
 pub use session::{Session, Var, VarList};
 pub use table::{Column, ColumnList, ForeignKey, ForeignKeyList, Table, TableList};
