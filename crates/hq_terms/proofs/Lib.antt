@@ -1,3 +1,4 @@
 mod Lists
+mod Places
 mod Worked
 pub mod Numbers

@@ -27,8 +27,8 @@ step_on p x kept rest all before =
     ]) before
 
 pub filter_step : {A : Type 0} (p : A → Bool) (xs : List A) (i : ℕ) (x : A) (kept : List A) →
-  i < length xs → x ≡ get_or xs i x → kept ++ filter p (drop i xs) ≡ filter p xs →
-  cond (p x) (kept ++ x ∷ []) kept ++ filter p (drop (i + 1) xs) ≡ filter p xs
+    i < length xs → x ≡ get_or xs i x → kept ++ filter p (drop i xs) ≡ filter p xs →
+    cond (p x) (kept ++ x ∷ []) kept ++ filter p (drop (i + 1) xs) ≡ filter p xs
 filter_step p xs i x kept below at before =
     let split : drop i xs ≡ x ∷ drop (suc i) xs = drop-cons xs i x below ∙ ap (λ y. y ∷ drop (suc i) xs) (sym at) in
     let next : i + 1 ≡ suc i = omega arith in

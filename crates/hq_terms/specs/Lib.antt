@@ -20,4 +20,3 @@ pub mod View
 pub mod Filters
 pub mod SchemaNames
 pub mod Fits
-pub mod Reading

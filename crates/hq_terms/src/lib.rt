@@ -3,18 +3,22 @@
 
 mod bexp;
 mod bind;
+mod binding;
 mod catalog;
 mod copy;
 mod ids;
 mod meta;
 mod name;
 mod op;
+mod operand;
 mod perm;
 mod permission;
 mod reading;
 mod role;
+mod scope;
 mod session;
 mod table;
+mod truth;
 mod want;
 
 pub use bexp::{Bexp, BexpList, Operand, Operands};
@@ -31,4 +35,5 @@ pub use reading::{truth_value, whole_number};
 pub use role::Role;
 pub use session::{Session, Var, VarList};
 pub use table::{Column, ColumnList, ForeignKey, ForeignKeyList, Table, TableList};
+pub use truth::Truth;
 pub use want::Want;
