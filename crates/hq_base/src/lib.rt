@@ -3,10 +3,15 @@
 
 mod body;
 mod bytes;
+mod compact;
 mod json;
 mod list;
 mod memory;
+mod order;
+mod pattern;
 mod reply;
+#[cfg(test)]
+mod tests;
 mod txt;
 mod value;
 
@@ -15,6 +20,8 @@ pub use bytes::Bytes;
 pub use json::{Json, JsonList, Member, Members};
 pub use list::List;
 pub use memory::Memory;
+pub use order::compare;
+pub use pattern::{Pattern, PatternRefusal};
 pub use reply::Reply;
 pub use txt::{Txt, TxtRefusal};
 pub use value::{Cell, Ty, Val};
