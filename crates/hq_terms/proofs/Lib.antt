@@ -1,2 +1,5 @@
 pub mod Numbers
+mod Lists
+mod Places
 mod Worked
+pub mod Numbers
