@@ -2,4 +2,3 @@ pub mod Numbers
 mod Lists
 mod Places
 mod Worked
-pub mod Numbers
