@@ -53,7 +53,7 @@ fn is_sub_of_rows(from: &From) -> bool
 fn has_no_join(joins: &JoinList) -> bool
     ensures { result ≡ is_no_join (joins_of (map join_view joins.now.items)) }
 {
-    joins.is_empty()
+    joins.as_slice().is_empty()
 }
 
 fn has_no_filter(filter: &Option<Pred>) -> bool
