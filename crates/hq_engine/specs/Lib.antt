@@ -1,0 +1,2 @@
+pub mod ListBody
+pub mod ListRequest
