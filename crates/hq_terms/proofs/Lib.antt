@@ -1,4 +1,4 @@
 mod Lists
-mod Places
+pub mod Places
 mod Worked
 pub mod Numbers
