@@ -4,7 +4,6 @@ pub mod Names
 pub mod Bexp
 pub mod Meta
 pub mod Schema
-pub mod Pattern
 pub mod Logic
 pub mod Seen
 pub mod Truth

@@ -24,6 +24,7 @@ mod want;
 pub use bexp::{Bexp, BexpList, Operand, Operands};
 pub use bind::BindRefusal;
 pub use catalog::Catalog;
+pub use copy::{TryCopy, copy_list};
 pub use ids::{ColId, ColList, RelId, TableId};
 pub use meta::{
     Meta, Pair, PairList, Perm, PermList, Rel, RelList, RootNames, Tracked, TrackedList, TxtList,

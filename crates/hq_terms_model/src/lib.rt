@@ -1,0 +1,7 @@
+//! The definitions of hq_terms at work: a plain slow program whose functions have the definitions as their contracts.
+//! It is run on small databases, and no other crate stands on it.
+#![tactic(auto)]
+
+mod compare;
+
+pub use compare::compared;
