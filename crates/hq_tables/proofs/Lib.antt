@@ -1,1 +1,4 @@
 pub mod Databases
+pub mod AllRecords
+pub mod Fields
+pub mod Headers

@@ -1,3 +1,5 @@
+mod layout;
+mod records;
 mod refusal;
 
 pub use refusal::LoadRefusal;
