@@ -1,4 +1,4 @@
-mod layout;
+mod header;
 mod records;
 mod refusal;
 

@@ -1,27 +1,12 @@
-ghost use Rattle.std.specs.Prelude.{◌≡◌, ◌<◌, true, length, map, Some, None, find, bytes_eq, option_copied, option_map, ok_or, slice_index_or, [], IfOk};
+ghost use Rattle.std.specs.Prelude.{◌≡◌, ◌<◌, [], length, map, IfOk, find, bytes_eq, option_copied, option_map, slice_index_or};
 ghost use Rattle.std.specs.List.{position_from};
 ghost use Rattle.csv.specs.Records.{fields_of};
-ghost use Rattle.hq_tables.specs.Header.{columns_named, header_due};
-ghost use Rattle.hq_tables.specs.Layout.{are_places, places_in};
+ghost use Rattle.hq_tables.specs.Header.{columns_named, places_named};
 
 use csv::ByteRecord;
 use hq_base::Memory;
-use hq_terms::{Column, Table};
+use hq_terms::Column;
 use std::alloc::Global;
-
-/// Where the fields of a table file's records go.
-#[derive(Drop)]
-pub struct Layout<'a> {
-    pub table: &'a Table,
-    pub header: &'a ByteRecord,
-    /// The columns, in the file's order.
-    pub columns: Vec<&'a Column>,
-    /// For each column of the table, in its order, the place of its field from 0.
-    pub places: Vec<usize>,
-    ghost named: { header_due table.now.columns (fields_of header.now) ≡ Some (map (λ c. c.now) columns.items) },
-    ghost placed: { places.items ≡ places_in (fields_of header.now) table.now.columns },
-    ghost apart: { are_places (length columns.items) places.items ≡ true },
-}
 
 /// The field at this place, counted from 0.
 pub fn field(fields: &ByteRecord, at: usize) -> &[u8]
@@ -66,4 +51,22 @@ fn place_of(header: &ByteRecord, name: &[u8]) -> Option<usize>
         }
     }
     None
+}
+
+// For each column the place of its name in the header, from 0; None where the header leaves one out.
+fn places_named(
+    alloc: Global,
+    columns: &[Column],
+    header: &ByteRecord,
+) -> Result<Option<Vec<usize>>, Memory>
+    ensures { IfOk result (λ found. option_map (λ v. v.items) found ≡ places_named columns.now (fields_of header.now)) }
+{
+    let mut places = Vec::new(alloc);
+    for column in columns {
+        let Some(place) = place_of(header, column.name.as_bytes()) else {
+            return Ok(None);
+        };
+        places.push(place)?;
+    }
+    Ok(Some(places))
 }
