@@ -1,4 +1,5 @@
 mod header;
+mod layout;
 mod records;
 mod refusal;
 

@@ -23,8 +23,8 @@ fn column_named<'a>(columns: &'a [Column], name: &[u8]) -> Option<&'a Column>
     columns.iter().find(|column| column.name.as_bytes() == name)
 }
 
-// The columns that the header names, in its order; None where it names another.
-fn columns_named<'a>(
+/// The columns that the header names, in its order; None where it names another.
+pub fn columns_named<'a>(
     alloc: Global,
     columns: &'a [Column],
     header: &ByteRecord,
@@ -53,8 +53,8 @@ fn place_of(header: &ByteRecord, name: &[u8]) -> Option<usize>
     None
 }
 
-// For each column the place of its name in the header, from 0; None where the header leaves one out.
-fn places_named(
+/// For each column the place of its name in the header, from 0; None where the header leaves one out.
+pub fn places_named(
     alloc: Global,
     columns: &[Column],
     header: &ByteRecord,
