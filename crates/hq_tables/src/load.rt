@@ -1,5 +1,6 @@
 mod header;
 mod layout;
+mod record;
 mod records;
 mod refusal;
 
