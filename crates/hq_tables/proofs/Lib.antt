@@ -5,3 +5,4 @@ pub mod Headers
 pub mod Placed
 pub mod Records
 pub mod Arranged
+pub mod Keys
