@@ -6,3 +6,4 @@ pub mod Placed
 pub mod Records
 pub mod Arranged
 pub mod Keys
+pub mod NextRows

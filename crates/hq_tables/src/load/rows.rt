@@ -1,7 +1,8 @@
-ghost use Rattle.std.specs.Prelude.{◌≡◌, ◌++◌, ◌∷◌, [], map, IfOk};
+ghost use Rattle.std.specs.Prelude.{◌++◌, ◌∷◌, ◌<◌, ◌≤◌, ◌^◌, [], length, map, IfOk};
 ghost use Rattle.csv.specs.Records.{fields_of};
 ghost use Rattle.hq_base.specs.Due.{Gives};
 ghost use Rattle.hq_tables.specs.Keys.{Knows};
+ghost use Rattle.hq_tables.specs.Layouts.{columns_of, names_of};
 ghost use Rattle.hq_tables.specs.Load.{row_due, rows_due};
 ghost use Rattle.hq_tables.specs.declared.load.refusal.LoadRefusal.TheVariants as refusal;
 
@@ -22,8 +23,9 @@ fn next_row(
     lines: &mut Lines,
     fields: &ByteRecord,
 ) -> Result<ValList, LoadRefusal>
-    requires { Knows layout.now.table.now rows.now lines.old }
-    ensures due { Gives (λ row. row) refusal.Memory (row_due layout.now.table.now (fields_of layout.now.header.now) (map (λ c. c.now) layout.now.columns.items) rows.now (fields_of fields.now)) result }
+    requires known { Knows layout.now.table.now rows.now lines.old }
+    requires few { length rows.now < 2 ^ 31 }
+    ensures due { Gives (λ row. row) refusal.Memory (row_due layout.now.table.now (names_of layout.now) (columns_of layout.now) rows.now (fields_of fields.now)) result }
     ensures known { IfOk result (λ row. Knows layout.now.table.now (rows.now ++ row ∷ []) lines.new) }
 {
     let line = rows.len() as u64 + 2;
@@ -41,7 +43,8 @@ pub fn read_rows(
     layout: &Layout<'_>,
     records: &[ByteRecord],
 ) -> Result<RowList, LoadRefusal>
-    ensures { Gives (λ rows. rows) refusal.Memory (rows_due layout.now.table.now (fields_of layout.now.header.now) (map (λ c. c.now) layout.now.columns.items) [] (map fields_of records.now)) result }
+    requires { length records.now ≤ 2 ^ 31 }
+    ensures { Gives (λ rows. rows) refusal.Memory (rows_due layout.now.table.now (names_of layout.now) (columns_of layout.now) [] (map fields_of records.now)) result }
 {
     let mut rows = List::new(alloc);
     let mut lines = BTreeMap::new(alloc);
