@@ -1,0 +1,11 @@
+pub mod Views
+pub mod Reading
+pub mod Names
+pub mod Joined
+pub mod Characters
+pub mod Matching
+pub mod Lists
+pub mod Zips
+pub mod Sorts
+pub mod StableSorts
+pub mod Orders

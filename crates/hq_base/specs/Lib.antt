@@ -2,5 +2,10 @@ pub mod Due
 pub mod Text
 pub mod Refused
 pub mod Json
+pub mod Body
+pub mod Compact
+pub mod Values
 pub mod Cells
 pub mod Lists
+pub mod Patterns
+pub mod Fronts

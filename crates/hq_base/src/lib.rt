@@ -1,18 +1,27 @@
 //! Values, texts, lists and JSON: what every other crate of hq stands on.
 #![tactic(auto)]
 
+mod body;
 mod bytes;
+mod compact;
 mod json;
 mod list;
 mod memory;
+mod order;
+mod pattern;
 mod reply;
+#[cfg(test)]
+mod tests;
 mod txt;
 mod value;
 
+pub use body::JsonRefusal;
 pub use bytes::Bytes;
 pub use json::{Json, JsonList, Member, Members};
 pub use list::List;
 pub use memory::Memory;
+pub use order::compare;
+pub use pattern::{Pattern, PatternRefusal};
 pub use reply::Reply;
 pub use txt::{Txt, TxtRefusal};
 pub use value::{Cell, Ty, Val};
