@@ -6,3 +6,6 @@ pub mod Flaky
 pub mod Field
 pub mod Header
 pub mod Load
+pub mod Places
+pub mod Keys
+pub mod Layouts
