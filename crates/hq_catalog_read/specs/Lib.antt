@@ -1,3 +1,4 @@
 pub mod Field
 pub mod Each
+pub mod Node
 pub mod Shape

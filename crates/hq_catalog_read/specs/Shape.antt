@@ -1,57 +1,20 @@
 -- The form of a catalog file, and what it writes: the members of each object in this order, and lists in order. The
 -- first node that is absent, of another kind or an unknown type is refused with its path.
-use Rattle.std.specs.Prelude.{ℕ, List, [], length, Bool, true, ◌==◌, is_some, Option, Some, None, option_and_then, ok_or, Result, Ok, Err, if◌then◌else◌, bytes_eq, codes}
+use Rattle.std.specs.Prelude.{ℕ, List, [], length, Bool, true, ◌==◌, Option, Some, None, option_and_then, Result, Ok, Err, if◌then◌else◌, bytes_eq, codes}
 use Rattle.hq_base.specs.Due.{◌>>=◌}
 use Rattle.hq_base.specs.Json.{JsonTree}
-use Rattle.hq_base.specs.Look.{bool_in, str_in, array_in, object_in, member_in}
-use Rattle.hq_base.specs.Path.{top_path, member_path}
+use Rattle.hq_base.specs.Look.{bool_in, str_in, array_in}
+use Rattle.hq_base.specs.Path.{top_path}
 use Rattle.hq_base.specs.declared.value.Ty.{Ty}
 use Rattle.hq_base.specs.declared.value.Ty.TheVariants.{Integer, Bigint, Text, Boolean}
 use Rattle.hq_terms.specs.declared.table.Column.{Column}
-use Rattle.hq_catalog_read.specs.declared.field.Field.{Field}
 use Rattle.hq_catalog_read.specs.declared.field.Field.TheVariants.{Tables, Schema, Name, Columns, PrimaryKey, ForeignKeys, ColumnType, Nullable, Table, References}
 use Rattle.hq_catalog_read.specs.declared.refusal.CatalogRefusal.{CatalogRefusal}
 use Rattle.hq_catalog_read.specs.declared.refusal.CatalogRefusal.TheVariants.{Shape}
 use Rattle.hq_catalog_read.specs.declared.written.WrittenForeignKey.{WrittenForeignKey}
 use Rattle.hq_catalog_read.specs.declared.written.WrittenTable.{WrittenTable}
 use Rattle.hq_catalog_read.specs.Each.{each}
-use Rattle.hq_catalog_read.specs.Field.{field_name}
-
--- what a node holds, or Shape at its path
-abbrev pub required : {A : Type 0} → (path : List ℕ) → Option A → Result A CatalogRefusal
-required path held = ok_or held (Shape path)
-
--- the path of a member of the object at a path
-abbrev pub at : (path : List ℕ) → Field → List ℕ
-at path field = member_path path (field_name field)
-
--- the value of a member, where the object has it
-abbrev pub value_of : JsonTree → Field → Option JsonTree
-value_of object field = member_in object (field_name field)
-
--- a node that must be an object, and one that must be a text
-unfoldable pub object_at : (path : List ℕ) → JsonTree → Result JsonTree CatalogRefusal
-object_at path j = if is_some (object_in j) then Ok j else Err (Shape path)
-
-unfoldable pub text_at : (path : List ℕ) → JsonTree → Result (List ℕ) CatalogRefusal
-text_at path j = required path (str_in j)
-
--- members that must be a text, a list, a list of texts, and an object
-unfoldable pub text_member : (path : List ℕ) → JsonTree → Field → Result (List ℕ) CatalogRefusal
-text_member path object field = required (at path field) (option_and_then str_in (value_of object field))
-
-unfoldable pub list_member : (path : List ℕ) → JsonTree → Field → Result (List JsonTree) CatalogRefusal
-list_member path object field = required (at path field) (option_and_then array_in (value_of object field))
-
-unfoldable pub names_member : (path : List ℕ) → JsonTree → Field → Result (List (List ℕ)) CatalogRefusal
-names_member path object field = do
-  list ← list_member path object field
-  each text_at (at path field) list
-
-unfoldable pub object_member : (path : List ℕ) → JsonTree → Field → Result JsonTree CatalogRefusal
-object_member path object field = do
-  j ← required (at path field) (value_of object field)
-  object_at (at path field) j
+use Rattle.hq_catalog_read.specs.Node.{required, at, value_of, object_at, text_member, list_member, names_member, object_member}
 
 -- a column's type
 unfoldable pub type_named : (name : List ℕ) → Option Ty

@@ -2,6 +2,7 @@
 #![tactic(auto)]
 
 mod field;
+mod node;
 mod refusal;
 mod shape;
 mod written;

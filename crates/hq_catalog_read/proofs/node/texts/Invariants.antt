@@ -2,8 +2,8 @@ use Rattle.std.proofs.Common.{◌≡◌, ◌++◌, map, drop}
 use Rattle.hq_base.specs.Due.{mapped}
 use Rattle.hq_base.specs.Json.{json_view}
 use Rattle.hq_catalog_read.specs.Each.{each, each_from}
-use Rattle.hq_catalog_read.specs.Shape.{text_at}
-use Rattle.hq_catalog_read.proofs.shape.texts.Given as goal
+use Rattle.hq_catalog_read.specs.Node.{text_at}
+use Rattle.hq_catalog_read.proofs.node.texts.Given as goal
 
 -- the texts so far, and then those of the rest
 abbrev pub invariant-loop-place : goal.invariant-loop-place
