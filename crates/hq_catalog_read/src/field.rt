@@ -1,6 +1,9 @@
-ghost use Rattle.std.specs.Prelude.{◌≡◌, false};
+ghost use Rattle.std.specs.Prelude.{◌≡◌, IfOk, false};
 ghost use Rattle.hq_base.specs.Text.{has_zero};
 ghost use Rattle.hq_catalog_read.specs.Field.{field_name};
+
+use hq_base::{Memory, Txt};
+use std::alloc::Global;
 
 /// A member of the file's objects.
 #[derive(Clone, Copy, Debug, PartialEq, Eq)]
@@ -36,5 +39,14 @@ impl Field {
             Field::Table => "table",
             Field::References => "references",
         }
+    }
+
+    /// Its name in the file, as a text of its own.
+    pub fn text(self, alloc: Global) -> Result<Txt, Memory>
+        ensures { IfOk result (λ text. text ≡ field_name self) }
+    {
+        let mut text = Txt::new(alloc);
+        text.push_str(self.name())?;
+        Ok(text)
     }
 }

@@ -2,8 +2,10 @@
 #![tactic(auto)]
 
 mod field;
+mod limits;
 mod node;
 mod refusal;
+mod repeats;
 mod shape;
 mod written;
 
