@@ -3,3 +3,4 @@ pub mod Looks
 pub mod Texts
 pub mod Views
 pub mod Reading
+pub mod Names

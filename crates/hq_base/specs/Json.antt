@@ -1,5 +1,6 @@
 -- JSON values without where they lie in memory.
-use Rattle.std.specs.Prelude.{ℕ, ℤ, Bool, List, [], ◌∷◌}
+use Rattle.std.specs.Prelude.{ℕ, ℤ, Bool, true, ◌&&◌, List, [], ◌∷◌, bytes_eq}
+use Rattle.hq_base.specs.Lists.{all_differ}
 use Rattle.hq_base.specs.declared.json.Json.{Json, fold-Json}
 use Rattle.hq_base.specs.declared.json.Member.{Member, fold-Member}
 use Rattle.hq_base.specs.declared.json.Json.TheOpen.{Json-F, Member-F}
@@ -50,3 +51,26 @@ json_view = fold-Json JsonTree (List ℕ × JsonTree) json_step member_step
 
 abbrev pub member_view : Member → List ℕ × JsonTree
 member_view = fold-Member JsonTree (List ℕ × JsonTree) json_step member_step
+
+-- the members' names, in order
+abbrev pub names_of : MemberTrees → List (List ℕ)
+names_of no_member = []
+names_of (member name j ms) = name ∷ names_of ms
+
+-- the names of each object's members differ
+abbrev mutual
+  pub has_distinct_names : JsonTree → Bool
+  has_distinct_names null = true
+  has_distinct_names (bool b) = true
+  has_distinct_names (int n) = true
+  has_distinct_names (str s) = true
+  has_distinct_names (arr js) = elements_have_distinct_names js
+  has_distinct_names (obj ms) = all_differ bytes_eq (names_of ms) && values_have_distinct_names ms
+
+  pub elements_have_distinct_names : ElementTrees → Bool
+  elements_have_distinct_names no_element = true
+  elements_have_distinct_names (element j js) = has_distinct_names j && elements_have_distinct_names js
+
+  pub values_have_distinct_names : MemberTrees → Bool
+  values_have_distinct_names no_member = true
+  values_have_distinct_names (member name j ms) = has_distinct_names j && values_have_distinct_names ms

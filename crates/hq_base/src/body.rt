@@ -1,8 +1,8 @@
 ghost use Rattle.serde_json.specs.View.{view, items_view, members_view};
-ghost use Rattle.std.specs.Prelude.{◌≡◌, map};
+ghost use Rattle.std.specs.Prelude.{◌≡◌, IfOk, map, true};
 ghost use Rattle.hq_base.specs.declared.body.JsonRefusal.TheVariants as refusal;
 ghost use Rattle.hq_base.specs.Due.{Gives};
-ghost use Rattle.hq_base.specs.Json.{json_view, member_view};
+ghost use Rattle.hq_base.specs.Json.{json_view, member_view, has_distinct_names, elements_have_distinct_names, elements_of, members_of, obj};
 ghost use Rattle.hq_base.specs.Body.{refusal_of, body_of, value_of, elements_in, members_in, clean};
 
 use crate::{Json, JsonList, Member, Members, Txt, TxtRefusal};
@@ -52,6 +52,7 @@ impl Json {
     /// ZeroByte, a member's name before its value.
     pub fn from_body(alloc: Global, bytes: &[u8]) -> Result<Json, JsonRefusal>
         ensures due { Gives json_view JsonRefusal.Memory (body_of bytes.now) result }
+        ensures names { IfOk result (λ value. has_distinct_names (json_view value) ≡ true) }
     {
         match Value::from_slice(alloc, bytes) {
             Ok(value) => json_of(alloc, &value),
@@ -76,7 +77,8 @@ fn clean_text(alloc: Global, text: &str) -> Result<Txt, JsonRefusal>
 // The value of what serde_json holds.
 #[cycle(walk)]
 fn json_of(alloc: Global, value: &Value) -> Result<Json, JsonRefusal>
-    ensures { Gives json_view JsonRefusal.Memory (value_of (view value.now)) result }
+    ensures due { Gives json_view JsonRefusal.Memory (value_of (view value.now)) result }
+    ensures names { IfOk result (λ v. has_distinct_names (json_view v) ≡ true) }
 {
     match value {
         Value::Null => Ok(Json::Null),
@@ -93,7 +95,8 @@ fn json_of(alloc: Global, value: &Value) -> Result<Json, JsonRefusal>
 
 #[cycle(walk)]
 fn elements(alloc: Global, items: &Vec<Value>) -> Result<JsonList, JsonRefusal>
-    ensures { Gives (λ v. map json_view v.items) JsonRefusal.Memory (elements_in (items_view items.now.items)) result }
+    ensures due { Gives (λ v. map json_view v.items) JsonRefusal.Memory (elements_in (items_view items.now.items)) result }
+    ensures names { IfOk result (λ v. elements_have_distinct_names (elements_of (map json_view v.items)) ≡ true) }
 {
     let mut list = Vec::new(alloc);
     for item in items {
@@ -104,7 +107,8 @@ fn elements(alloc: Global, items: &Vec<Value>) -> Result<JsonList, JsonRefusal>
 
 #[cycle(walk)]
 fn members(alloc: Global, entries: &Map<String, Value>) -> Result<Members, JsonRefusal>
-    ensures { Gives (λ v. map member_view v.items) JsonRefusal.Memory (members_in (members_view entries.now.entries)) result }
+    ensures due { Gives (λ v. map member_view v.items) JsonRefusal.Memory (members_in (members_view entries.now.entries)) result }
+    ensures names { IfOk result (λ v. has_distinct_names (obj (members_of (map member_view v.items))) ≡ true) }
 {
     let mut list = Vec::new(alloc);
     for (name, value) in entries.iter() {

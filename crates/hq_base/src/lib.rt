@@ -9,6 +9,8 @@ mod look;
 mod memory;
 mod path;
 mod reply;
+#[cfg(test)]
+mod tests;
 mod txt;
 mod value;
 

@@ -62,7 +62,15 @@ impl Door for MemDoor {
         self.calls.faults
     }
 
-    fn listen(&mut self, _port: u16) -> Result<(), DoorFailed> {
+    /// Fails exactly where the call's number is one of those that are to fail.
+    fn listen(&mut self, _port: u16) -> Result<(), DoorFailed>
+        ensures links { Some (links_in self.new.row) ≡ Some (links_in self.old.row) }
+        ensures accepted { self.new.row.accepted ≡ self.old.row.accepted }
+        ensures present { present_in self.new.row ≡ present_in self.old.row }
+        ensures cause { HasCause self.old.calls.faults self.new.calls.faults result }
+        ensures fails { IsErr result ↔ IsToFail self.old.calls }
+        ensures calls { self.new.calls ≡ after (is_err result) self.old.calls }
+    {
         if self.calls.next_fails() {
             self.calls.fault();
             return Err(DoorFailed);
@@ -70,7 +78,17 @@ impl Door for MemDoor {
         Ok(())
     }
 
-    fn accept(&mut self) -> Result<(), DoorFailed> {
+    /// Fails exactly where the call's number is one of those that are to fail.
+    fn accept(&mut self) -> Result<(), DoorFailed>
+        ensures next { OnOk result (IsNext (λ link. Some link.input.left) (Some (links_in self.old.row)) self.old.row.accepted (present_in self.new.row)) }
+        ensures accepted { OnOk result (self.new.row.accepted ≡ one_more self.old.row.accepted) }
+        ensures links { Some (links_in self.new.row) ≡ Some (links_in self.old.row) }
+        ensures accepted_err { OnErr result (self.new.row.accepted ≡ self.old.row.accepted) }
+        ensures present_err { OnErr result (present_in self.new.row ≡ present_in self.old.row) }
+        ensures cause { HasCause self.old.calls.faults self.new.calls.faults result }
+        ensures fails { IsErr result ↔ IsToFail self.old.calls }
+        ensures calls { self.new.calls ≡ after (is_err result) self.old.calls }
+    {
         if self.calls.next_fails() {
             self.calls.fault();
             return Err(DoorFailed);

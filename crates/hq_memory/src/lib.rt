@@ -19,3 +19,6 @@ pub use link_row::LinkRow;
 pub use links::{MemLink, SureLink};
 pub use sinks::{MemSink, SureSink};
 pub use sources::{MemSource, SureSource};
+
+#[cfg(test)]
+mod tests;

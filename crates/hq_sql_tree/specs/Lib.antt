@@ -3,3 +3,4 @@ pub mod View
 pub mod Word
 pub mod Spelling
 pub mod Meaning
+pub mod Form

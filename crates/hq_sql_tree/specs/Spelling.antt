@@ -7,7 +7,7 @@ use Rattle.hq_sql_tree.specs.declared.word.Word.{Word}
 use Rattle.hq_sql_tree.specs.declared.word.Word.TheVariants as word
 use Rattle.hq_sql_tree.specs.Word.{word_text}
 use Rattle.hq_sql_tree.specs.Tree as tree
-use Rattle.hq_sql_tree.specs.Tree.{ExprTree, PairTrees, AggTree, OrderTree, OrderTrees, OutTree, SelectTree, FromTree, JoinTrees, FilterTree, PredTree, PredTrees}
+use Rattle.hq_sql_tree.specs.Tree.{ExprTree, PairTree, PairTrees, AggTree, OrderTree, OrderTrees, OutTree, SelectTree, FromTree, JoinTrees, FilterTree, PredTree, PredTrees}
 
 -- ---- names, texts, numbers and lists
 
@@ -40,6 +40,11 @@ each_after w (t ∷ ts) = word_text w ++ (t ++ each_after w ts)
 abbrev pub separated : Word → List (List ℕ) → List ℕ
 separated w [] = []
 separated w (t ∷ ts) = t ++ each_after w ts
+
+-- a list behind a word, where it is not empty
+abbrev pub clause_text : (first between : Word) → List (List ℕ) → List ℕ
+clause_text first w [] = []
+clause_text first w (t ∷ ts) = word_text first ++ separated w (t ∷ ts)
 
 -- ---- expressions
 
@@ -87,6 +92,9 @@ abbrev mutual
   order_texts tree.no_order = []
   order_texts (tree.order e desc nulls_first os) = (expr_text e ++ word_text (direction_word desc nulls_first)) ∷ order_texts os
 
+abbrev pub pair_text : PairTree → List ℕ
+pair_text p = literal_text p.name ++ (word_text word.Comma ++ expr_text p.value)
+
 abbrev pub order_text : OrderTree → List ℕ
 order_text o = expr_text o.value ++ word_text (direction_word o.desc o.nulls_first)
 
@@ -112,11 +120,6 @@ abbrev pub distinct_text : List ExprTree → List ℕ
 distinct_text [] = []
 distinct_text (e ∷ es) = word_text word.DistinctOn ++ (separated word.Comma (map expr_text (e ∷ es)) ++ word_text word.CloseDistinct)
 
--- ORDER BY, where there is one
-abbrev pub order_by_text : List OrderTree → List ℕ
-order_by_text [] = []
-order_by_text (o ∷ os) = word_text word.OrderBy ++ separated word.Comma (map order_text (o ∷ os))
-
 -- LIMIT or OFFSET, where there is one
 abbrev pub number_text : Word → Option ℕ → List ℕ
 number_text w None = []
@@ -125,18 +128,18 @@ number_text w (Some n) = word_text w ++ decimal n
 abbrev mutual
   pub select_text : SelectTree → List ℕ
   select_text (tree.rows distinct outs from joins condition keys limit offset) =
-      word_text word.Select ++ (distinct_text distinct ++ (separated word.Comma (map out_text outs) ++ (word_text word.From ++ (from_text from ++ (joins_text joins
-      ++ (filter_text condition ++ (order_by_text keys ++ (number_text word.Limit limit ++ number_text word.Offset offset))))))))
+      word_text word.Select ++ (distinct_text distinct ++ (separated word.Comma (map out_text outs) ++ (word_text word.From ++ (from_text from ++ (clause_text word.LateralJoin word.LateralJoin (join_texts joins)
+      ++ (filter_text condition ++ (clause_text word.OrderBy word.Comma (map order_text keys) ++ (number_text word.Limit limit ++ number_text word.Offset offset))))))))
   select_text (tree.fold out inner alias) = word_text word.Select ++ (out_text out ++ (word_text word.From ++ (word_text word.Open ++ (select_text inner ++ (word_text word.CloseAs ++ name_text alias)))))
 
   pub from_text : FromTree → List ℕ
   from_text (tree.table schema name alias) = name_text schema ++ (word_text word.Dot ++ (name_text name ++ (word_text word.As ++ name_text alias)))
   from_text (tree.sub s alias) = word_text word.Open ++ (select_text s ++ (word_text word.CloseAs ++ name_text alias))
-  from_text (tree.one alias) = word_text word.One ++ name_text alias
+  from_text (tree.one alias) = word_text word.Open ++ (word_text word.One ++ name_text alias)
 
-  pub joins_text : JoinTrees → List ℕ
-  joins_text tree.no_join = []
-  joins_text (tree.join s alias js) = word_text word.LateralJoin ++ (select_text s ++ (word_text word.CloseAs ++ (name_text alias ++ (word_text word.OnTrue ++ joins_text js))))
+  pub join_texts : JoinTrees → List (List ℕ)
+  join_texts tree.no_join = []
+  join_texts (tree.join s alias js) = (select_text s ++ (word_text word.CloseAs ++ (name_text alias ++ word_text word.OnTrue))) ∷ join_texts js
 
   pub filter_text : FilterTree → List ℕ
   filter_text tree.no_filter = []

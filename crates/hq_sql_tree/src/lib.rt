@@ -1,6 +1,7 @@
 //! The subset of SELECT that hq writes and reads: its trees, the one spelling of each, and what they mean.
 #![tactic(auto)]
 
+mod copy;
 mod expr;
 mod select;
 mod word;

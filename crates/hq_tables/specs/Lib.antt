@@ -3,3 +3,6 @@ pub mod Pins
 pub mod Store
 pub mod Databases
 pub mod Flaky
+pub mod Field
+pub mod Header
+pub mod Load

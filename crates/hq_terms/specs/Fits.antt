@@ -6,7 +6,7 @@ use Rattle.hq_terms.specs.Bexp.{depth}
 use Rattle.hq_terms.specs.Catalog.{can_pair}
 use Rattle.hq_terms.specs.Filters.{column_ty, is_filter}
 use Rattle.hq_terms.specs.Meta.{PermTree, TrackedTree, MetaTree, tracked_table}
-use Rattle.hq_terms.specs.Names.{is_free_name}
+use Rattle.hq_terms.specs.Names.{is_admin_name, is_free_name}
 use Rattle.hq_terms.specs.Schema.{Schema, schema_of, table}
 use Rattle.hq_terms.specs.SchemaNames.{names_differ}
 use Rattle.hq_terms.specs.declared.meta.RootNames.{RootNames}
@@ -34,7 +34,7 @@ limit_fits (Some n) = nat_lt n (2 ^ 63)
 -- a limit below 2 ^ 63
 abbrev pub fits_perm : Schema → ℕ → PermTree → Bool
 fits_perm s t p =
-    not (bytes_eq p.role (codes "admin"))
+    not (is_admin_name p.role)
     && list_all (λ c. is_some (column_ty s t c)) p.cols
     && is_filter p.filter s t
     && nat_le (depth p.filter) 300

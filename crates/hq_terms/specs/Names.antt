@@ -1,5 +1,5 @@
--- Names of GraphQL (October 2021, 2.1.9 Names, 2.1.9 Reserved names).
-use Rattle.std.specs.Prelude.{ℕ, List, [], ◌∷◌, Bool, false, not, ◌&&◌, ◌||◌, ◌==◌}
+-- Names (October 2021, 2.1.9 Names, 2.1.9 Reserved names).
+use Rattle.std.specs.Prelude.{ℕ, List, [], ◌∷◌, Bool, false, not, ◌&&◌, ◌||◌, ◌==◌, bytes_eq, codes}
 use Rattle.std.specs.Char.{is_ascii_alphabetic, is_ascii_alphanumeric}
 use Rattle.std.specs.List.{list_all}
 
@@ -24,3 +24,7 @@ is_reserved (a ∷ b ∷ cs) = (a == 95) && (b == 95)
 -- a Name that a schema may give
 abbrev pub is_free_name : List ℕ → Bool
 is_free_name n = is_name n && not (is_reserved n)
+
+-- the role that may see everything
+abbrev pub is_admin_name : List ℕ → Bool
+is_admin_name n = bytes_eq n (codes "admin")

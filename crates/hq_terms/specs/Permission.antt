@@ -3,7 +3,7 @@ use Rattle.std.specs.Prelude.{ℕ, suc, List, [], ◌∷◌, filter, find, Bool,
 use Rattle.std.specs.List.{list_any}
 use Rattle.hq_terms.specs.Bexp.{BexpTree, always}
 use Rattle.hq_terms.specs.Meta.{PermTree, TrackedTree, MetaTree, tracked_table}
-use Rattle.hq_terms.specs.Names.{is_free_name}
+use Rattle.hq_terms.specs.Names.{is_admin_name, is_free_name}
 use Rattle.hq_terms.specs.declared.role.Role.{Role}
 use Rattle.hq_terms.specs.declared.role.Role.TheVariants.{Admin, Named}
 
@@ -23,7 +23,7 @@ pub record Permission : Type 0 where
 
 -- the role of a session
 abbrev pub role_of : List ℕ → Role
-role_of name = cond (bytes_eq name (codes "admin")) Admin (Named name)
+role_of name = cond (is_admin_name name) Admin (Named name)
 
 -- the places, from k on, of the columns whose GraphQL name may stand in a schema
 abbrev pub named_from : (k : ℕ) → List (List ℕ) → List ℕ

@@ -11,6 +11,7 @@ mod op;
 mod perm;
 mod role;
 mod session;
+mod reading;
 mod table;
 mod want;
 
@@ -25,5 +26,6 @@ pub use op::Op;
 pub use perm::PermView;
 pub use role::Role;
 pub use session::{Session, Var, VarList};
+pub use reading::{truth_value, whole_number};
 pub use table::{Column, ColumnList, ForeignKey, ForeignKeyList, Table, TableList};
 pub use want::Want;

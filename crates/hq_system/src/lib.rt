@@ -1,0 +1,9 @@
+//! The streams and files of the system as objects of the outside. They tell nothing of content, and count each fault.
+#![tactic(auto)]
+
+mod files;
+mod interrupted;
+mod streams;
+
+pub use files::DirFiles;
+pub use streams::{StdSink, StdSource};
