@@ -1,4 +1,7 @@
 //! The program over a world that is handed in.
 #![tactic(auto)]
 
-pub mod words;
+mod parts;
+mod words;
+
+pub use words::{Query, WordsRefusal};
