@@ -1,1 +1,3 @@
 pub mod Words
+pub mod Told
+pub mod Directory

@@ -1,6 +1,7 @@
 //! The program over a world that is handed in.
 #![tactic(auto)]
 
+mod directory;
 mod parts;
 mod words;
 
