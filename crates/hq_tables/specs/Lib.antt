@@ -6,3 +6,4 @@ pub mod Flaky
 pub mod Field
 pub mod Header
 pub mod Load
+pub mod Places

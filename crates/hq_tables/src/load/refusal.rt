@@ -3,6 +3,7 @@ ghost use Rattle.hq_tables.specs.declared.load.refusal.LoadRefusal.TheVariants a
 
 use crate::field::FieldRefusal;
 use hq_base::Memory;
+use std::alloc::AllocFailed;
 use thiserror::Error;
 
 /// Why a table file is refused: the first fault, by record. Records are numbered from 1, the header, and the fields of a
@@ -38,6 +39,14 @@ impl From<Memory> for LoadRefusal {
     ghost from_gives = { λ _ e. e ≡ refusal.Memory };
 
     fn from(_: Memory) -> Self {
+        LoadRefusal::Memory
+    }
+}
+
+impl<T: Drop> From<AllocFailed<T>> for LoadRefusal {
+    ghost from_gives = { λ _ e. e ≡ refusal.Memory };
+
+    fn from(_: AllocFailed<T>) -> Self {
         LoadRefusal::Memory
     }
 }
