@@ -1,1 +1,2 @@
 mod WrittenParts
+mod EachDue

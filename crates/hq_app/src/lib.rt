@@ -2,7 +2,14 @@
 #![tactic(auto)]
 
 mod directory;
+mod loaded;
+mod loading;
 mod parts;
+mod refusal;
+mod refused;
 mod words;
 
+pub use loaded::Loaded;
+pub use loading::load;
+pub use refusal::{FileFault, LoadingRefusal};
 pub use words::{Query, WordsRefusal};
