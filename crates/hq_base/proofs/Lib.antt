@@ -4,3 +4,6 @@ pub mod Texts
 pub mod Views
 pub mod Reading
 pub mod Names
+pub mod Joined
+pub mod Characters
+pub mod Matching

@@ -13,3 +13,6 @@ json_view-Obj v = search (rules, the_lemmas)
 
 pub member_view-roll : (name : List ℕ) (value : Json) → member_view (roll-Member (record { name = name; value = value })) ≡ (name, json_view value)
 member_view-roll name value = search (rules, the_lemmas)
+
+pub member_view-fields : (m : Member) → member_view m ≡ (m.name, json_view m.value)
+member_view-fields m = search (rules, the_lemmas)

@@ -1,4 +1,4 @@
-ghost use Rattle.std.specs.Prelude.{◌≡◌, ◌++◌, [], length, OnOk, OnErr, IfOk};
+ghost use Rattle.std.specs.Prelude.{◌≡◌, ◌++◌, ◌∷◌, [], length, OnOk, OnErr, IfOk};
 
 use crate::Memory;
 use std::alloc::Global;
@@ -63,6 +63,15 @@ impl Bytes {
         ensures { self.new ≡ [] }
     {
         self.items.clear();
+    }
+
+    /// Adds a byte at the end.
+    pub fn push(&mut self, byte: u8) -> Result<(), Memory>
+        ensures ok { OnOk result (self.new ≡ self.old ++ byte ∷ []) }
+        ensures err { OnErr result (self.new ≡ self.old) }
+    {
+        self.items.push(byte)?;
+        Ok(())
     }
 
     /// Adds these bytes at the end.

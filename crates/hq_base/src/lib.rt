@@ -3,11 +3,14 @@
 
 mod body;
 mod bytes;
+mod compact;
 mod json;
 mod list;
 mod look;
 mod memory;
 mod path;
+mod order;
+mod pattern;
 mod reply;
 #[cfg(test)]
 mod tests;
@@ -20,6 +23,8 @@ pub use json::{Json, JsonList, Member, Members};
 pub use list::List;
 pub use memory::Memory;
 pub use path::{item_path, member_path, top_path};
+pub use order::compare;
+pub use pattern::{Pattern, PatternRefusal};
 pub use reply::Reply;
 pub use txt::{Txt, TxtRefusal};
 pub use value::{Cell, Ty, Val};

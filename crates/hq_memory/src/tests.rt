@@ -114,6 +114,13 @@ fn a_file_is_loaded_by_its_name(rt: HostRuntime) -> Result<(), Fail> {
     Ok(())
 }
 
+// A link with room for four bytes.
+fn link(alloc: Global, input: &[u8]) -> Result<MemLink, Fail> {
+    let reads = numbers(alloc, &[])?;
+    let writes = numbers(alloc, &[])?;
+    Ok(MemLink::new(alloc, bytes(alloc, input)?, 4, reads, writes)?)
+}
+
 // Reads at most eight bytes of a link, and writes them back.
 fn echo<L: Link>(link: &mut L) -> Option<usize> {
     let mut buf = [0u8; 8];
@@ -132,9 +139,7 @@ fn links_are_accepted_in_order(rt: HostRuntime) -> Result<(), Fail> {
     let alloc = rt.alloc();
     let mut links = List::new(alloc);
     for text in ["one", "three"] {
-        let none = [numbers(alloc, &[])?, numbers(alloc, &[])?];
-        let [reads, writes] = none;
-        links.push(MemLink::new(alloc, bytes(alloc, text.as_bytes())?, 4, reads, writes)?)?;
+        links.push(link(alloc, text.as_bytes())?)?;
     }
     let mut door = MemDoor::new(alloc, links, numbers(alloc, &[3])?);
     assert!(rt; door.listen(80).is_ok());

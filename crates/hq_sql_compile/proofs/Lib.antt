@@ -6,3 +6,4 @@ pub mod Sound
 pub mod Extends
 pub mod ListMeans
 pub mod Meaning
+pub mod Statements

@@ -65,7 +65,7 @@ module _ (s : Schema) (tables : List Table) (d : List (List Row)) (sound : Sound
   key = (table s u).key
 
   -- the rows of the list's inner select: an output row for each of the table's rows, in key order
-  list_rows_are : rows_of (list_rows s u n values (J no_join)) world scope ≡ map output_row (by_key s d u)
+  list_rows_are : rows_of (list_rows (table s u).schema (table s u).name (table s u).columns (table s u).key n values (J no_join)) world scope ≡ map output_row (by_key s d u)
   list_rows_are =
       let all : List Row = table_rows d u in
       let narrow = sound.narrow u in
@@ -110,7 +110,7 @@ module _ (s : Schema) (tables : List Table) (d : List (List Row)) (sound : Sound
   list_means means =
       let os = orders_of (output_orders (table s u).columns (fold_alias n) key 0) in
       let array : List Scope → List NamedRow = λ l. ((value_name, json (arr (elements_of (map (λ z. json_of (value (column (fold_alias n) value_name false) [] z)) (sort (orders_cmp os) l))))) ∷ []) ∷ [] in
-      let rows_as : map (with_alias scope (fold_alias n)) (rows_of (list_rows s u n values (J no_join)) world scope) ≡ map folded (by_key s d u) =
+      let rows_as : map (with_alias scope (fold_alias n)) (rows_of (list_rows (table s u).schema (table s u).name (table s u).columns (table s u).key n values (J no_join)) world scope) ≡ map folded (by_key s d u) =
           ap (map (with_alias scope (fold_alias n))) list_rows_are ∙ map_map (with_alias scope (fold_alias n)) output_row (by_key s d u) in
       let sorted : sort (orders_cmp os) (map folded (by_key s d u)) ≡ map folded (by_key s d u) =
           sort_map_on (Narrow s u) folded (columns_cmp key) (orders_cmp os) folded_orders (by_key s d u) narrow_by_key

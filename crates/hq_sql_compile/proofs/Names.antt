@@ -1,8 +1,11 @@
 -- Names, aliases, and what an alias shows of a row.
-use Rattle.std.proofs.Common.{◌≡◌, ℕ, zero, suc, ◌<◌, ◌≤◌, ◌^◌, List, [], ◌∷◌, length, Bool, true, false, bytes_eq, decimal, refl, arith, lt_trans}
+use Rattle.std.proofs.Common.{◌≡◌, ℕ, zero, suc, ◌<◌, ◌≤◌, ◌^◌, List, [], ◌∷◌, length, Bool, true, false, bytes_eq, decimal, map, ◌+◌, refl, ap, ◌∙◌, arith, lt_trans}
 use Rattle.std.specs.Prelude.{slice_index_or}
 use Rattle.std.proofs.lemmas.Slice.Eq.{bytes_eq-Decides}
-use Rattle.std.proofs.lemmas.Fmt.{decimal_injective}
+use Rattle.std.proofs.lemmas.Fmt.{decimal_injective, decimal_digit, decimal-digits_of}
+use Rattle.std.proofs.lemmas.Bool.{ne_eqb}
+use Rattle.hq_base.specs.Text.{has_zero}
+use Rattle.std.specs.Int.Digits.{digits_of}
 use Rattle.hq_base.specs.declared.value.Val.{Val}
 use Rattle.hq_base.specs.declared.value.Val.TheVariants as val
 use Rattle.hq_terms.specs.Database.{Row}
@@ -83,3 +86,12 @@ shows_bound s scope t alias row differ narrow c =
 
 pub shows_behind : (s : Schema) (scope : Scope) (t : ℕ) (a b : List ℕ) (row : Row) (x : NamedRow) → bytes_eq b a ≡ false → Shows s scope t a row → Shows s (with_alias scope b x) t a row
 shows_behind s scope t a b row x ne shows c = rw (with_alias_other scope b a x ne) (shows c)
+
+-- the digits of a number are no zero bytes
+no_zero_in : (ds : List ℕ) → has_zero (map (λ d. 48 + d) ds) ≡ false
+no_zero_in [] = refl
+no_zero_in (d ∷ ds) = rw (ne_eqb (48 + d) 0 (λ e. absurd (omega arith))) (no_zero_in ds)
+
+pub no_zero_in_decimal : (n : ℕ) → n < 2 ^ 64 → has_zero (decimal n) ≡ false
+no_zero_in_decimal zero bound = ap has_zero (decimal_digit 0 (omega arith))
+no_zero_in_decimal (suc n) bound = ap has_zero (decimal-digits_of (suc n) (omega arith) bound) ∙ no_zero_in (digits_of 10 (suc n))

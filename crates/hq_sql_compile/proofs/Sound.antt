@@ -59,15 +59,22 @@ abbrev table_at : List Table → ℕ → Table
 table_at tables t = slice_index_or tables t beyond
 
 -- the parts of a table of the schema that are the catalog's
-record IsOf (x : SchemaTable) (t : Table) : Type 0 where
-  schema : x.schema ≡ t.schema
-  name : x.name ≡ t.name
-  columns : x.columns ≡ t.columns
+pub record IsOf (x : SchemaTable) (t : Table) : Type 0 where
+  pub schema : x.schema ≡ t.schema
+  pub name : x.name ≡ t.name
+  pub columns : x.columns ≡ t.columns
+  pub key : x.key ≡ t.key
 
 schema_is : (meta : MetaTree) (k : ℕ) (tables : List Table) (t : ℕ) → IsOf (slice_index_or (numbered (schema_table meta) k tables) t no_table) (table_at tables t)
-schema_is meta k [] t = record { schema = refl; name = refl; columns = refl }
-schema_is meta k (x ∷ tables) zero = record { schema = refl; name = refl; columns = refl }
+schema_is meta k [] t = record { schema = refl; name = refl; columns = refl; key = refl }
+schema_is meta k (x ∷ tables) zero = record { schema = refl; name = refl; columns = refl; key = refl }
 schema_is meta k (x ∷ tables) (suc t) = schema_is meta (suc k) tables t
+
+-- a table of the catalog in its schema
+pub catalog_table : (meta : MetaTree) (k : ℕ) (tables : List Table) (t : ℕ) (x : Table) → t < length tables → x ≡ slice_index_or tables t x → IsOf (slice_index_or (numbered (schema_table meta) k tables) t no_table) x
+catalog_table meta k [] t x lt e = absurd (omega arith)
+catalog_table meta k (y ∷ tables) zero x lt e = record { schema = ap (λ z. z.schema) (sym e); name = ap (λ z. z.name) (sym e); columns = ap (λ z. z.columns) (sym e); key = ap (λ z. z.key) (sym e) }
+catalog_table meta k (y ∷ tables) (suc t) x lt e = catalog_table meta (suc k) tables t x (omega arith) e
 
 -- the parts of what a catalog says of a table
 record IsNamed (t : Table) : Type 0 where

@@ -5,8 +5,9 @@ use Rattle.std.specs.Prelude.{ℕ, ◌+◌, List, [], ◌∷◌, length, Bool, t
 use Rattle.hq_terms.specs.Database.{is_text}
 use Rattle.hq_terms.specs.Schema.{Schema, table, no_column}
 use Rattle.hq_terms.specs.declared.table.Column.{Column}
+use Rattle.hq_ask_tree.specs.declared.ask.AskColumn.{AskColumn}
 use Rattle.hq_ask_tree.specs.Request.{FieldTrees, no_field, field, FieldTree, column as column_field, list}
-use Rattle.hq_sql_tree.specs.Tree.{ExprTree, column, object, aggregate, PairTrees, no_pair, pair, json_agg, orders_of, OrderTree, OutTree, SelectTree, rows, fold, table as from_table, one, JoinTrees, no_join, join, no_filter}
+use Rattle.hq_sql_tree.specs.Tree.{ExprTree, column, object, aggregate, PairTree, PairTrees, no_pair, pair, pairs_of, json_agg, orders_of, OrderTree, OutTree, SelectTree, rows, fold, table as from_table, one, JoinTrees, no_join, join, no_filter}
 
 unfoldable pub table_alias : ℕ → List ℕ
 table_alias n = 116 ∷ decimal n
@@ -55,18 +56,25 @@ output_orders columns alias [] i = []
 output_orders columns alias (c ∷ cs) i =
     ascending_key (column alias (key_name i) (is_text_column columns c)) ∷ output_orders columns alias cs (i + 1)
 
+-- columns under their response keys
+abbrev pub column_pairs : List Column → (alias : List ℕ) → List AskColumn → List PairTree
+column_pairs columns alias [] = []
+column_pairs columns alias (c ∷ cs) = record { name = c.key; value = column_at columns alias c.column } ∷ column_pairs columns alias cs
+
 -- the rows of a list: the object of its fields, then the sort keys
-abbrev pub list_rows : Schema → (t n : ℕ) → PairTrees → JoinTrees → SelectTree
-list_rows s t n values joins =
-    rows [] (record { value = object values; name = value_name } ∷ key_outputs (table s t).columns (table_alias n) (table s t).key 0)
-    (from_table (table s t).schema (table s t).name (table_alias n)) joins no_filter
-    (key_orders (table s t).columns (table_alias n) (table s t).key) None None
+abbrev pub list_rows : (schema name : List ℕ) → List Column → (key : List ℕ) → (n : ℕ) → PairTrees → JoinTrees → SelectTree
+list_rows schema name columns key n values joins =
+    rows [] (record { value = object values; name = value_name } ∷ key_outputs columns (table_alias n) key 0)
+    (from_table schema name (table_alias n)) joins no_filter (key_orders columns (table_alias n) key) None None
 
 -- a list: the array of its rows' objects, in the order of their keys
+abbrev pub list_of_rows : (schema name : List ℕ) → List Column → (key : List ℕ) → (n : ℕ) → PairTrees → JoinTrees → SelectTree
+list_of_rows schema name columns key n values joins =
+    fold (record { value = aggregate (json_agg (column (fold_alias n) value_name false) (orders_of (output_orders columns (fold_alias n) key 0))); name = value_name })
+    (list_rows schema name columns key n values joins) (fold_alias n)
+
 abbrev pub list_select : Schema → (t n : ℕ) → PairTrees → JoinTrees → SelectTree
-list_select s t n values joins =
-    fold (record { value = aggregate (json_agg (column (fold_alias n) value_name false) (orders_of (output_orders (table s t).columns (fold_alias n) (table s t).key 0))); name = value_name })
-    (list_rows s t n values joins) (fold_alias n)
+list_select s t n = list_of_rows (table s t).schema (table s t).name (table s t).columns (table s t).key n
 
 -- how many numbers fields take
 abbrev mutual
@@ -103,3 +111,11 @@ abbrev pub statement : FieldTrees → Schema → SelectTree
 statement fs s =
     rows [] (record { value = object (values_of fs s (length s) (table_alias 0) 1); name = value_name } ∷ [])
     (one (table_alias 0)) (joins_of fs s 1 no_join) no_filter [] None None
+
+-- the statement of one list of columns, from what the catalog says of its table
+abbrev pub list_statement : (response schema name : List ℕ) → List Column → (key : List ℕ) → List AskColumn → SelectTree
+list_statement response schema name columns key fields =
+    rows [] (record { value = object (pair response (column (join_alias 1) value_name false) no_pair); name = value_name } ∷ [])
+    (one (table_alias 0))
+    (join (list_of_rows schema name columns key 1 (pairs_of (column_pairs columns (table_alias 1) fields)) no_join) (join_alias 1) no_join)
+    no_filter [] None None

@@ -1,5 +1,9 @@
 //! The compiler: a typed request to the one statement that answers it.
 #![tactic(auto)]
 
-/// Nothing yet.
-pub fn nothing() {}
+mod alias;
+mod columns;
+mod statement;
+mod list;
+
+pub use statement::compile;

@@ -1,5 +1,5 @@
 -- Which trees are statements' parts: lists that must not be empty, places of aggregates, parentheses, texts.
-use Rattle.std.specs.Prelude.{ℕ, ◌+◌, ◌^◌, ℤ, pos, negsuc, max, Bool, true, false, ◌&&◌, ◌||◌, not, List, [], ◌∷◌, map, length, nat_lt, nat_le, Option, Some, None}
+use Rattle.std.specs.Prelude.{ℕ, ◌+◌, ◌^◌, ℤ, pos, negsuc, max, Bool, true, false, ◌&&◌, ◌||◌, not, List, [], ◌∷◌, map, length, ◌==◌, nat_lt, nat_le, Option, Some, None, is_none}
 use Rattle.std.specs.List.{list_all}
 use Rattle.std.specs.Str.{is_utf8}
 use Rattle.hq_base.specs.Text.{has_zero}
@@ -47,10 +47,28 @@ abbrev pub is_rows : SelectTree → Bool
 is_rows (tree.rows distinct outs from joins condition keys limit offset) = true
 is_rows (tree.fold out inner alias) = false
 
--- these would be written as a fold is: one output that has an aggregate, from the rows of a sub-select and nothing else
+-- one output alone, which has an aggregate
+abbrev pub is_lone_agg : List OutTree → Bool
+is_lone_agg (o ∷ []) = holds_agg o.value
+is_lone_agg _ = false
+
+abbrev pub is_sub_of_rows : FromTree → Bool
+is_sub_of_rows (tree.sub s alias) = is_rows s
+is_sub_of_rows _ = false
+
+abbrev pub is_no_join : JoinTrees → Bool
+is_no_join tree.no_join = true
+is_no_join (tree.join s alias js) = false
+
+abbrev pub is_no_filter : FilterTree → Bool
+is_no_filter tree.no_filter = true
+is_no_filter (tree.filter p) = false
+
+-- rows that would be written as a fold is: one output with an aggregate, from the rows of a sub-select, and nothing else
 abbrev pub reads_as_fold : SelectTree → Bool
-reads_as_fold (tree.rows [] (o ∷ []) (tree.sub s alias) tree.no_join tree.no_filter [] None None) = holds_agg o.value && is_rows s
-reads_as_fold _ = false
+reads_as_fold (tree.rows distinct outs from joins condition keys limit offset) =
+    is_lone_agg outs && is_sub_of_rows from && (length distinct == 0) && is_no_join joins && is_no_filter condition && (length keys == 0) && is_none limit && is_none offset
+reads_as_fold (tree.fold out inner alias) = false
 
 abbrev mutual
   -- each select has an output; And and Or have two members or more, IN one or more; EXISTS and a fold are over rows
@@ -160,7 +178,7 @@ abbrev mutual
 
 -- ---- what the values of a tree can be: texts without a zero byte, whole numbers of 64 bits
 
-abbrev pub is_text : List ℕ → Bool
+unfoldable pub is_text : List ℕ → Bool
 is_text bytes = is_utf8 bytes && not (has_zero bytes)
 
 abbrev pub is_bigint : ℤ → Bool

@@ -7,7 +7,7 @@ use Rattle.hq_sql_tree.specs.declared.word.Word.{Word}
 use Rattle.hq_sql_tree.specs.declared.word.Word.TheVariants as word
 use Rattle.hq_sql_tree.specs.Word.{word_text}
 use Rattle.hq_sql_tree.specs.Tree as tree
-use Rattle.hq_sql_tree.specs.Tree.{ExprTree, PairTree, PairTrees, AggTree, OrderTree, OrderTrees, OutTree, SelectTree, FromTree, JoinTrees, FilterTree, PredTree, PredTrees}
+use Rattle.hq_sql_tree.specs.Tree.{ExprTree, PairTree, PairTrees, AggTree, OrderTree, OrderTrees, OutTree, SelectTree, FromTree, JoinTree, JoinTrees, FilterTree, PredTree, PredTrees}
 
 -- ---- names, texts, numbers and lists
 
@@ -128,7 +128,7 @@ number_text w (Some n) = word_text w ++ decimal n
 abbrev mutual
   pub select_text : SelectTree → List ℕ
   select_text (tree.rows distinct outs from joins condition keys limit offset) =
-      word_text word.Select ++ (distinct_text distinct ++ (separated word.Comma (map out_text outs) ++ (word_text word.From ++ (from_text from ++ (clause_text word.LateralJoin word.LateralJoin (join_texts joins)
+      word_text word.Select ++ (distinct_text distinct ++ (separated word.Comma (map out_text outs) ++ (word_text word.From ++ (from_text from ++ (each_after word.LateralJoin (join_texts joins)
       ++ (filter_text condition ++ (clause_text word.OrderBy word.Comma (map order_text keys) ++ (number_text word.Limit limit ++ number_text word.Offset offset))))))))
   select_text (tree.fold out inner alias) = word_text word.Select ++ (out_text out ++ (word_text word.From ++ (word_text word.Open ++ (select_text inner ++ (word_text word.CloseAs ++ name_text alias)))))
 
@@ -160,3 +160,6 @@ abbrev mutual
   pub pred_texts : PredTrees → List (List ℕ)
   pred_texts tree.no_pred = []
   pred_texts (tree.pred p ps) = pred_text p ∷ pred_texts ps
+
+abbrev pub join_text : JoinTree → List ℕ
+join_text j = select_text j.select ++ (word_text word.CloseAs ++ (name_text j.alias ++ word_text word.OnTrue))

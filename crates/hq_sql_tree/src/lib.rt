@@ -3,6 +3,7 @@
 
 mod copy;
 mod expr;
+mod form;
 mod select;
 mod word;
 

@@ -1,2 +1,4 @@
 pub mod Numbers
+mod Lists
+mod Places
 mod Worked

@@ -3,7 +3,7 @@
 use Rattle.std.specs.Prelude.{ℕ, List, [], ◌∷◌, find, Bool, Option, Some, None, option_map, Result, Ok, Err, bytes_eq}
 use Rattle.hq_base.specs.Due.{and_then, mapped}
 use Rattle.hq_base.specs.declared.value.Val.{Val}
-use Rattle.hq_terms.specs.Bexp.{BexpTree, always, and_of, or_of, not_of, comparison, within, is_null, like, through, BexpTrees, no_bexp, bexp}
+use Rattle.hq_terms.specs.Bexp.{BexpTree, always, and_of, or_of, not_of, comparison, within, is_null, like, through, BexpTrees, no_bexp, bexp, bexps_of}
 use Rattle.hq_terms.specs.Permission.{Mask, Permission}
 use Rattle.hq_terms.specs.Reading.{read_as, read_pattern}
 use Rattle.hq_terms.specs.Schema.{Schema, column, rel}
@@ -40,8 +40,8 @@ bound_operands read vars (o ∷ os) = and_then (λ b. mapped (λ bs. b ∷ bs) (
 abbrev mutual
   pub bound : BexpTree → Schema → List Var → ℕ → Result BexpTree BindRefusal
   bound always s vars t = Ok always
-  bound (and_of bs) s vars t = mapped and_of (bound_all bs s vars t)
-  bound (or_of bs) s vars t = mapped or_of (bound_all bs s vars t)
+  bound (and_of bs) s vars t = mapped (λ xs. and_of (bexps_of xs)) (bound_all bs s vars t)
+  bound (or_of bs) s vars t = mapped (λ xs. or_of (bexps_of xs)) (bound_all bs s vars t)
   bound (not_of b) s vars t = mapped not_of (bound b s vars t)
   bound (comparison c op v) s vars t = mapped (comparison c op) (bound_operand (read_as (column s t c).ty) vars v)
   bound (within c vs negated) s vars t = mapped (λ os. within c os negated) (bound_operands (read_as (column s t c).ty) vars vs)
@@ -49,9 +49,9 @@ abbrev mutual
   bound (like c fold negated v) s vars t = mapped (like c fold negated) (bound_operand read_pattern vars v)
   bound (through r b) s vars t = mapped (through r) (bound b s vars (rel s t r).remote)
 
-  pub bound_all : BexpTrees → Schema → List Var → ℕ → Result BexpTrees BindRefusal
-  bound_all no_bexp s vars t = Ok no_bexp
-  bound_all (bexp b bs) s vars t = and_then (λ x. mapped (bexp x) (bound_all bs s vars t)) (bound b s vars t)
+  pub bound_all : BexpTrees → Schema → List Var → ℕ → Result (List BexpTree) BindRefusal
+  bound_all no_bexp s vars t = Ok []
+  bound_all (bexp b bs) s vars t = and_then (λ x. mapped (λ xs. x ∷ xs) (bound_all bs s vars t)) (bound b s vars t)
 
 abbrev pub bound_masks : List Mask → Schema → List Var → ℕ → Result (List Mask) BindRefusal
 bound_masks [] s vars t = Ok []

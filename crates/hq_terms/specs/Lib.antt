@@ -9,6 +9,7 @@ pub mod Logic
 pub mod Seen
 pub mod Truth
 pub mod Permission
+pub mod PermView
 pub mod Reading
 pub mod Binding
 pub mod Grants

@@ -8,12 +8,9 @@ use Rattle.hq_base.specs.Cells.{CellTree, null, int, text, bool, json}
 use Rattle.hq_terms.specs.Pattern.{matches}
 use Rattle.hq_terms.specs.declared.op.Op.{Op}
 use Rattle.hq_terms.specs.declared.op.Op.TheVariants.{Eq, Ne, Lt, Le, Gt, Ge}
-
 -- true, false, and what SQL calls NULL or unknown
-pub data Truth : Type 0 where
-  Yes : Truth
-  No : Truth
-  Unknown : Truth
+pub use Rattle.hq_terms.specs.declared.truth.Truth.{Truth}
+pub use Rattle.hq_terms.specs.declared.truth.Truth.TheVariants.{Yes, No, Unknown}
 
 -- a row is kept where a condition is true: false and unknown are alike there
 abbrev pub is_true : Truth → Bool

@@ -1,5 +1,6 @@
 use crate::Want;
-use hq_base::Txt;
+use hq_base::{Memory, Txt};
+use std::alloc::{AllocError, AllocFailed};
 use thiserror::Error;
 
 /// Why a filter cannot be bound for a session: the first operand in read order that has no value.
@@ -13,4 +14,37 @@ pub enum BindRefusal {
     BadVariable { name: Txt, want: Want },
     #[error("out of memory")]
     Memory,
+}
+
+impl From<Memory> for BindRefusal {
+    ghost use Rattle.std.specs.Prelude.{◌≡◌};
+    ghost use Rattle.hq_terms.specs.declared.bind.BindRefusal.TheVariants as refusal;
+
+    ghost from_gives = { λ _ e. e ≡ refusal.Memory };
+
+    fn from(_: Memory) -> Self {
+        BindRefusal::Memory
+    }
+}
+
+impl From<AllocError> for BindRefusal {
+    ghost use Rattle.std.specs.Prelude.{◌≡◌};
+    ghost use Rattle.hq_terms.specs.declared.bind.BindRefusal.TheVariants as refusal;
+
+    ghost from_gives = { λ _ e. e ≡ refusal.Memory };
+
+    fn from(_: AllocError) -> Self {
+        BindRefusal::Memory
+    }
+}
+
+impl<T: Drop> From<AllocFailed<T>> for BindRefusal {
+    ghost use Rattle.std.specs.Prelude.{◌≡◌};
+    ghost use Rattle.hq_terms.specs.declared.bind.BindRefusal.TheVariants as refusal;
+
+    ghost from_gives = { λ _ e. e ≡ refusal.Memory };
+
+    fn from(_: AllocFailed<T>) -> Self {
+        BindRefusal::Memory
+    }
 }

@@ -3,16 +3,22 @@
 
 mod bexp;
 mod bind;
+mod binding;
 mod catalog;
 mod copy;
 mod ids;
 mod meta;
+mod name;
 mod op;
+mod operand;
 mod perm;
-mod role;
-mod session;
+mod permission;
 mod reading;
+mod role;
+mod scope;
+mod session;
 mod table;
+mod truth;
 mod want;
 
 pub use bexp::{Bexp, BexpList, Operand, Operands};
@@ -22,10 +28,12 @@ pub use ids::{ColId, ColList, RelId, TableId};
 pub use meta::{
     Meta, Pair, PairList, Perm, PermList, Rel, RelList, RootNames, Tracked, TrackedList, TxtList,
 };
+pub use name::is_free_name;
 pub use op::Op;
 pub use perm::PermView;
+pub use reading::{truth_value, whole_number};
 pub use role::Role;
 pub use session::{Session, Var, VarList};
-pub use reading::{truth_value, whole_number};
 pub use table::{Column, ColumnList, ForeignKey, ForeignKeyList, Table, TableList};
+pub use truth::Truth;
 pub use want::Want;

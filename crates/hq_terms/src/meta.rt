@@ -1,4 +1,6 @@
-use crate::{Bexp, ColId, ColList, TableId};
+ghost use Rattle.std.specs.Prelude.{◌≡◌, option_copied, slice_get};
+
+use crate::{Bexp, ColId, ColList, RelId, TableId};
 use hq_base::{List, Txt};
 
 /// The names of a table's root fields.
@@ -67,4 +69,13 @@ pub type TrackedList = List<Tracked>;
 #[derive(Debug, Drop)]
 pub struct Meta {
     pub tracked: TrackedList,
+}
+
+impl Tracked {
+    /// A relationship by its place.
+    pub fn rel(&self, r: RelId) -> Option<&Rel>
+        ensures { option_copied result ≡ slice_get self.now.rels r }
+    {
+        self.rels.get(r.at())
+    }
 }

@@ -1,4 +1,6 @@
-use crate::{ColList, TableId};
+ghost use Rattle.std.specs.Prelude.{◌≡◌, option_copied, slice_get};
+
+use crate::{ColId, ColList, TableId};
 use hq_base::{List, Txt, Ty};
 
 /// A column of a table.
@@ -36,3 +38,12 @@ pub struct Table {
 
 /// Tables, in the catalog's order.
 pub type TableList = List<Table>;
+
+impl Table {
+    /// A column by its place.
+    pub fn column(&self, c: ColId) -> Option<&Column>
+        ensures { option_copied result ≡ slice_get self.now.columns c }
+    {
+        self.columns.get(c.at())
+    }
+}
