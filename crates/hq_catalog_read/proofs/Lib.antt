@@ -1,2 +1,3 @@
+mod EachLemmas
 mod LimitLemmas
 mod RepeatLemmas

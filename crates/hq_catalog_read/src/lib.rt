@@ -4,9 +4,12 @@
 mod field;
 mod limits;
 mod node;
+mod read;
 mod refusal;
 mod repeats;
+mod resolve;
 mod shape;
 mod written;
 
+pub use read::read_catalog;
 pub use refusal::CatalogRefusal;
