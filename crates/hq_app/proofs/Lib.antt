@@ -1,0 +1,2 @@
+mod WrittenParts
+mod EachDue
