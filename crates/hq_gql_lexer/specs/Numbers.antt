@@ -33,3 +33,10 @@ exponent_mark_len bytes =
 abbrev pub exponent_len : List ℕ → ℕ
 exponent_len bytes = let mark = exponent_mark_len bytes in
     if 0 == mark then 0 else (if next_is is_ascii_digit (drop mark bytes) then mark + digits_len (drop mark bytes) else 0)
+
+-- IntegerPart, and the FractionalPart and ExponentPart that there may be
+abbrev pub number_len : List ℕ → ℕ
+number_len bytes =
+    let whole = integer_len bytes in
+    let part = whole + fraction_len (drop whole bytes) in
+    part + exponent_len (drop part bytes)

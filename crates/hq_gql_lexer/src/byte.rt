@@ -1,5 +1,6 @@
 //! Classes of bytes, and how far they go.
-ghost use Rattle.std.specs.Prelude.{◌≡◌, ◌≤◌, length};
+ghost use Rattle.std.specs.Prelude.{◌≡◌, ◌≤◌, length, Ok, IfOk};
+ghost use Rattle.hq_base.specs.Refused.{text_of};
 ghost use Rattle.std.specs.List.{prefix_len};
 ghost use Rattle.std.specs.Char.{is_ascii_digit};
 ghost use Rattle.std.specs.Str.Lossy.{utf8_valid_len};
@@ -55,6 +56,14 @@ pub(crate) fn digits_len(bytes: &[u8]) -> usize
     bytes.iter().take_while(|b| b.is_ascii_digit()).count()
 }
 
+// How many bytes at the front are of characters that a text may hold.
+pub(crate) fn source_len(bytes: &[u8]) -> usize
+    ensures len { result ≡ prefix_len is_source bytes.now }
+    ensures within { result ≤ length bytes.now }
+{
+    bytes.iter().take_while(|b| is_source(**b)).count()
+}
+
 // How many bytes at the front are UTF-8.
 pub(crate) fn utf8_len(bytes: &[u8]) -> usize
     ensures len { result ≡ utf8_valid_len bytes.now }
@@ -74,7 +83,10 @@ pub(crate) fn digit_is_next(bytes: &[u8]) -> bool
 }
 
 // The text of these bytes, which are one.
-pub(crate) fn text(alloc: Global, bytes: &[u8]) -> Result<Txt, Memory> {
+pub(crate) fn text(alloc: Global, bytes: &[u8]) -> Result<Txt, Memory>
+    requires { text_of bytes.now ≡ Ok bytes.now }
+    ensures { IfOk result (λ text. text ≡ bytes.now) }
+{
     match Txt::of(alloc, bytes) {
         Ok(text) => Ok(text),
         Err(_) => Err(Memory),

@@ -1,7 +1,13 @@
 //! Escapes in strings.
+ghost use Rattle.std.specs.Prelude.{◌≡◌, ◌<◌, ◌^◌, ◌≤◌, length, IfSome, option_map, if◌then◌else◌, Some, None};
+ghost use Rattle.std.specs.Char.{digit_value, is_digit};
+ghost use Rattle.hq_gql_lexer.specs.Escapes.{simple_escape, unit_at, unicode_escape, escape_at};
+
 use std::char;
 
-fn simple_escape(byte: u8) -> Option<char> {
+fn simple_escape(byte: u8) -> Option<char>
+    ensures { result ≡ simple_escape byte }
+{
     match byte {
         b'"' => Some('"'),
         b'\\' => Some('\\'),
@@ -15,19 +21,30 @@ fn simple_escape(byte: u8) -> Option<char> {
     }
 }
 
-fn digit(byte: u8) -> Option<u32> {
+fn digit(byte: u8) -> Option<u32>
+    ensures value { result ≡ (if is_digit byte 16 then Some (digit_value byte) else None) }
+    ensures small { IfSome result (λ d. d < 16) }
+{
     (byte as char).to_digit(16)
 }
 
 // The code unit of a `\u` and four hexadecimal digits at the front.
-fn unit(bytes: &[u8]) -> Option<u32> {
+fn unit(bytes: &[u8]) -> Option<u32>
+    ensures value { result ≡ unit_at bytes.now }
+    ensures small { IfSome result (λ u. u < 2 ^ 16) }
+    ensures within { IfSome result (λ _. 6 ≤ length bytes.now) }
+{
     let [b'\\', b'u', a, b, c, d, ..] = bytes else {
         return None;
     };
     Some(((digit(*a)? * 16 + digit(*b)?) * 16 + digit(*c)?) * 16 + digit(*d)?)
 }
 
-fn unicode_escape(bytes: &[u8]) -> Option<(char, usize)> {
+#[tactic(auto, unfolding(crate::specs::Escapes::unicode_escape))]
+fn unicode_escape(bytes: &[u8]) -> Option<(char, usize)>
+    ensures value { result ≡ unicode_escape bytes.now }
+    ensures within { IfSome result (λ x. (0 < x.1) × (x.1 ≤ length bytes.now)) }
+{
     let high = unit(bytes)?;
     if high == 0 {
         return None;
@@ -44,12 +61,15 @@ fn unicode_escape(bytes: &[u8]) -> Option<(char, usize)> {
 }
 
 // The character of the escape at the front, which begins with a `\`, and how many bytes the escape takes.
-pub(crate) fn escape(bytes: &[u8]) -> Option<(char, usize)> {
-    let simple = match bytes {
-        [b'\\', second, ..] => simple_escape(*second),
-        _ => None,
+#[tactic(auto, unfolding(crate::specs::Escapes::escape_at))]
+pub(crate) fn escape(bytes: &[u8]) -> Option<(char, usize)>
+    ensures value { result ≡ escape_at bytes.now }
+    ensures within { IfSome result (λ x. (0 < x.1) × (x.1 ≤ length bytes.now)) }
+{
+    let [_, second, ..] = bytes else {
+        return None;
     };
-    match simple {
+    match simple_escape(*second) {
         Some(c) => Some((c, 2)),
         None => unicode_escape(bytes),
     }

@@ -1,6 +1,10 @@
 //! What stands at one place of a text: a token, or what is ignored.
+ghost use Rattle.std.specs.Prelude.{◌≡◌, ◌+◌, ◌<◌, ◌≤◌, ◌^◌, length, IfOk, IfSome};
+ghost use Rattle.hq_base.specs.Due.{Gives};
+ghost use Rattle.hq_gql_lexer.specs.Lexemes.{comment_at, ignored_at, punct_of, punct_at, token_at, lexeme_at};
+
 use crate::byte::{
-    is_line_end, is_name_start, is_source, is_white_space, name_len, text, utf8_len,
+    is_line_end, is_name_start, is_white_space, name_len, source_len, text, utf8_len,
 };
 use crate::lines::line_len;
 use crate::number::{number, number_starts};
@@ -8,14 +12,19 @@ use crate::string::string;
 use crate::{LexRefusal, Punct, TokenKind};
 use std::alloc::Global;
 
-// A comment's length.
-fn comment(at: usize, bytes: &[u8]) -> Result<usize, LexRefusal> {
+// How many bytes a comment takes behind its `#`.
+#[tactic(auto, unfolding(crate::specs::Lexemes::comment_at))]
+fn comment(at: usize, bytes: &[u8]) -> Result<usize, LexRefusal>
+    requires { at + length bytes.now < 2 ^ 64 }
+    ensures exact { Gives (λ n. n) LexRefusal.Memory (comment_at at bytes.now) result }
+    ensures within { IfOk result (λ n. n ≤ length bytes.now) }
+{
     let len = line_len(bytes);
-    let comment = &bytes[..len];
-    let valid = utf8_len(comment);
-    if let Some(i) = comment[..valid].iter().position(|b| !is_source(*b)) {
+    let valid = utf8_len(&bytes[..len]);
+    let good = source_len(&bytes[..valid]);
+    if good < valid {
         return Err(LexRefusal::BadByte {
-            at: (at + i) as u64,
+            at: (at + good) as u64,
         });
     }
     if valid < len {
@@ -27,16 +36,24 @@ fn comment(at: usize, bytes: &[u8]) -> Result<usize, LexRefusal> {
 }
 
 // How many ignored bytes stand at the front, where there are any.
-fn ignored(at: usize, bytes: &[u8]) -> Result<Option<usize>, LexRefusal> {
+#[tactic(auto, unfolding(crate::specs::Lexemes::ignored_at))]
+fn ignored(at: usize, bytes: &[u8]) -> Result<Option<usize>, LexRefusal>
+    requires { at + length bytes.now < 2 ^ 64 }
+    ensures exact { Gives (λ n. n) LexRefusal.Memory (ignored_at at bytes.now) result }
+    ensures within { IfOk result (λ found. IfSome found (λ n. (0 < n) × (n ≤ length bytes.now))) }
+{
     match bytes {
-        [b'#', ..] => Ok(Some(comment(at, bytes)?)),
+        [b'#', rest @ ..] => Ok(Some(comment(at + 1, rest)? + 1)),
         [0xef, 0xbb, 0xbf, ..] => Ok(Some(3)),
         [b, ..] if is_white_space(*b) || is_line_end(*b) || *b == b',' => Ok(Some(1)),
         _ => Ok(None),
     }
 }
 
-fn punct_of(byte: u8) -> Option<Punct> {
+#[tactic(auto, unfolding(crate::specs::Lexemes::punct_of))]
+fn punct_of(byte: u8) -> Option<Punct>
+    ensures { result ≡ punct_of byte }
+{
     match byte {
         b'!' => Some(Punct::Bang),
         b'$' => Some(Punct::Dollar),
@@ -55,7 +72,11 @@ fn punct_of(byte: u8) -> Option<Punct> {
     }
 }
 
-fn punct(bytes: &[u8]) -> Option<(Punct, usize)> {
+#[tactic(auto, unfolding(crate::specs::Lexemes::punct_at))]
+fn punct(bytes: &[u8]) -> Option<(Punct, usize)>
+    ensures exact { result ≡ punct_at bytes.now }
+    ensures within { IfSome result (λ x. (0 < x.1) × (x.1 ≤ length bytes.now)) }
+{
     match bytes {
         [b'.', b'.', b'.', ..] => Some((Punct::Spread, 3)),
         [b, ..] => Some((punct_of(*b)?, 1)),
@@ -63,7 +84,12 @@ fn punct(bytes: &[u8]) -> Option<(Punct, usize)> {
     }
 }
 
-fn token(alloc: Global, at: usize, bytes: &[u8]) -> Result<(TokenKind, usize), LexRefusal> {
+#[tactic(auto, unfolding(crate::specs::Lexemes::token_at))]
+fn token(alloc: Global, at: usize, bytes: &[u8]) -> Result<(TokenKind, usize), LexRefusal>
+    requires fits { at + length bytes.now < 2 ^ 64 }
+    ensures exact { Gives (λ x. x) LexRefusal.Memory (token_at at bytes.now) result }
+    ensures within { IfOk result (λ x. (0 < x.1) × (x.1 ≤ length bytes.now)) }
+{
     if let Some((punct, len)) = punct(bytes) {
         return Ok((TokenKind::Punct(punct), len));
     }
@@ -81,11 +107,16 @@ fn token(alloc: Global, at: usize, bytes: &[u8]) -> Result<(TokenKind, usize), L
 }
 
 // The token at the front, None where what stands there is ignored, and how many bytes it takes.
+#[tactic(auto, unfolding(crate::specs::Lexemes::lexeme_at))]
 pub(crate) fn lexeme(
     alloc: Global,
     at: usize,
     bytes: &[u8],
-) -> Result<(Option<TokenKind>, usize), LexRefusal> {
+) -> Result<(Option<TokenKind>, usize), LexRefusal>
+    requires fits { at + length bytes.now < 2 ^ 64 }
+    ensures exact { Gives (λ x. x) LexRefusal.Memory (lexeme_at at bytes.now) result }
+    ensures within { IfOk result (λ x. (0 < x.1) × (x.1 ≤ length bytes.now)) }
+{
     if let Some(len) = ignored(at, bytes)? {
         return Ok((None, len));
     }

@@ -1,11 +1,16 @@
 //! A text from left to right.
+ghost use Rattle.hq_base.specs.Due.{Gives};
+ghost use Rattle.hq_gql_lexer.specs.Lexemes.{tokens_of};
+
 use crate::lexeme::lexeme;
 use crate::{LexRefusal, Token, Tokens};
 use hq_base::List;
 use std::alloc::Global;
 
 /// The tokens of a text.
-pub fn lex(alloc: Global, text: &[u8]) -> Result<Tokens, LexRefusal> {
+pub fn lex(alloc: Global, text: &[u8]) -> Result<Tokens, LexRefusal>
+    ensures { Gives (λ tokens. tokens) LexRefusal.Memory (tokens_of text.now) result }
+{
     let mut tokens = List::new(alloc);
     let mut at = 0;
     while at < text.len() {

@@ -1,6 +1,9 @@
 //! The parts of numbers.
-ghost use Rattle.std.specs.Prelude.{◌≡◌, ◌≤◌, length};
-ghost use Rattle.hq_gql_lexer.specs.Numbers.{minus_len, natural_len, integer_len, fraction_len, exponent_mark_len, exponent_len};
+ghost use Rattle.std.specs.Prelude.{◌≡◌, ◌+◌, ◌<◌, ◌≤◌, ◌^◌, length, IfOk, IsTrue};
+ghost use Rattle.hq_base.specs.Due.{Gives};
+ghost use Rattle.hq_gql_lexer.specs.Characters.{next_is};
+ghost use Rattle.hq_gql_lexer.specs.Numbers.{minus_len, natural_len, integer_len, fraction_len, exponent_mark_len, exponent_len, number_len};
+ghost use Rattle.hq_gql_lexer.specs.Lexemes.{goes_on, starts_number, number_at};
 
 use crate::byte::{digit_is_next, digits_len, is_name_start, text};
 use crate::{LexRefusal, TokenKind};
@@ -66,14 +69,19 @@ fn exponent_len(bytes: &[u8]) -> usize
     mark + digits_len(&bytes[mark..])
 }
 
-fn number_len(bytes: &[u8]) -> usize {
+fn number_len(bytes: &[u8]) -> usize
+    ensures len { result ≡ number_len bytes.now }
+    ensures within { result ≤ length bytes.now }
+{
     let whole = integer_len(bytes);
     let part = whole + fraction_len(&bytes[whole..]);
     part + exponent_len(&bytes[part..])
 }
 
 // Whether what follows a number goes on as no number may.
-fn goes_on(bytes: &[u8]) -> bool {
+fn goes_on(bytes: &[u8]) -> bool
+    ensures { result ≡ next_is goes_on bytes.now }
+{
     match bytes {
         [b, ..] => b.is_ascii_digit() || *b == b'.' || is_name_start(*b),
         [] => false,
@@ -81,7 +89,9 @@ fn goes_on(bytes: &[u8]) -> bool {
 }
 
 // Whether a number starts here: a digit, or a `-` before one.
-pub(crate) fn number_starts(bytes: &[u8]) -> bool {
+pub(crate) fn number_starts(bytes: &[u8]) -> bool
+    ensures { result ≡ starts_number bytes.now }
+{
     match bytes {
         [b'-', rest @ ..] => digit_is_next(rest),
         _ => digit_is_next(bytes),
@@ -89,11 +99,17 @@ pub(crate) fn number_starts(bytes: &[u8]) -> bool {
 }
 
 // The number at the front.
+#[tactic(auto, unfolding(crate::specs::Lexemes::number_at))]
 pub(crate) fn number(
     alloc: Global,
     at: usize,
     bytes: &[u8],
-) -> Result<(TokenKind, usize), LexRefusal> {
+) -> Result<(TokenKind, usize), LexRefusal>
+    requires starts { IsTrue (starts_number bytes.now) }
+    requires fits { at + length bytes.now < 2 ^ 64 }
+    ensures exact { Gives (λ x. x) LexRefusal.Memory (number_at at bytes.now) result }
+    ensures within { IfOk result (λ x. (0 < x.1) × (x.1 ≤ length bytes.now)) }
+{
     let len = number_len(bytes);
     if goes_on(&bytes[len..]) {
         return Err(LexRefusal::BadNumber { at: at as u64 });
