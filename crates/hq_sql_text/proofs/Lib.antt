@@ -1,3 +1,4 @@
 pub mod Below
 pub mod Fits
 pub mod Takes
+pub mod Again

@@ -11,7 +11,9 @@ use Rattle.hq_base.specs.Cells.{CellTree, cell_of, json_of, key_cmp, same_cell}
 use Rattle.hq_base.specs.Lists.{sort, firsts}
 use Rattle.hq_base.specs.Aggregates.{counted, summed, least, greatest}
 use Rattle.hq_terms.specs.Database.{Row}
-use Rattle.hq_terms.specs.Logic.{Truth, Yes, No, is_true, truth_of, not3, and3, or3, compared, among, null_test, matched}
+use Rattle.hq_terms.specs.Logic.{is_true, truth_of, not3, and3, or3, compared, among, null_test, matched}
+use Rattle.hq_terms.specs.declared.truth.Truth.{Truth}
+use Rattle.hq_terms.specs.declared.truth.Truth.TheVariants.{Yes, No}
 use Rattle.hq_terms.specs.declared.table.Column.{Column}
 use Rattle.hq_terms.specs.declared.table.Table.{Table}
 use Rattle.hq_sql_tree.specs.Tree.{ExprTree, column, int, text, bool, object, aggregate, PairTrees, no_pair, pair, AggTree, count_all, count, sum, min, max, json_agg, OrderTrees, no_order, order, OrderTree, OutTree, SelectTree, rows, fold, FromTree, table, sub, one, JoinTrees, no_join, join, FilterTree, no_filter, filter, PredTree, always, never, compare, like, within, is_null, negation, all_of, any_of, exists, PredTrees, no_pred, pred}
