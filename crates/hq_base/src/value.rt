@@ -1,4 +1,7 @@
-use crate::{Json, Txt};
+ghost use Rattle.std.specs.Prelude.{◌≡◌, IfOk};
+
+use crate::{Json, Memory, Txt};
+use std::alloc::Global;
 
 /// A value of a table's cell or of an operand.
 #[derive(Debug, Drop)]
@@ -7,6 +10,20 @@ pub enum Val {
     Int(i64),
     Text(Txt),
     Bool(bool),
+}
+
+impl Val {
+    /// An equal value.
+    pub fn copy(&self, alloc: Global) -> Result<Val, Memory>
+        ensures { IfOk result (λ copy. copy ≡ self.now) }
+    {
+        match self {
+            Val::Null => Ok(Val::Null),
+            Val::Int(n) => Ok(Val::Int(*n)),
+            Val::Text(text) => Ok(Val::Text(text.copy(alloc)?)),
+            Val::Bool(b) => Ok(Val::Bool(*b)),
+        }
+    }
 }
 
 /// A column's type.
