@@ -66,9 +66,7 @@ impl Door for MemDoor {
 
     /// Fails exactly where the call's number is one of those that are to fail.
     fn listen(&mut self, _port: u16) -> Result<(), DoorFailed>
-        ensures links { Some (links_in self.new.row) ≡ Some (links_in self.old.row) }
-        ensures accepted { self.new.row.accepted ≡ self.old.row.accepted }
-        ensures present { present_in self.new.row ≡ present_in self.old.row }
+        ensures row { self.new.row ≡ self.old.row }
         ensures cause { HasCause self.old.calls.faults self.new.calls.faults result }
         ensures fails { IsErr result ↔ IsToFail self.old.calls }
         ensures calls { self.new.calls ≡ after (is_err result) self.old.calls }
@@ -84,9 +82,8 @@ impl Door for MemDoor {
     fn accept(&mut self) -> Result<(), DoorFailed>
         ensures next { OnOk result (IsNext (λ link. Some link.input.left) (Some (links_in self.old.row)) self.old.row.accepted (present_in self.new.row)) }
         ensures accepted { OnOk result (self.new.row.accepted ≡ one_more self.old.row.accepted) }
-        ensures links { Some (links_in self.new.row) ≡ Some (links_in self.old.row) }
-        ensures accepted_err { OnErr result (self.new.row.accepted ≡ self.old.row.accepted) }
-        ensures present_err { OnErr result (present_in self.new.row ≡ present_in self.old.row) }
+        ensures links { links_in self.new.row ≡ links_in self.old.row }
+        ensures failed { OnErr result (self.new.row ≡ self.old.row) }
         ensures cause { HasCause self.old.calls.faults self.new.calls.faults result }
         ensures fails { IsErr result ↔ IsToFail self.old.calls }
         ensures calls { self.new.calls ≡ after (is_err result) self.old.calls }
