@@ -1,10 +1,11 @@
-ghost use Rattle.std.specs.Prelude.{◌≡◌, ◌↔◌, [], Some, None, OnOk, OnErr, IsErr, is_err, option_copied, slice_get};
+ghost use Rattle.std.specs.Prelude.{◌≡◌, ◌↔◌, [], Some, None, OnOk, OnErr, IsErr, is_err, IfSome, option_copied, slice_get};
 ghost use Rattle.hq_outside.specs.Causes.{HasCause, one_more};
 ghost use Rattle.hq_outside.specs.Links.{IsNext};
 ghost use Rattle.hq_memory.specs.Calls.{calls_from, IsToFail, after};
 ghost use Rattle.hq_memory.specs.LinkRow.{links_in, present_in, with_link_in};
 
-use crate::{Calls, LinkRow, MemLink, SureLink};
+use crate::link_row::LinkRow;
+use crate::{Calls, MemLink, SureLink};
 use hq_base::{Bytes, List};
 use hq_outside::{Door, DoorFailed, NumList};
 use std::alloc::Global;
@@ -18,7 +19,7 @@ pub type SureLinkList = List<SureLink>;
 /// A door in memory. Where its links are used up, it gives links without input and without room.
 #[derive(Debug, Drop)]
 pub struct MemDoor {
-    pub row: LinkRow<MemLink>,
+    row: LinkRow<MemLink>,
     pub calls: Calls,
     alloc: Global,
 }
@@ -26,8 +27,9 @@ pub struct MemDoor {
 impl MemDoor {
     /// A door with these links to come.
     pub fn new(alloc: Global, links: MemLinkList, failing: NumList) -> Self
-        ensures links { links_in result.row ≡ links }
-        ensures accepted { result.row.accepted ≡ 0 }
+        ensures links { ⟦<MemDoor as Door>⟧.links result ≡ Some links }
+        ensures accepted { ⟦<MemDoor as Door>⟧.accepted result ≡ 0 }
+        ensures present { ⟦<MemDoor as Door>⟧.present result ≡ None }
         ensures calls { result.calls ≡ calls_from failing }
     {
         MemDoor {
@@ -39,7 +41,7 @@ impl MemDoor {
 
     /// The link at this place, counted from 0, as it is now.
     pub fn link_at(&self, at: usize) -> Option<&MemLink>
-        ensures { option_copied result ≡ slice_get (links_in self.now.row) at }
+        ensures { IfSome (⟦<MemDoor as Door>⟧.links self.now) (λ links. option_copied result ≡ slice_get links at) }
     {
         self.row.get(at)
     }
@@ -64,9 +66,7 @@ impl Door for MemDoor {
 
     /// Fails exactly where the call's number is one of those that are to fail.
     fn listen(&mut self, _port: u16) -> Result<(), DoorFailed>
-        ensures links { Some (links_in self.new.row) ≡ Some (links_in self.old.row) }
-        ensures accepted { self.new.row.accepted ≡ self.old.row.accepted }
-        ensures present { present_in self.new.row ≡ present_in self.old.row }
+        ensures row { self.new.row ≡ self.old.row }
         ensures cause { HasCause self.old.calls.faults self.new.calls.faults result }
         ensures fails { IsErr result ↔ IsToFail self.old.calls }
         ensures calls { self.new.calls ≡ after (is_err result) self.old.calls }
@@ -82,9 +82,8 @@ impl Door for MemDoor {
     fn accept(&mut self) -> Result<(), DoorFailed>
         ensures next { OnOk result (IsNext (λ link. Some link.input.left) (Some (links_in self.old.row)) self.old.row.accepted (present_in self.new.row)) }
         ensures accepted { OnOk result (self.new.row.accepted ≡ one_more self.old.row.accepted) }
-        ensures links { Some (links_in self.new.row) ≡ Some (links_in self.old.row) }
-        ensures accepted_err { OnErr result (self.new.row.accepted ≡ self.old.row.accepted) }
-        ensures present_err { OnErr result (present_in self.new.row ≡ present_in self.old.row) }
+        ensures links { links_in self.new.row ≡ links_in self.old.row }
+        ensures failed { OnErr result (self.new.row ≡ self.old.row) }
         ensures cause { HasCause self.old.calls.faults self.new.calls.faults result }
         ensures fails { IsErr result ↔ IsToFail self.old.calls }
         ensures calls { self.new.calls ≡ after (is_err result) self.old.calls }
@@ -116,15 +115,16 @@ impl Door for MemDoor {
 /// A door in memory that never fails. Where its links are used up, it gives links without input.
 #[derive(Debug, Drop)]
 pub struct SureDoor {
-    pub row: LinkRow<SureLink>,
+    row: LinkRow<SureLink>,
     alloc: Global,
 }
 
 impl SureDoor {
     /// A door with these links to come.
     pub fn new(alloc: Global, links: SureLinkList) -> Self
-        ensures links { links_in result.row ≡ links }
-        ensures accepted { result.row.accepted ≡ 0 }
+        ensures links { ⟦<SureDoor as Door>⟧.links result ≡ Some links }
+        ensures accepted { ⟦<SureDoor as Door>⟧.accepted result ≡ 0 }
+        ensures present { ⟦<SureDoor as Door>⟧.present result ≡ None }
     {
         SureDoor {
             row: LinkRow::new(links.into_vec(), SureLink::new(Bytes::new(alloc))),

@@ -61,7 +61,7 @@ impl Files for MemFiles {
         ensures answer { Loads (Some self.old.files) name.now self.old.calls.faults self.new.calls.faults result into.new }
         ensures failed { IsErrOf result FileRefusal.Failed → Rose self.old.calls.faults self.new.calls.faults }
         ensures empty { OnErr result (into.new ≡ []) }
-        ensures folder { Some self.new.files ≡ Some self.old.files }
+        ensures files { self.new.files ≡ self.old.files }
         ensures later { self.old.calls.faults ≤ self.new.calls.faults }
         ensures fails { IsToFail self.old.calls → IsErr result }
         ensures fails_only { IsErrOf result FileRefusal.Failed → IsToFail self.old.calls }

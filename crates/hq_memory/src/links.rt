@@ -1,4 +1,4 @@
-ghost use Rattle.std.specs.Prelude.{◌≡◌, ◌<◌, ◌≤◌, ◌↔◌, ◌⊎◌, [], length, IfOk, OnErr, IsErr, IsNone, is_err, Some, None, min};
+ghost use Rattle.std.specs.Prelude.{◌≡◌, ◌<◌, ◌≤◌, ◌↔◌, ◌⊎◌, [], length, IfOk, IsErr, is_err, Some, None, min};
 ghost use Rattle.std.specs.Io.{ReadsAtMost};
 ghost use Rattle.std.specs.Io.KnownBytes.{ReadConsumes, WriteAppends};
 ghost use Rattle.hq_outside.specs.Causes.{HasCause};
@@ -67,11 +67,7 @@ impl Link for MemLink {
     fn read(&mut self, buf: &mut [u8]) -> Result<usize, ReadFailed>
         ensures bound { ReadsAtMost result buf.new }
         ensures bytes { ReadConsumes (Some self.old.input.left) (Some self.new.input.left) result buf.new }
-        ensures failed { OnErr result (Some self.new.input.left ≡ Some self.old.input.left) }
-        ensures untold { IsNone (Some self.old.input.left) → IsNone (Some self.new.input.left) }
         ensures cause { HasCause self.old.input.calls.faults self.new.input.calls.faults result }
-        ensures written { Some self.new.out.written ≡ Some self.old.out.written }
-        ensures write_faults { self.new.out.calls.faults ≡ self.old.out.calls.faults }
         ensures out { self.new.out ≡ self.old.out }
         ensures count { IfOk result (λ n. n ≡ min (length self.old.input.left) (length buf.new)) }
         ensures fails { IsErr result ↔ IsToFail self.old.input.calls }
@@ -84,11 +80,7 @@ impl Link for MemLink {
         ensures bound { IfOk result (λ n. n ≤ length piece.now) }
         ensures some { IfOk result (λ n. 0 < length piece.now → 0 < n) }
         ensures bytes { WriteAppends (Some self.old.out.written) (Some self.new.out.written) result piece.now }
-        ensures failed { OnErr result (Some self.new.out.written ≡ Some self.old.out.written) }
-        ensures untold { IsNone (Some self.old.out.written) → IsNone (Some self.new.out.written) }
         ensures cause { HasCause self.old.out.calls.faults self.new.out.calls.faults result }
-        ensures left { Some self.new.input.left ≡ Some self.old.input.left }
-        ensures read_faults { self.new.input.calls.faults ≡ self.old.input.calls.faults }
         ensures input { self.new.input ≡ self.old.input }
         ensures count { IfOk result (λ n. n ≡ min (length piece.now) (free self.old.out)) }
         ensures fails { IsErr result ↔ (IsToFail self.old.out.calls ⊎ (0 < length piece.now) × (free self.old.out ≡ 0)) }

@@ -1,4 +1,4 @@
-ghost use Rattle.std.specs.Prelude.{◌≡◌, ◌+◌, ◌-◌, ◌↔◌, ◌⊎◌, ◌<◌, ◌≤◌, ◌++◌, ℕ, List, [], length, take, IfOk, OnErr, IsErr, IsNone, is_err, Some, None, min};
+ghost use Rattle.std.specs.Prelude.{◌≡◌, ◌+◌, ◌-◌, ◌↔◌, ◌⊎◌, ◌<◌, ◌≤◌, ◌++◌, ℕ, List, [], length, take, IfOk, IsErr, is_err, Some, None, min};
 ghost use Rattle.std.specs.Io.KnownBytes.{WriteAppends};
 ghost use Rattle.hq_outside.specs.Causes.{HasCause};
 ghost use Rattle.hq_memory.specs.Calls.{calls_from, IsToFail, after};
@@ -75,8 +75,6 @@ impl Sink for MemSink {
         ensures bound { IfOk result (λ n. n ≤ length piece.now) }
         ensures some { IfOk result (λ n. 0 < length piece.now → 0 < n) }
         ensures bytes { WriteAppends (Some self.old.written) (Some self.new.written) result piece.now }
-        ensures failed { OnErr result (Some self.new.written ≡ Some self.old.written) }
-        ensures untold { IsNone (Some self.old.written) → IsNone (Some self.new.written) }
         ensures cause { HasCause self.old.calls.faults self.new.calls.faults result }
         ensures count { IfOk result (λ n. n ≡ min (length piece.now) (free self.old)) }
         ensures fails { IsErr result ↔ (IsToFail self.old.calls ⊎ (0 < length piece.now) × (free self.old ≡ 0)) }

@@ -1,4 +1,4 @@
-ghost use Rattle.std.specs.Prelude.{◌≡◌, ◌+◌, ◌-◌, ◌↔◌, ◌<◌, ◌≤◌, ◌++◌, ℕ, List, [], length, drop, take, IfOk, OnErr, IsErr, IsNone, is_err, Some, min};
+ghost use Rattle.std.specs.Prelude.{◌≡◌, ◌+◌, ◌-◌, ◌↔◌, ◌<◌, ◌≤◌, ◌++◌, ℕ, List, [], length, drop, take, IfOk, IsErr, is_err, Some, min};
 ghost use Rattle.std.specs.Io.{ReadsAtMost};
 ghost use Rattle.std.specs.Io.KnownBytes.{ReadConsumes};
 ghost use Rattle.hq_outside.specs.Causes.{HasCause};
@@ -80,8 +80,6 @@ impl Source for MemSource {
     fn read(&mut self, buf: &mut [u8]) -> Result<usize, ReadFailed>
         ensures bound { ReadsAtMost result buf.new }
         ensures bytes { ReadConsumes (Some self.old.left) (Some self.new.left) result buf.new }
-        ensures failed { OnErr result (Some self.new.left ≡ Some self.old.left) }
-        ensures untold { IsNone (Some self.old.left) → IsNone (Some self.new.left) }
         ensures cause { HasCause self.old.calls.faults self.new.calls.faults result }
         ensures count { IfOk result (λ n. n ≡ min (length self.old.left) (length buf.new)) }
         ensures fails { IsErr result ↔ IsToFail self.old.calls }

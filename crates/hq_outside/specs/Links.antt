@@ -1,7 +1,7 @@
 -- The links of a door: those that were accepted, of which the last one is present, and those still to come.
 use Rattle.std.specs.Prelude.{◌≡◌, ◌-◌, ℕ, List, [], slice_get, slice_set, IfSome, IsSomeAnd, MatchOption}
 use Rattle.std.specs.declared.option.Option.{Option}
-use Rattle.std.specs.declared.option.Option.TheVariants.{None, Some}
+use Rattle.std.specs.declared.option.Option.TheVariants.{Some}
 use Rattle.std.specs.Option.{option_map}
 
 -- after so many accepted links this is the next one: the told link at that place, or one without input past their end

@@ -94,10 +94,10 @@ pub fn send_all<L: Link>(link: &mut L, bytes: &[u8]) -> Result<(), WriteFailed>
     ensures left { L.left link.new ≡ L.left link.old }
     ensures read_faults { L.read_faults link.new ≡ L.read_faults link.old }
 {
-    let mut done = 0;
-    'pieces: while done < bytes.len() {
-        let (_, rest) = bytes.split_at(done);
-        done += link.write(rest)?;
+    let mut sent = 0;
+    'pieces: while sent < bytes.len() {
+        let (_, rest) = bytes.split_at(sent);
+        sent += link.write(rest)?;
     }
     Ok(())
 }

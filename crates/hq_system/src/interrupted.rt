@@ -1,5 +1,5 @@
-ghost use Rattle.std.specs.Prelude.{◌≤◌, length, IfOk};
-ghost use Rattle.std.specs.Io.{ReadsAtMost};
+ghost use Rattle.std.specs.Io.{ReadsAtMost, WritesAtMost};
+ghost use Rattle.std.specs.Io.KnownBytes.{ReadConsumes, WriteAppends};
 
 use std::io;
 use std::io::{ErrorKind, Read, Write};
@@ -9,9 +9,10 @@ const INTERRUPTIONS: u32 = 1_000;
 
 /// Reads, and reads again where a signal interrupted it.
 pub fn read<R: Read>(reader: &mut R, buf: &mut [u8]) -> io::Result<usize>
-    ensures { ReadsAtMost result buf.new }
+    ensures bound { ReadsAtMost result buf.new }
+    ensures bytes { ReadConsumes (R.remaining reader.old) (R.remaining reader.new) result buf.new }
 {
-    for _ in 0..INTERRUPTIONS {
+    'tries: for _ in 0..INTERRUPTIONS {
         match reader.read(buf) {
             Err(e) if e.kind() == ErrorKind::Interrupted => {}
             answer => return answer,
@@ -22,9 +23,10 @@ pub fn read<R: Read>(reader: &mut R, buf: &mut [u8]) -> io::Result<usize>
 
 /// Writes, and writes again where a signal interrupted it.
 pub fn write<W: Write>(writer: &mut W, piece: &[u8]) -> io::Result<usize>
-    ensures { IfOk result (λ n. n ≤ length piece.now) }
+    ensures bound { WritesAtMost result piece.now }
+    ensures bytes { WriteAppends (W.contents writer.old) (W.contents writer.new) result piece.now }
 {
-    for _ in 0..INTERRUPTIONS {
+    'tries: for _ in 0..INTERRUPTIONS {
         match writer.write(piece) {
             Err(e) if e.kind() == ErrorKind::Interrupted => {}
             answer => return answer,

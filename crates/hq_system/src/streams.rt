@@ -1,4 +1,7 @@
-ghost use Rattle.std.specs.Prelude.{◌≡◌, None};
+ghost use Rattle.std.specs.Prelude.{◌≡◌, ◌<◌, ◌≤◌, length, None, IfOk};
+ghost use Rattle.std.specs.Io.{ReadsAtMost};
+ghost use Rattle.std.specs.Io.KnownBytes.{ReadConsumes, WriteAppends};
+ghost use Rattle.hq_outside.specs.Causes.{HasCause};
 
 use crate::interrupted;
 use hq_outside::{ReadFailed, Sink, Source, WriteFailed, count_fault};
@@ -29,7 +32,12 @@ impl<R: Read> Source for StdSource<R> {
         self.faults
     }
 
-    fn read(&mut self, buf: &mut [u8]) -> Result<usize, ReadFailed> {
+    /// Hands on what the reader gives.
+    fn read(&mut self, buf: &mut [u8]) -> Result<usize, ReadFailed>
+        ensures bound { ReadsAtMost result buf.new }
+        ensures cause { HasCause self.old.faults self.new.faults result }
+        ensures given { ReadConsumes (R.remaining self.old.reader) (R.remaining self.new.reader) result buf.new }
+    {
         match interrupted::read(&mut self.reader, buf) {
             Ok(count) => Ok(count),
             Err(_) => {
@@ -65,7 +73,13 @@ impl<W: Write> Sink for StdSink<W> {
         self.faults
     }
 
-    fn write(&mut self, piece: &[u8]) -> Result<usize, WriteFailed> {
+    /// Hands on what the writer takes.
+    fn write(&mut self, piece: &[u8]) -> Result<usize, WriteFailed>
+        ensures bound { IfOk result (λ n. n ≤ length piece.now) }
+        ensures some { IfOk result (λ n. 0 < length piece.now → 0 < n) }
+        ensures cause { HasCause self.old.faults self.new.faults result }
+        ensures taken { WriteAppends (W.contents self.old.writer) (W.contents self.new.writer) result piece.now }
+    {
         match interrupted::write(&mut self.writer, piece) {
             Ok(count) if count > 0 || piece.is_empty() => Ok(count),
             _ => {

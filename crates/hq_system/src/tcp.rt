@@ -1,5 +1,7 @@
-ghost use Rattle.std.specs.Prelude.{◌≡◌, None, Some, IsSome};
-ghost use Rattle.hq_outside.specs.Causes.{one_more};
+ghost use Rattle.std.specs.Prelude.{◌≡◌, ◌<◌, ◌≤◌, length, None, Some, IsSome, IfOk};
+ghost use Rattle.std.specs.Io.{ReadsAtMost};
+ghost use Rattle.std.specs.Io.KnownBytes.{ReadConsumes, WriteAppends};
+ghost use Rattle.hq_outside.specs.Causes.{HasCause, one_more};
 
 use crate::interrupted;
 use hq_outside::{Door, DoorFailed, Link, ReadFailed, WriteFailed, count_fault};
@@ -31,7 +33,13 @@ impl<S: Read + Write> Link for TcpLink<S> {
         self.write_faults
     }
 
-    fn read(&mut self, buf: &mut [u8]) -> Result<usize, ReadFailed> {
+    /// Hands on what the stream gives.
+    fn read(&mut self, buf: &mut [u8]) -> Result<usize, ReadFailed>
+        ensures bound { ReadsAtMost result buf.new }
+        ensures cause { HasCause self.old.read_faults self.new.read_faults result }
+        ensures write_faults { self.new.write_faults ≡ self.old.write_faults }
+        ensures given { ReadConsumes (S.remaining self.old.stream) (S.remaining self.new.stream) result buf.new }
+    {
         match interrupted::read(&mut self.stream, buf) {
             Ok(count) => Ok(count),
             Err(_) => {
@@ -41,7 +49,14 @@ impl<S: Read + Write> Link for TcpLink<S> {
         }
     }
 
-    fn write(&mut self, piece: &[u8]) -> Result<usize, WriteFailed> {
+    /// Hands on what the stream takes.
+    fn write(&mut self, piece: &[u8]) -> Result<usize, WriteFailed>
+        ensures bound { IfOk result (λ n. n ≤ length piece.now) }
+        ensures some { IfOk result (λ n. 0 < length piece.now → 0 < n) }
+        ensures cause { HasCause self.old.write_faults self.new.write_faults result }
+        ensures read_faults { self.new.read_faults ≡ self.old.read_faults }
+        ensures taken { WriteAppends (S.contents self.old.stream) (S.contents self.new.stream) result piece.now }
+    {
         match interrupted::write(&mut self.stream, piece) {
             Ok(count) if count > 0 || piece.is_empty() => Ok(count),
             _ => {

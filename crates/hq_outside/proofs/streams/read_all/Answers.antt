@@ -1,4 +1,4 @@
-use Rattle.std.proofs.Common.{arith, ◌++◌, take, length, ℕ}
+use Rattle.std.proofs.Common.{arith, ◌++◌, take, ℕ}
 use Rattle.std.proofs.lemmas.List.{length-append, length-take}
 use Rattle.hq_outside.proofs.Pieces.{consumes_more}
 use Rattle.hq_outside.proofs.streams.read_all.Goals as goal
