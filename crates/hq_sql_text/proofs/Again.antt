@@ -1,5 +1,5 @@
 -- Selects: what is spelled so is read again, whatever follows.
-use Rattle.std.proofs.Common.{◌≡◌, ℕ, zero, suc, ◌<◌, eqb, Bool, true, false, ◌&&◌, cond, List, [], ◌∷◌, ◌++◌, length, map, Option, Some, None, refl, sym, ap, subst, ◌∙◌, append_assoc, arith}
+use Rattle.std.proofs.Common.{◌≡◌, ℕ, zero, suc, ◌<◌, eqb, true, false, cond, List, [], ◌∷◌, ◌++◌, length, map, Option, Some, None, refl, sym, ap, subst, ◌∙◌, append_assoc, arith}
 use Rattle.std.specs.Prelude.{codes}
 use Rattle.std.proofs.lemmas.List.{append-nil}
 use Rattle.std.specs.List.{AllByRecursion}
@@ -10,15 +10,15 @@ use Rattle.hq_sql_tree.specs.Tree as tree
 use Rattle.hq_sql_tree.specs.Tree.{ExprTree, AggTree, OrderTree, OutTree, SelectTree, FromTree, JoinTree, JoinTrees, joins_of, join_list}
 use Rattle.hq_sql_tree.specs.Form.{holds_agg, is_rows, reads_as_fold}
 use Rattle.hq_sql_tree.specs.Spelling.{quoted, doubled, name_text, each_after, separated, clause_text, expr_text, order_text, out_text, select_text, from_text, join_text, join_texts}
-use Rattle.hq_sql_expr.specs.Reading.{◌>>=◌, Reader, nothing, after, strip, choose, all_many, name_at, expr_at, order_with, out_with}
-use Rattle.hq_sql_expr.proofs.Sound.{strip_again, after_again}
-use Rattle.hq_sql_expr.proofs.Listed.{AllGood, list_text, all_many_again}
+use Rattle.hq_sql_expr.specs.Reading.{Reader, nothing, after, strip, expr_at, order_with}
+use Rattle.hq_sql_expr.proofs.Sound.{after_again}
+use Rattle.hq_sql_expr.proofs.Listed.{AllGood, all_many_again}
 use Rattle.hq_sql_expr.proofs.Literals.{IsText, Free, quoted_again}
 use Rattle.hq_sql_expr.proofs.Exprs.{GoodOrder, GoodOut}
-use Rattle.hq_sql_expr.proofs.Again.{as_ends, comma_some, outs_again, keys_again, expr_again}
-use Rattle.hq_sql_text.specs.Reading.{clause_with, table_at, one_at, aliased_with, from_with, join_with, shaped, select_with, select_at}
+use Rattle.hq_sql_expr.proofs.Again.{as_ends, outs_again, keys_again, expr_again}
+use Rattle.hq_sql_text.specs.Reading.{clause_with, table_at, one_at, aliased_with, from_with, join_with, fold_of, shaped, select_with, select_at}
 use Rattle.hq_sql_text.proofs.Fits.{FitsSelect, FitsFrom, FitsJoins}
-use Rattle.hq_sql_text.proofs.Takes.{aliased_text, GoodAliased, join_texts_of, each_is_clause}
+use Rattle.hq_sql_text.proofs.Takes.{aliased_text, GoodAliased, each_is_clause}
 
 -- ---- what may follow
 
@@ -246,7 +246,7 @@ from_deeper d query query_again (tree.table s t a) rest fits free =
     let spelled : from_text (tree.table s t a) ++ rest ≡ name_text s ++ (word_text word.Dot ++ (name_text t ++ (word_text word.As ++ (name_text a ++ rest)))) = simp append_assoc in
     rw (spelled, name_no_open s (word_text word.Dot ++ (name_text t ++ (word_text word.As ++ (name_text a ++ rest)))), table_again s t a rest fits.0 fits.1 fits.2 free) refl
 from_deeper d query query_again (tree.sub s a) rest fits free =
-    let j = record { select = s; alias = a } in
+    let j : JoinTree = record { select = s; alias = a } in
     let later = word_text word.CloseAs ++ (name_text a ++ rest) in
     let spelled : from_text (tree.sub s a) ++ rest ≡ word_text word.Open ++ (aliased_text j ++ rest) = simp append_assoc in
     let regrouped : aliased_text j ++ rest ≡ select_text s ++ later = simp append_assoc in
@@ -297,15 +297,21 @@ module _ (d : ℕ) (query : Reader SelectTree) (from_again : FromAgain d query) 
       let tail = keys_text keys ++ rest in
       let middle = each_after word.LateralJoin (join_texts joins) ++ tail in
       let later = from_text from ++ middle in
-      rw (after_again word.Select (separated word.Comma (map out_text (o ∷ os)) ++ (word_text word.From ++ later)), outs_again d o os (word_text word.From ++ later) good.0 good.1 (from_free later) (from_no_comma later), after_again word.From later,
-      from_again from middle fits_from (from_followed joins keys rest ends.0), joins_again joins tail fits_joins (joins_followed keys rest ends.1), keys_clause d keys rest fits_keys ends)
+      rw (
+        after_again word.Select (separated word.Comma (map out_text (o ∷ os)) ++ (word_text word.From ++ later)),
+        outs_again d o os (word_text word.From ++ later) good.0 good.1 (from_free later) (from_no_comma later),
+        after_again word.From later,
+        from_again from middle fits_from (from_followed joins keys rest ends.0),
+        joins_again joins tail fits_joins (joins_followed keys rest ends.1),
+        keys_clause d keys rest fits_keys ends,
+      )
       (ap (λ js. Some (shaped (plain (o ∷ os) from js keys), rest)) (joins_of-join_list joins))
 
   rows_again : (outs : List OutTree) (from : FromTree) (joins : JoinTrees) (keys : List OrderTree) (rest : List ℕ) → AllGood (GoodOut d) outs → FitsFrom from d → FitsJoins joins d → AllByRecursion (GoodOrder d) keys → reads_as_fold (plain outs from joins keys) ≡ false → Ends rest
       → select_with d query (select_text (plain outs from joins keys) ++ rest) ≡ Some (plain outs from joins keys, rest)
   rows_again outs from joins keys rest good fits_from fits_joins fits_keys not_fold ends =
       ap (select_with d query) (plain_parts outs from joins keys rest) ∙ parts_again outs from joins keys rest good fits_from fits_joins fits_keys ends
-      ∙ ap (λ b. Some (cond b _ (plain outs from joins keys), rest)) not_fold
+      ∙ ap (λ b. Some (cond b (fold_of (plain outs from joins keys)) (plain outs from joins keys), rest)) not_fold
 
   fold_again : (o : OutTree) (s : SelectTree) (a rest : List ℕ) → GoodOut d o → holds_agg o.value ≡ true → is_rows s ≡ true → FitsFrom (tree.sub s a) d → FitsJoins tree.no_join d → Ends rest
       → select_with d query (select_text (tree.fold o s a) ++ rest) ≡ Some (tree.fold o s a, rest)

@@ -1,5 +1,5 @@
 -- Selects whose spelling opens at most so many parentheses at once, as one relation.
-use Rattle.std.proofs.Common.{◌≡◌, ℕ, zero, suc, Bool, true, false, List, [], ◌∷◌, Option, None}
+use Rattle.std.proofs.Common.{◌≡◌, ℕ, zero, suc, true, false, [], None}
 use Rattle.std.specs.List.{AllByRecursion}
 use Rattle.hq_sql_tree.specs.Tree as tree
 use Rattle.hq_sql_tree.specs.Tree.{ExprTree, OrderTree, OutTree, SelectTree, FromTree, JoinTrees}

@@ -1,5 +1,5 @@
 -- Selects: what is read is spelled so.
-use Rattle.std.proofs.Common.{◌≡◌, ℕ, zero, suc, Bool, true, false, ◌&&◌, ◌==◌, cond, List, [], ◌∷◌, ◌++◌, map, length, Option, Some, None, refl, sym, ap, subst, ◌∙◌, append_assoc}
+use Rattle.std.proofs.Common.{◌≡◌, ℕ, zero, suc, Bool, true, false, ◌&&◌, ◌==◌, cond, List, [], ◌∷◌, ◌++◌, map, length, Some, None, refl, sym, ap, subst, ◌∙◌, append_assoc, arith}
 use Rattle.std.proofs.lemmas.List.{append-nil}
 use Rattle.std.specs.List.{AllByRecursion}
 use Rattle.hq_sql_tree.specs.declared.word.Word.{Word}
@@ -8,9 +8,9 @@ use Rattle.hq_sql_tree.specs.Word.{word_text}
 use Rattle.hq_sql_tree.specs.Tree as tree
 use Rattle.hq_sql_tree.specs.Tree.{ExprTree, OrderTree, OutTree, SelectTree, FromTree, JoinTree, JoinTrees, joins_of}
 use Rattle.hq_sql_tree.specs.Form.{holds_agg, is_rows, is_lone_agg, is_sub_of_rows, is_no_join, reads_as_fold}
-use Rattle.hq_sql_tree.specs.Spelling.{name_text, each_after, separated, clause_text, expr_text, order_text, out_text, select_text, from_text, join_text, join_texts}
+use Rattle.hq_sql_tree.specs.Spelling.{name_text, each_after, clause_text, order_text, out_text, select_text, from_text, join_text, join_texts}
 use Rattle.hq_sql_expr.specs.Reading.{◌>>=◌, Reader, nothing, after, choose, all_many, name_at, expr_at, order_with, out_with}
-use Rattle.hq_sql_expr.proofs.Sound.{Taken, Sound, Spelled, sound_next, sound_last, sound_word, sound_choose, sound_end, sound_pure, sound_nothing, sound_wider}
+use Rattle.hq_sql_expr.proofs.Sound.{Sound, Spelled, sound_next, sound_last, sound_word, sound_choose, sound_end, sound_pure, sound_nothing, sound_wider}
 use Rattle.hq_sql_expr.proofs.Listed.{AllGood, list_text, all_many_takes}
 use Rattle.hq_sql_expr.proofs.Literals.{IsText, quoted_takes}
 use Rattle.hq_sql_expr.proofs.Exprs.{GoodOrder, GoodOut, outs_take, orders_take}

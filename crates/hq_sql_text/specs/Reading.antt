@@ -1,11 +1,11 @@
 -- Reading a select from left to right.
-use Rattle.std.specs.Prelude.{ℕ, zero, suc, Bool, true, false, ◌&&◌, List, [], ◌∷◌, length, Option, Some, None, ◌==◌, cond, if◌then◌else◌}
+use Rattle.std.specs.Prelude.{ℕ, zero, suc, List, [], ◌∷◌, length, Option, Some, None, ◌==◌, if◌then◌else◌}
 use Rattle.hq_sql_tree.specs.declared.word.Word.{Word}
 use Rattle.hq_sql_tree.specs.declared.word.Word.TheVariants as word
-use Rattle.hq_sql_tree.specs.Form.{holds_agg, is_rows, reads_as_fold}
+use Rattle.hq_sql_tree.specs.Form.{reads_as_fold}
 use Rattle.hq_sql_tree.specs.Tree as tree
 use Rattle.hq_sql_tree.specs.Tree.{ExprTree, OrderTree, OutTree, SelectTree, FromTree, JoinTree, joins_of}
-use Rattle.hq_sql_expr.specs.Reading.{◌>>=◌, Reader, nothing, below, choose, after, all_many, name_at, expr_at, order_with, out_with}
+use Rattle.hq_sql_expr.specs.Reading.{◌>>=◌, Reader, nothing, choose, after, all_many, name_at, expr_at, order_with, out_with}
 
 -- a list behind a word, or none
 abbrev pub clause_with : {A : Type 0} → (first between : Word) → Reader A → Reader (List A)

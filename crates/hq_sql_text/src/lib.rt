@@ -4,6 +4,11 @@
 mod printing;
 mod reading;
 mod shape;
+mod statement;
 
 pub use hq_sql_expr::ReadRefusal;
 pub use printing::print;
+pub use statement::{one_tree, read};
+
+#[cfg(test)]
+mod tests;

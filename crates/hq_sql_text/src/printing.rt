@@ -2,12 +2,17 @@
 ghost use Rattle.std.specs.Prelude.{◌≡◌, ◌++◌, IfOk, OnOk, map};
 ghost use Rattle.hq_sql_tree.specs.Word.{word_text};
 ghost use Rattle.hq_sql_tree.specs.Tree.{joins_of, preds_of};
+ghost use Rattle.hq_sql_tree.specs.Tree as tree;
 ghost use Rattle.hq_sql_tree.specs.View.{expr_view, order_view, out_view, select_view, from_view, join_view, pred_view, filter_view};
 ghost use Rattle.hq_sql_tree.specs.Spelling.{separated, each_after, name_text, clause_text, expr_text, order_text, out_text, op_word, like_word, distinct_text, number_text, select_text, from_text, join_text, join_texts, filter_text, pred_text, pred_texts};
 
 use hq_base::{Bytes, Memory, Txt};
-use hq_sql_expr::{put_between, put_expr, put_exprs, put_keys, put_name, put_number, put_out, put_outs, put_word};
-use hq_sql_tree::{Expr, ExprList, From, Join, JoinList, OrderList, OutList, Pred, PredList, Select, Word};
+use hq_sql_expr::{
+    put_between, put_expr, put_exprs, put_keys, put_name, put_number, put_out, put_outs, put_word,
+};
+use hq_sql_tree::{
+    Expr, ExprList, From, Join, JoinList, OrderList, Out, OutList, Pred, PredList, Select, Word,
+};
 use hq_terms::Op;
 use std::alloc::Global;
 
@@ -44,7 +49,12 @@ fn put_count(alloc: Global, out: &mut Vec<u8>, word: Word, count: Option<u64>) -
 }
 
 // What stands before FROM.
-fn put_outputs(alloc: Global, out: &mut Vec<u8>, distinct: &ExprList, outs: &OutList) -> Result<(), Memory>
+fn put_outputs(
+    alloc: Global,
+    out: &mut Vec<u8>,
+    distinct: &ExprList,
+    outs: &OutList,
+) -> Result<(), Memory>
     ensures { OnOk result (out.new.items ≡ out.old.items ++ (word_text Word.Select ++ (distinct_text (map expr_view distinct.now.items) ++ separated Word.Comma (map out_text (map out_view outs.now.items))))) }
 {
     put_word(out, Word::Select)?;
@@ -53,7 +63,13 @@ fn put_outputs(alloc: Global, out: &mut Vec<u8>, distinct: &ExprList, outs: &Out
 }
 
 // What stands behind WHERE.
-fn put_end(alloc: Global, out: &mut Vec<u8>, keys: &OrderList, limit: Option<u64>, offset: Option<u64>) -> Result<(), Memory>
+fn put_end(
+    alloc: Global,
+    out: &mut Vec<u8>,
+    keys: &OrderList,
+    limit: Option<u64>,
+    offset: Option<u64>,
+) -> Result<(), Memory>
     ensures { OnOk result (out.new.items ≡ out.old.items ++ (clause_text Word.OrderBy Word.Comma (map order_text (map order_view keys.now.items)) ++ (number_text Word.Limit limit ++ number_text Word.Offset offset))) }
 {
     put_order_by(alloc, out, keys)?;
@@ -73,21 +89,45 @@ fn put_select(alloc: Global, out: &mut Vec<u8>, select: &Select) -> Result<(), M
     ensures { OnOk result (out.new.items ≡ out.old.items ++ select_text (select_view select.now)) }
 {
     match select {
-        Select::Rows { distinct, outs, from, joins, filter, order, limit, offset } => {
+        Select::Rows {
+            distinct,
+            outs,
+            from,
+            joins,
+            filter,
+            order,
+            limit,
+            offset,
+        } => {
             put_outputs(alloc, out, distinct, outs)?;
             put_from(alloc, out, from)?;
             put_joins(alloc, out, joins)?;
             put_filter(alloc, out, filter)?;
             put_end(alloc, out, order, *limit, *offset)
         }
-        Select::Fold { out: output, rows, alias } => {
-            put_word(out, Word::Select)?;
-            put_out(alloc, out, output)?;
-            put_word(out, Word::From)?;
-            put_derived(alloc, out, rows)?;
-            put_alias(out, alias)
-        }
+        Select::Fold {
+            out: output,
+            rows,
+            alias,
+        } => put_fold(alloc, out, output, rows, alias),
     }
+}
+
+#[cycle(put_select)]
+fn put_fold(
+    alloc: Global,
+    out: &mut Vec<u8>,
+    output: &Out,
+    rows: &Select,
+    alias: &Txt,
+) -> Result<(), Memory>
+    ensures { OnOk result (out.new.items ≡ out.old.items ++ select_text (tree.fold (out_view output.now) (select_view rows.now) alias.now)) }
+{
+    put_word(out, Word::Select)?;
+    put_out(alloc, out, output)?;
+    put_word(out, Word::From)?;
+    put_derived(alloc, out, rows)?;
+    put_alias(out, alias)
 }
 
 // The opening parenthesis and a select.
@@ -106,7 +146,11 @@ fn put_from(alloc: Global, out: &mut Vec<u8>, from: &From) -> Result<(), Memory>
 {
     put_word(out, Word::From)?;
     match from {
-        From::Table { schema, table, alias } => put_table(out, schema, table, alias),
+        From::Table {
+            schema,
+            table,
+            alias,
+        } => put_table(out, schema, table, alias),
         From::Sub { select, alias } => {
             put_derived(alloc, out, select)?;
             put_alias(out, alias)
@@ -174,7 +218,13 @@ fn op_word_of(op: Op) -> Word
 }
 
 // A condition on two expressions, with a word between.
-fn put_two(alloc: Global, out: &mut Vec<u8>, left: &Expr, word: Word, right: &Expr) -> Result<(), Memory>
+fn put_two(
+    alloc: Global,
+    out: &mut Vec<u8>,
+    left: &Expr,
+    word: Word,
+    right: &Expr,
+) -> Result<(), Memory>
     ensures { OnOk result (out.new.items ≡ out.old.items ++ (word_text Word.Open ++ (expr_text (expr_view left.now) ++ (word_text word ++ (expr_text (expr_view right.now) ++ word_text Word.Close))))) }
 {
     put_word(out, Word::Open)?;
@@ -202,8 +252,16 @@ fn put_pred(alloc: Global, out: &mut Vec<u8>, pred: &Pred) -> Result<(), Memory>
         Pred::True => put_word(out, Word::True),
         Pred::False => put_word(out, Word::False),
         Pred::Cmp { left, op, right } => put_two(alloc, out, left, op_word_of(*op), right),
-        Pred::Like { left, right, fold: true } => put_two(alloc, out, left, Word::Ilike, right),
-        Pred::Like { left, right, fold: false } => put_two(alloc, out, left, Word::Like, right),
+        Pred::Like {
+            left,
+            right,
+            fold: true,
+        } => put_two(alloc, out, left, Word::Ilike, right),
+        Pred::Like {
+            left,
+            right,
+            fold: false,
+        } => put_two(alloc, out, left, Word::Like, right),
         Pred::Within { value, list } => put_within(alloc, out, value, list),
         Pred::IsNull(value) => {
             put_word(out, Word::Open)?;
@@ -237,7 +295,12 @@ fn put_preds(alloc: Global, out: &mut Vec<u8>, word: Word, preds: &PredList) -> 
 }
 
 #[cycle(put_select)]
-fn put_pred_list(alloc: Global, out: &mut Vec<u8>, word: Word, preds: &PredList) -> Result<(), Memory>
+fn put_pred_list(
+    alloc: Global,
+    out: &mut Vec<u8>,
+    word: Word,
+    preds: &PredList,
+) -> Result<(), Memory>
     ensures { OnOk result (out.new.items ≡ out.old.items ++ separated word (pred_texts (preds_of (map pred_view preds.now.items)))) }
 {
     for (i, pred) in preds.iter().enumerate() {

@@ -19,7 +19,14 @@ fn table_of(alloc: Global, bytes: &[u8]) -> Result<(From, &[u8]), ReadRefusal>
     let (table, rest) = read_name(alloc, rest)?;
     let rest = skip(rest, Word::As)?;
     let (alias, rest) = read_name(alloc, rest)?;
-    Ok((From::Table { schema, table, alias }, rest))
+    Ok((
+        From::Table {
+            schema,
+            table,
+            alias,
+        },
+        rest,
+    ))
 }
 
 // The sort keys of ORDER BY, where there is one.

@@ -1,11 +1,14 @@
-use Rattle.std.proofs.Common.{◌≡◌, ◌+◌, ◌<◌, ◌++◌, ◌∷◌, [], length, map, sym, ap, subst, ◌∙◌, arith}
+use Rattle.std.proofs.Common.{◌≡◌, ℕ, List, Some, refl, ◌+◌, ◌<◌, ◌++◌, ◌∷◌, [], length, map, sym, subst, arith}
 use Rattle.std.proofs.lemmas.List.{map_push}
 use Rattle.std.proofs.lemmas.Result.{err_from_is_err_and}
 use Rattle.hq_sql_tree.specs.declared.word.Word.TheVariants as word
 use Rattle.hq_sql_tree.specs.View.{join_view, select_view}
-use Rattle.hq_sql_expr.specs.Reading.{Reads, below, all_many}
+use Rattle.hq_sql_tree.specs.Tree.{SelectTree}
+use Rattle.hq_sql_expr.specs.declared.refusal.ReadRefusal.{ReadRefusal}
+use Rattle.hq_sql_expr.specs.declared.refusal.ReadRefusal.TheVariants.{NotSql, Memory}
+use Rattle.hq_sql_expr.specs.Reading.{Reads, Refuses, Reader, after, below, all_many, name_at}
 use Rattle.hq_sql_expr.proofs.Many.{goes_on, fails, finishes, ends, refuses_more}
-use Rattle.hq_sql_text.specs.Reading.{join_with, select_at}
+use Rattle.hq_sql_text.specs.Reading.{aliased_with, join_with, select_at}
 use Rattle.hq_sql_text.proofs.Below.{select_below_is}
 use Rattle.hq_sql_text.proofs.reading.+read_select.Goals as goal
 
@@ -13,6 +16,17 @@ pub select_below-returns : goal.select_below-returns
 select_below-returns t c =
     let lt : 0 < c.args.depth = omega arith in
     subst (Reads (λ x. (select_view x.0, x.1.now)) c.select_of.result) (sym (select_below_is c.args.depth c.args.bytes.now lt)) c.select_of.ensures
+
+-- where no alias is read, neither is the whole
+no_alias : (query : Reader SelectTree) (bytes behind rest : List ℕ) (s : SelectTree) (e : ReadRefusal) → query bytes ≡ Some (s, behind) → after word.CloseAs behind ≡ Some rest → Refuses e (name_at rest) → Refuses e (aliased_with query bytes)
+unfolding aliased_with
+no_alias query bytes behind rest s Memory read closed h = tt
+no_alias query bytes behind rest s NotSql read closed h = rw (read, closed, h) refl
+
+pub aliased_of-returns-in_err-alias : goal.aliased_of-returns-in_err-alias
+aliased_of-returns-in_err-alias t c =
+    let p = err_from_is_err_and c.from_residual-in_err-alias.result c.from_residual-in_err-alias.ensures.1 in
+    rw (p.1, p.2) (no_alias (below select_at c.args.depth) c.args.bytes.now _ _ _ c.in_err-alias.field-0.0 c.in_ok-select.ensures c.in_ok-rest.ensures c.in_err-alias.ensures)
 
 pub join_list-returns-in_err-join : goal.join_list-returns-in_err-join
 join_list-returns-in_err-join t c =
