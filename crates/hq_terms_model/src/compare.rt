@@ -2,8 +2,6 @@ ghost use Rattle.std.specs.Prelude.{◌≡◌};
 ghost use Rattle.hq_base.specs.Cells.{cell_of};
 ghost use Rattle.hq_terms.specs.Logic.{op_test, compared};
 
-ghost use Rattle.hq_base.specs.declared.value.Val.TheVariants as val;
-
 use hq_base::{Val, compare};
 use hq_terms::{Op, Truth};
 use std::cmp::Ordering;
@@ -22,6 +20,7 @@ fn op_test(op: Op, order: Ordering) -> bool
 }
 
 /// A comparison of two values: Unknown where one is NULL.
+#[tactic(auto, using(crate::proofs::Values::order_of_values))]
 pub fn compared(op: Op, a: &Val, b: &Val) -> Truth
     ensures { result ≡ compared op (cell_of a.now) (cell_of b.now) }
 {
@@ -30,11 +29,3 @@ pub fn compared(op: Op, a: &Val, b: &Val) -> Truth
         None => Truth::Unknown,
     }
 }
-
-fn null() -> &'static Val
-    ensures { result.now ≡ val.Null }
-{
-    &NULL
-}
-
-static NULL: Val = Val::Null;

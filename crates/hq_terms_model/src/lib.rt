@@ -3,5 +3,8 @@
 #![tactic(auto)]
 
 mod compare;
+mod reach;
+mod seen;
 
 pub use compare::compared;
+pub use seen::{Database, Row, RowList, Seen};
