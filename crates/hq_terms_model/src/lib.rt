@@ -2,9 +2,12 @@
 //! It is run on small databases, and no other crate stands on it.
 #![tactic(auto)]
 
+mod boolean;
 mod compare;
+mod operands;
 mod reach;
 mod seen;
 
+pub use boolean::truth;
 pub use compare::compared;
 pub use seen::{Database, Row, RowList, Seen};

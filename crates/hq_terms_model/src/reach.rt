@@ -1,13 +1,12 @@
-ghost use Rattle.std.specs.Prelude.{◌≡◌, slice_index_or, option_copied, unwrap_or};
-ghost use Rattle.hq_terms.specs.Meta.{meta_view};
-ghost use Rattle.hq_terms.specs.Schema.{rel, no_rel, rels_of};
+ghost use Rattle.std.specs.Prelude.{◌≡◌, slice_index_or};
+ghost use Rattle.hq_terms.specs.Schema.{rel};
 ghost use Rattle.hq_terms.specs.Seen.{table_rows, linked_by};
 ghost use Rattle.hq_terms_model.specs.Seen.{schema_in};
 
 use crate::compare::compared;
 use crate::{Row, Seen};
 use hq_base::{List, Val};
-use hq_terms::{ColId, Meta, Op, Pair, Rel, RelId, TableId};
+use hq_terms::{ColId, Op, Pair, RelId, TableId};
 
 // The item at this place, or this one where there is none.
 fn item_or<'a, T>(items: &'a List<T>, at: usize, missing: &'a T) -> &'a T
@@ -54,40 +53,11 @@ pub fn linked(pairs: &[Pair], own: &Row, far: &Row) -> bool
     }
 }
 
-// The relationship at this place; none beyond the table's relationships.
-fn rel_at<'a>(seen: &Seen<'a>, t: TableId, r: RelId) -> Option<&'a Rel>
-    ensures { unwrap_or (option_copied result) no_rel ≡ rel (schema_in seen.now) t r }
-{
-    match seen.catalog.table(t) {
-        Some(_) => tracked_rel(seen.meta, t, r),
-        None => None,
-    }
-}
-
-fn tracked_rel(meta: &Meta, t: TableId, r: RelId) -> Option<&Rel>
-    ensures { unwrap_or (option_copied result) no_rel ≡ slice_index_or (rels_of (meta_view meta.now) t) r no_rel }
-{
-    match meta.tracked_table(t) {
-        Some(tracked) => tracked.rel(r),
-        None => None,
-    }
-}
-
-/// The remote table of a relationship.
-pub fn remote_of(seen: &Seen, t: TableId, r: RelId) -> TableId
-    ensures { result ≡ (rel (schema_in seen.now) t r).remote }
-{
-    match rel_at(seen, t, r) {
-        Some(rel) => rel.remote,
-        None => TableId::new(0),
-    }
-}
-
 /// The pairs of columns of a relationship.
 pub fn pairs_of<'a>(seen: &Seen<'a>, t: TableId, r: RelId) -> &'a [Pair]
     ensures { result.now ≡ (rel (schema_in seen.now) t r).pairs }
 {
-    match rel_at(seen, t, r) {
+    match seen.scope.rel(t, r) {
         Some(rel) => rel.pairs.as_slice(),
         None => &[],
     }

@@ -1,5 +1,5 @@
 use hq_base::{List, Val};
-use hq_terms::{Catalog, Meta};
+use hq_terms::Scope;
 
 /// A row: a value for each column, in the catalog's order.
 pub type Row = List<Val>;
@@ -13,7 +13,6 @@ pub type Database = List<RowList>;
 /// A catalog with its metadata, and of each table the rows that count.
 #[derive(Clone, Copy)]
 pub struct Seen<'a> {
-    pub catalog: &'a Catalog,
-    pub meta: &'a Meta,
+    pub scope: Scope<'a>,
     pub rows: &'a Database,
 }
