@@ -6,8 +6,11 @@ mod boolean;
 mod compare;
 mod operands;
 mod reach;
+mod rows;
 mod seen;
+mod sort;
 
 pub use boolean::truth;
 pub use compare::compared;
+pub use rows::{kept, related};
 pub use seen::{Database, Row, RowList, Seen};
