@@ -4,6 +4,7 @@
 
 mod boolean;
 mod compare;
+mod key;
 mod operands;
 mod reach;
 mod rows;
@@ -12,5 +13,6 @@ mod sort;
 
 pub use boolean::truth;
 pub use compare::compared;
+pub use key::by_key;
 pub use rows::{kept, related};
 pub use seen::{Database, Row, RowList, Seen};
