@@ -34,6 +34,7 @@ pub use op::Op;
 pub use perm::PermView;
 pub use reading::{truth_value, whole_number};
 pub use role::Role;
+pub use scope::Scope;
 pub use session::{Session, Var, VarList};
 pub use table::{Column, ColumnList, ForeignKey, ForeignKeyList, Table, TableList};
 pub use truth::Truth;

@@ -2,6 +2,17 @@
 //! It is run on small databases, and no other crate stands on it.
 #![tactic(auto)]
 
+mod boolean;
 mod compare;
+mod key;
+mod operands;
+mod reach;
+mod rows;
+mod seen;
+mod sort;
 
+pub use boolean::truth;
 pub use compare::compared;
+pub use key::by_key;
+pub use rows::{kept, related};
+pub use seen::{Database, Row, RowList, Seen};
