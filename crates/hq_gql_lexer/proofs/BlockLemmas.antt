@@ -10,7 +10,7 @@ use Rattle.hq_gql_lexer.specs.Strings.{quotes, block_step, block_len}
 use Rattle.hq_gql_lexer.proofs.OptionLemmas.{option_map-add, option_map-zero}
 
 -- bytes that are taken already are passed over
-block_skip : (k : ℕ) (bytes : List ℕ) → k ≤ length bytes → block_len k bytes ≡ option_map (λ n. k + n) (block_len 0 (drop k bytes))
+pub block_skip : (k : ℕ) (bytes : List ℕ) → k ≤ length bytes → block_len k bytes ≡ option_map (λ n. k + n) (block_len 0 (drop k bytes))
 block_skip zero bytes h = option_map-zero (block_len 0 bytes)
 block_skip (suc k) [] h = absurd (omega arith)
 block_skip (suc k) (b ∷ bytes) h =

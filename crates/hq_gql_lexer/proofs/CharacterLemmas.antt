@@ -47,8 +47,8 @@ pub encode-is_high : (c : ℕ) → 128 ≤ c → list_all is_high (encode c) ≡
 encode-is_high c more = list_all-from_AllPass is_high (encode c) (λ k d within.
     ⊎_elim
     (λ (low : get_or (encode c) k 0 < 128).
-        let is_it : c ≡ get_or (encode c) k 0 = inside_one c [] (encode c) k (sym (append-nil (encode c))) within low in
-        absurd (omega arith))
+    let is_it : c ≡ get_or (encode c) k 0 = inside_one c [] (encode c) k (sym (append-nil (encode c))) within low in
+    absurd (omega arith))
     (λ (high : 128 ≤ get_or (encode c) k 0). high_test _ (get_or_same (encode c) k d within high))
     (cases_lt (get_or (encode c) k 0) 128))
 

@@ -55,10 +55,10 @@ neither h k = rw h k
 
 hex_inner : (b : ℕ) → is_hex b ≡ true → IsInner b
 hex_inner b h = record {
-    no_end = neither (hex_differs b 10 refl h) (hex_differs b 13 refl h);
-    no_quote = hex_differs b 34 refl h;
-    no_slash = hex_differs b 92 refl h;
-  }
+  no_end = neither (hex_differs b 10 refl h) (hex_differs b 13 refl h);
+  no_quote = hex_differs b 34 refl h;
+  no_slash = hex_differs b 92 refl h;
+}
 
 hex_ascii : (b : ℕ) → is_hex b ≡ true → b < 128
 hex_ascii b h = grind (arith, nat_tests)
@@ -140,11 +140,11 @@ simple_apart e n c other h = ⊎_elim
 
 simple_shape : (e c : ℕ) → simple_escape e ≡ Some c → IsSimple e c
 simple_shape e c h = record {
-    no_end = neither (simple_apart e 10 c refl h) (simple_apart e 13 c refl h);
-    is_ascii = grind (arith, nat_tests);
-    small = grind (arith, nat_tests);
-    some = grind (arith, nat_tests);
-  }
+  no_end = neither (simple_apart e 10 c refl h) (simple_apart e 13 c refl h);
+  is_ascii = grind (arith, nat_tests);
+  small = grind (arith, nat_tests);
+  some = grind (arith, nat_tests);
+}
 
 -- what comes of one unit or of two is a character
 pub record IsCharacterOf (unit c : ℕ) : Type 0 where
@@ -175,7 +175,7 @@ one_unit more unit u high low =
       count = six;
       alone = some_unit unit 6 (92 ∷ 117 ∷ u.digits) _ here (rw high (rw low refl)) ∙ ap (λ n. Some (unit, n)) six;
       passes = λ tail. ap (option_map (λ n. 1 + n)) (plain_len_over is_hex hex_inner u.digits tail u.hex)
-        ∙ option_map-add 1 (length u.digits) (suc (length u.digits)) (plain_len false tail) (omega arith);
+          ∙ option_map-add 1 (length u.digits) (suc (length u.digits)) (plain_len false tail) (omega arith);
       is_ascii = IsAscii-cons 117 u.digits (lit< tt) (hex_IsAscii u.digits u.hex);
       is_scalar = is.is_scalar;
       some = is.some;
@@ -197,7 +197,7 @@ passes_two : (front second tail : List ℕ) → list_all is_hex front ≡ true �
 passes_two front second tail h k =
     ap (λ bytes. plain_len true (117 ∷ bytes)) (append_assoc front (92 ∷ 117 ∷ second) tail)
     ∙ ap (option_map (λ n. 1 + n)) (plain_len_over is_hex hex_inner front (92 ∷ 117 ∷ (second ++ tail)) h
-        ∙ ap (λ found. option_map (λ n. length front + n) (option_map (λ n. 1 + n) (option_map (λ n. 1 + n) found))) (plain_len_over is_hex hex_inner second tail k))
+    ∙ ap (λ found. option_map (λ n. length front + n) (option_map (λ n. 1 + n) (option_map (λ n. 1 + n) found))) (plain_len_over is_hex hex_inner second tail k))
     ∙ counted (length front) (length second) _ (plain_len false tail) (omega (arith, length-append front (92 ∷ 117 ∷ second)))
 
 -- a `\u` escape of two units
@@ -219,7 +219,7 @@ two_units more high low u v is_high is_low =
       alone = some_unit high 12 (92 ∷ 117 ∷ (u.digits ++ second)) _ (u.alone second) (rw is_high (rw next (rw is_low refl))) ∙ ap (λ n. Some (c, n)) twelve;
       passes = λ tail. passes_two u.digits v.digits tail u.hex v.hex;
       is_ascii = IsAscii-cons 117 (u.digits ++ second) (lit< tt) (IsAscii-append u.digits second (hex_IsAscii u.digits u.hex)
-        (IsAscii-cons 92 (117 ∷ v.digits) (lit< tt) (IsAscii-cons 117 v.digits (lit< tt) (hex_IsAscii v.digits v.hex))));
+          (IsAscii-cons 92 (117 ∷ v.digits) (lit< tt) (IsAscii-cons 117 v.digits (lit< tt) (hex_IsAscii v.digits v.hex))));
       is_scalar = is.is_scalar;
       some = is.some;
     }
@@ -252,10 +252,10 @@ alone_of false x y h = (refl, h)
 unicode_shape : (more : List ℕ) (unit c n : ℕ) (u : IsUnit (92 ∷ more) unit) → character_of unit u.rest ≡ Some (c, n) → IsEscape more c n
 unicode_shape more unit c n u h = ⊎_elim
     (λ (pair : (is_high_surrogate unit ≡ true) × (option_map (λ c. (c, 12)) (pair_of unit (unit_at u.rest)) ≡ Some (c, n))).
-        pair_shape more unit (c, n) u (unit_at u.rest) pair.0 refl pair.1)
+    pair_shape more unit (c, n) u (unit_at u.rest) pair.0 refl pair.1)
     (λ (lone : (is_high_surrogate unit ≡ false) × (cond (is_low_surrogate unit || unit == 0) None (Some (unit, 6)) ≡ Some (c, n))).
-        let found = alone_of _ (unit, 6) (c, n) lone.1 in
-        same_escape more (unit, 6) (c, n) found.1 (one_unit more unit u lone.0 found.0))
+    let found = alone_of _ (unit, 6) (c, n) lone.1 in
+    same_escape more (unit, 6) (c, n) found.1 (one_unit more unit u lone.0 found.0))
     (tested (is_high_surrogate unit) _ _ _ h)
 
 behind_unit : (bytes : List ℕ) (unit : ℕ) (u : IsUnit bytes unit) → drop 6 bytes ≡ u.rest

@@ -9,3 +9,5 @@ pub mod CharacterLemmas
 pub mod EscapeLemmas
 pub mod ReadLemmas
 pub mod PlainLemmas
+pub mod QuotesLemmas
+pub mod ValueLemmas

@@ -56,7 +56,7 @@ neither true t x y z h = absurd (false≢true h)
 neither false true x y z h = absurd (false≢true h)
 neither false false x y z h = refl
 
-inside : (b : ℕ) (bytes : List ℕ) → not_end b ≡ true → lines_of (b ∷ bytes) ≡ onto_first b (lines_of bytes)
+pub inside : (b : ℕ) (bytes : List ℕ) → not_end b ≡ true → lines_of (b ∷ bytes) ≡ onto_first b (lines_of bytes)
 inside b bytes h = neither (b == 10) (b == 13) _ _ _ h
 
 -- how far a list passes a test that its first passes, or fails

@@ -24,13 +24,13 @@ use Rattle.hq_gql_lexer.proofs.ReadLemmas.{IsRead, characters_read}
 use Rattle.hq_gql_lexer.proofs.StepsLemmas.{IsFirstStep, steps_first, steps_skip, Copies, IsCopied, copied}
 
 -- a character past U+007F is passed over, and copied
-high_inner : (b : ℕ) → is_high b ≡ true → IsInner b
+pub high_inner : (b : ℕ) → is_high b ≡ true → IsInner b
 high_inner b h = record { no_end = grind (arith, nat_tests); no_quote = grind (arith, nat_tests); no_slash = grind (arith, nat_tests) }
 
-high_source : (b : ℕ) → is_high b ≡ true → is_source b ≡ true
+pub high_source : (b : ℕ) → is_high b ≡ true → is_source b ≡ true
 high_source b h = grind (arith, nat_tests)
 
-copies_source : (b : ℕ) → is_high b ≡ true → (at : ℕ) (bytes : List ℕ) → source_at at (b ∷ bytes) ≡ Ok (b ∷ [], 1)
+pub copies_source : (b : ℕ) → is_high b ≡ true → (at : ℕ) (bytes : List ℕ) → source_at at (b ∷ bytes) ≡ Ok (b ∷ [], 1)
 copies_source b h at bytes = cond-true (is_source b) _ _ (high_source b h)
 
 copies_plain : Copies (character_at Plain)
@@ -60,7 +60,7 @@ ok_of true x y e h = (refl, h)
 ok_of false x y e h = cc
 
 -- a byte that stands for itself
-source_first : (at b : ℕ) (bytes piece : List ℕ) (n : ℕ) → source_at at (b ∷ bytes) ≡ Ok (piece, n) → IsTrue (is_source b) × (b ∷ [] ≡ piece) × (1 ≡ n)
+pub source_first : (at b : ℕ) (bytes piece : List ℕ) (n : ℕ) → source_at at (b ∷ bytes) ≡ Ok (piece, n) → IsTrue (is_source b) × (b ∷ [] ≡ piece) × (1 ≡ n)
 source_first at b bytes piece n h =
     let found = ok_of (is_source b) _ _ _ h in
     let same : ◌≡◌ {A = List ℕ × ℕ} (b ∷ [], 1) (piece, n) = let e = found.1 in cc in
@@ -87,7 +87,7 @@ plain_escape : (at b : ℕ) (bytes piece : List ℕ) (n : ℕ) → (b == 92) ≡
 unfolding character_at
 plain_escape at b bytes piece n slash h = escaped_first at n (b ∷ bytes) piece (escape_at (b ∷ bytes)) refl (sym (cond-true (b == 92) _ _ slash) ∙ h)
 
-counted_back : (k n : ℕ) (o : Option ℕ) → option_map (λ m. k + m) o ≡ Some (k + n) → o ≡ Some n
+pub counted_back : (k n : ℕ) (o : Option ℕ) → option_map (λ m. k + m) o ≡ Some (k + n) → o ≡ Some n
 counted_back k n None h = cc
 counted_back k n (Some m) h = let e : k + m ≡ k + n = cc in ap Some (omega arith)
 
@@ -97,7 +97,7 @@ IsUtf8-behind front rest f u =
     let cut = IsCharBoundary-from_take (front ++ rest) (length front) u (omega (arith, length-append front rest)) (subst IsUtf8 (sym (take_at front rest (length front) refl)) f) in
     subst IsUtf8 (drop_at front rest (length front) refl) (IsUtf8-drop (front ++ rest) (length front) u cut)
 
-wide_source : (c : ℕ) → 128 ≤ c → is_source c ≡ true
+pub wide_source : (c : ℕ) → 128 ≤ c → is_source c ≡ true
 wide_source c h = grind (arith, nat_tests)
 
 wide_no_end : (c : ℕ) → 128 ≤ c → is_line_end c ≡ false
@@ -112,7 +112,7 @@ pub record IsReadPlain (at : ℕ) (inside after value : List ℕ) : Type 0 where
   pub utf8 : IsUtf8 inside
   pub read : steps (character_at Plain) 0 at inside ≡ Ok value
 
-apart : (b n : ℕ) → (b == n) ≡ false → b ≢ n
+pub apart : (b n : ℕ) → (b == n) ≡ false → b ≢ n
 apart b n h same = absurd (omega (arith, eqb-false b n h))
 
 -- the same of the rest behind an escape
@@ -129,7 +129,7 @@ behind_escape at rest after others c n is ends utf8 read =
       ends = counted_back k (length is.rest) _ (sym (is.passes (is.rest ++ tail)) ∙ ap (plain_len true) joined ∙ ends ∙ ap Some len);
       utf8 = IsUtf8-behind is.behind is.rest (IsUtf8-from_ascii is.behind is.is_ascii) (subst IsUtf8 is.split utf8);
       read = ap (steps (character_at Plain) 0 (at + 1 + k)) (sym cut) ∙ sym (steps_skip (character_at Plain) k (at + 1) rest (omega (arith, len)))
-        ∙ ap (λ j. steps (character_at Plain) j (at + 1) rest) (sym count) ∙ read;
+          ∙ ap (λ j. steps (character_at Plain) j (at + 1) rest) (sym count) ∙ read;
     }
 
 pub plain_parts : (m at : ℕ) (inside after value : List ℕ) → length inside < m → IsReadPlain at inside after value → TextParts inside → IsPlainRest (inside ++ 34 ∷ []) value
@@ -140,38 +140,38 @@ plain_parts (suc m) at inside after value h is (ascii b rest one utf8) =
     let step = steps_first (character_at Plain) at b rest value is.read in
     ⊎_elim
     (λ (slash : (b == 92) ≡ true).
-        let esc = plain_escape at b rest step.piece step.n slash step.first in
-        let same : b ≡ 92 = eqb-true b 92 slash in
-        let shape = escape_shape rest esc.c step.n (subst (λ k. escape_at (k ∷ rest) ≡ Some (esc.c, step.n)) same esc.found) in
-        let next = behind_escape at rest after step.others esc.c step.n shape (subst (λ t. plain_len t (rest ++ 34 ∷ after) ≡ Some (length rest)) slash first.more) utf8 step.behind in
-        let shorter : length shape.rest < m = omega (arith, ap length shape.split, length-append shape.behind shape.rest) in
-        let inner = plain_parts m _ shape.rest after step.others shorter next (text_parts shape.rest next.utf8) in
-        let built : IsPlainRest (92 ∷ (shape.behind ++ (shape.rest ++ 34 ∷ []))) (encode esc.c ++ step.others) = escape esc.c shape.behind (shape.rest ++ 34 ∷ []) step.others shape.alone inner in
-        let text : 92 ∷ (shape.behind ++ (shape.rest ++ 34 ∷ [])) ≡ b ∷ (rest ++ 34 ∷ [])
-            = ap (λ bytes. 92 ∷ bytes) (sym (append_assoc shape.behind shape.rest (34 ∷ [])) ∙ ap (λ bytes. bytes ++ 34 ∷ []) (sym shape.split)) ∙ ap (λ k. k ∷ (rest ++ 34 ∷ [])) (sym same) in
-        subst (λ t. IsPlainRest t value) text (subst (IsPlainRest _) (ap (λ front. front ++ step.others) esc.is ∙ step.whole) built))
+    let esc = plain_escape at b rest step.piece step.n slash step.first in
+    let same : b ≡ 92 = eqb-true b 92 slash in
+    let shape = escape_shape rest esc.c step.n (subst (λ k. escape_at (k ∷ rest) ≡ Some (esc.c, step.n)) same esc.found) in
+    let next = behind_escape at rest after step.others esc.c step.n shape (subst (λ t. plain_len t (rest ++ 34 ∷ after) ≡ Some (length rest)) slash first.more) utf8 step.behind in
+    let shorter : length shape.rest < m = omega (arith, ap length shape.split, length-append shape.behind shape.rest) in
+    let inner = plain_parts m _ shape.rest after step.others shorter next (text_parts shape.rest next.utf8) in
+    let built : IsPlainRest (92 ∷ (shape.behind ++ (shape.rest ++ 34 ∷ []))) (encode esc.c ++ step.others) = escape esc.c shape.behind (shape.rest ++ 34 ∷ []) step.others shape.alone inner in
+    let text : 92 ∷ (shape.behind ++ (shape.rest ++ 34 ∷ [])) ≡ b ∷ (rest ++ 34 ∷ [])
+    = ap (λ bytes. 92 ∷ bytes) (sym (append_assoc shape.behind shape.rest (34 ∷ [])) ∙ ap (λ bytes. bytes ++ 34 ∷ []) (sym shape.split)) ∙ ap (λ k. k ∷ (rest ++ 34 ∷ [])) (sym same) in
+    subst (λ t. IsPlainRest t value) text (subst (IsPlainRest _) (ap (λ front. front ++ step.others) esc.is ∙ step.whole) built))
     (λ (other : (b == 92) ≡ false).
-        let src = plain_source at b rest step.piece step.n other step.first in
-        let next : IsReadPlain (at + 1) rest after step.others = record {
-            ends = subst (λ t. plain_len t (rest ++ 34 ∷ after) ≡ Some (length rest)) other first.more;
-            utf8 = utf8;
-            read = ap (λ k. steps (character_at Plain) (k - 1) (at + 1) rest) src.2 ∙ step.behind;
-          } in
-        let inner = plain_parts m (at + 1) rest after step.others (omega arith) next (text_parts rest utf8) in
-        let built : IsPlainRest (encode b ++ (rest ++ 34 ∷ [])) (encode b ++ step.others) = character b (rest ++ 34 ∷ []) step.others (low_scalar b (omega arith), src.0) (apart b 34 first.no_quote) (apart b 92 other) first.no_end inner in
-        let same = encode_ascii b one in
-        subst (λ front. IsPlainRest (front ++ (rest ++ 34 ∷ [])) value) same
-            (subst (IsPlainRest _) (ap (λ front. front ++ step.others) (same ∙ src.1) ∙ step.whole) built))
+    let src = plain_source at b rest step.piece step.n other step.first in
+    let next : IsReadPlain (at + 1) rest after step.others = record {
+      ends = subst (λ t. plain_len t (rest ++ 34 ∷ after) ≡ Some (length rest)) other first.more;
+      utf8 = utf8;
+      read = ap (λ k. steps (character_at Plain) (k - 1) (at + 1) rest) src.2 ∙ step.behind;
+    } in
+    let inner = plain_parts m (at + 1) rest after step.others (omega arith) next (text_parts rest utf8) in
+    let built : IsPlainRest (encode b ++ (rest ++ 34 ∷ [])) (encode b ++ step.others) = character b (rest ++ 34 ∷ []) step.others (low_scalar b (omega arith), src.0) (apart b 34 first.no_quote) (apart b 92 other) first.no_end inner in
+    let same = encode_ascii b one in
+    subst (λ front. IsPlainRest (front ++ (rest ++ 34 ∷ [])) value) same
+    (subst (IsPlainRest _) (ap (λ front. front ++ step.others) (same ∙ src.1) ∙ step.whole) built))
     (cases_Bool (b == 92))
 plain_parts (suc m) at inside after value h is (wide c rest scalar more utf8) =
     let high = encode-is_high c more in
     let cp = copied (character_at Plain) copies_plain at (encode c) rest value high is.read in
     let next : IsReadPlain (at + length (encode c)) rest after cp.others = record {
-        ends = counted_back (length (encode c)) (length rest) _ (sym (plain_len_over is_high high_inner (encode c) (rest ++ 34 ∷ after) high)
-            ∙ ap (plain_len false) (sym (append_assoc (encode c) rest (34 ∷ after))) ∙ is.ends ∙ ap Some (length-append (encode c) rest));
-        utf8 = utf8;
-        read = cp.behind;
-      } in
+      ends = counted_back (length (encode c)) (length rest) _ (sym (plain_len_over is_high high_inner (encode c) (rest ++ 34 ∷ after) high)
+          ∙ ap (plain_len false) (sym (append_assoc (encode c) rest (34 ∷ after))) ∙ is.ends ∙ ap Some (length-append (encode c) rest));
+      utf8 = utf8;
+      read = cp.behind;
+    } in
     let shorter : length rest < m = omega (arith, length-append (encode c) rest, length-encode_some c) in
     let inner = plain_parts m _ rest after cp.others shorter next (text_parts rest utf8) in
     let built : IsPlainRest (encode c ++ (rest ++ 34 ∷ [])) (encode c ++ cp.others) = character c (rest ++ 34 ∷ []) cp.others (scalar, wide_source c more) (omega arith) (omega arith) (wide_no_end c more) inner in
@@ -206,10 +206,10 @@ plain_read at n bytes value ends read =
     let is = closed_by false bytes n ends in
     let all = characters_read Plain at (take n bytes) value read in
     let here : IsReadPlain at (take n bytes) is.after value = record {
-        ends = ap (plain_len false) (sym is.split) ∙ ends ∙ ap Some (sym is.len);
-        utf8 = all.utf8;
-        read = all.read;
-      } in
+      ends = ap (plain_len false) (sym is.split) ∙ ends ∙ ap Some (sym is.len);
+      utf8 = all.utf8;
+      read = all.read;
+    } in
     plain_parts (suc (length (take n bytes))) at (take n bytes) is.after value (omega arith) here (text_parts (take n bytes) all.utf8)
 
 -- the value is a text

@@ -16,9 +16,9 @@ utf8_up_to : (bytes : List ℕ) (n : ℕ) → IsUtf8 (take (valid_len_up_to byte
 utf8_up_to bytes zero = IsUtf8-nil
 utf8_up_to bytes (suc n) = ⊎_elim
     (λ (yes' : is_utf8 (take (suc n) bytes) ≡ true).
-        subst (λ k. IsUtf8 (take k bytes)) (sym (cond-true _ (suc n) (valid_len_up_to bytes n) yes')) (IsUtf8-from_is_utf8 _ yes'))
+    subst (λ k. IsUtf8 (take k bytes)) (sym (cond-true _ (suc n) (valid_len_up_to bytes n) yes')) (IsUtf8-from_is_utf8 _ yes'))
     (λ (no' : is_utf8 (take (suc n) bytes) ≡ false).
-        subst (λ k. IsUtf8 (take k bytes)) (sym (cond-false _ (suc n) (valid_len_up_to bytes n) no')) (utf8_up_to bytes n))
+    subst (λ k. IsUtf8 (take k bytes)) (sym (cond-false _ (suc n) (valid_len_up_to bytes n) no')) (utf8_up_to bytes n))
     (cases_Bool (is_utf8 (take (suc n) bytes)))
 
 -- the front that is UTF-8 is

@@ -1,5 +1,5 @@
 //! What stands at one place of a text: a token, or what is ignored.
-ghost use Rattle.std.specs.Prelude.{◌≡◌, ◌+◌, ◌<◌, ◌≤◌, ◌^◌, length, ℕ, IsTrue, IfOk, IfSome};
+ghost use Rattle.std.specs.Prelude.{◌≡◌, ◌+◌, ◌<◌, ◌≤◌, ◌^◌, length, IsTrue, IfOk, IfSome};
 ghost use Rattle.hq_base.specs.Due.{Gives};
 ghost use Rattle.hq_gql_lexer.specs.Characters.{next_is, is_name_start};
 ghost use Rattle.hq_gql_lexer.specs.Lexemes.{comment_at, ignored_at, punct_of, punct_at, name_at, token_at, lexeme_at};
@@ -88,7 +88,7 @@ fn punct(bytes: &[u8]) -> Option<(Punct, usize)>
 #[tactic(auto, unfolding(crate::specs::Lexemes::name_at))]
 fn name(alloc: Global, bytes: &[u8]) -> Result<(TokenKind, usize), LexRefusal>
     requires { IsTrue (next_is is_name_start bytes.now) }
-    ensures exact { (at : ℕ) → Gives (λ x. x) LexRefusal.Memory (name_at at bytes.now) result }
+    ensures exact { Gives (λ x. x) LexRefusal.Memory (name_at bytes.now) result }
     ensures within { IfOk result (λ x. (0 < x.1) × (x.1 ≤ length bytes.now)) }
 {
     let len = name_len(bytes);
