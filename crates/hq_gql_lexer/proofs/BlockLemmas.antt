@@ -7,21 +7,14 @@ use Rattle.std.proofs.lemmas.Bool.{cond-true, cond-false}
 use Rattle.std.proofs.lemmas.List.{drop-drop, length-drop}
 use Rattle.std.proofs.lemmas.Slice.{between_to_end}
 use Rattle.hq_gql_lexer.specs.Strings.{quotes, block_step, block_len}
-
-further : (k m j : ℕ) (found : Option ℕ) → k + m ≡ j → option_map (λ n. k + n) (option_map (λ n. m + n) found) ≡ option_map (λ n. j + n) found
-further k m j None e = refl
-further k m j (Some n) e = ap Some (omega arith)
-
-no_further : (found : Option ℕ) → found ≡ option_map (λ n. 0 + n) found
-no_further None = refl
-no_further (Some n) = ap Some (omega arith)
+use Rattle.hq_gql_lexer.proofs.OptionLemmas.{option_map-add, option_map-zero}
 
 -- bytes that are taken already are passed over
-block_skip : (k : ℕ) (bytes : List ℕ) → k ≤ length bytes → block_len k bytes ≡ option_map (λ n. k + n) (block_len 0 (drop k bytes))
-block_skip zero bytes h = no_further (block_len 0 bytes)
+pub block_skip : (k : ℕ) (bytes : List ℕ) → k ≤ length bytes → block_len k bytes ≡ option_map (λ n. k + n) (block_len 0 (drop k bytes))
+block_skip zero bytes h = option_map-zero (block_len 0 bytes)
 block_skip (suc k) [] h = absurd (omega arith)
 block_skip (suc k) (b ∷ bytes) h =
-    ap (option_map (λ n. 1 + n)) (block_skip k bytes (omega arith)) ∙ further 1 k (suc k) (block_len 0 (drop k bytes)) (omega arith)
+    ap (option_map (λ n. 1 + n)) (block_skip k bytes (omega arith)) ∙ option_map-add 1 k (suc k) (block_len 0 (drop k bytes)) (omega arith)
 
 -- the first byte of a step, and the others
 block_rest : (k b : ℕ) (bytes : List ℕ) → 0 < k → k ≤ length (b ∷ bytes)
@@ -29,7 +22,7 @@ block_rest : (k b : ℕ) (bytes : List ℕ) → 0 < k → k ≤ length (b ∷ by
 block_rest zero b bytes some h = absurd (omega arith)
 block_rest (suc k) b bytes some h =
     ap (λ j. option_map (λ n. 1 + n) (block_len j bytes)) (omega arith) ∙ ap (option_map (λ n. 1 + n)) (block_skip k bytes (omega arith))
-    ∙ further 1 k (suc k) (block_len 0 (drop k bytes)) (omega arith)
+    ∙ option_map-add 1 k (suc k) (block_len 0 (drop k bytes)) (omega arith)
 
 -- a step that closes nothing
 block_one : (bytes : List ℕ) → 0 < length bytes → starts_with nat_eq bytes quotes ≡ false → 0 < block_step bytes → block_step bytes ≤ length bytes
@@ -52,9 +45,9 @@ open_more at k bytes rest is_open more cut open_yet e on h =
     let one = block_one rest some open_yet (subst (λ n. 0 < n) e on) (subst (λ n. n ≤ length rest) e (h some)) in
     record {
       within = omega (arith, len, h some);
-      so_far = sym (further at k (at + k) (block_len 0 (drop (at + k) bytes)) refl)
-        ∙ ap (option_map (λ n. at + n)) (ap (λ bs. option_map (λ n. k + n) (block_len 0 bs)) (sym (drop-drop k at bytes) ∙ ap (drop k) (sym same)) ∙ ap (λ j. option_map (λ n. j + n) (block_len 0 (drop j rest))) e ∙ sym one ∙ ap (block_len 0) same)
-        ∙ is_open.so_far;
+      so_far = sym (option_map-add at k (at + k) (block_len 0 (drop (at + k) bytes)) refl)
+          ∙ ap (option_map (λ n. at + n)) (ap (λ bs. option_map (λ n. k + n) (block_len 0 bs)) (sym (drop-drop k at bytes) ∙ ap (drop k) (sym same)) ∙ ap (λ j. option_map (λ n. j + n) (block_len 0 (drop j rest))) e ∙ sym one ∙ ap (block_len 0) same)
+          ∙ is_open.so_far;
     }
 
 closed_here : (rest : List ℕ) → 0 < length rest → starts_with nat_eq rest quotes ≡ true → block_len 0 rest ≡ Some 0

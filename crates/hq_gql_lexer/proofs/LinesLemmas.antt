@@ -56,7 +56,7 @@ neither true t x y z h = absurd (false≢true h)
 neither false true x y z h = absurd (false≢true h)
 neither false false x y z h = refl
 
-inside : (b : ℕ) (bytes : List ℕ) → not_end b ≡ true → lines_of (b ∷ bytes) ≡ onto_first b (lines_of bytes)
+pub inside : (b : ℕ) (bytes : List ℕ) → not_end b ≡ true → lines_of (b ∷ bytes) ≡ onto_first b (lines_of bytes)
 inside b bytes h = neither (b == 10) (b == 13) _ _ _ h
 
 -- how far a list passes a test that its first passes, or fails
@@ -72,12 +72,12 @@ pub line_then : (bytes : List ℕ) (more : List (List ℕ)) → prefix_len not_e
 line_then [] more some e = absurd (omega arith)
 line_then (b ∷ bytes) more some e = ⊎_elim
     (λ (within : not_end b ≡ true).
-        let len = prefix_len_yes not_end b bytes within in
-        let behind = subst (λ n. lines_of (drop n (b ∷ bytes)) ≡ [] ∷ more) len e in
-        inside b bytes within ∙ ap (onto_first b) (line_then bytes more (omega (arith, len)) behind) ∙ ap (λ n. take n (b ∷ bytes) ∷ more) (sym len))
+    let len = prefix_len_yes not_end b bytes within in
+    let behind = subst (λ n. lines_of (drop n (b ∷ bytes)) ≡ [] ∷ more) len e in
+    inside b bytes within ∙ ap (onto_first b) (line_then bytes more (omega (arith, len)) behind) ∙ ap (λ n. take n (b ∷ bytes) ∷ more) (sym len))
     (λ (ends : not_end b ≡ false).
-        let len = prefix_len_no not_end b bytes ends in
-        subst (λ n. lines_of (drop n (b ∷ bytes)) ≡ [] ∷ more) len e ∙ ap (λ n. take n (b ∷ bytes) ∷ more) (sym len))
+    let len = prefix_len_no not_end b bytes ends in
+    subst (λ n. lines_of (drop n (b ∷ bytes)) ≡ [] ∷ more) len e ∙ ap (λ n. take n (b ∷ bytes) ∷ more) (sym len))
     (cases_Bool (not_end b))
 
 -- the last line
@@ -85,11 +85,11 @@ pub line_last : (bytes : List ℕ) → length bytes ≤ prefix_len not_end bytes
 line_last [] all = refl
 line_last (b ∷ bytes) all = ⊎_elim
     (λ (within : not_end b ≡ true).
-        let len = prefix_len_yes not_end b bytes within in
-        inside b bytes within ∙ ap (onto_first b) (line_last bytes (omega (arith, len))) ∙ ap (λ n. take n (b ∷ bytes) ∷ []) (sym len))
+    let len = prefix_len_yes not_end b bytes within in
+    inside b bytes within ∙ ap (onto_first b) (line_last bytes (omega (arith, len))) ∙ ap (λ n. take n (b ∷ bytes) ∷ []) (sym len))
     (λ (ends : not_end b ≡ false).
-        let len = prefix_len_no not_end b bytes ends in
-        absurd (omega (arith, len)))
+    let len = prefix_len_no not_end b bytes ends in
+    absurd (omega (arith, len)))
     (cases_Bool (not_end b))
 
 -- behind a line stands a line end
@@ -102,11 +102,11 @@ pub end_after : (bytes : List ℕ) → prefix_len not_end bytes < length bytes �
 end_after [] some = absurd (omega arith)
 end_after (b ∷ bytes) some = ⊎_elim
     (λ (within : not_end b ≡ true).
-        let len = prefix_len_yes not_end b bytes within in
-        ap (λ n. next_is is_line_end (drop n (b ∷ bytes))) len ∙ end_after bytes (omega (arith, len)))
+    let len = prefix_len_yes not_end b bytes within in
+    ap (λ n. next_is is_line_end (drop n (b ∷ bytes))) len ∙ end_after bytes (omega (arith, len)))
     (λ (ends : not_end b ≡ false).
-        let len = prefix_len_no not_end b bytes ends in
-        ap (λ n. next_is is_line_end (drop n (b ∷ bytes))) len ∙ end_of (b == 10) (b == 13) ends)
+    let len = prefix_len_no not_end b bytes ends in
+    ap (λ n. next_is is_line_end (drop n (b ∷ bytes))) len ∙ end_of (b == 10) (b == 13) ends)
     (cases_Bool (not_end b))
 
 -- a loop over lines: those so far, one more, and those to come

@@ -1,9 +1,12 @@
 -- A loop that goes over a text step by step.
-use Rattle.std.proofs.Common.{◌≡◌, ℕ, zero, suc, ◌+◌, ◌-◌, ◌<◌, ◌≤◌, List, [], ◌∷◌, ◌++◌, length, drop, Result, Ok, Err, refl, sym, ap, ◌∙◌, append_assoc, arith, rules, subst}
+use Rattle.std.proofs.Common.{true, ◌≡◌, ℕ, zero, suc, ◌+◌, ◌-◌, ◌<◌, ◌≤◌, List, [], ◌∷◌, ◌++◌, length, drop, Result, Ok, Err, refl, sym, ap, ◌∙◌, append_assoc, arith, rules, subst}
 use Rattle.std.specs.Prelude.{slice_range}
 use Rattle.std.proofs.lemmas.List.{drop_all, drop-drop, append-nil, length-drop}
 use Rattle.std.proofs.lemmas.Slice.{between_to_end}
 use Rattle.hq_gql_lexer.specs.declared.refusal.LexRefusal.{LexRefusal}
+use Rattle.std.specs.List.{list_all}
+use Rattle.hq_gql_lexer.proofs.CharacterLemmas.{is_high}
+use Rattle.hq_gql_lexer.proofs.TextLemmas.{and_parts}
 use Rattle.hq_gql_lexer.specs.Steps.{◌>>=◌, Step, steps}
 
 -- what is there already, and what is still to come
@@ -78,3 +81,55 @@ pub steps_end : {X : Type 0} (step : Step (List X)) (at done : ℕ) (text : List
     → length text ≤ done → with_front front (steps step 0 (at + done) (drop done text)) ≡ all → all ≡ Ok front
 steps_end step at done text front all past so_far =
     sym so_far ∙ ap (λ rest. with_front front (steps step 0 (at + done) rest)) (drop_all done text past) ∙ ap Ok (append-nil front)
+
+-- the first step of those that have made something
+pub record IsFirstStep {X : Type 0} (step : Step (List X)) (at b : ℕ) (bytes : List ℕ) (all : List X) : Type 0 where
+  pub piece : List X
+  pub n : ℕ
+  pub others : List X
+  pub first : step at (b ∷ bytes) ≡ Ok (piece, n)
+  pub behind : steps step (n - 1) (at + 1) bytes ≡ Ok others
+  pub whole : piece ++ others ≡ all
+
+pub bind_ok : {A B : Type 0} {P : Type 0} (r : Result A LexRefusal) (f : A → Result B LexRefusal) (y : B) → (r >>= f) ≡ Ok y → ((x : A) → r ≡ Ok x → f x ≡ Ok y → P) → P
+bind_ok (Ok x) f y h k = k x refl h
+bind_ok (Err e) f y h k = cc
+
+pub steps_first : {X : Type 0} (step : Step (List X)) (at b : ℕ) (bytes : List ℕ) (all : List X) → steps step 0 at (b ∷ bytes) ≡ Ok all → IsFirstStep step at b bytes all
+steps_first step at b bytes all h =
+    bind_ok (step at (b ∷ bytes)) _ all h (λ x first more.
+    bind_ok (steps step (x.1 - 1) (at + 1) bytes) _ all more (λ others behind whole.
+    let same : x.0 ++ others ≡ all = cc in
+    record { piece = x.0; n = x.1; others = others; first = first; behind = behind; whole = same }))
+
+with_no_front : {X : Type 0} (more : Result (List X) LexRefusal) → more ≡ with_front [] more
+with_no_front (Ok xs) = refl
+with_no_front (Err e) = refl
+
+-- a step that copies the bytes of wide characters
+abbrev pub Copies : Step (List ℕ) → Type 0
+Copies step = (at b : ℕ) (bytes : List ℕ) → is_high b ≡ true → step at (b ∷ bytes) ≡ Ok (b ∷ [], 1)
+
+pub copy_all : (step : Step (List ℕ)) → Copies step → (at : ℕ) (front bytes : List ℕ) → list_all is_high front ≡ true
+    → steps step 0 at (front ++ bytes) ≡ with_front front (steps step 0 (at + length front) bytes)
+copy_all step copies at [] bytes h = ap (λ k. steps step 0 k bytes) (omega arith) ∙ with_no_front (steps step 0 (at + 0) bytes)
+copy_all step copies at (b ∷ front) bytes h =
+    let ok = and_parts (is_high b) (list_all is_high front) h in
+    let first = copies at b (front ++ bytes) ok.0 in
+    steps_one step at (b ∷ (front ++ bytes)) (b ∷ []) 1 first (omega arith) (omega arith)
+    ∙ ap (with_front (b ∷ [])) (copy_all step copies (at + 1) front bytes ok.1)
+    ∙ with_front_twice (b ∷ []) front (steps step 0 (at + 1 + length front) bytes)
+    ∙ ap (λ k. with_front (b ∷ front) (steps step 0 k bytes)) (omega arith)
+
+-- what is made of a front that is copied, and of the rest
+pub record IsCopied (step : Step (List ℕ)) (at : ℕ) (front bytes all : List ℕ) : Type 0 where
+  pub others : List ℕ
+  pub behind : steps step 0 (at + length front) bytes ≡ Ok others
+  pub whole : front ++ others ≡ all
+
+pub copied : (step : Step (List ℕ)) → Copies step → (at : ℕ) (front bytes all : List ℕ) → list_all is_high front ≡ true
+    → steps step 0 at (front ++ bytes) ≡ Ok all → IsCopied step at front bytes all
+copied step copies at front bytes all h e =
+    bind_ok (steps step 0 (at + length front) bytes) _ all (sym (copy_all step copies at front bytes h) ∙ e) (λ others behind whole.
+    let same : front ++ others ≡ all = cc in
+    record { others = others; behind = behind; whole = same })

@@ -75,8 +75,8 @@ abbrev pub Reader : Type 0
 Reader = ℕ → List ℕ → Result (TokenKind × ℕ) LexRefusal
 
 -- a name and all that goes on with it (2.1.9)
-unfoldable pub name_at : Reader
-name_at at bytes = let n = prefix_len is_name_continue bytes in Ok (kind.Name (take n bytes), n)
+unfoldable pub name_at : List ℕ → Result (TokenKind × ℕ) LexRefusal
+name_at bytes = let n = prefix_len is_name_continue bytes in Ok (kind.Name (take n bytes), n)
 
 -- a number starts with a digit, or with a `-` before one
 abbrev pub starts_number : List ℕ → Bool
@@ -123,7 +123,7 @@ token_at at bytes =
     punct_or (punct_at bytes)
     (if starts_number bytes then number_at at bytes
     else (if next_is (λ b. b == 34) bytes then string_at at bytes
-    else (if next_is is_name_start bytes then name_at at bytes
+    else (if next_is is_name_start bytes then name_at bytes
     else Err (BadByte at))))
 
 -- what stands at the front: None where it is ignored

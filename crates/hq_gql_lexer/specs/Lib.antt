@@ -6,3 +6,4 @@ pub mod Strings
 pub mod BlockStrings
 pub mod Lexemes
 pub mod Pieces
+pub mod Grammar

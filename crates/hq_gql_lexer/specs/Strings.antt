@@ -20,8 +20,8 @@ abbrev pub plain_len : (taken : Bool) → List ℕ → Option ℕ
 plain_len taken [] = None
 plain_len taken (b ∷ bytes) =
     if is_line_end b then None
-    else (if b == 34 && not taken then Some 0
-    else option_map (λ n. 1 + n) (plain_len (b == 92 && not taken) bytes))
+    else (if not taken && b == 34 then Some 0
+    else option_map (λ n. 1 + n) (plain_len (not taken && b == 92) bytes))
 
 -- how many bytes a `\"""` takes, or else a byte
 abbrev pub block_step : List ℕ → ℕ

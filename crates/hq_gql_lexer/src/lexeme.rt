@@ -1,7 +1,8 @@
 //! What stands at one place of a text: a token, or what is ignored.
-ghost use Rattle.std.specs.Prelude.{◌≡◌, ◌+◌, ◌<◌, ◌≤◌, ◌^◌, length, IfOk, IfSome};
+ghost use Rattle.std.specs.Prelude.{◌≡◌, ◌+◌, ◌<◌, ◌≤◌, ◌^◌, length, IsTrue, IfOk, IfSome};
 ghost use Rattle.hq_base.specs.Due.{Gives};
-ghost use Rattle.hq_gql_lexer.specs.Lexemes.{comment_at, ignored_at, punct_of, punct_at, token_at, lexeme_at};
+ghost use Rattle.hq_gql_lexer.specs.Characters.{next_is, is_name_start};
+ghost use Rattle.hq_gql_lexer.specs.Lexemes.{comment_at, ignored_at, punct_of, punct_at, name_at, token_at, lexeme_at};
 
 use crate::byte::{
     is_line_end, is_name_start, is_white_space, name_len, source_len, text, utf8_len,
@@ -84,6 +85,16 @@ fn punct(bytes: &[u8]) -> Option<(Punct, usize)>
     }
 }
 
+#[tactic(auto, unfolding(crate::specs::Lexemes::name_at))]
+fn name(alloc: Global, bytes: &[u8]) -> Result<(TokenKind, usize), LexRefusal>
+    requires { IsTrue (next_is is_name_start bytes.now) }
+    ensures exact { Gives (λ x. x) LexRefusal.Memory (name_at bytes.now) result }
+    ensures within { IfOk result (λ x. (0 < x.1) × (x.1 ≤ length bytes.now)) }
+{
+    let len = name_len(bytes);
+    Ok((TokenKind::Name(text(alloc, &bytes[..len])?), len))
+}
+
 #[tactic(auto, unfolding(crate::specs::Lexemes::token_at))]
 fn token(alloc: Global, at: usize, bytes: &[u8]) -> Result<(TokenKind, usize), LexRefusal>
     requires fits { at + length bytes.now < 2 ^ 64 }
@@ -98,10 +109,7 @@ fn token(alloc: Global, at: usize, bytes: &[u8]) -> Result<(TokenKind, usize), L
     }
     match bytes {
         [b'"', ..] => string(alloc, at, bytes),
-        [b, ..] if is_name_start(*b) => {
-            let len = name_len(bytes);
-            Ok((TokenKind::Name(text(alloc, &bytes[..len])?), len))
-        }
+        [b, ..] if is_name_start(*b) => { name(alloc, bytes) }
         _ => Err(LexRefusal::BadByte { at: at as u64 }),
     }
 }

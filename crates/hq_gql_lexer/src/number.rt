@@ -2,7 +2,7 @@
 ghost use Rattle.std.specs.Prelude.{◌≡◌, ◌+◌, ◌<◌, ◌≤◌, ◌^◌, length, IfOk, IsTrue};
 ghost use Rattle.hq_base.specs.Due.{Gives};
 ghost use Rattle.hq_gql_lexer.specs.Characters.{next_is};
-ghost use Rattle.hq_gql_lexer.specs.Numbers.{minus_len, natural_len, integer_len, fraction_len, exponent_mark_len, exponent_len, number_len};
+ghost use Rattle.hq_gql_lexer.specs.Numbers.{minus_len, natural_len, integer_len, fraction_len, sign_len, signed_digits_len, exponent_len, number_len};
 ghost use Rattle.hq_gql_lexer.specs.Lexemes.{goes_on, starts_number, number_at};
 
 use crate::byte::{digit_is_next, digits_len, is_name_start, text};
@@ -47,14 +47,25 @@ fn fraction_len(bytes: &[u8]) -> usize
     }
 }
 
-fn exponent_mark_len(bytes: &[u8]) -> usize
-    ensures len { result ≡ exponent_mark_len bytes.now }
+fn sign_len(bytes: &[u8]) -> usize
+    ensures len { result ≡ sign_len bytes.now }
     ensures within { result ≤ length bytes.now }
 {
     match bytes {
-        [b'e' | b'E', b'+' | b'-', ..] => 2,
-        [b'e' | b'E', ..] => 1,
+        [b'+' | b'-', ..] => 1,
         _ => 0,
+    }
+}
+
+fn signed_digits_len(bytes: &[u8]) -> usize
+    ensures len { result ≡ signed_digits_len bytes.now }
+    ensures within { result ≤ length bytes.now }
+{
+    let sign = sign_len(bytes);
+    if digit_is_next(&bytes[sign..]) {
+        sign + digits_len(&bytes[sign..])
+    } else {
+        0
     }
 }
 
@@ -62,11 +73,13 @@ fn exponent_len(bytes: &[u8]) -> usize
     ensures len { result ≡ exponent_len bytes.now }
     ensures within { result ≤ length bytes.now }
 {
-    let mark = exponent_mark_len(bytes);
-    if mark == 0 || !digit_is_next(&bytes[mark..]) {
-        return 0;
+    match bytes {
+        [b'e' | b'E', rest @ ..] => match signed_digits_len(rest) {
+            0 => 0,
+            digits => 1 + digits,
+        },
+        _ => 0,
     }
-    mark + digits_len(&bytes[mark..])
 }
 
 fn number_len(bytes: &[u8]) -> usize

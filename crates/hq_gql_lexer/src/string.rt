@@ -35,10 +35,11 @@ fn plain_string(alloc: Global, at: usize, bytes: &[u8]) -> Result<(TokenKind, us
     ensures exact { Gives (λ x. x) LexRefusal.Memory (plain_at at bytes.now) result }
     ensures within { IfOk result (λ x. (0 < x.1) × (x.1 ≤ length bytes.now)) }
 {
-    let Some(len) = plain_len(&bytes[1..]) else {
+    let rest = &bytes[1..];
+    let Some(len) = plain_len(rest) else {
         return Err(LexRefusal::OpenString { at: at as u64 });
     };
-    let value = characters(alloc, Form::Plain, at + 1, &bytes[1..1 + len])?;
+    let value = characters(alloc, Form::Plain, at + 1, &rest[..len])?;
     Ok((TokenKind::Str(text(alloc, &value)?), len + 2))
 }
 
@@ -49,10 +50,11 @@ fn block_string(alloc: Global, at: usize, bytes: &[u8]) -> Result<(TokenKind, us
     ensures exact { Gives (λ x. x) LexRefusal.Memory (block_at at bytes.now) result }
     ensures within { IfOk result (λ x. (0 < x.1) × (x.1 ≤ length bytes.now)) }
 {
-    let Some(len) = block_len(&bytes[3..]) else {
+    let rest = &bytes[3..];
+    let Some(len) = block_len(rest) else {
         return Err(LexRefusal::OpenString { at: at as u64 });
     };
-    let raw = characters(alloc, Form::Block, at + 3, &bytes[3..3 + len])?;
+    let raw = characters(alloc, Form::Block, at + 3, &rest[..len])?;
     let value = block_value(alloc, &raw)?;
     Ok((TokenKind::Str(text(alloc, &value)?), len + 6))
 }
