@@ -7,3 +7,8 @@ pub mod Names
 pub mod Joined
 pub mod Characters
 pub mod Matching
+pub mod Lists
+pub mod Zips
+pub mod Sorts
+pub mod StableSorts
+pub mod Orders

@@ -1,4 +1,4 @@
 pub mod Numbers
 mod Lists
-mod Places
+pub mod Places
 mod Worked

@@ -1,13 +1,13 @@
 -- When an expression is one over a table: its columns and relationships are there, and operators and operands are of the
 -- column's type (Hasura, boolean expressions: operators).
-use Rattle.std.specs.Prelude.{ℕ, List, [], ◌∷◌, Bool, true, false, not, ◌&&◌, Option, Some, None, option_map, is_some, slice_get}
+use Rattle.std.specs.Prelude.{ℕ, List, [], ◌∷◌, Bool, true, false, is_ok, ◌&&◌, Option, Some, None, option_map, is_some, slice_get}
 use Rattle.std.specs.List.{list_all}
+use Rattle.hq_base.specs.Patterns.{pattern_of}
 use Rattle.hq_base.specs.declared.value.Ty.{Ty}
 use Rattle.hq_base.specs.declared.value.Val.{Val}
 use Rattle.hq_base.specs.declared.value.Val.TheVariants as val
 use Rattle.hq_terms.specs.Bexp.{BexpTree, always, and_of, or_of, not_of, comparison, within, is_null, like, through, BexpTrees, no_bexp, bexp}
 use Rattle.hq_terms.specs.Database.{int_fits, is_text, is_boolean}
-use Rattle.hq_terms.specs.Pattern.{ends_in_escape}
 use Rattle.hq_terms.specs.Schema.{Schema, table, rel}
 use Rattle.hq_terms.specs.declared.bexp.Operand.{Operand}
 use Rattle.hq_terms.specs.declared.bexp.Operand.TheVariants.{Const, Session}
@@ -29,7 +29,7 @@ operand_fits ty (Session name) = true
 
 -- a pattern is a text that does not end in an escape
 abbrev pub is_pattern : Val → Bool
-is_pattern (val.Text s) = not (ends_in_escape false s)
+is_pattern (val.Text s) = is_ok (pattern_of s)
 is_pattern _ = false
 
 abbrev pub pattern_fits : Operand → Bool

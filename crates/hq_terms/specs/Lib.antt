@@ -4,9 +4,9 @@ pub mod Names
 pub mod Bexp
 pub mod Meta
 pub mod Schema
-pub mod Pattern
 pub mod Logic
 pub mod Seen
+pub mod Scope
 pub mod Truth
 pub mod Permission
 pub mod PermView

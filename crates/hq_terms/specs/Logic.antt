@@ -5,7 +5,7 @@ use Rattle.std.specs.declared.cmp.Ordering.{Ordering}
 use Rattle.std.specs.Ordering.{nat_cmp, int_cmp, bool_cmp, is_eq, is_ne, is_lt, is_le, is_gt, is_ge}
 use Rattle.std.specs.Cmp.Lexicographic.{slice_cmp}
 use Rattle.hq_base.specs.Cells.{CellTree, null, int, text, bool, json}
-use Rattle.hq_terms.specs.Pattern.{matches}
+use Rattle.hq_base.specs.Patterns.{like}
 use Rattle.hq_terms.specs.declared.op.Op.{Op}
 use Rattle.hq_terms.specs.declared.op.Op.TheVariants.{Eq, Ne, Lt, Le, Gt, Ge}
 -- true, false, and what SQL calls NULL or unknown
@@ -81,5 +81,5 @@ null_test _ = false
 
 -- LIKE, and ILIKE where fold: unknown where one side is NULL
 abbrev pub matched : (fold : Bool) → (cell pattern : CellTree) → Truth
-matched fold (text s) (text p) = truth_of (matches fold p s)
+matched fold (text s) (text p) = truth_of (like fold p s)
 matched fold _ _ = Unknown

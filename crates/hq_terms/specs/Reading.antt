@@ -1,14 +1,14 @@
 -- Texts that are read as values of a column's type (PostgreSQL, the output form of COPY: whole numbers, booleans).
-use Rattle.std.specs.Prelude.{ℕ, ℤ, List, [], ◌∷◌, length, Bool, true, false, cond, ◌&&◌, ◌||◌, ◌==◌, nat_lt, Option, Some, None, Result, Ok, Err, ok_or, option_map, bytes_eq, codes}
+use Rattle.std.specs.Prelude.{ℕ, ℤ, List, [], ◌∷◌, length, Bool, true, false, cond, ◌&&◌, ◌||◌, ◌==◌, nat_lt, Option, Some, None, Result, Ok, Err, is_ok, ok_or, option_map, bytes_eq, codes}
 use Rattle.std.specs.Char.{is_ascii_digit}
 use Rattle.std.specs.List.{list_all}
 use Rattle.std.specs.Str.Parse.{signed_digits_value}
+use Rattle.hq_base.specs.Patterns.{pattern_of}
 use Rattle.hq_base.specs.declared.value.Ty.{Ty}
 use Rattle.hq_base.specs.declared.value.Ty.TheVariants.{Integer, Bigint, Text, Boolean}
 use Rattle.hq_base.specs.declared.value.Val.{Val}
 use Rattle.hq_base.specs.declared.value.Val.TheVariants as val
 use Rattle.hq_terms.specs.Database.{int_fits}
-use Rattle.hq_terms.specs.Pattern.{ends_in_escape}
 use Rattle.hq_terms.specs.declared.want.Want.{Want}
 use Rattle.hq_terms.specs.declared.want.Want.TheVariants as want
 
@@ -39,4 +39,4 @@ read_as Boolean s = ok_or (option_map val.Bool (truth_value s)) want.Boolean
 
 -- a text as a pattern, which must not end in an escape
 abbrev pub read_pattern : List ℕ → Result Val Want
-read_pattern s = cond (ends_in_escape false s) (Err want.Pattern) (Ok (val.Text s))
+read_pattern s = cond (is_ok (pattern_of s)) (Ok (val.Text s)) (Err want.Pattern)

@@ -4,11 +4,11 @@ ghost use Rattle.hq_terms.specs.Bexp.{bexp_view, bexps_of};
 ghost use Rattle.hq_terms.specs.Binding.{bound, bound_all};
 ghost use Rattle.hq_terms.specs.Meta.{meta_view};
 ghost use Rattle.hq_terms.specs.Schema.{schema_of};
+ghost use Rattle.hq_terms.specs.Scope.{scope_schema};
 ghost use Rattle.hq_terms.specs.declared.bind.BindRefusal.TheVariants as refusal;
 
 use crate::operand::{bind_operand, bind_operands, bind_pattern};
-use crate::scope::Scope;
-use crate::{Bexp, BexpList, BindRefusal, Catalog, Meta, Session, TableId};
+use crate::{Bexp, BexpList, BindRefusal, Catalog, Meta, Scope, Session, TableId};
 use std::alloc::Global;
 
 impl Bexp {
@@ -37,7 +37,7 @@ fn bind_bexp(
     t: TableId,
     bexp: &Bexp,
 ) -> Result<Bexp, BindRefusal>
-    ensures { Gives bexp_view refusal.Memory (bound (bexp_view bexp.now) (schema_of scope.now.catalog.now.tables (meta_view scope.now.meta.now)) session.now.vars t) result }
+    ensures { Gives bexp_view refusal.Memory (bound (bexp_view bexp.now) (scope_schema scope.now) session.now.vars t) result }
 {
     match bexp {
         Bexp::True => Ok(Bexp::True),
@@ -94,7 +94,7 @@ fn bind_bexps(
     t: TableId,
     bexps: &BexpList,
 ) -> Result<BexpList, BindRefusal>
-    ensures { Gives (λ v. map bexp_view v.items) refusal.Memory (bound_all (bexps_of (map bexp_view bexps.now.items)) (schema_of scope.now.catalog.now.tables (meta_view scope.now.meta.now)) session.now.vars t) result }
+    ensures { Gives (λ v. map bexp_view v.items) refusal.Memory (bound_all (bexps_of (map bexp_view bexps.now.items)) (scope_schema scope.now) session.now.vars t) result }
 {
     let mut bound = Vec::new(alloc);
     for bexp in bexps {

@@ -24,6 +24,7 @@ mod want;
 pub use bexp::{Bexp, BexpList, Operand, Operands};
 pub use bind::BindRefusal;
 pub use catalog::Catalog;
+pub use copy::{TryCopy, copy_list};
 pub use ids::{ColId, ColList, RelId, TableId};
 pub use meta::{
     Meta, Pair, PairList, Perm, PermList, Rel, RelList, RootNames, Tracked, TrackedList, TxtList,
@@ -33,6 +34,7 @@ pub use op::Op;
 pub use perm::PermView;
 pub use reading::{truth_value, whole_number};
 pub use role::Role;
+pub use scope::Scope;
 pub use session::{Session, Var, VarList};
 pub use table::{Column, ColumnList, ForeignKey, ForeignKeyList, Table, TableList};
 pub use truth::Truth;

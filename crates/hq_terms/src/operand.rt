@@ -1,8 +1,8 @@
-ghost use Rattle.std.specs.Prelude.{◌≡◌, ◌⊎◌, false, ok_or, option_map};
+ghost use Rattle.std.specs.Prelude.{◌≡◌, ◌⊎◌, IfOk, is_ok, ok_or, option_map};
 ghost use Rattle.hq_base.specs.Due.{Gives};
+ghost use Rattle.hq_base.specs.Patterns.{pattern_of};
 ghost use Rattle.hq_terms.specs.Binding.{constant, constant_of, bound_operand, bound_operands, variable};
 ghost use Rattle.hq_terms.specs.Reading.{read_as, read_pattern, truth_value, whole_number};
-ghost use Rattle.hq_terms.specs.Pattern.{ends_in_escape};
 ghost use Rattle.hq_terms.specs.declared.want.Want.TheVariants as want;
 ghost use Rattle.hq_base.specs.declared.value.Val.TheVariants as val;
 ghost use Rattle.hq_terms.specs.declared.bind.BindRefusal.TheVariants as refusal;
@@ -10,7 +10,7 @@ ghost use Rattle.hq_terms.specs.declared.bind.BindRefusal.TheVariants as refusal
 use crate::copy::TryCopy;
 use crate::reading::{truth_value, whole_number};
 use crate::{BindRefusal, Operand, Operands, Session, Want};
-use hq_base::{List, Txt, Ty, Val};
+use hq_base::{List, Memory, Pattern, PatternRefusal, Txt, Ty, Val};
 use std::alloc::Global;
 
 // The refusal of a variable whose text is not what is wanted.
@@ -102,21 +102,21 @@ pub fn bind_operands(
     Ok(bound)
 }
 
-fn ends_in_escape(bytes: &[u8]) -> bool
-    ensures { result ≡ ends_in_escape false bytes.now }
+fn is_pattern(alloc: Global, text: &Txt) -> Result<bool, Memory>
+    ensures { IfOk result (λ b. b ≡ is_ok (pattern_of text.now)) }
 {
-    let mut escaped = false;
-    for byte in bytes {
-        escaped = !escaped && *byte == b'\\';
+    match Pattern::new(alloc, text) {
+        Ok(_) => Ok(true),
+        Err(PatternRefusal::EndsInEscape) => Ok(false),
+        Err(PatternRefusal::Memory) => Err(Memory),
     }
-    escaped
 }
 
 // The constant that a variable's text spells for LIKE.
 fn pattern_constant(alloc: Global, name: &Txt, text: &Txt) -> Result<Operand, BindRefusal>
     ensures { Gives (λ o. o) refusal.Memory (constant name.now (read_pattern text.now)) result }
 {
-    if ends_in_escape(text.as_bytes()) {
+    if !is_pattern(alloc, text)? {
         return Err(bad_variable(alloc, name, Want::Pattern));
     }
     Ok(Operand::Const(Val::Text(text.copy(alloc)?)))
