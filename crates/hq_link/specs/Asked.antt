@@ -1,7 +1,5 @@
 -- What asking a database leaves.
-use Rattle.std.specs.Prelude.{◌≡◌, ◌⊎◌, ℕ, ◌+◌, ◌-◌, ◌^◌, min, List, Option, Some, None, Result, Ok, Err}
-use Rattle.hq_base.specs.declared.json.Json.{Json}
-use Rattle.hq_base.specs.Json.{JsonTree, json_view}
+use Rattle.std.specs.Prelude.{◌≡◌, ℕ, ◌+◌, ◌-◌, ◌^◌, min, List, Option, Some, ⊤}
 use Rattle.hq_outside.specs.Causes.{Rose}
 use Rattle.hq_link.specs.declared.refusal.DbRefusal.{DbRefusal}
 use Rattle.hq_link.specs.declared.refusal.DbRefusal.TheVariants.{NotSql, NotTyped, Failed, Memory}
@@ -15,3 +13,10 @@ pub record Asked (asks_before asks_now : ℕ) (last_now : Option (List ℕ)) (te
 pub record NotAsked (asks_before asks_now : ℕ) (last_before last_now : Option (List ℕ)) : Type 0 where
   pub asks : asks_now ≡ asks_before
   pub last : last_now ≡ last_before
+
+-- a failure tells how the count of faults rose
+abbrev pub TellsFailure : (before now : ℕ) → DbRefusal → Type 0
+TellsFailure before now NotSql = ⊤
+TellsFailure before now NotTyped = ⊤
+TellsFailure before now (Failed b a) = (b ≡ before) × (a ≡ now) × Rose before now
+TellsFailure before now Memory = ⊤

@@ -1,3 +1,1 @@
-pub mod Statements
 pub mod Asked
-pub mod Answers

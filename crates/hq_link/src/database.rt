@@ -1,14 +1,8 @@
 ghost use Rattle.std.specs.Prelude.{◌≡◌, ◌⊎◌, ◌≤◌, ℕ, true, List as Items, Option, Err, IfErr, IfSome};
-ghost use Rattle.hq_base.specs.Json.{json_view};
-ghost use Rattle.hq_outside.specs.Causes.{Rose};
 ghost use Rattle.hq_terms.specs.Catalog.{is_catalog};
 ghost use Rattle.hq_terms.specs.Database.{Row, is_database};
 ghost use Rattle.hq_terms.specs.declared.table.Table.{Table};
-ghost use Rattle.hq_sql_tree.specs.Meaning.{meaning};
-ghost use Rattle.hq_sql_tree.specs.Spelling.{select_text};
-ghost use Rattle.hq_link.specs.Statements.{ListParts, list_statement, fits_catalog};
-ghost use Rattle.hq_link.specs.Asked.{Asked, NotAsked};
-ghost use Rattle.hq_link.specs.Answers.{Answers, TellsFailure};
+ghost use Rattle.hq_link.specs.Asked.{Asked, NotAsked, TellsFailure};
 
 use crate::DbRefusal;
 use hq_base::Json;
@@ -36,8 +30,6 @@ pub trait Database {
 
     /// Answers a text: the JSON that the statement means.
     fn run(&mut self, alloc: Global, text: &[u8]) -> Result<Json, DbRefusal>
-        // A text is read, tested against the catalog, and answered, in this order.
-        ensures answer { Answers (tables self.old) (database self.old) text.now result }
         ensures failed { IfErr result (λ e. TellsFailure (faults self.old) (faults self.new) e) }
 
         // Each text is counted and kept, unless memory is wanted before it could be.

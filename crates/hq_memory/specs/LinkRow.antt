@@ -4,7 +4,7 @@ use Rattle.std.specs.declared.option.Option.{Option}
 use Rattle.std.specs.declared.option.Option.TheVariants.{None, Some}
 use Rattle.std.proofs.Common.{sym, ap}
 use Rattle.std.proofs.lemmas.List.{set-set}
-use Rattle.hq_outside.specs.Doorway.{with_present}
+use Rattle.hq_outside.specs.Links.{with_present}
 use Rattle.hq_memory.specs.declared.link_row.LinkRow.{LinkRow}
 
 -- the link accepted last

@@ -1,6 +1,6 @@
 ghost use Rattle.std.specs.Prelude.{◌≡◌, ◌↔◌, [], Some, None, OnOk, OnErr, IsErr, is_err, option_copied, slice_get};
 ghost use Rattle.hq_outside.specs.Causes.{HasCause, one_more};
-ghost use Rattle.hq_outside.specs.Doorway.{IsNext};
+ghost use Rattle.hq_outside.specs.Links.{IsNext};
 ghost use Rattle.hq_memory.specs.Calls.{calls_from, IsToFail, after};
 ghost use Rattle.hq_memory.specs.LinkRow.{links_in, present_in, with_link_in};
 

@@ -14,7 +14,7 @@ pub struct LinkRow<L> {
 impl<L> LinkRow<L> {
     ghost use Rattle.std.specs.Borrow.{sem, Lends};
     ghost use Rattle.hq_outside.specs.Causes.{one_more};
-    ghost use Rattle.hq_outside.specs.Doorway.{IsNext};
+    ghost use Rattle.hq_outside.specs.Links.{IsNext};
     ghost use Rattle.hq_memory.specs.LinkRow.{links_in, present_in, with_link_in};
     ghost use Rattle.hq_memory.specs.contracts.link_row.LinkRow.{the_row};
 

@@ -1,4 +1,4 @@
 pub mod Causes
 pub mod Folder
-pub mod Doorway
+pub mod Links
 pub mod Streams

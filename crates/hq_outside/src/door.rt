@@ -2,7 +2,7 @@ ghost use Rattle.std.specs.Prelude.{◌≡◌, ℕ, List, IsSome, OnOk, OnErr, S
 ghost use Rattle.std.specs.Borrow.{sem, Lends};
 ghost use Rattle.std.specs.declared.option.Option.{Option};
 ghost use Rattle.hq_outside.specs.Causes.{HasCause, one_more};
-ghost use Rattle.hq_outside.specs.Doorway.{IsNext, with_present};
+ghost use Rattle.hq_outside.specs.Links.{IsNext, with_present};
 
 use crate::Link;
 use thiserror::Error;

@@ -19,4 +19,4 @@ pub use files::{File, FileList, FileRefusal, Files, LARGEST_FILE, names_differ};
 pub use link::Link;
 pub use sink::{Sink, WriteFailed};
 pub use source::{ReadFailed, Source};
-pub use streams::{InputRefusal, read_all, write_all};
+pub use streams::{InputRefusal, read_all, send_all, write_all};

@@ -3,7 +3,7 @@ ghost use Rattle.std.specs.Io.KnownBytes.{Appends, Consumes, IsAtEnd};
 ghost use Rattle.hq_outside.specs.Causes.{Rose, HasCause};
 ghost use Rattle.hq_outside.specs.Streams.{AppendsPrefix, ConsumesUpTo, ReadsAll};
 
-use crate::{ReadFailed, Sink, Source, WriteFailed};
+use crate::{Link, ReadFailed, Sink, Source, WriteFailed};
 use hq_base::{Bytes, Memory};
 use std::alloc::Global;
 use thiserror::Error;
@@ -82,6 +82,22 @@ pub fn write_all<K: Sink>(out: &mut K, bytes: &[u8]) -> Result<(), WriteFailed>
     'pieces: while done < bytes.len() {
         let (_, rest) = bytes.split_at(done);
         done += out.write(rest)?;
+    }
+    Ok(())
+}
+
+/// Writes all the bytes to a link, or those that go before a fault.
+pub fn send_all<L: Link>(link: &mut L, bytes: &[u8]) -> Result<(), WriteFailed>
+    ensures ok { OnOk result (Appends (L.written link.old) (L.written link.new) bytes.now) }
+    ensures prefix { AppendsPrefix (L.written link.old) (L.written link.new) bytes.now }
+    ensures cause { HasCause (L.write_faults link.old) (L.write_faults link.new) result }
+    ensures left { L.left link.new ≡ L.left link.old }
+    ensures read_faults { L.read_faults link.new ≡ L.read_faults link.old }
+{
+    let mut done = 0;
+    'pieces: while done < bytes.len() {
+        let (_, rest) = bytes.split_at(done);
+        done += link.write(rest)?;
     }
     Ok(())
 }

@@ -1,10 +1,9 @@
 -- Expressions: what is spelled so is read again, whatever follows.
-use Rattle.std.proofs.Common.{◌≡◌, ℕ, zero, suc, ◌<◌, Bool, true, false, List, [], ◌∷◌, ◌++◌, length, map, Option, Some, None, refl, sym, ap, subst, ◌∙◌, append_assoc, arith}
+use Rattle.std.proofs.Common.{◌≡◌, ℕ, zero, suc, ◌<◌, Bool, true, false, List, [], ◌∷◌, ◌++◌, length, map, Some, None, refl, sym, ap, subst, ◌∙◌, append_assoc, arith}
 use Rattle.std.specs.Prelude.{codes}
 use Rattle.std.proofs.lemmas.List.{append-nil}
 use Rattle.std.specs.List.{AllByRecursion}
 use Rattle.std.specs.Fmt.{signed_decimal}
-use Rattle.hq_sql_tree.specs.declared.word.Word.{Word}
 use Rattle.hq_sql_tree.specs.declared.word.Word.TheVariants as word
 use Rattle.hq_sql_tree.specs.Word.{word_text}
 use Rattle.hq_sql_tree.specs.Form.{is_text, is_bigint}
@@ -13,9 +12,9 @@ use Rattle.hq_sql_tree.specs.Tree.{ExprTree, PairTree, PairTrees, AggTree, Order
 use Rattle.hq_sql_tree.specs.Spelling.{quoted, name_text, literal_text, int_text, separated, each_after, collate_text, bool_text, direction_word, expr_text, pair_text, pair_texts, order_text, order_texts, out_text}
 use Rattle.hq_sql_expr.specs.declared.head.Head.{Head}
 use Rattle.hq_sql_expr.specs.declared.head.Head.TheVariants as head
-use Rattle.hq_sql_expr.specs.Reading.{◌>>=◌, Reader, nothing, after, strip, choose, all_many, name_at, quoted_at, text_at, int_from, literal_at, collate_at, column_at, head_word, head_at, expr_with, pair_with, pairs_with, argument_with, direction_at, order_with, ordered_with, inside_with, expr_at, ordered_at, out_with}
+use Rattle.hq_sql_expr.specs.Reading.{◌>>=◌, Reader, nothing, after, strip, all_many, literal_at, collate_at, column_at, head_word, head_at, expr_with, pair_with, pairs_with, argument_with, direction_at, order_with, ordered_with, inside_with, expr_at, ordered_at, out_with}
 use Rattle.hq_sql_expr.proofs.Sound.{after_again}
-use Rattle.hq_sql_expr.proofs.Listed.{list_text, all_many_again}
+use Rattle.hq_sql_expr.proofs.Listed.{all_many_again}
 use Rattle.hq_sql_expr.proofs.Fits.{FitsExpr, FitsPairs, FitsAgg, FitsOrders, AtLeastOne}
 use Rattle.hq_sql_expr.proofs.Literals.{Free, quoted_again, text_again}
 use Rattle.hq_sql_expr.proofs.Ints.{int_again, int_is_text}

@@ -1,8 +1,7 @@
 -- One parenthesis further in.
 use Rattle.std.proofs.Common.{◌≡◌, ℕ, zero, suc, ◌-◌, ◌<◌, List, refl, ap, arith, sym, ◌∙◌}
-use Rattle.hq_sql_tree.specs.Tree.{ExprTree}
 use Rattle.hq_sql_expr.specs.declared.head.Head.{Head}
-use Rattle.hq_sql_expr.specs.Reading.{Reader, nothing, below, expr_at, expr_with, ordered_at, ordered_with, inside_at, inside_with, listed_at}
+use Rattle.hq_sql_expr.specs.Reading.{Reader, below, expr_at, expr_with, ordered_at, ordered_with, inside_at, inside_with, listed_at}
 
 pub below_is : {A : Type 0} (p : ℕ → Reader A) (d : ℕ) (bytes : List ℕ) → 0 < d → below p d bytes ≡ p (d - 1) bytes
 below_is p zero bytes lt = absurd (omega arith)

@@ -1,5 +1,5 @@
 -- Lists that are written one after another.
-use Rattle.std.proofs.Common.{◌≡◌, ℕ, zero, suc, List, [], ◌∷◌, ◌++◌, map, refl, ap}
+use Rattle.std.proofs.Common.{◌≡◌, ℕ, zero, suc, List, [], ◌∷◌, map, refl, ap}
 use Rattle.hq_sql_tree.specs.declared.word.Word.{Word}
 use Rattle.hq_sql_tree.specs.Tree.{PairTree, OrderTree, pairs_of, orders_of}
 use Rattle.hq_sql_tree.specs.Spelling.{separated, each_after, pair_text, pair_texts, order_text, order_texts}

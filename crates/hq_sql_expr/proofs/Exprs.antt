@@ -1,19 +1,18 @@
 -- Expressions: what is read is spelled so.
-use Rattle.std.proofs.Common.{◌≡◌, ℕ, zero, suc, ℤ, Bool, true, false, List, [], ◌∷◌, ◌++◌, map, Option, Some, None, refl, sym, ap, subst, ◌∙◌, append_assoc}
+use Rattle.std.proofs.Common.{◌≡◌, ℕ, zero, suc, ℤ, Bool, true, false, List, [], ◌∷◌, ◌++◌, map, Option, Some, None, refl, sym, ap, ◌∙◌}
 use Rattle.std.proofs.lemmas.List.{append-nil}
 use Rattle.std.specs.List.{AllByRecursion}
-use Rattle.hq_sql_tree.specs.declared.word.Word.{Word}
 use Rattle.hq_sql_tree.specs.declared.word.Word.TheVariants as word
 use Rattle.hq_sql_tree.specs.Word.{word_text}
-use Rattle.hq_sql_tree.specs.Form.{is_text, is_bigint}
+use Rattle.hq_sql_tree.specs.Form.{is_text}
 use Rattle.hq_sql_tree.specs.Tree as tree
 use Rattle.hq_sql_tree.specs.Tree.{ExprTree, PairTree, AggTree, OrderTree, OutTree, pairs_of, orders_of}
-use Rattle.hq_sql_tree.specs.Spelling.{quoted, name_text, literal_text, int_text, separated, collate_text, direction_word, expr_text, pair_text, order_text, out_text}
+use Rattle.hq_sql_tree.specs.Spelling.{quoted, name_text, literal_text, separated, collate_text, direction_word, expr_text, pair_text, order_text, out_text}
 use Rattle.hq_sql_expr.specs.declared.head.Head.{Head}
 use Rattle.hq_sql_expr.specs.declared.head.Head.TheVariants as head
 use Rattle.hq_sql_expr.specs.Reading.{◌>>=◌, Reader, nothing, after, choose, all_many, name_at, quoted_at, text_at, int_from, literal_at, collate_at, column_at, head_word, head_or, head_at, expr_with, pair_with, pairs_with, argument_with, direction_or, direction_at, order_with, ordered_with, inside_with, expr_at, ordered_at, out_with}
 use Rattle.hq_sql_expr.proofs.Between.{pair_texts_of, order_texts_of}
-use Rattle.hq_sql_expr.proofs.Sound.{Taken, Sound, Spelled, sound_next, sound_last, sound_word, sound_choose, sound_choose_end, sound_end, sound_peek, sound_pure, sound_nothing}
+use Rattle.hq_sql_expr.proofs.Sound.{Taken, Sound, Spelled, sound_next, sound_last, sound_word, sound_choose_end, sound_end, sound_peek, sound_pure, sound_nothing}
 use Rattle.hq_sql_expr.proofs.Listed.{AllGood, list_text, all_many_takes}
 use Rattle.hq_sql_expr.proofs.Fits.{FitsExpr, FitsPairs, FitsOrders, AtLeastOne}
 use Rattle.hq_sql_expr.proofs.Literals.{IsText, quoted_takes, text_takes}

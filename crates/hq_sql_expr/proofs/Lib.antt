@@ -10,3 +10,4 @@ pub mod Literals
 pub mod Ints
 pub mod Exprs
 pub mod Again
+pub mod Form

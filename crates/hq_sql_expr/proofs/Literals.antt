@@ -1,12 +1,12 @@
 -- Names and texts: what is read is spelled so, and what is spelled so is read.
-use Rattle.std.proofs.Common.{◌≡◌, ℕ, zero, suc, eqb, eq-eqb, Bool, true, false, cond, List, [], ◌∷◌, ◌++◌, Option, Some, None, refl, sym, ap, subst, ◌∙◌, append_assoc}
+use Rattle.std.proofs.Common.{◌≡◌, ℕ, eqb, eq-eqb, Bool, true, false, cond, List, [], ◌∷◌, ◌++◌, Option, Some, None, refl, sym, ap, ◌∙◌, append_assoc}
 use Rattle.std.proofs.lemmas.Bool.{eqb-true}
 use Rattle.hq_sql_tree.specs.declared.word.Word.TheVariants as word
 use Rattle.hq_sql_tree.specs.Word.{word_text}
 use Rattle.hq_sql_tree.specs.Form.{is_text}
 use Rattle.hq_sql_tree.specs.Spelling.{doubled, quoted, literal_text}
-use Rattle.hq_sql_expr.specs.Reading.{◌>>=◌, Reader, after, strip, unquoted, with_first, text_from, quoted_at, text_at}
-use Rattle.hq_sql_expr.proofs.Sound.{Taken, Sound, Spelled, sound_next, sound_end, strip_takes, strip_again, after_again}
+use Rattle.hq_sql_expr.specs.Reading.{◌>>=◌, after, strip, unquoted, with_first, text_from, quoted_at, text_at}
+use Rattle.hq_sql_expr.proofs.Sound.{Taken, Sound, Spelled, sound_next, sound_end, strip_takes, after_again}
 
 -- the quote does not stand next
 abbrev pub Free : ℕ → List ℕ → Type 0

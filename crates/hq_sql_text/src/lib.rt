@@ -2,6 +2,8 @@
 #![tactic(auto)]
 
 mod printing;
+mod reading;
+mod shape;
 
 pub use hq_sql_expr::ReadRefusal;
 pub use printing::print;

@@ -1,14 +1,11 @@
-ghost use Rattle.std.specs.Prelude.{◌≡◌, ◌≤◌, length, None, OnOk};
+ghost use Rattle.std.specs.Prelude.{◌≡◌, ◌≤◌, length, None, IfOk};
 
-use crate::interrupted;
+use crate::StdSource;
 use hq_base::{Bytes, Txt};
-use hq_outside::{FileRefusal, Files, LARGEST_FILE, count_fault};
+use hq_outside::{FileRefusal, Files, InputRefusal, LARGEST_FILE, count_fault, read_all};
 use std::alloc::Global;
-use std::io::{Error, ErrorKind, Read};
+use std::io::ErrorKind;
 use std::{fs, rt};
-
-// How many bytes are read at a time.
-const PIECE: usize = 4096;
 
 /// The files of the system, by their paths. Each refusal but want of memory is counted as a fault.
 #[derive(Drop)]
@@ -26,43 +23,35 @@ impl<R: rt::Files> DirFiles<R> {
     }
 }
 
-// What the system's error is to the caller.
-fn refusal(error: Error) -> FileRefusal {
-    match error.kind() {
+// Why a file was not opened.
+fn unopened(kind: ErrorKind) -> FileRefusal {
+    match kind {
         ErrorKind::NotFound => FileRefusal::Missing,
         ErrorKind::OutOfMemory => FileRefusal::Memory,
         _ => FileRefusal::Failed,
     }
 }
 
-// Appends the file's bytes from here to its end.
-fn read_rest<F: Read>(file: &mut F, into: &mut Bytes) -> Result<(), FileRefusal>
-    ensures { OnOk result (length into.new ≤ LARGEST_FILE) }
-{
-    let mut buf = [0u8; PIECE];
-    for _ in 0..u64::MAX {
-        let count = match interrupted::read(file, &mut buf) {
-            Ok(count) => count,
-            Err(e) => return Err(refusal(e)),
-        };
-        if into.len() > LARGEST_FILE || count > LARGEST_FILE - into.len() {
-            return Err(FileRefusal::TooLarge);
-        }
-        if count == 0 {
-            return Ok(());
-        }
-        into.append(&buf[..count])?;
+// Why a file was not read whole.
+fn unread(refusal: InputRefusal) -> FileRefusal {
+    match refusal {
+        InputRefusal::Failed => FileRefusal::Failed,
+        InputRefusal::TooLong => FileRefusal::TooLarge,
+        InputRefusal::Memory => FileRefusal::Memory,
     }
-    Err(FileRefusal::Failed)
 }
 
-// Appends the whole file.
-fn read_file<R: rt::Files>(rt: &R, path: &str, into: &mut Bytes) -> Result<(), FileRefusal>
-    ensures { OnOk result (length into.new ≤ LARGEST_FILE) }
+// The bytes of the file at this path.
+fn bytes_at<R: rt::Files>(rt: &R, alloc: Global, path: &str) -> Result<Bytes, FileRefusal>
+    ensures { IfOk result (λ bytes. length bytes ≤ LARGEST_FILE) }
 {
-    match fs::open(rt, path) {
-        Ok(mut file) => read_rest(&mut file, into),
-        Err(e) => Err(refusal(e)),
+    let file = match fs::open(rt, path) {
+        Ok(file) => file,
+        Err(e) => return Err(unopened(e.kind())),
+    };
+    match read_all(alloc, &mut StdSource::new(file), LARGEST_FILE) {
+        Ok(bytes) => Ok(bytes),
+        Err(refusal) => Err(unread(refusal)),
     }
 }
 
@@ -75,10 +64,12 @@ impl<R: rt::Files> Files for DirFiles<R> {
         self.faults
     }
 
-    fn load(&mut self, _alloc: Global, name: &Txt, into: &mut Bytes) -> Result<(), FileRefusal> {
-        into.clear();
-        match read_file(&self.rt, name.as_str(), into) {
-            Ok(()) => Ok(()),
+    fn load(&mut self, alloc: Global, name: &Txt, into: &mut Bytes) -> Result<(), FileRefusal> {
+        match bytes_at(&self.rt, alloc, name.as_str()) {
+            Ok(bytes) => {
+                *into = bytes;
+                Ok(())
+            }
             Err(refusal) => {
                 into.clear();
                 if refusal != FileRefusal::Memory {

@@ -4,11 +4,10 @@ use super::*;
 use hq_base::{Bytes, Txt};
 use hq_outside::{Door, FileRefusal, Files, Link, Sink, Source, read_all, write_all};
 use std::alloc::Global;
-use std::fs;
-use std::io;
 use std::io::{Read, Write};
 use std::net::TcpStream;
 use std::test::Fail;
+use std::{fs, io};
 
 const FOLDER: &str = "hq_system_test";
 
@@ -35,7 +34,10 @@ fn a_file_is_written_read_and_loaded(rt: HostRuntime) -> Result<(), Fail> {
     assert!(rt; write_all(&mut out, b"hello").is_ok());
     assert_eq!(rt; out.faults(), 0);
     let mut input = StdSource::new(fs::open(&rt, PATH)?);
-    assert_eq!(rt; read_all(alloc, &mut input, 5)?.as_slice(), b"hello".as_slice());
+    assert_eq!(rt;
+        read_all(alloc, &mut input, 5)?.as_slice(),
+        b"hello".as_slice()
+    );
     assert_eq!(rt; input.faults(), 0);
     let mut files = DirFiles::new(rt);
     let cases: [(&str, Result<(), FileRefusal>, &[u8], u64); 3] = [

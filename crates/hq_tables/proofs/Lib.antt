@@ -5,3 +5,5 @@ pub mod Headers
 pub mod Placed
 pub mod Records
 pub mod Arranged
+pub mod Keys
+pub mod NextRows

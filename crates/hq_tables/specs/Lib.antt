@@ -7,3 +7,5 @@ pub mod Field
 pub mod Header
 pub mod Load
 pub mod Places
+pub mod Keys
+pub mod Layouts

@@ -2,6 +2,7 @@ ghost use Rattle.std.specs.Prelude.{◌≡◌, ◌+◌, true, length, map, IfOk,
 ghost use Rattle.csv.specs.Records.{fields_of};
 ghost use Rattle.hq_base.specs.Due.{Gives};
 ghost use Rattle.hq_base.specs.declared.value.Val.TheVariants as val;
+ghost use Rattle.hq_tables.specs.Layouts.{columns_of, names_of};
 ghost use Rattle.hq_tables.specs.Load.{fields_due, record_due};
 ghost use Rattle.hq_tables.specs.Places.{are_places};
 ghost use Rattle.hq_tables.specs.declared.load.refusal.LoadRefusal.TheVariants as refusal;
@@ -56,7 +57,7 @@ pub fn read_row(
     layout: &Layout<'_>,
     fields: &ByteRecord,
 ) -> Result<ValList, LoadRefusal>
-    ensures { Gives (λ row. row) refusal.Memory (record_due line layout.now.table.now (fields_of layout.now.header.now) (map (λ c. c.now) layout.now.columns.items) (fields_of fields.now)) result }
+    ensures { Gives (λ row. row) refusal.Memory (record_due line layout.now.table.now (names_of layout.now) (columns_of layout.now) (fields_of fields.now)) result }
 {
     if fields.len() != layout.columns.len() {
         return Err(LoadRefusal::Width { line });

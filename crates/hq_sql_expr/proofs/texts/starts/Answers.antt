@@ -1,4 +1,4 @@
-use Rattle.std.proofs.Common.{◌≡◌, ap, ◌∙◌}
+use Rattle.std.proofs.Common.{ap, ◌∙◌}
 use Rattle.hq_sql_expr.specs.Reading.{after, strip}
 use Rattle.hq_sql_expr.proofs.Strip.{strip_is}
 use Rattle.hq_sql_expr.proofs.texts.starts.Goals as goal

@@ -1,4 +1,4 @@
-use Rattle.std.proofs.Common.{◌≡◌, List, ℕ, ◌++◌, length}
+use Rattle.std.proofs.Common.{◌≡◌, length}
 use Rattle.hq_sql_expr.specs.Reading.{unquoted}
 use Rattle.hq_sql_expr.proofs.Quotes.{with_front}
 use Rattle.hq_sql_expr.proofs.texts.unquoted_of.Given as goal
