@@ -1,7 +1,7 @@
 -- What a catalog file gives: its tables, or the first refusal. The tests come in this order, each over the whole file
 -- before the next: JSON, form, how many tables and columns, lengths of names, repeated names, empty keys, and what
 -- keys and foreign keys name.
-use Rattle.std.specs.Prelude.{ℕ, List, Option, Some, None, Result, Ok, Err}
+use Rattle.std.specs.Prelude.{ℕ, List, Result, Ok, Err}
 use Rattle.hq_base.specs.Due.{◌>>=◌}
 use Rattle.hq_base.specs.Json.{JsonTree}
 use Rattle.hq_base.specs.Body.{body_of}

@@ -1,6 +1,6 @@
 -- The tables of a catalog, where names stood: each name of a key or a foreign key becomes the place of what it names.
 -- The members of a foreign key come first, in their order, then the key as a whole.
-use Rattle.std.specs.Prelude.{ℕ, List, [], length, map, Bool, ◌&&◌, ◌==◌, nat_lt, not, Option, Some, None, slice_get, ok_or, Result, Ok, Err, if◌then◌else◌, bytes_eq}
+use Rattle.std.specs.Prelude.{ℕ, List, [], length, map, Bool, ◌&&◌, ◌==◌, nat_lt, not, Option, Some, None, slice_get, Result, Ok, Err, if◌then◌else◌, bytes_eq}
 use Rattle.std.specs.List.{list_all, list_any, position, zip}
 use Rattle.hq_base.specs.Due.{◌>>=◌}
 use Rattle.hq_base.specs.Path.{top_path}
