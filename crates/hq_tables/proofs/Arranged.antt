@@ -1,10 +1,10 @@
 -- Values that are taken from their places one after the other.
-use Rattle.std.proofs.Common.{◌≡◌, ◌≢◌, ◌∙◌, ℕ, zero, suc, ◌+◌, ◌<◌, ◌≤◌, ◌&&◌, ◌||◌, Bool, true, false, List, [], ◌∷◌, ◌++◌, length, take, drop, eqb, ltb, get_or, get_or-set_other, map, not, refl, sym, ap, subst, inl, inr, arith}
+use Rattle.std.proofs.Common.{◌≡◌, ◌≢◌, ◌∙◌, ℕ, zero, suc, ◌+◌, ◌<◌, true, List, [], ◌∷◌, ◌++◌, length, take, drop, eqb, ltb, get_or, get_or-set_other, map, not, refl, sym, ap, arith}
 use Rattle.std.specs.Cmp.{first_so, second_so}
 use Rattle.std.specs.Prelude.{slice_set}
 use Rattle.std.specs.List.{list_all, list_any}
 use Rattle.std.proofs.Math.ListN.{length-set}
-use Rattle.std.proofs.lemmas.Bool.{false≢true, true≢false}
+use Rattle.std.proofs.lemmas.Bool.{and_parts, not-true, or_right, true≢false}
 use Rattle.std.proofs.lemmas.Bool.Decides.{Decides-eqb, Decides-ltb}
 use Rattle.std.proofs.lemmas.List.{drop_more, take_more, map-append}
 use Rattle.hq_base.specs.Lists.{all_differ}
@@ -18,27 +18,19 @@ pub record IsArranged (all values : List Val) (places : List ℕ) (k : ℕ) (row
   pub taken : row ≡ map (λ p. get_or all p val.Null) (take k places)
   pub left : (q : ℕ) → list_any (eqb q) (drop k places) ≡ true → get_or values q val.Null ≡ get_or all q val.Null
 
-not_so : (b : Bool) → not b ≡ true → b ≡ false
-not_so false e = refl
-not_so true e = absurd (false≢true e)
-
 -- the later ones of different places differ
 all_differ-drop : (k : ℕ) (places : List ℕ) → all_differ eqb places ≡ true → all_differ eqb (drop k places) ≡ true
 all_differ-drop zero places h = h
 all_differ-drop (suc k) [] h = h
-all_differ-drop (suc k) (p ∷ places) h = all_differ-drop k places (second_so (not (list_any (eqb p) places)) (all_differ eqb places) h)
-
-so_or : (a b : Bool) → b ≡ true → (a || b) ≡ true
-so_or true b e = refl
-so_or false b e = e
+all_differ-drop (suc k) (p ∷ places) h = all_differ-drop k places ((and_parts (not (list_any (eqb p) places)) (all_differ eqb places) h).1)
 
 -- the later ones of different places are not the one that is taken
 left_more : (all values : List Val) (places : List ℕ) (k : ℕ) (row : List Val) (p : ℕ) → IsArranged all values places k row → drop k places ≡ p ∷ drop (k + 1) places → are_places (length all) places ≡ true → (q : ℕ) → list_any (eqb q) (drop (k + 1) places) ≡ true → get_or (slice_set values p val.Null) q val.Null ≡ get_or all q val.Null
 left_more all values places k row p so_far next apart q among =
-    let differ = rw next at (all_differ-drop k places (second_so (list_all (λ p. ltb p (length all)) places) (all_differ eqb places) apart)) in
-    let later = not_so (list_any (eqb p) (drop (k + 1) places)) (first_so (not (list_any (eqb p) (drop (k + 1) places))) (all_differ eqb (drop (k + 1) places)) differ) in
+    let differ = rw next at (all_differ-drop k places ((and_parts (list_all (λ p. ltb p (length all)) places) (all_differ eqb places) apart).1)) in
+    let later = not-true (list_any (eqb p) (drop (k + 1) places)) (first_so (not (list_any (eqb p) (drop (k + 1) places))) (all_differ eqb (drop (k + 1) places)) differ) in
     let other : q ≢ p = λ (same : q ≡ p). true≢false (sym among ∙ (ap (λ r. list_any (eqb r) (drop (k + 1) places)) same ∙ later)) in
-    let still : list_any (eqb q) (drop k places) ≡ true = rw next (so_or (eqb q p) (list_any (eqb q) (drop (k + 1) places)) among) in
+    let still : list_any (eqb q) (drop k places) ≡ true = rw next (or_right (eqb q p) (list_any (eqb q) (drop (k + 1) places)) among) in
     get_or-set_other values p q val.Null val.Null other ∙ so_far.left q still
 
 -- the next place's value is taken

@@ -7,3 +7,4 @@ pub mod Records
 pub mod Arranged
 pub mod Keys
 pub mod NextRows
+pub mod Valid

@@ -1,11 +1,11 @@
 -- Rows, read record by record.
-use Rattle.std.proofs.Common.{◌≡◌, ◌∙◌, ℕ, ◌+◌, List, [], ◌∷◌, ◌++◌, length, drop, Option, Some, None, Ok, Err, map, refl, sym, ap}
+use Rattle.std.proofs.Common.{◌≡◌, ◌∙◌, ℕ, ◌+◌, List, length, Some, None, Ok, Err, refl, sym, ap}
 use Rattle.std.specs.BTreeMap.{BTreeMap}
 use Rattle.hq_terms.specs.Database.{Row, key_of}
 use Rattle.hq_terms.specs.declared.table.Column.{Column}
 use Rattle.hq_terms.specs.declared.table.Table.{Table}
 use Rattle.hq_tables.specs.Keys.{Key, Knows, line_at}
-use Rattle.hq_tables.specs.Load.{line_of_key, record_due, row_due, rows_due}
+use Rattle.hq_tables.specs.Load.{line_of_key, record_due, row_due}
 use Rattle.hq_tables.specs.declared.load.refusal.LoadRefusal.TheVariants.{RepeatedKey}
 
 known_of : (t : Table) (rows : List Row) (row : Row) (lines : BTreeMap Key ℕ) (key : Key) → Knows t rows lines → key.items ≡ key_of t row → line_of_key t rows (key_of t row) ≡ line_at lines key

@@ -1,11 +1,10 @@
 -- The places of a table's columns under a header.
-use Rattle.std.proofs.Common.{◌≡◌, ◌≢◌, ◌∙◌, ℕ, zero, suc, ◌+◌, ◌<◌, ◌&&◌, ◌||◌, Bool, true, false, cond, eqb, ltb, List, [], ◌∷◌, length, Option, Some, None, get_or, map, not, refl, sym, ap, subst, eq-eqb, inl, inr, arith, nat_eq}
-use Rattle.std.specs.Prelude.{is_some, option_map, find, bytes_eq, nat_lt}
-use Rattle.std.specs.Cmp.{first_so, second_so}
+use Rattle.std.proofs.Common.{◌≡◌, ◌∙◌, ℕ, suc, ◌+◌, ◌<◌, ◌&&◌, ◌||◌, Bool, true, false, cond, eqb, ltb, List, [], ◌∷◌, length, Option, Some, None, get_or, map, not, refl, sym, ap, subst, eq-eqb, inl, inr, arith}
+use Rattle.std.specs.Prelude.{is_some, option_map, find, bytes_eq}
 use Rattle.std.specs.List.{list_all, list_any, position_from}
 use Rattle.std.specs.Option.{option_and_then}
 use Rattle.std.specs.Cmp.Lexicographic.{bytes_decides}
-use Rattle.std.proofs.lemmas.Bool.{false≢true, true≢false}
+use Rattle.std.proofs.lemmas.Bool.{and_from, and_parts, not-true, or_parts, true≢false}
 use Rattle.std.proofs.lemmas.Bool.Decides.{Decides-ltb, eqb_tells}
 use Rattle.std.proofs.lemmas.List.{length-map}
 use Rattle.hq_base.specs.Lists.{all_differ}
@@ -23,12 +22,13 @@ is_some-all_some {X} {Y} f q same (x ∷ xs) = rw (← same x) (by (f x) (is_som
     more : (y : Y) (r : Option (List Y)) → is_some (option_map (λ ys. y ∷ ys) r) ≡ is_some r
     more y None = refl
     more y (Some ys) = refl
+
     by : (o : Option Y) → is_some (all_some (map f xs)) ≡ list_all q xs → is_some (option_and_then (λ y. option_map (λ ys. y ∷ ys) (all_some (map f xs))) o) ≡ (is_some o && list_all q xs)
     by None others = refl
     by (Some y) others = more y (all_some (map f xs)) ∙ others
 
 -- there is a place where some item passes
-is_some-position_from : {X : Type 0} (t : X → Bool) (i : ℕ) (xs : List X) → is_some (position_from t i xs) ≡ list_any t xs
+pub is_some-position_from : {X : Type 0} (t : X → Bool) (i : ℕ) (xs : List X) → is_some (position_from t i xs) ≡ list_any t xs
 is_some-position_from t i [] = refl
 is_some-position_from {X} t i (x ∷ xs) = by (t x) (is_some-position_from t (i + 1) xs)
   where
@@ -70,9 +70,11 @@ place_found (n ∷ ns) name i p e = by (bytes_eq name n) refl (place_found ns na
     value_here : bytes_eq name n ≡ true → (values : List Val) → value_named (n ∷ ns) values name ≡ get_or values 0 val.Null
     value_here same [] = refl
     value_here same (v ∷ vs) = rw same refl
+
     value_past : (k : ℕ) → bytes_eq name n ≡ false → ((vs : List Val) → value_named ns vs name ≡ get_or vs k val.Null) → (values : List Val) → value_named (n ∷ ns) values name ≡ get_or values (suc k) val.Null
     value_past k other more [] = refl
     value_past k other more (v ∷ vs) = rw other (more vs)
+
     by : (b : Bool) → bytes_eq name n ≡ b → (position_from (bytes_eq name) (i + 1) ns ≡ Some p → (k : ℕ) × (p ≡ i + 1 + k) × IsPlace ns name k) → cond b (Some i) (position_from (bytes_eq name) (i + 1) ns) ≡ Some p → (k : ℕ) × (p ≡ i + k) × IsPlace (n ∷ ns) name k
     by true same later e =
         let at : i ≡ p = cc in
@@ -98,50 +100,39 @@ in_catalog_order-places (c ∷ cs) names places values e =
     let others = in_catalog_order-places cs names h.1 values h.3 in
     rw (h.4, first, others) refl
 
-neither : (a b : Bool) → (a || b) ≡ false → (a ≡ false) × (b ≡ false)
-neither false b e = (refl, e)
-neither true b e = absurd (true≢false e)
-
 -- a name that none of the columns has stands at none of their places
 apart_from : (columns : List Column) (names : List (List ℕ)) (name : List ℕ) (p : ℕ) (places : List ℕ) → get_or names p [] ≡ name → places_named columns names ≡ Some places → list_any (λ d. bytes_eq name d.name) columns ≡ false → list_any (λ q. eqb p q) places ≡ false
 apart_from [] names name p places here e other = let none : [] ≡ places = cc in rw (← none) refl
 apart_from (d ∷ ds) names name p places here e other =
     let h = head_of (position_from (bytes_eq d.name) 0 names) (places_named ds names) places e in
-    let unlike = neither (bytes_eq name d.name) (list_any (λ d. bytes_eq name d.name) ds) other in
+    let unlike = or_parts (bytes_eq name d.name) (list_any (λ d. bytes_eq name d.name) ds) other in
     let there = (is_place names d.name h.0 h.2).here in
     let not_there : eqb p h.0 ≡ false =
-        elim (eqb_tells p h.0) [
-          | inl same ↦ absurd (true≢false (sym ((bytes_decides name d.name).1 (sym here ∙ (ap (λ k. get_or names k []) same.1 ∙ there))) ∙ unlike.0))
-          | inr other ↦ other.0
-        ] in
+    elim (eqb_tells p h.0) [
+      | inl same ↦ absurd (true≢false (sym ((bytes_decides name d.name).1 (sym here ∙ (ap (λ k. get_or names k []) same.1 ∙ there))) ∙ unlike.0))
+      | inr other ↦ other.0
+    ] in
     rw (h.4, not_there) (apart_from ds names name p h.1 here h.3 unlike.1)
-
-both : (a b : Bool) → a ≡ true → b ≡ true → (a && b) ≡ true
-both a b p q = rw (p, q) refl
-
-not_so : (b : Bool) → not b ≡ true → b ≡ false
-not_so false e = refl
-not_so true e = absurd (false≢true e)
 
 all_within : (columns : List Column) (names : List (List ℕ)) (places : List ℕ) → places_named columns names ≡ Some places → list_all (λ p. ltb p (length names)) places ≡ true
 all_within [] names places e = let none : [] ≡ places = cc in rw (← none) refl
 all_within (c ∷ cs) names places e =
     let h = head_of (position_from (bytes_eq c.name) 0 names) (places_named cs names) places e in
     let within = (Decides-ltb h.0 (length names)).1 (is_place names c.name h.0 h.2).within in
-    rw h.4 (both (ltb h.0 (length names)) (list_all (λ p. ltb p (length names)) h.1) within (all_within cs names h.1 h.3))
+    rw h.4 (and_from (ltb h.0 (length names)) (list_all (λ p. ltb p (length names)) h.1) within (all_within cs names h.1 h.3))
 
 all_apart : (columns : List Column) (names : List (List ℕ)) (places : List ℕ) → places_named columns names ≡ Some places → all_differ (λ c d. bytes_eq c.name d.name) columns ≡ true → all_differ (λ p q. eqb p q) places ≡ true
 all_apart [] names places e differ = let none : [] ≡ places = cc in rw (← none) refl
 all_apart (c ∷ cs) names places e differ =
     let h = head_of (position_from (bytes_eq c.name) 0 names) (places_named cs names) places e in
-    let unlike = not_so (list_any (λ d. bytes_eq c.name d.name) cs) (first_so (not (list_any (λ d. bytes_eq c.name d.name) cs)) (all_differ (λ c d. bytes_eq c.name d.name) cs) differ) in
-    let others = second_so (not (list_any (λ d. bytes_eq c.name d.name) cs)) (all_differ (λ c d. bytes_eq c.name d.name) cs) differ in
+    let unlike = not-true (list_any (λ d. bytes_eq c.name d.name) cs) ((and_parts (not (list_any (λ d. bytes_eq c.name d.name) cs)) (all_differ (λ c d. bytes_eq c.name d.name) cs) differ).0) in
+    let others = (and_parts (not (list_any (λ d. bytes_eq c.name d.name) cs)) (all_differ (λ c d. bytes_eq c.name d.name) cs) differ).1 in
     let first = apart_from cs names c.name h.0 h.1 (is_place names c.name h.0 h.2).here h.3 unlike in
-    rw h.4 (both (not (list_any (λ q. eqb h.0 q) h.1)) (all_differ (λ p q. eqb p q) h.1) (ap not first) (all_apart cs names h.1 h.3 others))
+    rw h.4 (and_from (not (list_any (λ q. eqb h.0 q) h.1)) (all_differ (λ p q. eqb p q) h.1) (ap not first) (all_apart cs names h.1 h.3 others))
 
 -- the places of columns with different names are different ones of the header
 pub places-apart : (columns : List Column) (names : List (List ℕ)) (places : List ℕ) → places_named columns names ≡ Some places → all_differ (λ c d. bytes_eq c.name d.name) columns ≡ true → are_places (length names) places ≡ true
-places-apart columns names places e differ = both (list_all (λ p. ltb p (length names)) places) (all_differ (λ p q. eqb p q) places) (all_within columns names places e) (all_apart columns names places e differ)
+places-apart columns names places e differ = and_from (list_all (λ p. ltb p (length names)) places) (all_differ (λ p q. eqb p q) places) (all_within columns names places e) (all_apart columns names places e differ)
 
 -- a header of as many names, none left out
 pub header_due-whole : (columns : List Column) (names : List (List ℕ)) (places : List ℕ) → length names ≡ length columns → places_named columns names ≡ Some places → header_due columns names ≡ columns_named columns names

@@ -1,5 +1,5 @@
 -- Records, read field by field.
-use Rattle.std.proofs.Common.{◌≡◌, ◌∙◌, ℕ, ◌+◌, ◌<◌, ◌≤◌, List, [], ◌∷◌, ◌++◌, length, drop, Option, Some, Result, Ok, Err, get_or, map, suc, refl, sym, ap, eq-eqb, arith}
+use Rattle.std.proofs.Common.{◌≡◌, ◌∙◌, ℕ, ◌+◌, ◌<◌, List, [], ◌∷◌, ◌++◌, length, drop, Some, Result, Ok, Err, get_or, map, suc, refl, sym, ap, eq-eqb, arith}
 use Rattle.std.proofs.lemmas.List.{drop_more, drop-map, append_assoc}
 use Rattle.hq_base.specs.Due.{and_then, mapped}
 use Rattle.hq_base.specs.declared.value.Val.{Val}

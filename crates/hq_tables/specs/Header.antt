@@ -1,10 +1,15 @@
 -- The header of a table file: the table's column names, each once, in any order (PostgreSQL, COPY with HEADER).
-use Rattle.std.specs.Prelude.{ℕ, List, [], ◌∷◌, length, ◌==◌, ◌&&◌, Option, Some, None, find, map, option_map, if◌then◌else◌, bytes_eq}
+use Rattle.std.specs.Prelude.{ℕ, List, [], ◌∷◌, length, Bool, ◌==◌, ◌&&◌, Option, Some, None, find, map, option_map, if◌then◌else◌, bytes_eq}
 use Rattle.std.specs.List.{list_all, list_any, position_from}
 use Rattle.std.specs.Option.{option_and_then}
+use Rattle.hq_base.specs.Lists.{all_differ}
 use Rattle.hq_base.specs.declared.value.Val.{Val}
 use Rattle.hq_base.specs.declared.value.Val.TheVariants as val
 use Rattle.hq_terms.specs.declared.table.Column.{Column}
+
+-- no two columns have one name
+abbrev pub names_differ : List Column → Bool
+names_differ = all_differ (λ c d. bytes_eq c.name d.name)
 
 -- the values, where none is missing
 abbrev pub all_some : {X : Type 0} → List (Option X) → Option (List X)

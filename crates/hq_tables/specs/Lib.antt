@@ -1,4 +1,3 @@
-pub mod Causes
 pub mod Pins
 pub mod Store
 pub mod Databases

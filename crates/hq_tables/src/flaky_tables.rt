@@ -3,6 +3,7 @@ ghost use Rattle.hq_tables.specs.Store.{TellsRise};
 ghost use Rattle.hq_tables.specs.Flaky.{pins_to_failure};
 
 use crate::{MemTables, Rows, StoreRefusal, Tables};
+use hq_outside::count_fault;
 use hq_terms::{Catalog, TableId};
 use std::alloc::Global;
 
@@ -76,7 +77,7 @@ impl Tables for FlakyTables {
     {
         if self.next_fails() {
             let before = self.faults;
-            self.faults = before.saturating_add(1);
+            count_fault(&mut self.faults);
             return Err(StoreRefusal::Failed {
                 before,
                 after: self.faults,

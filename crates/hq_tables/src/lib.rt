@@ -10,7 +10,7 @@ mod table_set;
 mod tables;
 
 pub use flaky_tables::FlakyTables;
-pub use load::LoadRefusal;
+pub use load::{LoadRefusal, load_table};
 pub use mem_tables::MemTables;
 pub use rows::{RowList, Rows, RowsList, ValList};
 pub use tables::{StoreRefusal, Tables};

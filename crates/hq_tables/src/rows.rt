@@ -37,7 +37,8 @@ impl Rows {
     /// keys differ.
     pub fn of(alloc: Global, rows: RowList, table: &Table) -> Result<Rows, Memory>
         requires { are_rows table.now rows ≡ true }
-        ensures { IfOk result (λ kept. kept ≡ rows) }
+        ensures rows { IfOk result (λ kept. kept ≡ rows) }
+        ensures valid { IfOk result (λ kept. are_rows table.now kept ≡ true) }
     {
         Ok(Rows { rows })
     }

@@ -1,7 +1,6 @@
-ghost use Rattle.std.specs.Prelude.{◌≡◌, true, length, map, Some, IfOk, IfSome, option_map, bytes_eq};
+ghost use Rattle.std.specs.Prelude.{◌≡◌, true, length, map, Some, IfOk, IfSome, option_map};
 ghost use Rattle.csv.specs.Records.{fields_of};
-ghost use Rattle.hq_base.specs.Lists.{all_differ};
-ghost use Rattle.hq_tables.specs.Header.{header_due, places_named};
+ghost use Rattle.hq_tables.specs.Header.{header_due, names_differ, places_named};
 ghost use Rattle.hq_tables.specs.Places.{are_places};
 
 use super::header::{columns_named, places_named};
@@ -31,7 +30,7 @@ impl<'a> Layout<'a> {
         table: &'a Table,
         header: &'a ByteRecord,
     ) -> Result<Option<Layout<'a>>, Memory>
-        requires { all_differ (λ c d. bytes_eq c.name d.name) table.now.columns ≡ true }
+        requires { names_differ table.now.columns ≡ true }
         ensures columns { IfOk result (λ found. option_map (λ l. map (λ c. c.now) l.columns.items) found ≡ header_due table.now.columns (fields_of header.now)) }
         ensures parts { IfOk result (λ found. IfSome found (λ l. (l.table.now ≡ table.now) × (l.header.now ≡ header.now))) }
     {

@@ -1,4 +1,4 @@
-use Rattle.std.proofs.Common.{◌≡◌, ◌∙◌, ◌+◌, ◌<◌, ℕ, List, [], ◌∷◌, Bor, Ok, Err, length, drop, get_or, map, sym, ap, inl, inr, arith}
+use Rattle.std.proofs.Common.{◌≡◌, ◌∙◌, ◌+◌, ◌<◌, ◌∷◌, Bor, Err, length, drop, map, sym, ap, inl, inr, arith}
 use Rattle.csv.specs.Records.{fields_of}
 use Rattle.hq_terms.specs.declared.table.Column.{Column}
 use Rattle.hq_tables.specs.Field.{field_due}

@@ -1,4 +1,4 @@
-use Rattle.std.proofs.Common.{◌≡◌, ◌+◌, ◌++◌, map, drop}
+use Rattle.std.proofs.Common.{map}
 use Rattle.csv.specs.Records.{fields_of}
 use Rattle.hq_tables.proofs.Records.{FieldsRead}
 use Rattle.hq_tables.proofs.load.record.read_fields.Given as goal

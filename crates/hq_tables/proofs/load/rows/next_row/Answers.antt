@@ -1,4 +1,4 @@
-use Rattle.std.proofs.Common.{◌≡◌, ◌∙◌, ◌+◌, ℕ, List, None, Some, Ok, length, sym, ap, inr, arith}
+use Rattle.std.proofs.Common.{◌≡◌, ◌∙◌, ◌+◌, None, Some, length, sym, inr, arith}
 use Rattle.csv.specs.Records.{fields_of}
 use Rattle.hq_terms.specs.Database.{key_of}
 use Rattle.hq_tables.specs.Keys.{line_at}

@@ -1,8 +1,8 @@
-use Rattle.std.proofs.Common.{◌≡◌, ◌∙◌, List, Bor, None, Some, ℕ, true, length, map, sym, ap, subst}
+use Rattle.std.proofs.Common.{◌≡◌, ◌∙◌, Bor, None, Some, true, length, map, sym, ap, subst}
 use Rattle.std.proofs.lemmas.List.{length-map}
 use Rattle.csv.specs.Records.{fields_of}
 use Rattle.hq_terms.specs.declared.table.Column.{Column}
-use Rattle.hq_tables.specs.Header.{columns_named, header_due, places_named}
+use Rattle.hq_tables.specs.Header.{columns_named, places_named}
 use Rattle.hq_tables.specs.Places.{are_places}
 use Rattle.hq_tables.proofs.Placed.{header_due-left_out, header_due-whole, length-columns_named, places-apart}
 use Rattle.hq_tables.proofs.load.layout.Layout.of.Goals as goal
