@@ -1,2 +1,3 @@
-mod WrittenParts
+mod Catalogs
 mod EachDue
+mod WrittenParts

@@ -1,7 +1,9 @@
 ghost use Rattle.std.specs.Prelude.{◌≡◌, ◌≤◌, IfOk, IfSome, IsErrOf, true};
 ghost use Rattle.hq_outside.specs.Causes.{Rose};
 ghost use Rattle.hq_terms.specs.Meta.{meta_view};
+ghost use Rattle.hq_terms.specs.Catalog.{is_catalog};
 ghost use Rattle.hq_terms.specs.Database.{are_rows, is_database};
+ghost use Rattle.hq_tables.specs.Header.{names_differ};
 ghost use Rattle.hq_app.specs.Told.{GivesUnless};
 ghost use Rattle.hq_app.specs.Loading.{catalog_file, meta_file, catalog_in, meta_in, rows_in, each_due, loaded_view, loading_due};
 
@@ -88,6 +90,7 @@ fn load_rows<F: Files>(
     dir: &Txt,
     table: &Table,
 ) -> Result<Rows, LoadingRefusal>
+    requires { names_differ table.now.columns ≡ true }
     ensures told { IfSome (F.folder files.old) (λ folder.
         GivesUnless (λ rows. rows) LoadingRefusal.Memory LoadingRefusal.Failed (rows_in folder dir.now table.now) result) }
     ensures fits { IfOk result (λ rows. are_rows table.now rows ≡ true) }
@@ -112,6 +115,7 @@ fn load_tables<F: Files>(
     dir: &Txt,
     tables: &[Table],
 ) -> Result<RowsList, LoadingRefusal>
+    requires { is_catalog tables.now ≡ true }
     ensures told { IfSome (F.folder files.old) (λ folder.
         GivesUnless (λ all. all) LoadingRefusal.Memory LoadingRefusal.Failed (each_due (rows_in folder dir.now) tables.now) result) }
     ensures fits { IfOk result (λ all. is_database tables.now all ≡ true) }

@@ -1,5 +1,6 @@
 use Rattle.std.proofs.Common.{rules, ◌≡◌, ℕ, List}
 use Rattle.hq_app.specs.Loading.{rows_in}
+use Rattle.hq_app.proofs.Catalogs.{is_catalog-names}
 use Rattle.hq_app.proofs.EachDue.{told-step, is_database-taken}
 use Rattle.hq_app.proofs.loading.load_tables.Goals as goal
 
@@ -17,3 +18,6 @@ loop-table-preserved g c =
       folder = search rules;
       later = search rules;
     }
+
+pub load_rows-requires : goal.load_rows-requires
+load_rows-requires g c = is_catalog-names c.args.tables.now c.loop-table.table-index c.table-item.result c.requires c.loop-table-test.true c.table-item.is
