@@ -28,7 +28,7 @@ found_holds p q [] x all e = absurd cc
 found_holds p q (y ∷ ys) x all e =
     let parts = both (q y) (list_all q ys) all in
     let go : (b : Bool) → cond b (Some y) (find p ys) ≡ Some x → q x ≡ true =
-        elim [ true ↦ λ h. let same : y ≡ x = cc in subst (λ z. q z ≡ true) same parts.0 | false ↦ λ h. found_holds p q ys x parts.1 h ] in
+    elim [ true ↦ λ h. let same : y ≡ x = cc in subst (λ z. q z ≡ true) same parts.0 | false ↦ λ h. found_holds p q ys x parts.1 h ] in
     go (p y) e
 
 numbered_length : {A B : Type 0} (f : ℕ → A → B) (k : ℕ) (xs : List A) → length (numbered f k xs) ≡ length xs
@@ -40,9 +40,9 @@ under_table : (k : TrackedTree) (p : Permission) (body : ListBody) (ask : Ask) �
 under_table k p body ask e =
     let columns = columns_named k.column_names p.columns body.columns in
     let some : (o : Option _) → option_map (λ cs. record { key = k.roots.select; table = k.table; columns = cs }) o ≡ Some ask → ask.table ≡ k.table =
-        elim [ None ↦ λ h. absurd cc | Some cs ↦ λ h. let same : record { key = k.roots.select; table = k.table; columns = cs } ≡ ask = cc in ap (λ (a : Ask). a.table) (sym same) ] in
+    elim [ None ↦ λ h. absurd cc | Some cs ↦ λ h. let same : record { key = k.roots.select; table = k.table; columns = cs } ≡ ask = cc in ap (λ (a : Ask). a.table) (sym same) ] in
     let go : (b : Bool) → cond b (option_map (λ cs. record { key = k.roots.select; table = k.table; columns = cs }) columns) None ≡ Some ask → ask.table ≡ k.table =
-        elim [ true ↦ some columns | false ↦ λ h. absurd cc ] in
+    elim [ true ↦ some columns | false ↦ λ h. absurd cc ] in
     go (is_plain p) e
 
 -- the table of a tracked entry is one of the catalog
@@ -56,12 +56,12 @@ listed_in_catalog : (tables : List Table) (m : MetaTree) (role : Role) (list : L
 listed_in_catalog tables m role list ask fit e =
     let entries = (both _ _ (both _ _ fit).0).1 in
     option_and_then_some _ (find (λ k. bytes_eq k.roots.select list.root) m.tracked) _ e
-        (λ k found under. option_and_then_some _ (permission role m k.table) _ under
-            (λ p granted made.
-                let entry = found_holds _ (fits_tracked (schema_of tables m) m) m.tracked k entries found in
-                subst (λ n. n < length tables) (sym (under_table k p list ask made)) (entry_in_catalog tables m k entry)))
+    (λ k found under. option_and_then_some _ (permission role m k.table) _ under
+    (λ p granted made.
+    let entry = found_holds _ (fits_tracked (schema_of tables m) m) m.tracked k entries found in
+    subst (λ n. n < length tables) (sym (under_table k p list ask made)) (entry_in_catalog tables m k entry)))
 
 pub table_in_catalog : (tables : List Table) (m : MetaTree) (session : Session) (body : List ℕ) (ask : Ask) → fits tables m ≡ true → request_of m session body ≡ Some ask → ask.table < length tables
 table_in_catalog tables m session body ask fit e =
     option_and_then_some _ (option_and_then list_of (result_ok (body_of body))) _ e
-        (λ list asked listed. listed_in_catalog tables m (role_of session.role) list ask fit listed)
+    (λ list asked listed. listed_in_catalog tables m (role_of session.role) list ask fit listed)

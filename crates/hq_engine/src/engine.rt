@@ -6,9 +6,9 @@ ghost use Rattle.hq_terms.specs.Meta.{meta_view};
 ghost use Rattle.hq_engine.specs.Answer.{Answers, TellsDatabase, asked_text, text_of};
 ghost use Rattle.hq_engine.specs.ListRequest.{request_of};
 
-use crate::{AskRefusal, EngineRefusal};
 use crate::list_request::request_of;
 use crate::reply::data_reply;
+use crate::{AskRefusal, EngineRefusal};
 use hq_ask_tree::Ask;
 use hq_base::{Bytes, Json, Memory, Reply};
 use hq_link::{Database, DbRefusal};
@@ -55,7 +55,13 @@ impl Engine {
 
     /// The reply to a request of a session, over a database of the engine's catalog. The body has at most 1,048,576 bytes.
     /// A request that is answered asks the database exactly one text.
-    pub fn answer<D: Database>(&self, alloc: Global, session: &Session, body: &[u8], db: &mut D) -> Result<Reply, EngineRefusal>
+    pub fn answer<D: Database>(
+        &self,
+        alloc: Global,
+        session: &Session,
+        body: &[u8],
+        db: &mut D,
+    ) -> Result<Reply, EngineRefusal>
         requires limit { length body.now ≤ 1048576 }
         requires catalog { D.tables db.old ≡ self.now.catalog.tables }
         ensures answer { Answers (asked_text self.now.catalog.tables (meta_view self.now.meta)) (request_of (meta_view self.now.meta) session.now body.now)

@@ -112,7 +112,9 @@ fn words(alloc: Global, text: &[u8]) -> Result<List<Bytes>, Memory>
 fn contains_word(words: &[Bytes], word: &Bytes) -> bool
     ensures { result ≡ list_any (bytes_eq word.now) words.now }
 {
-    words.iter().any(|other| word.as_slice() == other.as_slice())
+    words
+        .iter()
+        .any(|other| word.as_slice() == other.as_slice())
 }
 
 fn words_differ(words: &[Bytes]) -> bool
@@ -175,7 +177,12 @@ fn list_of_columns(alloc: Global, root: &Bytes, columns: &[Bytes]) -> Result<Lis
 }
 
 // A root field's name, and words that are its columns and then close the list.
-fn list_with(alloc: Global, root: &Bytes, columns: &[Bytes], closing: &[Bytes]) -> Result<Option<ListBody>, Memory>
+fn list_with(
+    alloc: Global,
+    root: &Bytes,
+    columns: &[Bytes],
+    closing: &[Bytes],
+) -> Result<Option<ListBody>, Memory>
     ensures { IfOk result (λ body. body ≡ list_with root.now columns.now closing.now) }
 {
     if is_graphql_name(root.as_slice()) && is_closing(closing) && is_column_list(columns) {

@@ -71,7 +71,12 @@ fn ask_column(alloc: Global, names: &[Txt], column: usize) -> Result<AskColumn, 
 }
 
 // The permitted columns of these GraphQL names, where each is one.
-fn columns_named(alloc: Global, names: &[Txt], columns: &ColList, wanted: &[Bytes]) -> Result<Option<List<AskColumn>>, Memory>
+fn columns_named(
+    alloc: Global,
+    names: &[Txt],
+    columns: &ColList,
+    wanted: &[Bytes],
+) -> Result<Option<List<AskColumn>>, Memory>
     ensures { IfOk result (λ found. found ≡ columns_named names.now columns.now wanted.now) }
 {
     let mut found = List::new(alloc);
@@ -84,13 +89,23 @@ fn columns_named(alloc: Global, names: &[Txt], columns: &ColList, wanted: &[Byte
     Ok(Some(found))
 }
 
-fn ask_under(alloc: Global, tracked: &Tracked, view: &PermView, body: &ListBody) -> Result<Option<Ask>, Memory>
+fn ask_under(
+    alloc: Global,
+    tracked: &Tracked,
+    view: &PermView,
+    body: &ListBody,
+) -> Result<Option<Ask>, Memory>
     ensures { IfOk result (λ ask. ask ≡ ask_under (tracked_view tracked.now) (permission_view view.now) body.now) }
 {
     if !allows_all_rows(view) {
         return Ok(None);
     }
-    match columns_named(alloc, tracked.column_names.as_slice(), &view.cols, body.columns.as_slice())? {
+    match columns_named(
+        alloc,
+        tracked.column_names.as_slice(),
+        &view.cols,
+        body.columns.as_slice(),
+    )? {
         None => Ok(None),
         Some(columns) => Ok(Some(Ask {
             key: tracked.roots.select.copy(alloc)?,
@@ -100,7 +115,13 @@ fn ask_under(alloc: Global, tracked: &Tracked, view: &PermView, body: &ListBody)
     }
 }
 
-fn ask_of_table(alloc: Global, meta: &Meta, role: &Role, body: &ListBody, tracked: &Tracked) -> Result<Option<Ask>, Memory>
+fn ask_of_table(
+    alloc: Global,
+    meta: &Meta,
+    role: &Role,
+    body: &ListBody,
+    tracked: &Tracked,
+) -> Result<Option<Ask>, Memory>
     ensures { IfOk result (λ ask. ask ≡ ask_of_table (meta_view meta.now) role.now body.now (tracked_view tracked.now)) }
 {
     match meta.perm(alloc, role, tracked.table)? {
@@ -110,7 +131,12 @@ fn ask_of_table(alloc: Global, meta: &Meta, role: &Role, body: &ListBody, tracke
 }
 
 // The request of a list, where the role may see all rows of its table and its columns.
-fn list_request(alloc: Global, meta: &Meta, role: &Role, body: &ListBody) -> Result<Option<Ask>, Memory>
+fn list_request(
+    alloc: Global,
+    meta: &Meta,
+    role: &Role,
+    body: &ListBody,
+) -> Result<Option<Ask>, Memory>
     ensures { IfOk result (λ ask. ask ≡ list_request (meta_view meta.now) role.now body.now) }
 {
     match root_table(meta.tracked.as_slice(), &body.root) {
@@ -132,7 +158,12 @@ fn json_of(alloc: Global, body: &[u8]) -> Result<Option<Json>, Memory>
 
 /// The request that a body makes for a session, where it is built so far: one list of plain columns on which the role may
 /// see all rows.
-pub(crate) fn request_of(alloc: Global, meta: &Meta, session: &Session, body: &[u8]) -> Result<Option<Ask>, Memory>
+pub(crate) fn request_of(
+    alloc: Global,
+    meta: &Meta,
+    session: &Session,
+    body: &[u8],
+) -> Result<Option<Ask>, Memory>
     ensures { IfOk result (λ ask. ask ≡ request_of (meta_view meta.now) session.now body.now) }
 {
     let Some(json) = json_of(alloc, body)? else {

@@ -35,8 +35,8 @@ outputs_alike s t alias fold (c ∷ cs) i x y p q a b bound f g u v =
     let first_p : cell_named (p fold) (key_name i) ≡ row_cell a c = u i (omega arith) (omega arith) ∙ rw (same_text (key_name i)) (f c) in
     let first_q : cell_named (q fold) (key_name i) ≡ row_cell b c = v i (omega arith) (omega arith) ∙ rw (same_text (key_name i)) (g c) in
     let rest = outputs_alike s t alias fold cs (i + 1) x y p q a b (omega arith) f g
-        (λ j h k. u j (omega arith) k ∙ rw (key_names_differ i j (omega arith) k) refl)
-        (λ j h k. v j (omega arith) k ∙ rw (key_names_differ i j (omega arith) k) refl) in
+    (λ j h k. u j (omega arith) k ∙ rw (key_names_differ i j (omega arith) k) refl)
+    (λ j h k. v j (omega arith) k ∙ rw (key_names_differ i j (omega arith) k) refl) in
     rw (first_p, first_q, rest) refl
 
 module _ (s : Schema) (tables : List Table) (d : List (List Row)) (sound : Sound s tables d) (u n : ℕ) (few : length (table s u).key ≤ 2 ^ 64)
@@ -70,16 +70,16 @@ module _ (s : Schema) (tables : List Table) (d : List (List Row)) (sound : Sound
       let all : List Row = table_rows d u in
       let narrow = sound.narrow u in
       let from : map (with_alias scope (table_alias n)) (rows_named tables d (table s u).schema (table s u).name) ≡ map at_row all =
-          rw (sound.by_name u) (map_map (with_alias scope (table_alias n)) (named_row (table s u).columns) all) in
+      rw (sound.by_name u) (map_map (with_alias scope (table_alias n)) (named_row (table s u).columns) all) in
       let one_each : flat_map (joined (J no_join) world) (map (with_alias scope (table_alias n)) (rows_named tables d (table s u).schema (table s u).name)) ≡ map behind all =
-          ap (flat_map (joined (J no_join) world)) from
-          ∙ flat_map_map (joined (J no_join) world) at_row all
-          ∙ flat_map_on (Narrow s u) (λ row. joined (J no_join) world (at_row row)) behind
-            (λ row h. x.goes (at_row row) row no_join (shows_bound s scope u (table_alias n) row (sound.differ u) h)) all narrow in
+      ap (flat_map (joined (J no_join) world)) from
+      ∙ flat_map_map (joined (J no_join) world) at_row all
+      ∙ flat_map_on (Narrow s u) (λ row. joined (J no_join) world (at_row row)) behind
+      (λ row h. x.goes (at_row row) row no_join (shows_bound s scope u (table_alias n) row (sound.differ u) h)) all narrow in
       let kept_all : (l : List Scope) → filter (kept no_filter world) l ≡ l = λ l. filter_all (kept no_filter world) (λ z. refl) l in
       let sorted : sort (order_cmp (key_orders (table s u).columns (table_alias n) key)) (map behind all) ≡ map behind (by_key s d u) =
-          sort_map_on (Narrow s u) behind (columns_cmp key) (order_cmp (key_orders (table s u).columns (table_alias n) key))
-          (λ a b f g. key_orders_alike s u (table_alias n) key (behind a) (behind b) a b (behind_shows a f) (behind_shows b g)) all narrow in
+      sort_map_on (Narrow s u) behind (columns_cmp key) (order_cmp (key_orders (table s u).columns (table_alias n) key))
+      (λ a b f g. key_orders_alike s u (table_alias n) key (behind a) (behind b) a b (behind_shows a f) (behind_shows b g)) all narrow in
       let step : List Scope → List NamedRow = λ l. map (outputs outs []) (sort (order_cmp (key_orders (table s u).columns (table_alias n) key)) (filter (kept no_filter world) l)) in
       ap step one_each
       ∙ ap (λ l. map (outputs outs []) (sort (order_cmp (key_orders (table s u).columns (table_alias n) key)) l)) (kept_all (map behind all))
@@ -111,13 +111,13 @@ module _ (s : Schema) (tables : List Table) (d : List (List Row)) (sound : Sound
       let os = orders_of (output_orders (table s u).columns (fold_alias n) key 0) in
       let array : List Scope → List NamedRow = λ l. ((value_name, json (arr (elements_of (map (λ z. json_of (value (column (fold_alias n) value_name false) [] z)) (sort (orders_cmp os) l))))) ∷ []) ∷ [] in
       let rows_as : map (with_alias scope (fold_alias n)) (rows_of (list_rows (table s u).schema (table s u).name (table s u).columns (table s u).key n values (J no_join)) world scope) ≡ map folded (by_key s d u) =
-          ap (map (with_alias scope (fold_alias n))) list_rows_are ∙ map_map (with_alias scope (fold_alias n)) output_row (by_key s d u) in
+      ap (map (with_alias scope (fold_alias n))) list_rows_are ∙ map_map (with_alias scope (fold_alias n)) output_row (by_key s d u) in
       let sorted : sort (orders_cmp os) (map folded (by_key s d u)) ≡ map folded (by_key s d u) =
-          sort_map_on (Narrow s u) folded (columns_cmp key) (orders_cmp os) folded_orders (by_key s d u) narrow_by_key
-          ∙ ap (map folded) (sort_ascending (columns_total key) (by_key s d u) (ascends_sort (columns_total key) (table_rows d u))) in
+      sort_map_on (Narrow s u) folded (columns_cmp key) (orders_cmp os) folded_orders (by_key s d u) narrow_by_key
+      ∙ ap (map folded) (sort_ascending (columns_total key) (by_key s d u) (ascends_sort (columns_total key) (table_rows d u))) in
       let shown : map (λ z. json_of (value (column (fold_alias n) value_name false) [] z)) (map folded (by_key s d u)) ≡ map (λ row. obj (resolved row)) (by_key s d u) =
-          map_map (λ z. json_of (value (column (fold_alias n) value_name false) [] z)) folded (by_key s d u)
-          ∙ map_on (Narrow s u) (λ row. json_of (value (column (fold_alias n) value_name false) [] (folded row))) (λ row. obj (resolved row)) (value_at means) (by_key s d u) narrow_by_key in
+      map_map (λ z. json_of (value (column (fold_alias n) value_name false) [] z)) folded (by_key s d u)
+      ∙ map_on (Narrow s u) (λ row. json_of (value (column (fold_alias n) value_name false) [] (folded row))) (λ row. obj (resolved row)) (value_at means) (by_key s d u) narrow_by_key in
       ap array rows_as
       ∙ ap (λ l. ((value_name, json (arr (elements_of (map (λ z. json_of (value (column (fold_alias n) value_name false) [] z)) l)))) ∷ []) ∷ []) sorted
       ∙ ap (λ l. ((value_name, json (arr (elements_of l))) ∷ []) ∷ []) shown

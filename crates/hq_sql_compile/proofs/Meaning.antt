@@ -118,10 +118,10 @@ module _ (s : Schema) (tables : List Table) (d : List (List Row)) (g : Grants) w
           let x = fields_extend fs u n (n + 1) (omega arith) (omega arith) plain.2 in
           extends_one s world _ t p n (numbers (list u fs)) (λ row. (value_name, json (given (list u fs) t row)) ∷ []) (omega arith)
           (λ scope row shows.
-              ap or_null_row (list_means s tables d sound u n plain.1 (joins_of fs s (n + 1)) (n + 1) (numbers_all fs) (with_fields fs u (n + 1)) x
-                  (values_of fs s u (table_alias n) (n + 1)) (given_all fs u) scope
-                  (λ far narrow. values_all fs u n (n + 1) _ far (omega arith) (shows_bound s scope u (table_alias n) far (sound.differ u) narrow) (plain_cell s g d u plain.0 far)))
-              ∙ ap (λ l. ((value_name, json (arr (elements_of (map (λ far. obj (given_all fs u far)) l)))) ∷ []) ∷ []) (sym (plain_selected s g d u plain.0)))
+          ap or_null_row (list_means s tables d sound u n plain.1 (joins_of fs s (n + 1)) (n + 1) (numbers_all fs) (with_fields fs u (n + 1)) x
+          (values_of fs s u (table_alias n) (n + 1)) (given_all fs u) scope
+          (λ far narrow. values_all fs u n (n + 1) _ far (omega arith) (shows_bound s scope u (table_alias n) far (sound.differ u) narrow) (plain_cell s g d u plain.0 far)))
+          ∙ ap (λ l. ((value_name, json (arr (elements_of (map (λ far. obj (given_all fs u far)) l)))) ∷ []) ∷ []) (sym (plain_selected s g d u plain.0)))
 
 -- no row of a table stands above the root fields
 past_end : {A : Type 0} (xs : List A) (beyond : A) → slice_index_or xs (length xs) beyond ≡ beyond

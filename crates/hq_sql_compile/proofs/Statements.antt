@@ -37,10 +37,10 @@ pub statement_is : (a : Ask) (s : Schema) → statement (ask_view a) s ≡ list_
 statement_is a s =
     let t : ℕ = a.table in
     ap₂ (λ values joins.
-        rows [] (record { value = object (pair a.key (column (join_alias 1) value_name false) no_pair); name = value_name } ∷ [])
-        (one (table_alias 0))
-        (join (list_of_rows (table s t).schema (table s t).name (table s t).columns (table s t).key 1 values joins) (join_alias 1) no_join)
-        no_filter [] None None)
+    rows [] (record { value = object (pair a.key (column (join_alias 1) value_name false) no_pair); name = value_name } ∷ [])
+    (one (table_alias 0))
+    (join (list_of_rows (table s t).schema (table s t).name (table s t).columns (table s t).key 1 values joins) (join_alias 1) no_join)
+    no_filter [] None None)
     (columns_values a.columns s t (table_alias 1) 2) (columns_joins a.columns s 2 no_join)
 
 -- the same of a table of the catalog

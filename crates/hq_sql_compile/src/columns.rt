@@ -6,7 +6,7 @@ ghost use Rattle.hq_sql_compile.specs.Compiled.{key_name, name_of, is_text_colum
 
 use crate::alias::key_name;
 use hq_ask_tree::AskColumn;
-use hq_base::{Memory, Ty, Txt};
+use hq_base::{Memory, Txt, Ty};
 use hq_sql_tree::{Expr, ExprPair, ExprPairList, Order, OrderList, Out, OutList};
 use hq_terms::{ColId, Column};
 use std::alloc::Global;
@@ -45,7 +45,12 @@ fn column_at(alloc: Global, columns: &[Column], alias: &Txt, column: ColId) -> R
 }
 
 // A column at an alias, as it is compared.
-fn compared_at(alloc: Global, columns: &[Column], alias: &Txt, column: ColId) -> Result<Expr, Memory>
+fn compared_at(
+    alloc: Global,
+    columns: &[Column],
+    alias: &Txt,
+    column: ColId,
+) -> Result<Expr, Memory>
     ensures { IfOk result (λ e. expr_view e ≡ compared_at columns.now alias.now column) }
 {
     let alias = alias.copy(alloc)?;
@@ -69,7 +74,12 @@ fn ascending(value: Expr) -> Order
 }
 
 /// The columns of a key as sort keys of the rows at an alias.
-pub(crate) fn key_orders(alloc: Global, columns: &[Column], alias: &Txt, key: &[ColId]) -> Result<OrderList, Memory>
+pub(crate) fn key_orders(
+    alloc: Global,
+    columns: &[Column],
+    alias: &Txt,
+    key: &[ColId],
+) -> Result<OrderList, Memory>
     ensures { IfOk result (λ orders. map order_view orders.items ≡ key_orders columns.now alias.now key.now) }
 {
     let mut orders = Vec::new(alloc);
@@ -81,7 +91,13 @@ pub(crate) fn key_orders(alloc: Global, columns: &[Column], alias: &Txt, key: &[
 }
 
 // An output of the sort key of this number.
-fn key_output(alloc: Global, columns: &[Column], alias: &Txt, column: ColId, number: u64) -> Result<Out, Memory>
+fn key_output(
+    alloc: Global,
+    columns: &[Column],
+    alias: &Txt,
+    column: ColId,
+    number: u64,
+) -> Result<Out, Memory>
     ensures { IfOk result (λ out. out_view out ≡ record { value = column_at columns.now alias.now column; name = key_name number }) }
 {
     let value = column_at(alloc, columns, alias, column)?;
@@ -90,7 +106,13 @@ fn key_output(alloc: Global, columns: &[Column], alias: &Txt, column: ColId, num
 }
 
 /// Adds the columns of a key as outputs, numbered from 0.
-pub(crate) fn push_key_outputs(alloc: Global, outs: &mut OutList, columns: &[Column], alias: &Txt, key: &[ColId]) -> Result<(), Memory>
+pub(crate) fn push_key_outputs(
+    alloc: Global,
+    outs: &mut OutList,
+    columns: &[Column],
+    alias: &Txt,
+    key: &[ColId],
+) -> Result<(), Memory>
     ensures { OnOk result (map out_view outs.new.items ≡ map out_view outs.old.items ++ key_outputs columns.now alias.now key.now 0) }
 {
     for (i, column) in key.iter().enumerate() {
@@ -100,7 +122,13 @@ pub(crate) fn push_key_outputs(alloc: Global, outs: &mut OutList, columns: &[Col
 }
 
 // A sort key over an output.
-fn output_order(alloc: Global, columns: &[Column], alias: &Txt, column: ColId, number: u64) -> Result<Order, Memory>
+fn output_order(
+    alloc: Global,
+    columns: &[Column],
+    alias: &Txt,
+    column: ColId,
+    number: u64,
+) -> Result<Order, Memory>
     ensures { IfOk result (λ order. order_view order ≡ ascending_key (tree.column alias.now (key_name number) (is_text_column columns.now column))) }
 {
     let alias = alias.copy(alloc)?;
@@ -114,7 +142,12 @@ fn output_order(alloc: Global, columns: &[Column], alias: &Txt, column: ColId, n
 }
 
 /// The columns of a key as sort keys over their outputs, numbered from 0.
-pub(crate) fn output_orders(alloc: Global, columns: &[Column], alias: &Txt, key: &[ColId]) -> Result<OrderList, Memory>
+pub(crate) fn output_orders(
+    alloc: Global,
+    columns: &[Column],
+    alias: &Txt,
+    key: &[ColId],
+) -> Result<OrderList, Memory>
     ensures { IfOk result (λ orders. map order_view orders.items ≡ output_orders columns.now alias.now key.now 0) }
 {
     let mut orders = Vec::new(alloc);
@@ -125,7 +158,12 @@ pub(crate) fn output_orders(alloc: Global, columns: &[Column], alias: &Txt, key:
 }
 
 // A column under its response key.
-fn column_pair(alloc: Global, columns: &[Column], alias: &Txt, column: &AskColumn) -> Result<ExprPair, Memory>
+fn column_pair(
+    alloc: Global,
+    columns: &[Column],
+    alias: &Txt,
+    column: &AskColumn,
+) -> Result<ExprPair, Memory>
     ensures { IfOk result (λ pair. pair_view pair ≡ record { name = column.now.key; value = column_at columns.now alias.now column.now.column }) }
 {
     let name = column.key.copy(alloc)?;
@@ -134,7 +172,12 @@ fn column_pair(alloc: Global, columns: &[Column], alias: &Txt, column: &AskColum
 }
 
 /// Columns under their response keys.
-pub(crate) fn column_pairs(alloc: Global, columns: &[Column], alias: &Txt, fields: &[AskColumn]) -> Result<ExprPairList, Memory>
+pub(crate) fn column_pairs(
+    alloc: Global,
+    columns: &[Column],
+    alias: &Txt,
+    fields: &[AskColumn],
+) -> Result<ExprPairList, Memory>
     ensures { IfOk result (λ pairs. map pair_view pairs.items ≡ column_pairs columns.now alias.now fields.now) }
 {
     let mut pairs = Vec::new(alloc);

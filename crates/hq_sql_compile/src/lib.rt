@@ -3,7 +3,7 @@
 
 mod alias;
 mod columns;
-mod statement;
 mod list;
+mod statement;
 
 pub use statement::compile;

@@ -24,7 +24,12 @@ fn object_output(alloc: Global, pairs: ExprPairList) -> Result<Out, Memory>
 }
 
 // The outputs of a list's rows: the object of its columns, then the sort keys.
-fn row_outputs(alloc: Global, table: &Table, alias: &Txt, fields: &[AskColumn]) -> Result<OutList, Memory>
+fn row_outputs(
+    alloc: Global,
+    table: &Table,
+    alias: &Txt,
+    fields: &[AskColumn],
+) -> Result<OutList, Memory>
     ensures { IfOk result (λ outs. map out_view outs.items ≡
         record { value = tree.object (tree.pairs_of (column_pairs table.now.columns alias.now fields.now)); name = value_name }
         ∷ key_outputs table.now.columns alias.now table.now.key 0) }
@@ -67,13 +72,23 @@ fn from_table(alloc: Global, table: &Table, alias: Txt) -> Result<From, Memory>
 }
 
 // The rows of a list.
-fn list_rows(alloc: Global, table: &Table, number: u64, fields: &[AskColumn]) -> Result<Select, Memory>
+fn list_rows(
+    alloc: Global,
+    table: &Table,
+    number: u64,
+    fields: &[AskColumn],
+) -> Result<Select, Memory>
     ensures { IfOk result (λ select. select_view select ≡ list_rows table.now.schema table.now.name table.now.columns table.now.key number
         (tree.pairs_of (column_pairs table.now.columns (table_alias number) fields.now)) tree.no_join) }
 {
     let alias = table_alias(alloc, number)?;
     let outs = row_outputs(alloc, table, &alias, fields)?;
-    let order = key_orders(alloc, table.columns.as_slice(), &alias, table.key.as_slice())?;
+    let order = key_orders(
+        alloc,
+        table.columns.as_slice(),
+        &alias,
+        table.key.as_slice(),
+    )?;
     let from = from_table(alloc, table, alias)?;
     Ok(ordered_rows(alloc, outs, from, order))
 }
@@ -105,21 +120,39 @@ fn array_output(alloc: Global, alias: &Txt, order: OrderList) -> Result<Out, Mem
 }
 
 // A list: the array of its rows' objects, in the order of their keys.
-fn list_select(alloc: Global, table: &Table, number: u64, fields: &[AskColumn]) -> Result<Select, Memory>
+fn list_select(
+    alloc: Global,
+    table: &Table,
+    number: u64,
+    fields: &[AskColumn],
+) -> Result<Select, Memory>
     ensures { IfOk result (λ select. select_view select ≡ list_of_rows table.now.schema table.now.name table.now.columns table.now.key number
         (tree.pairs_of (column_pairs table.now.columns (table_alias number) fields.now)) tree.no_join) }
 {
     let alias = fold_alias(alloc, number)?;
-    let order = output_orders(alloc, table.columns.as_slice(), &alias, table.key.as_slice())?;
+    let order = output_orders(
+        alloc,
+        table.columns.as_slice(),
+        &alias,
+        table.key.as_slice(),
+    )?;
     let out = array_output(alloc, &alias, order)?;
     let rows = Box::new(alloc, list_rows(alloc, table, number, fields)?)?;
     Ok(Select::Fold { out, rows, alias })
 }
 
 /// The join of a list of columns, and the value that it gives.
-pub(crate) fn list_join(alloc: Global, table: &Table, number: u64, fields: &[AskColumn]) -> Result<Join, Memory>
-    ensures { IfOk result (λ join. join_view join ≡ record { select = list_of_rows table.now.schema table.now.name table.now.columns table.now.key number
-        (tree.pairs_of (column_pairs table.now.columns (table_alias number) fields.now)) tree.no_join; alias = join_alias number }) }
+pub(crate) fn list_join(
+    alloc: Global,
+    table: &Table,
+    number: u64,
+    fields: &[AskColumn],
+) -> Result<Join, Memory>
+    ensures { IfOk result (λ join. join_view join ≡ record {
+      select = list_of_rows table.now.schema table.now.name table.now.columns table.now.key number
+          (tree.pairs_of (column_pairs table.now.columns (table_alias number) fields.now)) tree.no_join;
+      alias = join_alias number;
+    }) }
 {
     let select = Box::new(alloc, list_select(alloc, table, number, fields)?)?;
     let alias = join_alias(alloc, number)?;

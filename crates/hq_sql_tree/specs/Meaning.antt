@@ -131,7 +131,7 @@ abbrev mutual
   pub rows_of : SelectTree → World → Scope → List NamedRow
   rows_of (rows distinct outs from joins condition keys limit offset) world scope =
       map (outputs outs []) (limited limit (offset_by offset (distinct_on distinct (sort (order_cmp keys)
-        (kept_items (kept condition world) (flat_map (joined joins world) (scopes_of from world scope)))))))
+      (kept_items (kept condition world) (flat_map (joined joins world) (scopes_of from world scope)))))))
   rows_of (fold out from alias) world scope =
       ((out.name, value out.value (map (with_alias scope alias) (rows_of from world scope)) scope) ∷ []) ∷ []
 

@@ -14,14 +14,14 @@ pub returns-clause-tree : goal.returns-clause-tree
 returns-clause-tree c =
     let tables = c.args.catalog.now.tables in
     let of : IsOf (table (schema_of tables (meta_view c.args.meta.now)) c.args.ask.now.table) c.index-as_slice-at.result =
-        catalog_table (meta_view c.args.meta.now) 0 tables c.args.ask.now.table c.index-as_slice-at.result c.requires (cc) in
+    catalog_table (meta_view c.args.meta.now) 0 tables c.args.ask.now.table c.index-as_slice-at.result c.requires (cc) in
     IfOk-weaker c.list_statement.result _ _ (λ select e. e ∙ catalog_statement c.args.ask.now tables (meta_view c.args.meta.now) c.index-as_slice-at.result of) c.list_statement.ensures
 
 pub returns-clause-means : goal.returns-clause-means
 returns-clause-means c =
     let tables = c.args.catalog.now.tables in
     let of : IsOf (table (schema_of tables (meta_view c.args.meta.now)) c.args.ask.now.table) c.index-as_slice-at.result =
-        catalog_table (meta_view c.args.meta.now) 0 tables c.args.ask.now.table c.index-as_slice-at.result c.requires (cc) in
+    catalog_table (meta_view c.args.meta.now) 0 tables c.args.ask.now.table c.index-as_slice-at.result c.requires (cc) in
     let few : length c.index-as_slice-at.result.key ≤ 2 ^ 64 = omega arith in
     anyway c.list_statement.result _ (λ g d database plain.
-        list_resolved c.args.ask.now tables (meta_view c.args.meta.now) g d c.index-as_slice-at.result of few c.args.catalog.now.valid database plain)
+    list_resolved c.args.ask.now tables (meta_view c.args.meta.now) g d c.index-as_slice-at.result of few c.args.catalog.now.valid database plain)
