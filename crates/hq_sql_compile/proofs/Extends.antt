@@ -1,8 +1,8 @@
 -- Joins that give each row of their left side one row, and change their own aliases alone.
-use Rattle.std.proofs.Common.{◌≡◌, ℕ, ◌+◌, ◌<◌, ◌≤◌, List, [], ◌∷◌, map, flat_map, false, bytes_eq, refl, sym, ap, ◌∙◌, arith, append-nil}
+use Rattle.std.proofs.Common.{◌≡◌, ℕ, ◌+◌, ◌<◌, ◌≤◌, List, [], ◌∷◌, map, flat_map, false, bytes_eq, refl, ap, ◌∙◌, arith, append-nil}
 use Rattle.hq_terms.specs.Database.{Row}
 use Rattle.hq_terms.specs.Schema.{Schema}
-use Rattle.hq_sql_tree.specs.Tree.{SelectTree, JoinTrees, no_join, join}
+use Rattle.hq_sql_tree.specs.Tree.{SelectTree, JoinTrees, join}
 use Rattle.hq_sql_tree.specs.Meaning.{NamedRow, Scope, with_alias, World, or_null_row, rows_of, joined}
 use Rattle.hq_sql_compile.specs.Compiled.{table_alias, join_alias}
 use Rattle.hq_sql_compile.proofs.Names.{Shows, with_alias_other, join_is_no_table}

@@ -1,15 +1,14 @@
 -- The select of a list means the array of its fields over the table's rows in key order.
-use Rattle.std.proofs.Common.{◌≡◌, ℕ, ◌+◌, ◌<◌, ◌≤◌, ◌^◌, List, [], ◌∷◌, length, map, filter, flat_map, true, false, None, refl, sym, ap, ◌∙◌, arith, Ordering}
-use Rattle.std.specs.Prelude.{bytes_eq}
-use Rattle.hq_base.specs.Json.{JsonTree, arr, obj, elements_of, MemberTrees}
-use Rattle.hq_base.specs.Cells.{CellTree, json, json_of}
+use Rattle.std.proofs.Common.{◌≡◌, ℕ, ◌+◌, ◌<◌, ◌≤◌, ◌^◌, List, [], ◌∷◌, length, map, filter, flat_map, false, refl, ap, ◌∙◌, arith}
+use Rattle.hq_base.specs.Json.{arr, obj, elements_of, MemberTrees}
+use Rattle.hq_base.specs.Cells.{json, json_of}
 use Rattle.hq_base.specs.Lists.{sort}
 use Rattle.hq_terms.specs.Database.{Row}
 use Rattle.hq_terms.specs.Permitted.{columns_cmp, by_key}
 use Rattle.hq_terms.specs.Schema.{Schema, table}
 use Rattle.hq_terms.specs.Seen.{row_cell, table_rows}
 use Rattle.hq_terms.specs.declared.table.Table.{Table}
-use Rattle.hq_sql_tree.specs.Tree.{PairTrees, column, object, OutTree, JoinTrees, no_join, no_filter, rows, table as from_table, orders_of}
+use Rattle.hq_sql_tree.specs.Tree.{PairTrees, column, object, OutTree, JoinTrees, no_join, no_filter, orders_of}
 use Rattle.hq_sql_tree.specs.Meaning.{NamedRow, cell_named, Scope, with_alias, World, named_row, value, members, orders_cmp, order_cmp, outputs, rows_of, joined, kept, rows_named}
 use Rattle.hq_sql_compile.specs.Compiled.{table_alias, fold_alias, value_name, key_name, key_orders, key_outputs, output_orders, list_rows, list_select}
 use Rattle.hq_sql_compile.proofs.Lists.{Each, each_sort, map_on, flat_map_on, sort_map_on, map_map, flat_map_map, filter_all}

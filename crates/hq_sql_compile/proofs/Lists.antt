@@ -1,5 +1,5 @@
 -- Maps, filters and stable sorts of lists whose elements have a property.
-use Rattle.std.proofs.Common.{◌≡◌, ℕ, List, [], ◌∷◌, ◌++◌, map, filter, flat_map, Bool, true, false, cond, refl, ap, ◌∙◌, is_gt, Ordering, Equal}
+use Rattle.std.proofs.Common.{◌≡◌, List, [], ◌∷◌, ◌++◌, map, filter, flat_map, Bool, true, false, cond, refl, ap, is_gt, Ordering, Equal}
 use Rattle.hq_base.specs.Lists.{put, sort}
 
 -- P holds of each element

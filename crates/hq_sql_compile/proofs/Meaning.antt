@@ -1,30 +1,29 @@
 -- The main theorem of the compiler: the statement means what nested resolvers give. One lemma for each kind of field.
-use Rattle.std.proofs.Common.{◌≡◌, ℕ, zero, suc, ◌+◌, ◌<◌, ◌≤◌, ◌^◌, List, [], ◌∷◌, ◌++◌, length, map, filter, Bool, true, false, cond, Option, None, refl, sym, ap, ap₂, ◌∙◌, arith, append-nil}
+use Rattle.std.proofs.Common.{◌≡◌, ℕ, ◌+◌, ◌<◌, ◌≤◌, ◌^◌, List, [], ◌∷◌, ◌++◌, length, map, filter, Bool, true, false, cond, refl, sym, ap, ap₂, ◌∙◌, arith}
 use Rattle.std.specs.Prelude.{slice_index_or, codes, bytes_eq}
-use Rattle.hq_base.specs.Json.{JsonTree, arr, obj, elements_of, MemberTrees, no_member, member}
-use Rattle.hq_base.specs.Cells.{CellTree, null, json, json_of, bool}
+use Rattle.hq_base.specs.Json.{JsonTree, arr, obj, elements_of, MemberTrees, member}
+use Rattle.hq_base.specs.Cells.{null, json, json_of, bool}
 use Rattle.hq_base.specs.Lists.{sort}
 use Rattle.hq_terms.specs.Bexp.{always}
 use Rattle.hq_terms.specs.Database.{Row}
 use Rattle.hq_terms.specs.Grants.{Grants, grant, limits}
 use Rattle.hq_terms.specs.Meta.{MetaTree}
-use Rattle.hq_terms.specs.Permission.{Permission, Mask}
-use Rattle.hq_terms.specs.Permitted.{by_key, columns_cmp, permitted, shown, shown_under, seen_by, mask_of}
+use Rattle.hq_terms.specs.Permitted.{by_key, permitted, shown, seen_by, mask_of}
 use Rattle.hq_terms.specs.Schema.{Schema, schema_of, table, no_table}
-use Rattle.hq_terms.specs.Seen.{all_of, row_cell, table_rows}
-use Rattle.hq_terms.specs.Selected.{selected, sorts_cmp, limited, smaller}
+use Rattle.hq_terms.specs.Seen.{all_of, row_cell}
+use Rattle.hq_terms.specs.Selected.{selected, sorts_cmp}
 use Rattle.hq_terms.specs.Truth.{keeps}
 use Rattle.hq_terms.specs.declared.table.Table.{Table}
 use Rattle.hq_ask_tree.specs.Request.{FieldTrees, no_field, field, FieldTree, column as column_field, list}
-use Rattle.hq_ask_tree.specs.Resolve.{no_arguments, resolve_all, resolve, resolved}
-use Rattle.hq_sql_tree.specs.Tree.{object, no_join, no_filter, JoinTrees}
-use Rattle.hq_sql_tree.specs.Meaning.{NamedRow, cell_named, Scope, nothing, with_alias, World, value, members, joined, or_null_row, first_value, order_cmp, outputs, kept, meaning}
-use Rattle.hq_sql_compile.specs.Compiled.{name_of, table_alias, join_alias, value_name, numbers_all, numbers, field_value, values_of, joins_of, field_joins, statement}
+use Rattle.hq_ask_tree.specs.Resolve.{no_arguments, resolve_all, resolve}
+use Rattle.hq_sql_tree.specs.Tree.{object, no_join, no_filter}
+use Rattle.hq_sql_tree.specs.Meaning.{NamedRow, cell_named, Scope, nothing, with_alias, World, value, members, or_null_row, first_value, order_cmp, outputs, kept}
+use Rattle.hq_sql_compile.specs.Compiled.{name_of, table_alias, join_alias, value_name, numbers_all, numbers, field_value, values_of, joins_of, field_joins}
 use Rattle.hq_sql_compile.specs.Correct.{IsPlain, ArePlain, IsPlainField, MeansResolved}
 use Rattle.hq_sql_compile.proofs.Lists.{filter_all, sort_equal}
-use Rattle.hq_sql_compile.proofs.Names.{Shows, Narrow, shows_bound, same_text, with_alias_same, with_alias_other, join_aliases_differ, join_is_no_table}
+use Rattle.hq_sql_compile.proofs.Names.{Shows, shows_bound, same_text, with_alias_same, with_alias_other, join_aliases_differ, join_is_no_table}
 use Rattle.hq_sql_compile.proofs.Sound.{Sound, sound_of}
-use Rattle.hq_sql_compile.proofs.Extends.{Extends, extends_none, extends_one, extends_then, shows_kept}
+use Rattle.hq_sql_compile.proofs.Extends.{Extends, extends_none, extends_one, extends_then}
 use Rattle.hq_sql_compile.proofs.ListMeans.{list_means}
 
 -- the rows and cells of a plain permission: all rows in key order, with their own cells

@@ -6,8 +6,6 @@ use Rattle.std.proofs.lemmas.Fmt.{decimal_injective, decimal_digit, decimal-digi
 use Rattle.std.proofs.lemmas.Bool.{ne_eqb}
 use Rattle.hq_base.specs.Text.{has_zero}
 use Rattle.std.specs.Int.Digits.{digits_of}
-use Rattle.hq_base.specs.declared.value.Val.{Val}
-use Rattle.hq_base.specs.declared.value.Val.TheVariants as val
 use Rattle.hq_terms.specs.Database.{Row}
 use Rattle.hq_terms.specs.Schema.{Schema, table, column, no_column}
 use Rattle.hq_terms.specs.Seen.{row_cell}

@@ -1,5 +1,5 @@
 -- The orders of cells and of rows are total.
-use Rattle.std.proofs.Common.{◌≡◌, ℕ, List, [], ◌∷◌, Bool, true, false, refl, Equal}
+use Rattle.std.proofs.Common.{ℕ, List, [], ◌∷◌, Bool, true, false, refl, Equal}
 use Rattle.std.proofs.lemmas.Cmp.{on_total, then_total, back_total, nat_cmp_total, int_cmp_total, nat_list_cmp_total}
 use Rattle.std.specs.Cmp.{IsTotalOrder}
 use Rattle.std.specs.Ordering.{bool_cmp}

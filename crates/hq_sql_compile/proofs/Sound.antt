@@ -1,17 +1,17 @@
 -- What a catalog and a database of it give: a table's rows stand under its name, and each column's cell under its own.
-use Rattle.std.proofs.Common.{◌≡◌, ℕ, zero, suc, ◌<◌, ◌≤◌, List, [], ◌∷◌, ◌++◌, length, map, Bool, true, false, cond, not, ◌&&◌, ◌||◌, bytes_eq, refl, sym, ap, ap₂, subst, ◌∙◌, arith}
+use Rattle.std.proofs.Common.{◌≡◌, ℕ, zero, suc, ◌<◌, ◌≤◌, List, [], ◌∷◌, ◌++◌, length, map, Bool, true, false, not, ◌&&◌, ◌||◌, bytes_eq, refl, sym, ap, ap₂, subst, ◌∙◌, arith}
 use Rattle.std.specs.Prelude.{slice_index_or, nat_lt, nat_le, codes}
 use Rattle.std.specs.List.{list_all, list_any}
 use Rattle.std.proofs.lemmas.Bool.{ltb-true}
 use Rattle.hq_base.specs.Lists.{all_differ}
-use Rattle.hq_terms.specs.Catalog.{is_catalog, is_table, is_catalog_name, full_name, holds_no_null, is_foreign_key}
-use Rattle.hq_terms.specs.Database.{Row, row_fits, value_fits, are_rows, is_database, key_of, same_values}
+use Rattle.hq_terms.specs.Catalog.{is_catalog, is_table, is_catalog_name, full_name}
+use Rattle.hq_terms.specs.Database.{Row, row_fits, value_fits, are_rows, is_database}
 use Rattle.hq_terms.specs.Meta.{MetaTree}
 use Rattle.hq_terms.specs.Schema.{Schema, SchemaTable, schema_of, schema_table, numbered, table, no_table, no_column}
 use Rattle.hq_terms.specs.Seen.{table_rows}
 use Rattle.hq_terms.specs.declared.table.Column.{Column}
 use Rattle.hq_terms.specs.declared.table.Table.{Table}
-use Rattle.hq_sql_tree.specs.Meaning.{named_row, rows_named, first_rows, other_rows}
+use Rattle.hq_sql_tree.specs.Meaning.{named_row, rows_named}
 use Rattle.hq_sql_compile.proofs.Lists.{Each}
 use Rattle.hq_sql_compile.proofs.Names.{same_text, other_text, equal_text, Differ, Narrow}
 

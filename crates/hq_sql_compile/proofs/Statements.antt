@@ -1,5 +1,5 @@
 -- The statement of one list of columns, and what it means.
-use Rattle.std.proofs.Common.{◌≡◌, ℕ, ◌+◌, ◌<◌, ◌≤◌, ◌^◌, List, [], ◌∷◌, length, true, false, None, refl, sym, ap, ap₂, subst, ◌∙◌, arith}
+use Rattle.std.proofs.Common.{◌≡◌, ℕ, ◌+◌, ◌≤◌, ◌^◌, List, [], ◌∷◌, length, true, false, None, refl, sym, ap, ap₂, subst, ◌∙◌, arith}
 use Rattle.hq_terms.specs.Catalog.{is_catalog}
 use Rattle.hq_terms.specs.Database.{Row, is_database}
 use Rattle.hq_terms.specs.Grants.{Grants, grant}
@@ -10,11 +10,11 @@ use Rattle.hq_ask_tree.specs.declared.ask.Ask.{Ask}
 use Rattle.hq_ask_tree.specs.declared.ask.AskColumn.{AskColumn}
 use Rattle.hq_ask_tree.specs.Request.{columns_of, ask_view}
 use Rattle.hq_ask_tree.specs.Resolve.{resolved}
-use Rattle.hq_sql_tree.specs.Tree.{PairTrees, pair, pairs_of, object, column, SelectTree, rows, one, JoinTrees, no_join, join, no_filter, no_pair}
+use Rattle.hq_sql_tree.specs.Tree.{pair, pairs_of, object, column, rows, one, JoinTrees, no_join, join, no_filter, no_pair}
 use Rattle.hq_sql_tree.specs.Meaning.{meaning}
 use Rattle.hq_sql_compile.specs.Compiled.{column_at, column_pairs, table_alias, join_alias, value_name, numbers_all, values_of, joins_of, list_of_rows, list_statement, statement}
 use Rattle.hq_sql_compile.specs.Correct.{IsPlain, ArePlain}
-use Rattle.hq_sql_compile.proofs.Sound.{IsOf, catalog_table}
+use Rattle.hq_sql_compile.proofs.Sound.{IsOf}
 use Rattle.hq_sql_compile.proofs.Meaning.{means_resolved}
 
 columns_values : (cs : List AskColumn) (s : Schema) (t : ℕ) (alias : List ℕ) (n : ℕ) → values_of (columns_of cs) s t alias n ≡ pairs_of (column_pairs (table s t).columns alias cs)

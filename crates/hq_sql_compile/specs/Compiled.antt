@@ -1,7 +1,7 @@
 -- The statement that is asked for a typed request, as a function of the request and the schema alone: aliases and all.
 -- Each table field has a number, from 1 on, and its aliases: `t` and the number for its table's rows, `s` for the rows
 -- that an aggregate folds, and `j` for its join.
-use Rattle.std.specs.Prelude.{ℕ, ◌+◌, List, [], ◌∷◌, length, Bool, true, false, None, decimal, codes, slice_index_or}
+use Rattle.std.specs.Prelude.{ℕ, ◌+◌, List, [], ◌∷◌, length, Bool, false, None, decimal, codes, slice_index_or}
 use Rattle.hq_terms.specs.Database.{is_text}
 use Rattle.hq_terms.specs.Schema.{Schema, table, no_column}
 use Rattle.hq_terms.specs.declared.table.Column.{Column}

@@ -1,5 +1,5 @@
 -- What it means that the compiled statement is right.
-use Rattle.std.specs.Prelude.{◌≡◌, ℕ, ◌+◌, ◌≤◌, ◌^◌, List, [], length, true, Option, None}
+use Rattle.std.specs.Prelude.{◌≡◌, ◌+◌, ◌≤◌, ◌^◌, List, [], length, true, None}
 use Rattle.hq_terms.specs.Bexp.{always}
 use Rattle.hq_terms.specs.Catalog.{is_catalog}
 use Rattle.hq_terms.specs.Database.{Row, is_database}

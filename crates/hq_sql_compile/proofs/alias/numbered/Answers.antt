@@ -1,4 +1,4 @@
-use Rattle.std.proofs.Common.{rules, ◌≡◌, false, ap, ◌∙◌, decimal, arith, ◌<◌, ◌^◌}
+use Rattle.std.proofs.Common.{rules, ◌≡◌, ap, ◌∙◌, decimal, arith, ◌<◌, ◌^◌}
 use Rattle.hq_base.specs.Text.{has_zero}
 use Rattle.hq_sql_compile.proofs.Names.{no_zero_in_decimal}
 use Rattle.hq_sql_compile.proofs.alias.numbered.Goals as goal

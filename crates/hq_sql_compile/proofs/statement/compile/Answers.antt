@@ -1,4 +1,4 @@
-use Rattle.std.proofs.Common.{◌≡◌, ◌∙◌, ℕ, ◌≤◌, ◌^◌, List, length, OnOk, Result, Ok, Err, arith}
+use Rattle.std.proofs.Common.{◌∙◌, ◌≤◌, ◌^◌, length, OnOk, Result, Ok, Err, arith}
 use Rattle.std.proofs.lemmas.Result.{IfOk-weaker}
 use Rattle.hq_terms.specs.Meta.{meta_view}
 use Rattle.hq_terms.specs.Schema.{schema_of, table}
