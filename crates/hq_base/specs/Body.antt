@@ -43,8 +43,8 @@ abbrev mutual
   members_in no_members = Ok []
   members_in (member k d ms) = and_then (λ name. and_then (λ j. mapped (λ js. (name, j) ∷ js) (members_in ms)) (value_of d)) (clean k)
 
--- the value of the bytes that serde_json reads: of a name that stands twice it keeps the last value, and it holds
--- the members in ascending order of their names' bytes
+-- the value of what serde_json reads, which is nested at most 127 deep: of a name that stands twice it keeps the last
+-- value, and it holds the members in ascending order of their names' bytes
 abbrev pub value_if : Option Data → Result JsonTree JsonRefusal
 value_if None = Err NotJson
 value_if (Some d) = value_of d

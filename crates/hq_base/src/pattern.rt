@@ -155,6 +155,7 @@ enum Reach<'s, 't> {
     UpToAny(&'s [Step], &'t str),
 }
 
+// How far the text goes with the steps.
 fn front<'s, 't>(fold: bool, mut steps: &'s [Step], mut text: &'t str) -> Reach<'s, 't>
     ensures { reach result ≡ front fold steps.entry.now (chars text.entry.now) }
 {
