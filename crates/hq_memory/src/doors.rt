@@ -1,4 +1,4 @@
-ghost use Rattle.std.specs.Prelude.{◌≡◌, ◌↔◌, [], Some, None, OnOk, OnErr, IsErr, is_err, IfSome, option_copied, slice_get};
+ghost use Rattle.std.specs.Prelude.{◌≡◌, ◌↔◌, Some, None, OnOk, OnErr, IsErr, is_err, IfSome, option_copied, slice_get};
 ghost use Rattle.hq_outside.specs.Causes.{HasCause, one_more};
 ghost use Rattle.hq_outside.specs.Links.{IsNext};
 ghost use Rattle.hq_memory.specs.Calls.{calls_from, IsToFail, after};
