@@ -1,4 +1,4 @@
-ghost use Rattle.std.specs.Prelude.{◌≡◌, ◌↔◌, [], Some, None, OnOk, OnErr, IsErr, is_err, IfSome, option_copied, slice_get};
+ghost use Rattle.std.specs.Prelude.{◌≡◌, ◌↔◌, Some, None, OnOk, OnErr, IsErr, is_err, IfSome, option_copied, slice_get};
 ghost use Rattle.hq_outside.specs.Causes.{HasCause, one_more};
 ghost use Rattle.hq_outside.specs.Links.{IsNext};
 ghost use Rattle.hq_memory.specs.Calls.{calls_from, IsToFail, after};
@@ -100,12 +100,13 @@ impl Door for MemDoor {
         self.row.link()
     }
 
-    ghost use Rattle.hq_memory.specs.LinkRow.{with_link_present_in, with_link_links_in};
-    ghost use Rattle.std.specs.Prelude.{◌==◌, ◌-◌, refl};
+    ghost use Rattle.hq_memory.specs.Lending.{present_in-with_link_in, links_in-with_link_in};
+    ghost use Rattle.std.specs.Prelude.{refl};
+    ghost use Rattle.std.proofs.Common.{ap};
 
-    ghost with_link_present = { λ d l p. with_link_present_in (d.row.accepted == 0) d.row.present l p };
+    ghost with_link_present = { λ d l p. present_in-with_link_in d.row l p };
 
-    ghost with_link_links = { λ d l p. with_link_links_in (d.row.accepted == 0) d.row.places.items (d.row.accepted - 1) d.row.present l p };
+    ghost with_link_links = { λ d l p. ap Some (links_in-with_link_in d.row l p) };
 
     ghost with_link_accepted = { λ d l. refl };
 
@@ -163,12 +164,13 @@ impl Door for SureDoor {
         self.row.link()
     }
 
-    ghost use Rattle.hq_memory.specs.LinkRow.{with_link_present_in, with_link_links_in};
-    ghost use Rattle.std.specs.Prelude.{◌==◌, ◌-◌, refl};
+    ghost use Rattle.hq_memory.specs.Lending.{present_in-with_link_in, links_in-with_link_in};
+    ghost use Rattle.std.specs.Prelude.{refl};
+    ghost use Rattle.std.proofs.Common.{ap};
 
-    ghost with_link_present = { λ d l p. with_link_present_in (d.row.accepted == 0) d.row.present l p };
+    ghost with_link_present = { λ d l p. present_in-with_link_in d.row l p };
 
-    ghost with_link_links = { λ d l p. with_link_links_in (d.row.accepted == 0) d.row.places.items (d.row.accepted - 1) d.row.present l p };
+    ghost with_link_links = { λ d l p. ap Some (links_in-with_link_in d.row l p) };
 
     ghost with_link_accepted = { λ d l. refl };
 

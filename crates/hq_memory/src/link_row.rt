@@ -1,4 +1,4 @@
-ghost use Rattle.std.specs.Prelude.{◌≡◌, ◌≤◌, ℕ, List as Items, Some, option_copied, unwrap_or, slice_get, slice_set};
+ghost use Rattle.std.specs.Prelude.{◌≡◌, Some, option_copied, unwrap_or, slice_get, slice_set};
 
 use std::mem;
 
@@ -14,7 +14,6 @@ pub struct LinkRow<L> {
 impl<L> LinkRow<L> {
     ghost use Rattle.std.specs.Borrow.{sem, Lends};
     ghost use Rattle.hq_outside.specs.Causes.{one_more};
-    ghost use Rattle.hq_outside.specs.Links.{IsNext};
     ghost use Rattle.hq_memory.specs.LinkRow.{links_in, present_in, with_link_in};
     ghost use Rattle.hq_memory.specs.contracts.link_row.LinkRow.{the_row};
 

@@ -1,7 +1,7 @@
-ghost use Rattle.std.specs.Prelude.{◌≡◌, ◌<◌, ◌≤◌, length, None, Some, IsSome, IfOk};
+ghost use Rattle.std.specs.Prelude.{◌≡◌, ◌<◌, ◌≤◌, length, None, Some, IfOk};
 ghost use Rattle.std.specs.Io.{ReadsAtMost};
 ghost use Rattle.std.specs.Io.KnownBytes.{ReadConsumes, WriteAppends};
-ghost use Rattle.hq_outside.specs.Causes.{HasCause, one_more};
+ghost use Rattle.hq_outside.specs.Causes.{HasCause};
 
 use crate::interrupted;
 use hq_outside::{Door, DoorFailed, Link, ReadFailed, WriteFailed, count_fault};
