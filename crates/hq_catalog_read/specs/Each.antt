@@ -9,5 +9,6 @@ abbrev pub each_from : {A B : Type 0} → (read : (path : List ℕ) → A → Re
 each_from read path place [] = Ok []
 each_from read path place (x ∷ xs) = and_then (λ y. mapped (λ ys. y ∷ ys) (each_from read path (place + 1) xs)) (read (item_path path place) x)
 
+-- the items of the array at a path
 abbrev pub each : {A B : Type 0} → (read : (path : List ℕ) → A → Result B CatalogRefusal) → (path : List ℕ) → List A → Result (List B) CatalogRefusal
 each read path xs = each_from read path 0 xs

@@ -18,6 +18,7 @@ unfoldable pub too_many_columns : List WrittenTable → Option CatalogRefusal
 too_many_columns tables =
     option_map (λ t. TooMany (field_name Columns) (length t.columns)) (find (λ t. nat_lt 200 (length t.columns)) tables)
 
+-- too many tables, or else too many columns of a table
 abbrev pub too_many : List WrittenTable → Option CatalogRefusal
 too_many tables = option_or (too_many_tables tables) (too_many_columns tables)
 

@@ -22,25 +22,29 @@ at path field = member_path path (field_name field)
 abbrev pub value_of : JsonTree → Field → Option JsonTree
 value_of object field = member_in object (field_name field)
 
--- a node that must be an object, and one that must be a text
+-- a node that must be an object
 unfoldable pub object_at : (path : List ℕ) → JsonTree → Result JsonTree CatalogRefusal
 object_at path j = if is_some (object_in j) then Ok j else Err (Shape path)
 
+-- a node that must be a text
 unfoldable pub text_at : (path : List ℕ) → JsonTree → Result (List ℕ) CatalogRefusal
 text_at path j = required path (str_in j)
 
--- members that must be a text, a list, a list of texts, and an object
+-- a member that must be a text
 unfoldable pub text_member : (path : List ℕ) → JsonTree → Field → Result (List ℕ) CatalogRefusal
 text_member path object field = required (at path field) (option_and_then str_in (value_of object field))
 
+-- a member that must be a list
 unfoldable pub list_member : (path : List ℕ) → JsonTree → Field → Result (List JsonTree) CatalogRefusal
 list_member path object field = required (at path field) (option_and_then array_in (value_of object field))
 
+-- a member that must be a list of texts
 unfoldable pub names_member : (path : List ℕ) → JsonTree → Field → Result (List (List ℕ)) CatalogRefusal
 names_member path object field = do
   list ← list_member path object field
   each text_at (at path field) list
 
+-- a member that must be an object
 unfoldable pub object_member : (path : List ℕ) → JsonTree → Field → Result JsonTree CatalogRefusal
 object_member path object field = do
   j ← required (at path field) (value_of object field)

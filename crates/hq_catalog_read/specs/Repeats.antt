@@ -23,12 +23,13 @@ first_repeat earlier (name ∷ names) = option_or (known earlier name) (first_re
 unfoldable pub repeat_within : WrittenTable → Option (List ℕ)
 repeat_within t = option_or (first_repeat [] (map (λ c. c.name) t.columns)) (first_repeat [] t.key)
 
--- from table to table: one whose name an earlier one has, or a repeat within it
+-- from table to table: its name, which an earlier one has, or a repeat within it
 abbrev pub repeat_from : (earlier : List (List ℕ)) → List WrittenTable → Option (List ℕ)
 repeat_from earlier [] = None
 repeat_from earlier (t ∷ ts) =
     option_or (known earlier (full_name t)) (option_or (repeat_within t) (repeat_from (earlier ++ full_name t ∷ []) ts))
 
+-- the first name that stands twice
 unfoldable pub repeated : List WrittenTable → Option CatalogRefusal
 repeated tables = option_map Repeated (repeat_from [] tables)
 

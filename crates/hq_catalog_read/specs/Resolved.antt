@@ -24,11 +24,12 @@ column_named columns path name = required path (position (λ c. bytes_eq c.name 
 unfoldable pub table_named : (tables : List WrittenTable) → (path : List ℕ) → WrittenForeignKey → Result ℕ CatalogRefusal
 table_named tables path key = required path (position (λ t. bytes_eq t.schema key.schema && bytes_eq t.name key.table) tables)
 
--- the columns of the table at this place
+-- the columns of a table, where it is there
 abbrev pub columns_in : Option WrittenTable → List Column
 columns_in None = []
 columns_in (Some t) = t.columns
 
+-- the columns of the table at this place
 abbrev pub columns_at : (tables : List WrittenTable) (place : ℕ) → List Column
 columns_at tables place = columns_in (slice_get tables place)
 
@@ -39,6 +40,7 @@ can_refer own remote columns references =
     && length columns == length references
     && list_all (λ p. can_pair (type_of (slice_get own p.0)) (type_of (slice_get remote p.1))) (zip columns references)
 
+-- the foreign key that is written at a path, of a table with these columns
 unfoldable pub foreign_key_of : (tables : List WrittenTable) (own : List Column) → (path : List ℕ) → WrittenForeignKey → Result ForeignKey CatalogRefusal
 foreign_key_of tables own path key = do
   columns ← each (column_named own) (at path field.Columns) key.columns
@@ -50,11 +52,13 @@ foreign_key_of tables own path key = do
 abbrev pub settled : (key : List (List ℕ)) → Column → Column
 settled key c = record c { nullable = c.nullable && not (list_any (λ name. bytes_eq name c.name) key) }
 
+-- the table that is written at a path
 unfoldable pub table_of : (tables : List WrittenTable) → (path : List ℕ) → WrittenTable → Result Table CatalogRefusal
 table_of tables path t = do
   key ← each (column_named t.columns) (at path field.PrimaryKey) t.key
   foreign ← each (foreign_key_of tables t.columns) (at path field.ForeignKeys) t.foreign
   Ok (record { schema = t.schema; name = t.name; columns = map (settled t.key) t.columns; key = key; foreign = foreign })
 
+-- the tables, or Shape at the first name that names nothing and the first foreign key that does not fit
 unfoldable pub resolved : List WrittenTable → Result (List Table) CatalogRefusal
 resolved tables = each (table_of tables) (at top_path field.Tables) tables

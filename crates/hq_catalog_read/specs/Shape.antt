@@ -16,7 +16,7 @@ use Rattle.hq_catalog_read.specs.declared.written.WrittenTable.{WrittenTable}
 use Rattle.hq_catalog_read.specs.Each.{each}
 use Rattle.hq_catalog_read.specs.Node.{required, at, value_of, object_at, text_member, list_member, names_member, object_member}
 
--- a column's type
+-- the type of this name
 unfoldable pub type_named : (name : List ℕ) → Option Ty
 type_named name =
     if bytes_eq name (codes "integer") then Some Integer
@@ -24,11 +24,12 @@ type_named name =
     else (if bytes_eq name (codes "text") then Some Text
     else (if bytes_eq name (codes "boolean") then Some Boolean else None)))
 
+-- a column's type, which must be one of the four
 unfoldable pub type_member : (path : List ℕ) → JsonTree → Result Ty CatalogRefusal
 type_member path object =
     required (at path ColumnType) (option_and_then type_named (option_and_then str_in (value_of object ColumnType)))
 
--- a column may hold NULL where the file does not say
+-- whether a column may hold NULL: it may where the file does not say
 abbrev pub nullable_in : (path : List ℕ) → Option JsonTree → Result Bool CatalogRefusal
 nullable_in path None = Ok true
 nullable_in path (Some j) = required path (bool_in j)
@@ -36,6 +37,7 @@ nullable_in path (Some j) = required path (bool_in j)
 unfoldable pub nullable_member : (path : List ℕ) → JsonTree → Result Bool CatalogRefusal
 nullable_member path object = nullable_in (at path Nullable) (value_of object Nullable)
 
+-- the column at a path
 unfoldable pub column_at : (path : List ℕ) → JsonTree → Result Column CatalogRefusal
 column_at path j = do
   object ← object_at path j
@@ -44,13 +46,14 @@ column_at path j = do
   nullable ← nullable_member path object
   Ok (record { name = name; ty = ty; nullable = nullable })
 
--- a table has at least one column
+-- the columns of a table, of which there is at least one
 unfoldable pub columns_member : (path : List ℕ) → JsonTree → Result (List Column) CatalogRefusal
 columns_member path object = do
   list ← list_member path object Columns
   columns ← each column_at (at path Columns) list
   if length columns == 0 then Err (Shape (at path Columns)) else Ok columns
 
+-- the foreign key at a path
 unfoldable pub foreign_key_at : (path : List ℕ) → JsonTree → Result WrittenForeignKey CatalogRefusal
 foreign_key_at path j = do
   object ← object_at path j
@@ -61,7 +64,7 @@ foreign_key_at path j = do
   references ← names_member path object References
   Ok (record { columns = columns; schema = schema; table = name; references = references })
 
--- a table has no foreign keys where the file does not say
+-- the foreign keys of a table: it has none where the file does not say
 abbrev pub foreign_keys_in : (path : List ℕ) → Option JsonTree → Result (List WrittenForeignKey) CatalogRefusal
 foreign_keys_in path None = Ok []
 foreign_keys_in path (Some j) = required path (array_in j) >>= each foreign_key_at path
@@ -69,6 +72,7 @@ foreign_keys_in path (Some j) = required path (array_in j) >>= each foreign_key_
 unfoldable pub foreign_keys_member : (path : List ℕ) → JsonTree → Result (List WrittenForeignKey) CatalogRefusal
 foreign_keys_member path object = foreign_keys_in (at path ForeignKeys) (value_of object ForeignKeys)
 
+-- the table at a path
 unfoldable pub table_at : (path : List ℕ) → JsonTree → Result WrittenTable CatalogRefusal
 table_at path j = do
   object ← object_at path j

@@ -35,6 +35,7 @@ fn too_many(alloc: Global, what: Field, count: usize) -> CatalogRefusal
     }
 }
 
+// Refuses more than 500 tables.
 #[tactic(auto, unfolding(crate::specs::Limits::too_many_tables))]
 fn check_table_count(alloc: Global, tables: &[WrittenTable]) -> Result<(), CatalogRefusal>
     ensures { Gives (λ done. done) CatalogRefusal.Memory (passed (too_many_tables tables.now)) result }
@@ -54,6 +55,7 @@ fn first_wide(tables: &[WrittenTable]) -> Option<&WrittenTable>
         .find(|table| table.columns.len() > MAX_COLUMNS)
 }
 
+// Refuses more than 200 columns of a table.
 #[tactic(auto, unfolding(crate::specs::Limits::too_many_columns))]
 fn check_column_counts(alloc: Global, tables: &[WrittenTable]) -> Result<(), CatalogRefusal>
     ensures { Gives (λ done. done) CatalogRefusal.Memory (passed (too_many_columns tables.now)) result }

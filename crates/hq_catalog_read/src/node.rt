@@ -11,7 +11,7 @@ use crate::written::NameList;
 use hq_base::{Json, List, Txt, item_path, member_path};
 use std::alloc::Global;
 
-// The refusal of the node at this path.
+/// The refusal of the node at this path.
 pub fn misshaped(alloc: Global, path: &Txt) -> CatalogRefusal
     ensures { (result ≡ CatalogRefusal.Memory) ⊎ (result ≡ CatalogRefusal.Shape path.now) }
 {
@@ -21,7 +21,7 @@ pub fn misshaped(alloc: Global, path: &Txt) -> CatalogRefusal
     }
 }
 
-// The refusal of a member of the object at this path.
+/// The refusal of a member of the object at this path.
 pub fn misshaped_member(alloc: Global, path: &Txt, field: Field) -> CatalogRefusal
     ensures { (result ≡ CatalogRefusal.Memory) ⊎ (result ≡ CatalogRefusal.Shape (at path.now field)) }
 {
@@ -31,7 +31,7 @@ pub fn misshaped_member(alloc: Global, path: &Txt, field: Field) -> CatalogRefus
     }
 }
 
-// A node that must be an object.
+/// A node that must be an object.
 #[tactic(auto, unfolding(crate::specs::Node::object_at))]
 pub fn object_at<'a>(alloc: Global, path: &Txt, json: &'a Json) -> Result<&'a Json, CatalogRefusal>
     ensures { Gives (λ j. json_view j.now) CatalogRefusal.Memory (object_at path.now (json_view json.now)) result }
@@ -53,7 +53,7 @@ fn text_at(alloc: Global, path: &Txt, json: &Json) -> Result<Txt, CatalogRefusal
     }
 }
 
-// The text of a member, where it is one.
+/// The text of a member, where it is one.
 pub fn text_in(object: &Json, field: Field) -> Option<&Txt>
     ensures { option_copied result ≡ option_and_then str_in (value_of (json_view object.now) field) }
 {
@@ -63,7 +63,7 @@ pub fn text_in(object: &Json, field: Field) -> Option<&Txt>
     }
 }
 
-// A member that must be a text.
+/// A member that must be a text.
 #[tactic(auto, unfolding(crate::specs::Node::text_member))]
 pub fn text_member(
     alloc: Global,
@@ -89,7 +89,7 @@ fn list_in(object: &Json, field: Field) -> Option<&[Json]>
     }
 }
 
-// A member that must be a list.
+/// A member that must be a list.
 #[tactic(auto, unfolding(crate::specs::Node::list_member))]
 pub fn list_member<'a>(
     alloc: Global,
@@ -105,7 +105,7 @@ pub fn list_member<'a>(
     }
 }
 
-// The texts of a list.
+// The texts of the list at a path.
 fn texts(alloc: Global, path: &Txt, list: &[Json]) -> Result<NameList, CatalogRefusal>
     ensures { Gives (λ texts. texts) CatalogRefusal.Memory (each text_at path.now (map json_view list.now)) result }
 {
@@ -117,7 +117,7 @@ fn texts(alloc: Global, path: &Txt, list: &[Json]) -> Result<NameList, CatalogRe
     Ok(texts)
 }
 
-// A member that must be a list of texts.
+/// A member that must be a list of texts.
 #[tactic(auto, unfolding(crate::specs::Node::names_member))]
 pub fn names_member(
     alloc: Global,
@@ -131,7 +131,7 @@ pub fn names_member(
     texts(alloc, &member_path(alloc, path, field.name())?, list)
 }
 
-// A member that must be an object.
+/// A member that must be an object.
 #[tactic(auto, unfolding(crate::specs::Node::object_member))]
 pub fn object_member<'a>(
     alloc: Global,

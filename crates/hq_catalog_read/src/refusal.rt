@@ -15,16 +15,17 @@ pub enum CatalogRefusal {
     /// what is not there, or a foreign key's columns cannot be compared with those that they refer to.
     #[error("a part of the catalog has not its form")]
     Shape { path: Txt },
-    /// Two tables have one name, or a table has two columns of one name, or a key names a column twice.
+    /// Two tables have one name when schema and name are joined by a point, or a table has two columns of one name, or
+    /// a primary key names a column twice. The name is that of the table, so joined, or of the column.
     #[error("a name is repeated")]
     Repeated { name: Txt },
-    /// A table has no column in its key.
+    /// A table's primary key has no column. The table is told by schema and name, joined by a point.
     #[error("a table has no key")]
     NoKey { table: Txt },
     /// A schema's, table's or column's name has no byte, or more than 63.
     #[error("a name has not 1 to 63 bytes")]
     NameLength { name: Txt },
-    /// There are more than 500 tables, or more than 200 columns in a table.
+    /// There are more than 500 tables, or more than 200 columns in a table: `tables` or `columns`, and how many.
     #[error("too many tables or columns")]
     TooMany { what: Txt, count: u64 },
     #[error("out of memory")]

@@ -22,7 +22,7 @@ fn column_place(columns: &[Column], name: &Txt) -> Option<usize>
     columns.iter().position(|column| column.name == *name)
 }
 
-// The column of this name, which stands at a path.
+// The column of the name that stands at a path.
 #[tactic(auto, unfolding(crate::specs::Resolved::column_named))]
 fn column_named(
     alloc: Global,
@@ -38,7 +38,7 @@ fn column_named(
     }
 }
 
-// The columns of these names, which stand in the list at a path.
+// The columns of the names in the list at a path.
 fn columns_named(
     alloc: Global,
     columns: &[Column],
@@ -131,7 +131,7 @@ fn can_refer(own: &[Column], remote: &[Column], columns: &[ColId], references: &
         && all_pair(own, remote, columns, references)
 }
 
-// A foreign key of a table with these columns.
+// The foreign key that is written at a path, of a table with these columns.
 #[tactic(auto, unfolding(crate::specs::Resolved::foreign_key_of))]
 fn foreign_key_of(
     alloc: Global,
@@ -169,7 +169,7 @@ fn foreign_key_of(
     })
 }
 
-// The foreign keys of a table with these columns.
+// The foreign keys of the list at a path, of a table with these columns.
 fn foreign_keys_of(
     alloc: Global,
     tables: &[WrittenTable],
@@ -209,6 +209,7 @@ fn settled(alloc: Global, key: &[Txt], columns: &[Column]) -> Result<ColumnList,
     Ok(copy)
 }
 
+// The table that is written at a path; its foreign keys refer to any of `tables`.
 #[tactic(auto, unfolding(crate::specs::Resolved::table_of))]
 fn table_of(
     alloc: Global,

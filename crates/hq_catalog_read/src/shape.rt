@@ -16,7 +16,7 @@ use hq_base::{Json, List, Txt, Ty, item_path, member_path, top_path};
 use hq_terms::{Column, ColumnList};
 use std::alloc::Global;
 
-// A column's type.
+// The type of this name.
 #[tactic(auto, unfolding(crate::specs::Shape::type_named))]
 fn type_named(name: &str) -> Option<Ty>
     ensures { result ≡ type_named name.now }
@@ -30,7 +30,7 @@ fn type_named(name: &str) -> Option<Ty>
     }
 }
 
-// The type of a column.
+// The type of a column, where the file has one of the four.
 fn type_in(object: &Json) -> Option<Ty>
     ensures { result ≡ option_and_then type_named (option_and_then str_in (value_of (json_view object.now) Field.ColumnType)) }
 {
@@ -40,6 +40,7 @@ fn type_in(object: &Json) -> Option<Ty>
     }
 }
 
+// The type of a column, which must be one of the four.
 #[tactic(auto, unfolding(crate::specs::Shape::type_member))]
 fn type_member(alloc: Global, path: &Txt, object: &Json) -> Result<Ty, CatalogRefusal>
     ensures { Gives (λ ty. ty) CatalogRefusal.Memory (type_member path.now (json_view object.now)) result }
@@ -64,6 +65,7 @@ fn nullable_member(alloc: Global, path: &Txt, object: &Json) -> Result<bool, Cat
     }
 }
 
+// The column at a path.
 #[tactic(auto, unfolding(crate::specs::Shape::column_at))]
 fn column_at(alloc: Global, path: &Txt, json: &Json) -> Result<Column, CatalogRefusal>
     ensures { Gives (λ column. column) CatalogRefusal.Memory (column_at path.now (json_view json.now)) result }
@@ -75,7 +77,7 @@ fn column_at(alloc: Global, path: &Txt, json: &Json) -> Result<Column, CatalogRe
     Ok(Column { name, ty, nullable })
 }
 
-// The columns of a list.
+// The columns of the list at a path.
 fn columns(alloc: Global, path: &Txt, list: &[Json]) -> Result<ColumnList, CatalogRefusal>
     ensures { Gives (λ columns. columns) CatalogRefusal.Memory (each column_at path.now (map json_view list.now)) result }
 {
@@ -101,6 +103,7 @@ fn columns_member(alloc: Global, path: &Txt, object: &Json) -> Result<ColumnList
     Ok(columns)
 }
 
+// The foreign key at a path.
 #[tactic(auto, unfolding(crate::specs::Shape::foreign_key_at))]
 fn foreign_key_at(
     alloc: Global,
@@ -124,7 +127,7 @@ fn foreign_key_at(
     })
 }
 
-// The foreign keys of a list.
+// The foreign keys of the list at a path.
 fn foreign_keys(
     alloc: Global,
     path: &Txt,
@@ -159,6 +162,7 @@ fn foreign_keys_member(
     }
 }
 
+// The table at a path.
 #[tactic(auto, unfolding(crate::specs::Shape::table_at))]
 fn table_at(alloc: Global, path: &Txt, json: &Json) -> Result<WrittenTable, CatalogRefusal>
     ensures { Gives (λ table. table) CatalogRefusal.Memory (table_at path.now (json_view json.now)) result }
@@ -178,7 +182,7 @@ fn table_at(alloc: Global, path: &Txt, json: &Json) -> Result<WrittenTable, Cata
     })
 }
 
-// The tables of a list.
+// The tables of the list at a path.
 fn tables(alloc: Global, path: &Txt, list: &[Json]) -> Result<WrittenTableList, CatalogRefusal>
     ensures { Gives (λ tables. tables) CatalogRefusal.Memory (each table_at path.now (map json_view list.now)) result }
 {
