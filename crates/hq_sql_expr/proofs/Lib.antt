@@ -8,6 +8,7 @@ pub mod Listed
 pub mod Fits
 pub mod Literals
 pub mod Ints
+pub mod Numbers
 pub mod Exprs
 pub mod Again
 pub mod Form
