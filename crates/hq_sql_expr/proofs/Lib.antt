@@ -12,3 +12,4 @@ pub mod Numbers
 pub mod Exprs
 pub mod Again
 pub mod Form
+pub mod Closed
