@@ -251,7 +251,7 @@ module _ (d : ℕ) (expr : Reader ExprTree) (expr_again : Again d expr) where
   pairs_again ps rest fits =
       ap (λ ts. pairs_with expr ((separated word.Comma ts ++ word_text word.Close) ++ rest)) (pair_texts-list ps) ∙ pair_list_again (pair_list ps) rest (good_pairs d ps fits) ∙ ap (λ qs. Some (tree.object qs, rest)) (pairs_of-pair_list ps)
 
-  argument_again : (e : ExprTree) (rest : List ℕ) → FitsExpr e d → argument_with expr ((expr_text e ++ word_text word.Close) ++ rest) ≡ Some (e, rest)
+  pub argument_again : (e : ExprTree) (rest : List ℕ) → FitsExpr e d → argument_with expr ((expr_text e ++ word_text word.Close) ++ rest) ≡ Some (e, rest)
   unfolding argument_with
   argument_again e rest fits = rw (append_assoc (expr_text e) (word_text word.Close) rest, expr_again e (word_text word.Close ++ rest) fits (close_ends rest), after_again word.Close rest) refl
 

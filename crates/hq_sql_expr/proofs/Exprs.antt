@@ -116,6 +116,10 @@ at_least_one : (d : ℕ) (os : List OrderTree) → AllGood (GoodOrder d) os → 
 at_least_one d [] h = absurd h
 at_least_one d (o ∷ os) h = tt
 
+-- an argument and what closes it
+abbrev pub closed_text : ExprTree → List ℕ
+closed_text e = expr_text e ++ word_text word.Close
+
 module _ (d : ℕ) (expr : Reader ExprTree) (expr_takes : Sound expr (OneExpr d)) where
   abbrev Fits : ExprTree → Type 0
   Fits e = FitsExpr e d
@@ -136,10 +140,7 @@ module _ (d : ℕ) (expr : Reader ExprTree) (expr_takes : Sound expr (OneExpr d)
       (λ ps good. sound_end word.Close (tree.object (pairs_of ps)) (λ b e. Behind (suc d) head.Object (separated word.Comma (map pair_text ps) ++ b) e)
       (ap (λ ts. word_text word.BuildObject ++ (separated word.Comma ts ++ word_text word.Close)) (sym (pair_texts_of ps)), fits_pairs d ps (all_of (GoodPair d) ps good))))
 
-  abbrev closed_text : ExprTree → List ℕ
-  closed_text e = expr_text e ++ word_text word.Close
-
-  argument_takes : Sound (argument_with expr) (Spelled closed_text Fits)
+  pub argument_takes : Sound (argument_with expr) (Spelled closed_text Fits)
   unfolding argument_with
   argument_takes = sound_next expr (λ e bytes. after word.Close bytes >>= λ rest. Some (e, rest)) expr_text Fits (Spelled closed_text Fits) expr_takes (λ e fits. sound_end word.Close e (λ b x. Spelled closed_text Fits (expr_text e ++ b) x) (refl, fits))
 

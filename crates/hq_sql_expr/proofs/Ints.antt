@@ -74,7 +74,7 @@ int_again n e = rw (value_is n e, e, bytes_self (signed_decimal n)) refl
 
 -- ---- and is a text
 
-no_zero : (ds : List ℕ) → AllDigits 10 ds → has_zero ds ≡ false
+pub no_zero : (ds : List ℕ) → AllDigits 10 ds → has_zero ds ≡ false
 no_zero [] h = refl
 no_zero (c ∷ cs) h = let k = digit_from_value c h.0 in rw (ne_eqb c 0 (λ e. absurd (omega (arith, k)))) (no_zero cs h.1)
 

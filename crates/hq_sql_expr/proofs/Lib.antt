@@ -8,6 +8,8 @@ pub mod Listed
 pub mod Fits
 pub mod Literals
 pub mod Ints
+pub mod Numbers
 pub mod Exprs
 pub mod Again
 pub mod Form
+pub mod Closed

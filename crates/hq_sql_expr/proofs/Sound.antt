@@ -4,7 +4,7 @@ use Rattle.std.proofs.lemmas.List.{append-nil}
 use Rattle.std.proofs.lemmas.Bool.{eqb-true}
 use Rattle.hq_sql_tree.specs.declared.word.Word.{Word}
 use Rattle.hq_sql_tree.specs.Word.{word_text}
-use Rattle.hq_sql_expr.specs.Reading.{◌>>=◌, Reader, after, strip, choose}
+use Rattle.hq_sql_expr.specs.Reading.{◌>>=◌, Reader, after, strip, choose, first_of}
 
 -- a reader took only what the relation has
 abbrev pub Taken : {A : Type 0} → (List ℕ → A → Type 0) → List ℕ → Option (A × List ℕ) → Type 0
@@ -40,6 +40,15 @@ module _ {A B : Type 0} (p : Reader A) (g : A → B) (spelled : A → List ℕ) 
   -- the last one
   pub sound_last : Sound p (Spelled spelled Good) → Sound (λ bytes. p bytes >>= λ x. Some (g x.0, x.1)) T
   sound_last sound_p = record { takes = λ bytes. map_taken bytes (p bytes) (sound_p.takes bytes) }
+
+-- what is read first, or where it is not read the other reader
+module _ {A B : Type 0} (p : Reader A) (f : A → Reader B) (q : Reader B) (spelled : A → List ℕ) (Good : A → Type 0) (T : List ℕ → B → Type 0) where
+  by_either : (bytes : List ℕ) → ((x : A) → Good x → Sound (f x) (λ b y. T (spelled x ++ b) y)) → Taken T bytes (q bytes) → (r : Option (A × List ℕ)) → Taken (Spelled spelled Good) bytes r → Taken T bytes (first_of r (λ y. f y.0 y.1) (q bytes))
+  by_either bytes sound_f taken None h = taken
+  by_either bytes sound_f taken (Some x) (a, e, r) = second p f spelled Good T bytes a x.1 x.0 e r.0 (f x.0 x.1) ((sound_f x.0 r.1).takes x.1)
+
+  pub sound_first : Sound p (Spelled spelled Good) → ((x : A) → Good x → Sound (f x) (λ b y. T (spelled x ++ b) y)) → Sound q T → Sound (λ bytes. first_of (p bytes) (λ y. f y.0 y.1) (q bytes)) T
+  sound_first sound_p sound_f sound_q = record { takes = λ bytes. by_either bytes sound_f (sound_q.takes bytes) (p bytes) (sound_p.takes bytes) }
 
 -- ---- fixed words
 

@@ -1,8 +1,8 @@
 -- Reading a text from left to right.
-use Rattle.std.specs.Prelude.{ℕ, zero, suc, ◌+◌, ℤ, Bool, true, false, ◌&&◌, List, [], ◌∷◌, length, Option, Some, None, Result, Ok, Err, ◌==◌, bytes_eq, if◌then◌else◌}
+use Rattle.std.specs.Prelude.{ℕ, zero, suc, ◌+◌, ℤ, Bool, true, false, ◌&&◌, nat_lt, nat_le, ◌^◌, List, [], ◌∷◌, length, Option, Some, None, Result, Ok, Err, ◌==◌, bytes_eq, if◌then◌else◌}
 use Rattle.std.specs.Prelude.{◌≡◌}
-use Rattle.std.specs.Str.Parse.{signed_digits_value}
-use Rattle.std.specs.Fmt.{signed_decimal}
+use Rattle.std.specs.Str.Parse.{digits_value, signed_digits_value}
+use Rattle.std.specs.Fmt.{decimal, signed_decimal}
 use Rattle.hq_sql_tree.specs.declared.word.Word.{Word}
 use Rattle.hq_sql_tree.specs.declared.word.Word.TheVariants as word
 use Rattle.hq_sql_tree.specs.Word.{word_text}
@@ -46,6 +46,11 @@ below p (suc d) = p d
 abbrev pub choose : {A : Type 0} → Option (List ℕ) → (List ℕ → Option A) → Option A → Option A
 choose None f other = other
 choose (Some rest) f other = f rest
+
+-- what is read first, or else the other way
+abbrev pub first_of : {A B : Type 0} → Option A → (A → Option B) → Option B → Option B
+first_of None f other = other
+first_of (Some x) f other = f x
 
 -- the bytes behind these
 abbrev pub strip : List ℕ → List ℕ → Option (List ℕ)
@@ -106,6 +111,29 @@ unfoldable pub literal_at : Reader ExprTree
 literal_at bytes = do
   t ← quoted_at 39 bytes
   choose (after word.AsText t.1) (λ rest. Some (tree.text t.0, rest)) (after word.AsBigint t.1 >>= λ rest. int_from t.0 >>= λ n. Some (tree.int n, rest))
+
+-- the digits at the front, and what follows them
+abbrev pub is_digit : ℕ → Bool
+is_digit b = nat_le 48 b && nat_le b 57
+
+abbrev pub leading_digits : List ℕ → List ℕ
+leading_digits [] = []
+leading_digits (b ∷ bytes) = if is_digit b then b ∷ leading_digits bytes else []
+
+abbrev pub after_digits : List ℕ → List ℕ
+after_digits [] = []
+after_digits (b ∷ bytes) = if is_digit b then after_digits bytes else b ∷ bytes
+
+-- the number of 64 bits whose shortest decimal this is
+unfoldable pub number_from : List ℕ → Option ℕ
+number_from digits = let n = digits_value 10 digits in if nat_lt n (2 ^ 64) && bytes_eq digits (decimal n) then Some n else None
+
+-- the number at the front
+unfoldable pub number_at : Reader ℕ
+number_at bytes = do
+  t ← text_from (leading_digits bytes)
+  n ← number_from t
+  Some (n, after_digits bytes)
 
 -- ---- expressions
 
@@ -225,3 +253,10 @@ out_with expr bytes = do
   rest ← after word.As e.1
   n ← name_at rest
   Some (record { value = e.0; name = n.0 }, n.1)
+
+-- expressions with commas between, and the word that closes them
+unfoldable pub closed_exprs : Word → ℕ → Reader (List ExprTree)
+closed_exprs close d bytes = do
+  es ← all_many (expr_at d) word.Comma bytes
+  rest ← after close es.1
+  Some (es.0, rest)

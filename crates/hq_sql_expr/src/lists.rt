@@ -2,7 +2,7 @@
 ghost use Rattle.std.specs.Prelude.{◌≡◌, List, ℕ, map};
 ghost use Rattle.hq_sql_tree.specs.View.{expr_view, order_view, out_view};
 ghost use Rattle.hq_sql_tree.specs.declared.word.Word.TheVariants as words;
-ghost use Rattle.hq_sql_expr.specs.Reading.{Reads, all_many, order_with, expr_at, out_with};
+ghost use Rattle.hq_sql_expr.specs.Reading.{Reads, below, all_many, argument_with, order_with, expr_at, closed_exprs, out_with};
 
 use crate::reading::{expr_of, order_list};
 use crate::{ReadRefusal, read_name, skip, starts};
@@ -65,4 +65,47 @@ pub fn read_outs(alloc: Global, depth: u32, bytes: &[u8]) -> Result<(OutList, &[
         }
     }
     Err(ReadRefusal::NotSql)
+}
+
+/// Reads an expression and the parenthesis that closes it.
+#[tactic(auto, unfolding(crate::specs::Reading::argument_with))]
+pub fn read_closed_expr(
+    alloc: Global,
+    depth: u32,
+    bytes: &[u8],
+) -> Result<(Expr, &[u8]), ReadRefusal>
+    ensures { Reads (λ x. (expr_view x.0, x.1.now)) result (argument_with (expr_at depth) bytes.now) }
+{
+    let (expr, rest) = read_expr(alloc, depth, bytes)?;
+    let rest = skip(rest, Word::Close)?;
+    Ok((expr, rest))
+}
+
+#[tactic(auto, unfolding(crate::specs::Reading::closed_exprs))]
+fn closed_of(
+    alloc: Global,
+    depth: u32,
+    close: Word,
+    bytes: &[u8],
+) -> Result<(ExprList, &[u8]), ReadRefusal>
+    ensures { Reads (λ x. (map expr_view x.0.items, x.1.now)) result (closed_exprs close depth bytes.now) }
+{
+    let (exprs, rest) = read_exprs(alloc, depth, bytes)?;
+    let rest = skip(rest, close)?;
+    Ok((exprs, rest))
+}
+
+/// Reads one expression or more behind a parenthesis, with commas between, and the word that closes them.
+pub fn read_closed_exprs(
+    alloc: Global,
+    depth: u32,
+    close: Word,
+    bytes: &[u8],
+) -> Result<(ExprList, &[u8]), ReadRefusal>
+    ensures { Reads (λ x. (map expr_view x.0.items, x.1.now)) result (below (closed_exprs close) depth bytes.now) }
+{
+    if depth == 0 {
+        return Err(ReadRefusal::NotSql);
+    }
+    closed_of(alloc, depth - 1, close, bytes)
 }

@@ -1,7 +1,7 @@
 //! Reading fixed words, names, texts and numbers.
 ghost use Rattle.std.specs.Prelude.{◌≡◌, List, ℕ, option_map, ◌∷◌, []};
 ghost use Rattle.hq_sql_tree.specs.View.{expr_view};
-ghost use Rattle.hq_sql_expr.specs.Reading.{Reads, after, strip, unquoted, text_from, quoted_at, name_at, text_at, int_from, literal_at};
+ghost use Rattle.hq_sql_expr.specs.Reading.{Reads, after, strip, unquoted, text_from, quoted_at, name_at, text_at, int_from, literal_at, is_digit, leading_digits, after_digits, number_from, number_at};
 
 use crate::ReadRefusal;
 use hq_base::{Txt, TxtRefusal};
@@ -123,4 +123,48 @@ pub(crate) fn literal_of(alloc: Global, bytes: &[u8]) -> Result<(Expr, &[u8]), R
     let rest = skip(rest, Word::AsBigint)?;
     let n = int_of(alloc, &text)?;
     Ok((Expr::Int(n), rest))
+}
+
+fn is_digit(b: u8) -> bool
+    ensures { result ≡ is_digit b }
+{
+    b >= b'0' && b <= b'9'
+}
+
+// The digits at the front, and what follows them.
+fn split_digits(bytes: &[u8]) -> (&[u8], &[u8])
+    ensures digits { result.0.now ≡ leading_digits bytes.now }
+    ensures rest { result.1.now ≡ after_digits bytes.now }
+{
+    for (i, b) in bytes.iter().enumerate() {
+        if !is_digit(*b) {
+            return bytes.split_at(i);
+        }
+    }
+    bytes.split_at(bytes.len())
+}
+
+// The number whose shortest decimal these digits are.
+fn number_of(alloc: Global, digits: &Txt) -> Result<u64, ReadRefusal>
+    ensures { Reads (λ n. n) result (number_from digits.now) }
+{
+    let Ok(n) = digits.as_str().parse::<u64>() else {
+        return Err(ReadRefusal::NotSql);
+    };
+    let shortest = n.to_string(alloc)?;
+    if shortest.as_bytes() != digits.as_bytes() {
+        return Err(ReadRefusal::NotSql);
+    }
+    Ok(n)
+}
+
+/// Reads a number of rows, in shortest decimal.
+#[tactic(auto, unfolding(crate::specs::Reading::number_at))]
+pub fn read_number(alloc: Global, bytes: &[u8]) -> Result<(u64, &[u8]), ReadRefusal>
+    ensures { Reads (λ x. (x.0, x.1.now)) result (number_at bytes.now) }
+{
+    let (digits, rest) = split_digits(bytes);
+    let digits = txt_of(alloc, digits)?;
+    let n = number_of(alloc, &digits)?;
+    Ok((n, rest))
 }
