@@ -2,8 +2,10 @@
 //! It is run on small databases, and no other crate stands on it.
 #![tactic(auto)]
 
+mod arguments;
 mod boolean;
 mod compare;
+mod entries;
 mod key;
 mod operands;
 mod permits;
@@ -12,6 +14,7 @@ mod rows;
 mod seen;
 mod sort;
 
+pub use arguments::{Arguments, SortEntry};
 pub use boolean::truth;
 pub use compare::compared;
 pub use key::by_key;
