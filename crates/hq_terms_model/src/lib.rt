@@ -12,6 +12,7 @@ mod permits;
 mod reach;
 mod rows;
 mod seen;
+mod select;
 mod sort;
 
 pub use arguments::{Arguments, SortEntry};
@@ -21,3 +22,4 @@ pub use key::by_key;
 pub use permits::permitted;
 pub use rows::{kept, related};
 pub use seen::{Database, Row, RowList, Seen};
+pub use select::selected;
