@@ -53,14 +53,14 @@ permission_plain role m t = tracked_plain role (tracked_table m t)
 
 -- nor has it once it is bound
 bound_plain : (o : Option Permission) (s : Schema) (vars : List Var) (t : ℕ) → IsPlain o →
-  (unwrap_or (option_and_then (λ p. result_ok (bound_permission p s vars t)) o) no_grant).masks ≡ []
+    (unwrap_or (option_and_then (λ p. result_ok (bound_permission p s vars t)) o) no_grant).masks ≡ []
 bound_plain None s vars t plain = refl
 bound_plain (Some p) s vars t plain =
     subst (λ (masks : List Mask).
-      (unwrap_or (result_ok (and_then (λ f. mapped (λ ms. record p { filter = f; masks = ms }) (bound_masks masks s vars t)) (bound p.filter s vars t))) no_grant).masks ≡ [])
+    (unwrap_or (result_ok (and_then (λ f. mapped (λ ms. record p { filter = f; masks = ms }) (bound_masks masks s vars t)) (bound p.filter s vars t))) no_grant).masks ≡ [])
     (sym plain)
     (elim (bound p.filter s vars t) as (λ (r : Result BexpTree BindRefusal).
-      (unwrap_or (result_ok (and_then (λ f. mapped (λ ms. record p { filter = f; masks = ms }) (bound_masks [] s vars t)) r)) no_grant).masks ≡ []) [
+    (unwrap_or (result_ok (and_then (λ f. mapped (λ ms. record p { filter = f; masks = ms }) (bound_masks [] s vars t)) r)) no_grant).masks ≡ []) [
       | Ok f ↦ refl
       | Err e ↦ refl
     ])
@@ -68,28 +68,28 @@ bound_plain (Some p) s vars t plain =
 masks_none : (session : Session) (tables : List Table) (m : MetaTree) (t : ℕ) → (grant (grants_of session tables m) t).masks ≡ []
 masks_none session tables m t =
     let go : (o : Option Table) → slice_get tables t ≡ o → (grant (grants_of session tables m) t).masks ≡ [] =
-      elim [
-        | None ↦ λ e. ap (λ (p : Permission). p.masks) (grant_absent session tables m t e)
-        | Some x ↦ λ e. ap (λ (p : Permission). p.masks) (grant_present session tables m t x e)
-            ∙ bound_plain (permission (role_of session.role) m t) (schema_of tables m) session.vars t (permission_plain (role_of session.role) m t)
-      ]
+    elim [
+      | None ↦ λ e. ap (λ (p : Permission). p.masks) (grant_absent session tables m t e)
+      | Some x ↦ λ e. ap (λ (p : Permission). p.masks) (grant_present session tables m t x e)
+          ∙ bound_plain (permission (role_of session.role) m t) (schema_of tables m) session.vars t (permission_plain (role_of session.role) m t)
+    ]
     in
     go (slice_get tables t) refl
 
 -- so every cell shows
 all_shown : (session : Session) (tables : List Table) (m : MetaTree) (d : List (List Row)) (t : ℕ) (row : Row) (c : ℕ) →
-  let s = schema_of tables m in shown s (grants_of session tables m) d t row c ≡ row_cell row c
+    let s = schema_of tables m in shown s (grants_of session tables m) d t row c ≡ row_cell row c
 all_shown session tables m d t row c =
     let s = schema_of tables m in
     ap (λ (masks : List Mask). cond (keeps (mask_of masks c) s (all_of s d) t row) (row_cell row c) null) (masks_none session tables m t)
 
 -- rows that are the permitted ones of each table are what the session sees
 pub sees_permitted : (session : Session) (tables : List Table) (m : MetaTree) (d rows : List (List Row)) →
-  let s = schema_of tables m in let g = grants_of session tables m in
-  ((t : ℕ) → table_rows rows t ≡ permitted s g d t) → all_of s rows ≡ seen_by s g d
+    let s = schema_of tables m in let g = grants_of session tables m in
+    ((t : ℕ) → table_rows rows t ≡ permitted s g d t) → all_of s rows ≡ seen_by s g d
 sees_permitted session tables m d rows same =
     let cells : (t : ℕ) (row : Row) (c : ℕ) → row_cell row c ≡ shown (schema_of tables m) (grants_of session tables m) d t row c =
-      λ t row c. sym (all_shown session tables m d t row c)
+    λ t row c. sym (all_shown session tables m d t row c)
     in
     λ i. record {
       rows = λ t. same t i;

@@ -19,7 +19,7 @@ pub use arguments::{Arguments, SortEntry};
 pub use boolean::truth;
 pub use compare::compared;
 pub use key::by_key;
-pub use permits::permitted;
+pub use permits::{permitted, permitted_tables};
 pub use rows::{kept, related};
 pub use seen::{Database, Row, RowList, Seen};
 pub use select::selected;

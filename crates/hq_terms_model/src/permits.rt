@@ -6,11 +6,12 @@ ghost use Rattle.hq_terms.specs.Grants.{grant};
 ghost use Rattle.hq_terms.specs.Meta.{meta_view};
 ghost use Rattle.hq_terms.specs.Permission.{permission, role_of};
 ghost use Rattle.hq_terms.specs.PermView.{permission_view};
-ghost use Rattle.hq_terms.specs.Permitted.{permitted};
+ghost use Rattle.hq_terms.specs.Permitted.{permitted, seen_by};
+ghost use Rattle.hq_terms.specs.Seen.{all_of};
 ghost use Rattle.hq_terms_model.specs.Granted.{granted_in, granted_to};
 ghost use Rattle.hq_terms_model.specs.Seen.{schema_in};
 
-use crate::{RowList, Seen, by_key, kept};
+use crate::{Database, RowList, Seen, by_key, kept};
 use hq_base::{List, Memory};
 use hq_terms::{Bexp, BindRefusal, PermView, Role, Session, TableId};
 use std::alloc::Global;
@@ -92,4 +93,15 @@ pub fn permitted(
         Some(filter) => kept(alloc, seen, t, &filter, &by_key(alloc, seen, t)?),
         None => Ok(List::new(alloc)),
     }
+}
+
+/// Of each table of the catalog the rows that a session may see: with these rows a Seen is what the session sees.
+pub fn permitted_tables(alloc: Global, seen: &Seen, session: &Session) -> Result<Database, Memory>
+    ensures { IfOk result (λ rows. all_of (schema_in seen.now) rows ≡ seen_by (schema_in seen.now) (granted_to session.now seen.now) seen.now.rows.now) }
+{
+    let mut rows = List::new(alloc);
+    for at in 0..seen.scope.catalog.tables.len() {
+        rows.push(permitted(alloc, seen, session, TableId::new(at))?)?;
+    }
+    Ok(rows)
 }
