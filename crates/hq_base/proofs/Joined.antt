@@ -42,7 +42,7 @@ pub one_more_element : (js : List Json) (i : ℕ) (j : Json) (begin now comma af
     → after ≡ begin ++ join_with_byte 44 (element_texts (elements_of (map json_view (take (i + 1) js))))
 one_more_element js i j begin now comma after h is a b e =
     let next = joined_next (λ (x : Json). compact (json_view x)) js i j h in
-    rw (e, b, a, element_texts-map, element_texts-map, next, ← is) (simp append_assoc)
+    rw (e, b, a, element_texts-map (take i js), element_texts-map (take (i + 1) js), next, ← is) (simp append_assoc)
 
 regroup : (begin joined comma name value : List ℕ) → (((((begin ++ joined) ++ comma) ++ name) ++ 58 ∷ []) ++ value) ≡ begin ++ (joined ++ (comma ++ (name ++ 58 ∷ value)))
 regroup begin joined comma name value = simp append_assoc
@@ -53,4 +53,4 @@ pub one_more_member : (ms : List Member) (i : ℕ) (m : Member) (name : List ℕ
     → after ≡ begin ++ join_with_byte 44 (member_texts (members_of (map member_view (take (i + 1) ms))))
 one_more_member ms i m name j begin now comma named colon after h is view a b e f g =
     let next = joined_next (λ (x : Member). member_text (member_view x)) ms i m h in
-    rw (g, f, e, b, a, member_texts-map, member_texts-map, next, ← is, view) (regroup begin _ _ (quoted name) (compact j))
+    rw (g, f, e, b, a, member_texts-map (take i ms), member_texts-map (take (i + 1) ms), next, ← is, view) (regroup begin _ _ (quoted name) (compact j))

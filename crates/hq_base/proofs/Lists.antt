@@ -2,6 +2,7 @@
 use Rattle.std.proofs.Common.{◌≡◌, ◌∙◌, refl, ap, ℕ, zero, suc, List, [], ◌∷◌, map, filter, flat_map, take, drop, Bool, true, false, cond, not, ◌&&◌, ◌||◌}
 use Rattle.std.specs.List.{list_any}
 use Rattle.std.proofs.lemmas.Bool.{and_parts, or_parts}
+use Rattle.std.proofs.lemmas.Map.Views.{any-filter_same}
 use Rattle.hq_base.specs.Lists.{Each, firsts, all_differ}
 
 -- ---- a fact of each item
@@ -155,6 +156,25 @@ firsts_all same (x ∷ xs) h =
     let parts = and_parts (not (list_any (same x) xs)) (all_differ same xs) h in
     ap (λ ys. x ∷ ys) (ap (filter (λ y. not (same x y))) (firsts_all same xs parts.1) ∙ filter_all (λ y. not (same x y)) xs (each_fails (same x) xs (not_true (list_any (same x) xs) parts.0)))
 
+-- an item of one group and one of another differ
+apart : {A : Type 0} (same : A → A → Bool) (p : A → Bool) → ((x y : A) → same x y ≡ true → p x ≡ p y) → (x y : A) → p x ≡ false → p y ≡ true → not (same x y) ≡ true
+apart same p whole x y out in' =
+    let differ : (b : Bool) → same x y ≡ b → not b ≡ true = elim [ true ↦ λ e. let equal = whole x y e in cc | false ↦ λ e. refl ] in
+    differ (same x y) refl
+
+-- a test that a group passes as a whole finds an item where it finds a first one
+pub firsts_any : {A : Type 0} (same : A → A → Bool) (p : A → Bool) → ((x y : A) → same x y ≡ true → p x ≡ p y) → (xs : List A) → list_any p (firsts same xs) ≡ list_any p xs
+firsts_any same p whole [] = refl
+firsts_any {A} same p whole (x ∷ xs) =
+    let other : A → Bool = λ y. not (same x y) in
+    let later = firsts_any same p whole xs in
+    let found : (b : Bool) → p x ≡ b → (b || list_any p (filter other (firsts same xs))) ≡ (b || list_any p xs) =
+    elim [
+      | true ↦ λ e. refl
+      | false ↦ λ e. any-filter_same p other true (λ y h. apart same p whole x y e h) (firsts same xs) ∙ later
+    ] in
+    found (p x) refl
+
 -- the first images are the images of the first items
 pub firsts_map_on : {A B : Type 0} (P : A → Type 0) (f : A → B) (same : A → A → Bool) (alike : B → B → Bool) → ((x y : A) → P x → P y → alike (f x) (f y) ≡ same x y) → (xs : List A) → Each P xs
     → firsts alike (map f xs) ≡ map f (firsts same xs)
@@ -164,12 +184,6 @@ firsts_map_on P f same alike agree (x ∷ xs) h =
     (ap (filter (λ y. not (alike (f x) y))) (firsts_map_on P f same alike agree xs h.1)
     ∙ filter_map_of (λ y. not (alike (f x) y)) f (firsts same xs)
     ∙ ap (map f) (filter_on P (λ y. not (alike (f x) (f y))) (λ y. not (same x y)) (λ y py. ap not (agree x y h.0 py)) (firsts same xs) (each_firsts P same xs h.1)))
-
--- an item of one group and one of another differ
-apart : {A : Type 0} (same : A → A → Bool) (p : A → Bool) → ((x y : A) → same x y ≡ true → p x ≡ p y) → (x y : A) → p x ≡ false → p y ≡ true → not (same x y) ≡ true
-apart same p whole x y out in' =
-    let differ : (b : Bool) → same x y ≡ b → not b ≡ true = elim [ true ↦ λ e. let equal = whole x y e in cc | false ↦ λ e. refl ] in
-    differ (same x y) refl
 
 -- a filter whose test a group passes as a whole keeps the first items of the groups that pass
 pub firsts_filter : {A : Type 0} (same : A → A → Bool) (p : A → Bool) → ((x y : A) → same x y ≡ true → p x ≡ p y) → (xs : List A) → filter p (firsts same xs) ≡ firsts same (filter p xs)

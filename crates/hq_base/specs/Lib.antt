@@ -2,10 +2,13 @@ pub mod Due
 pub mod Text
 pub mod Refused
 pub mod Json
+pub mod Look
+pub mod Path
 pub mod Body
 pub mod Compact
 pub mod Values
 pub mod Cells
 pub mod Lists
+pub mod Aggregates
 pub mod Patterns
 pub mod Fronts

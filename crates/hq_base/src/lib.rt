@@ -6,8 +6,10 @@ mod bytes;
 mod compact;
 mod json;
 mod list;
+mod look;
 mod memory;
 mod order;
+mod path;
 mod pattern;
 mod reply;
 #[cfg(test)]
@@ -21,6 +23,7 @@ pub use json::{Json, JsonList, Member, Members};
 pub use list::List;
 pub use memory::Memory;
 pub use order::compare;
+pub use path::{item_path, member_path, top_path};
 pub use pattern::{Pattern, PatternRefusal};
 pub use reply::Reply;
 pub use txt::{Txt, TxtRefusal};

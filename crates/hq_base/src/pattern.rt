@@ -66,6 +66,13 @@ impl Pattern {
         Ok(Pattern { text, steps })
     }
 
+    /// The text that spells the pattern.
+    pub fn text(&self) -> &Txt
+        ensures { result.now ≡ self.now }
+    {
+        &self.text
+    }
+
     /// Whether the text is like the pattern: `%` stands for any characters, `_` for one, and `\x` for `x`. Under `fold`
     /// the letters A to Z equal a to z.
     pub fn matches(&self, text: &Txt, fold: bool) -> bool

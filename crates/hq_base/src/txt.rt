@@ -1,16 +1,18 @@
-ghost use Rattle.std.specs.Prelude.{◌≡◌, IfOk, MatchOption, true, false};
+ghost use Rattle.std.specs.Prelude.{◌≡◌, ◌++◌, [], IfOk, OnOk, OnErr, MatchOption, None, Some, true, false};
 ghost use Rattle.std.specs.Str.{is_utf8};
 ghost use Rattle.std.specs.Hash as fed;
-ghost use Rattle.std.specs.Cmp.Lexicographic.{pointwise, nat_list_eq_equiv};
-ghost use Rattle.std.specs.Cmp.{partial_equiv_from_equiv};
-ghost use Rattle.std.specs.Cmp.Rules.{hashing};
+ghost use Rattle.std.specs.Cmp.Lexicographic.{pointwise, slice_cmp, nat_list_eq_equiv};
+ghost use Rattle.std.specs.Cmp.{partial_equiv_from_equiv, partial_order_from_own_ties};
+ghost use Rattle.std.specs.Cmp.Rules.{comparing, hashing};
+ghost use Rattle.std.specs.Ordering.{as_partial_cmp, nat_cmp};
 ghost use Rattle.std.specs.Prelude.{nat_eq};
 ghost use Rattle.std.proofs.Common.{rules};
 ghost use Rattle.hq_base.specs.Due.{Gives};
-ghost use Rattle.hq_base.specs.Text.{has_zero};
+ghost use Rattle.hq_base.specs.Text.{has_zero, after};
 
 use crate::Memory;
 use std::alloc::Global;
+use std::cmp::Ordering;
 use std::convert::AsStr;
 use std::hash::{Hash, Hasher};
 use std::marker::Model;
@@ -62,6 +64,13 @@ fn holds_zero(bytes: &[u8]) -> bool
     bytes.iter().any(|b| *b == 0)
 }
 
+// What follows a front, where the text begins with it.
+fn behind<'a>(text: &'a str, front: &str) -> Option<&'a str>
+    ensures { MatchOption result (after front.now text.now ≡ None) (λ rest. after front.now text.now ≡ Some rest.now) }
+{
+    text.strip_prefix(front)
+}
+
 impl Txt {
     ghost use Rattle.hq_base.specs.Refused.{text_of};
 
@@ -79,6 +88,34 @@ impl Txt {
             Ok(text) => Ok(Txt { text }),
             Err(_) => Err(TxtRefusal::Memory),
         }
+    }
+
+    /// The empty text. Takes no memory: later calls do.
+    pub fn new(alloc: Global) -> Txt
+        ensures { result ≡ [] }
+    {
+        Txt {
+            text: String::new(alloc),
+        }
+    }
+
+    /// Adds a piece without a zero byte at the end.
+    pub fn push_str(&mut self, piece: &str) -> Result<(), Memory>
+        requires { has_zero piece.now ≡ false }
+        ensures ok { OnOk result (self.new ≡ self.old ++ piece.now) }
+        ensures err { OnErr result (self.new ≡ self.old) }
+    {
+        self.text.push_str(piece)?;
+        Ok(())
+    }
+
+    /// Adds a text at the end.
+    pub fn push_txt(&mut self, piece: &Txt) -> Result<(), Memory>
+        ensures ok { OnOk result (self.new ≡ self.old ++ piece.now) }
+        ensures err { OnErr result (self.new ≡ self.old) }
+    {
+        self.text.push_str(piece.text.as_str())?;
+        Ok(())
     }
 
     /// The text, as `str`.
@@ -103,6 +140,17 @@ impl Txt {
             text: String::from_str(alloc, self.text.as_str())?,
         })
     }
+
+    /// What follows this front, or None where the text does not begin with it.
+    pub fn after(&self, alloc: Global, front: &str) -> Result<Option<Txt>, Memory>
+        ensures { IfOk result (λ rest. rest ≡ after front.now self.now) }
+    {
+        let Some(rest) = behind(self.text.as_str(), front) else {
+            return Ok(None);
+        };
+        let text = String::from_str(alloc, rest)?;
+        Ok(Some(Txt { text }))
+    }
 }
 
 impl AsStr for Txt {
@@ -125,6 +173,31 @@ impl PartialEq for Txt {
 
 impl Eq for Txt {
     ghost laws = { nat_list_eq_equiv };
+}
+
+impl PartialOrd for Txt {
+    ghost partial_cmp = { as_partial_cmp (slice_cmp nat_cmp) };
+
+    ghost laws = { partial_order_from_own_ties (Prim.search (comparing, rules)) (Prim.search (comparing, rules)) };
+
+    fn partial_cmp(&self, other: &Txt) -> Option<Ordering> {
+        Some(self.cmp(other))
+    }
+}
+
+/// Texts are ordered by their bytes.
+impl Ord for Txt {
+    ghost cmp = { slice_cmp nat_cmp };
+
+    ghost total = { Prim.search (comparing, rules) };
+
+    ghost matches_partial_cmp = { Prim.search (comparing, rules) };
+
+    ghost matches_eq = { Prim.search (comparing, rules) };
+
+    fn cmp(&self, other: &Txt) -> Ordering {
+        self.as_bytes().cmp(other.as_bytes())
+    }
 }
 
 impl Hash for Txt {

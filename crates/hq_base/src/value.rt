@@ -1,12 +1,29 @@
-use crate::{Json, Txt};
+ghost use Rattle.std.specs.Prelude.{◌≡◌, IfOk};
+
+use crate::{Json, Memory, Txt};
+use std::alloc::Global;
 
 /// A value of a table's cell or of an operand.
-#[derive(Debug, Drop)]
+#[derive(Debug, Drop, PartialEq, Eq, PartialOrd, Ord)]
 pub enum Val {
     Null,
     Int(i64),
     Text(Txt),
     Bool(bool),
+}
+
+impl Val {
+    /// An equal value.
+    pub fn copy(&self, alloc: Global) -> Result<Val, Memory>
+        ensures { IfOk result (λ copy. copy ≡ self.now) }
+    {
+        match self {
+            Val::Null => Ok(Val::Null),
+            Val::Int(n) => Ok(Val::Int(*n)),
+            Val::Text(text) => Ok(Val::Text(text.copy(alloc)?)),
+            Val::Bool(b) => Ok(Val::Bool(*b)),
+        }
+    }
 }
 
 /// A column's type.

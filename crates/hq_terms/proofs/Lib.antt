@@ -1,4 +1,4 @@
+pub mod Numbers
 mod Lists
 pub mod Places
 mod Worked
-pub mod Numbers

@@ -1,0 +1,9 @@
+mod CatalogLemmas
+mod EachLemmas
+mod KeyLemmas
+mod LimitLemmas
+mod PairLemmas
+mod ListLemmas
+mod RepeatLemmas
+mod ResolveLemmas
+mod TableLemmas

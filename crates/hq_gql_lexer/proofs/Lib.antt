@@ -1,0 +1,13 @@
+pub mod OptionLemmas
+pub mod StepsLemmas
+pub mod LinesLemmas
+pub mod BlockLemmas
+pub mod TextLemmas
+pub mod NumberLemmas
+pub mod ProductionLemmas
+pub mod CharacterLemmas
+pub mod EscapeLemmas
+pub mod ReadLemmas
+pub mod PlainLemmas
+pub mod QuotesLemmas
+pub mod ValueLemmas

@@ -1,0 +1,46 @@
+ghost use Rattle.std.specs.Prelude.{◌≡◌, ◌⊎◌, ◌≤◌, ℕ, true, List as Items, Option, Err, IfErr, IfSome};
+ghost use Rattle.hq_terms.specs.Catalog.{is_catalog};
+ghost use Rattle.hq_terms.specs.Database.{Row, is_database};
+ghost use Rattle.hq_terms.specs.declared.table.Table.{Table};
+ghost use Rattle.hq_link.specs.Asked.{Asked, NotAsked, TellsFailure};
+
+use crate::DbRefusal;
+use hq_base::Json;
+use std::alloc::Global;
+
+/// A database that answers texts of SQL. No call changes what it holds.
+pub trait Database {
+    /// The tables of its catalog.
+    ghost tables: { Self → Items Table };
+
+    /// For each table its rows in file order, where the database tells them.
+    ghost database: { Self → Option (Items (Items Row)) };
+
+    /// How many texts were asked; it stays at its greatest value.
+    ghost asks: { Self → ℕ };
+
+    /// The text that was asked last, if any was.
+    ghost last: { Self → Option (Items ℕ) };
+
+    /// How often it has failed. It never falls, and stays at its greatest value.
+    ghost faults: { Self → ℕ };
+
+    fn faults(&self) -> u64
+        ensures { result ≡ faults self.now };
+
+    /// Answers a text: the JSON that the statement means.
+    fn run(&mut self, alloc: Global, text: &[u8]) -> Result<Json, DbRefusal>
+        ensures failed { IfErr result (λ e. TellsFailure (faults self.old) (faults self.new) e) }
+
+        // Each text is counted and kept, unless memory is wanted before it could be.
+        ensures asked { Asked (asks self.old) (asks self.new) (last self.new) text.now ⊎ ((result ≡ Err DbRefusal.Memory) × NotAsked (asks self.old) (asks self.new) (last self.old) (last self.new)) }
+
+        // The database is unchanged, and the count of faults never falls.
+        ensures tables { tables self.new ≡ tables self.old }
+        ensures database { database self.new ≡ database self.old }
+        ensures later { faults self.old ≤ faults self.new };
+
+    ghost catalog_fits: { (db : Self) → is_catalog (tables db) ≡ true };
+
+    ghost database_fits: { (db : Self) → IfSome (database db) (λ d. is_database (tables db) d ≡ true) };
+}

@@ -1,0 +1,36 @@
+-- What it means that the compiled statement is right.
+use Rattle.std.specs.Prelude.{◌≡◌, ℕ, ◌+◌, ◌≤◌, ◌^◌, List, [], length, true, Option, None}
+use Rattle.hq_terms.specs.Bexp.{always}
+use Rattle.hq_terms.specs.Catalog.{is_catalog}
+use Rattle.hq_terms.specs.Database.{Row, is_database}
+use Rattle.hq_terms.specs.Grants.{Grants, grant}
+use Rattle.hq_terms.specs.Meta.{MetaTree}
+use Rattle.hq_terms.specs.Permission.{Permission}
+use Rattle.hq_terms.specs.Schema.{Schema, schema_of, table}
+use Rattle.hq_terms.specs.declared.table.Table.{Table}
+use Rattle.hq_ask_tree.specs.Request.{FieldTrees, no_field, field, FieldTree, column, list}
+use Rattle.hq_ask_tree.specs.Resolve.{resolved}
+use Rattle.hq_sql_tree.specs.Meaning.{meaning}
+use Rattle.hq_sql_compile.specs.Compiled.{numbers_all, statement}
+
+-- a permission without a filter, masks and a limit
+pub record IsPlain (p : Permission) : Type 0 where
+  pub filter : p.filter ≡ always
+  pub masks : p.masks ≡ []
+  pub limit : p.limit ≡ None
+
+-- each list is of a table on which the permission is plain, and whose key has fewer than 2 ^ 64 columns
+abbrev mutual
+  pub ArePlain : FieldTrees → Schema → Grants → Type 0
+  ArePlain no_field s g = Unit {0}
+  ArePlain (field key f fs) s g = IsPlainField f s g × ArePlain fs s g
+
+  pub IsPlainField : FieldTree → Schema → Grants → Type 0
+  IsPlainField (column c) s g = Unit {0}
+  IsPlainField (list t fs) s g = IsPlain (grant g t) × (length (table s t).key ≤ 2 ^ 64) × ArePlain fs s g
+
+-- The statement means, over every database of the catalog, what nested resolvers give over the permitted rows.
+abbrev pub MeansResolved : FieldTrees → List Table → MetaTree → Grants → List (List Row) → Type 0
+MeansResolved fs tables meta g d =
+    is_catalog tables ≡ true → is_database tables d ≡ true → ArePlain fs (schema_of tables meta) g → 1 + numbers_all fs ≤ 2 ^ 64 →
+    meaning (statement fs (schema_of tables meta)) (record { tables = tables; database = d }) ≡ resolved fs (schema_of tables meta) g d

@@ -1,0 +1,13 @@
+pub mod Between
+pub mod Sound
+pub mod Strip
+pub mod Quotes
+pub mod Many
+pub mod Below
+pub mod Listed
+pub mod Fits
+pub mod Literals
+pub mod Ints
+pub mod Exprs
+pub mod Again
+pub mod Form

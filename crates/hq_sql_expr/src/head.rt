@@ -1,0 +1,12 @@
+/// What a JSON object or an aggregate begins with.
+#[derive(Clone, Copy, Debug, PartialEq, Eq)]
+pub enum Head {
+    Object,
+    CountAll,
+    CountDistinct,
+    Count,
+    Sum,
+    Min,
+    Max,
+    JsonAgg,
+}

@@ -1,0 +1,14 @@
+//! The text of a select: writing it, and reading it back exactly.
+#![tactic(auto)]
+
+mod printing;
+mod reading;
+mod shape;
+mod statement;
+
+pub use hq_sql_expr::ReadRefusal;
+pub use printing::print;
+pub use statement::{one_tree, read};
+
+#[cfg(test)]
+mod tests;

@@ -1,0 +1,6 @@
+pub mod Tree
+pub mod View
+pub mod Word
+pub mod Spelling
+pub mod Meaning
+pub mod Form

@@ -1,0 +1,12 @@
+//! The subset of SELECT that hq writes and reads: its trees, the one spelling of each, and what they mean.
+#![tactic(auto)]
+
+mod copy;
+mod expr;
+mod form;
+mod select;
+mod word;
+
+pub use expr::{Agg, Expr, ExprList, ExprPair, ExprPairList, Order, OrderList};
+pub use select::{From, Join, JoinList, Out, OutList, Pred, PredList, Select};
+pub use word::Word;
