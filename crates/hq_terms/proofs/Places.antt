@@ -22,7 +22,7 @@ numbered-get f k (x ∷ xs) (suc i) =
     let e : suc k + i ≡ k + suc i = omega arith in
     numbered-get f (suc k) xs i ∙ ap (λ n. option_map (f n) (slice_get xs i)) e
 
-at_0 : {A B : Type 0} (f : ℕ → A → B) (xs : List A) (i : ℕ) → slice_get (numbered f 0 xs) i ≡ option_map (f i) (slice_get xs i)
+pub at_0 : {A B : Type 0} (f : ℕ → A → B) (xs : List A) (i : ℕ) → slice_get (numbered f 0 xs) i ≡ option_map (f i) (slice_get xs i)
 at_0 f xs i = let e : 0 + i ≡ i = omega arith in numbered-get f 0 xs i ∙ ap (λ n. option_map (f n) (slice_get xs i)) e
 
 -- a table of the schema of a catalog that has it, and one beyond
