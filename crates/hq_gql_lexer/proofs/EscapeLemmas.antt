@@ -224,8 +224,8 @@ two_units more high low u v is_high is_low =
       some = is.some;
     }
 
--- the first test of two
-tested : {A : Type 0} (t : Bool) (x y z : A) → cond t x y ≡ z → ((t ≡ true) × (x ≡ z)) ⊎ ((t ≡ false) × (y ≡ z))
+-- which of two a test has chosen
+pub tested : {A : Type 0} (t : Bool) (x y z : A) → cond t x y ≡ z → ((t ≡ true) × (x ≡ z)) ⊎ ((t ≡ false) × (y ≡ z))
 tested true x y z h = inl (refl, h)
 tested false x y z h = inr (refl, h)
 

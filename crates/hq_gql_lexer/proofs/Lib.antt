@@ -11,3 +11,9 @@ pub mod ReadLemmas
 pub mod PlainLemmas
 pub mod QuotesLemmas
 pub mod ValueLemmas
+pub mod WithinLemmas
+pub mod TokenLemmas
+pub mod StringSoundLemmas
+pub mod IgnoredLemmas
+pub mod SoundLemmas
+pub mod LexLemmas

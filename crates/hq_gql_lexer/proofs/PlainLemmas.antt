@@ -100,7 +100,7 @@ IsUtf8-behind front rest f u =
 pub wide_source : (c : ℕ) → 128 ≤ c → is_source c ≡ true
 wide_source c h = grind (arith, nat_tests)
 
-wide_no_end : (c : ℕ) → 128 ≤ c → is_line_end c ≡ false
+pub wide_no_end : (c : ℕ) → 128 ≤ c → is_line_end c ≡ false
 wide_no_end c h = grind (arith, nat_tests)
 
 pub source_some : (c : ℕ) → is_source c ≡ true → c ≢ 0
@@ -189,7 +189,7 @@ ends_here false true o h = refl
 ends_here false false None h = cc
 ends_here false false (Some k) h = let e : 1 + k ≡ 0 = cc in absurd (omega arith)
 
-closed_by : (taken : Bool) (bytes : List ℕ) (n : ℕ) → plain_len taken bytes ≡ Some n → IsClosed bytes n
+pub closed_by : (taken : Bool) (bytes : List ℕ) (n : ℕ) → plain_len taken bytes ≡ Some n → IsClosed bytes n
 closed_by taken [] n h = cc
 closed_by taken (b ∷ bytes) zero h =
     let quote = and_parts (not taken) (b == 34) (ends_here (is_line_end b) (not taken && b == 34) _ h) in

@@ -26,7 +26,7 @@ use Rattle.hq_gql_lexer.proofs.BlockLemmas.{block_skip}
 use Rattle.hq_gql_lexer.proofs.PlainLemmas.{copies_source, source_first, counted_back, wide_source, source_some, IsUtf8-behind}
 
 -- bytes that begin with others
-begins : (needle bytes : List ℕ) → starts_with nat_eq bytes needle ≡ true → bytes ≡ needle ++ drop (length needle) bytes
+pub begins : (needle bytes : List ℕ) → starts_with nat_eq bytes needle ≡ true → bytes ≡ needle ++ drop (length needle) bytes
 begins needle bytes h =
     let front : needle ≡ take (length needle) bytes = same_text needle (take (length needle) bytes) (sym h) in
     sym (take-append-drop (length needle) bytes) ∙ ap (λ xs. xs ++ drop (length needle) bytes) (sym front)
@@ -232,7 +232,7 @@ none_is_zero : (o : Option ℕ) → option_map (λ k. 1 + k) o ≡ Some 0 → �
 none_is_zero None h = cc
 none_is_zero (Some k) h = let e : 1 + k ≡ 0 = cc in omega arith
 
-block_closed_by : (taken : ℕ) (bytes : List ℕ) (n : ℕ) → block_len taken bytes ≡ Some n → IsClosedBlock bytes n
+pub block_closed_by : (taken : ℕ) (bytes : List ℕ) (n : ℕ) → block_len taken bytes ≡ Some n → IsClosedBlock bytes n
 block_closed_by taken [] n h = cc
 block_closed_by (suc taken) (b ∷ bytes) zero h = absurd (none_is_zero (block_len taken bytes) h)
 block_closed_by (suc taken) (b ∷ bytes) (suc n) h =

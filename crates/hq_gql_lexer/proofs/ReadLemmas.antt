@@ -31,7 +31,7 @@ pub record IsRead (form : Form) (at : ℕ) (bytes value : List ℕ) : Type 0 whe
   pub utf8 : IsUtf8 bytes
   pub read : steps (character_at form) 0 at bytes ≡ Ok value
 
-unless : (t : Bool) (e : LexRefusal) (x y : List ℕ) → cond t (Err e) (Ok x) ≡ Ok y → (t ≡ false) × (x ≡ y)
+pub unless : {A : Type 0} (t : Bool) (e : LexRefusal) (x y : A) → cond t (Err e) (Ok x) ≡ Ok y → (t ≡ false) × (x ≡ y)
 unless true e x y h = cc
 unless false e x y h = (refl, cc)
 

@@ -7,3 +7,4 @@ pub mod BlockStrings
 pub mod Lexemes
 pub mod Pieces
 pub mod Grammar
+pub mod Spans

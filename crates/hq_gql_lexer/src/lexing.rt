@@ -1,7 +1,9 @@
 //! A text from left to right.
-ghost use Rattle.std.specs.Prelude.{◌≡◌, ◌+◌, ◌<◌, ◌^◌, ◌++◌, OnOk};
+ghost use Rattle.std.specs.Prelude.{◌≡◌, ◌+◌, ◌<◌, ◌^◌, ◌++◌, length, IfOk, OnOk};
 ghost use Rattle.hq_base.specs.Due.{Gives};
+ghost use Rattle.hq_gql_lexer.specs.Grammar.{Lexes};
 ghost use Rattle.hq_gql_lexer.specs.Lexemes.{tokens_in, tokens_of};
+ghost use Rattle.hq_gql_lexer.specs.Spans.{AreInOrder};
 
 use crate::lexeme::lexeme;
 use crate::{LexRefusal, Token, TokenKind, Tokens};
@@ -28,9 +30,9 @@ fn push_token(
     }
 }
 
-/// The tokens of a text.
+// The tokens that the definition has.
 #[tactic(auto, unfolding(crate::specs::Lexemes::tokens_of))]
-pub fn lex(alloc: Global, text: &[u8]) -> Result<Tokens, LexRefusal>
+fn all_tokens(alloc: Global, text: &[u8]) -> Result<Tokens, LexRefusal>
     ensures { Gives (λ tokens. tokens) LexRefusal.Memory (tokens_of text.now) result }
 {
     let mut tokens = List::new(alloc);
@@ -41,4 +43,16 @@ pub fn lex(alloc: Global, text: &[u8]) -> Result<Tokens, LexRefusal>
         at += len;
     }
     Ok(tokens)
+}
+
+/// The tokens of a text. What stands between them is ignored: white space, line ends, commas, byte order marks and
+/// comments. A refusal stands at the first place from the left at which there is one, and there it is the first of
+/// [`LexRefusal`]'s.
+pub fn lex(alloc: Global, text: &[u8]) -> Result<Tokens, LexRefusal>
+    ensures exact { Gives (λ tokens. tokens) LexRefusal.Memory (tokens_of text.now) result }
+    // The tokens, and what is ignored between them, are those of the standard's productions.
+    ensures lexes { IfOk result (λ tokens. Lexes 0 text.now tokens) }
+    ensures spans { IfOk result (λ tokens. AreInOrder 0 (length text.now) tokens) }
+{
+    all_tokens(alloc, text)
 }

@@ -3,8 +3,8 @@ use Rattle.std.specs.Prelude.{ℕ, suc, max, Option, Some, None, List, [], ◌�
 use Rattle.hq_gql_tree.specs.Values.{ValueTree, int, float, str, bool, null, enum, list, object, variable, ElementTrees, no_element, element, MemberTrees, no_member, member, PlacedTree, ArgumentTree, DirectiveTree}
 use Rattle.hq_gql_tree.specs.Types.{TypeTree, named, non_null}
 use Rattle.hq_gql_tree.specs.Types.{list as list_type}
-use Rattle.hq_gql_tree.specs.Selections.{FieldHead, SpreadTree, InlineHead, SelectionTree, field, spread, inline, SelectionTrees, no_selection, selection}
-use Rattle.hq_gql_tree.specs.Documents.{VarDefTree, OperationTree, FragmentTree, DefinitionTree, operation, fragment, DocumentTree}
+use Rattle.hq_gql_tree.specs.Selections.{SelectionTree, field, spread, inline, SelectionTrees, no_selection, selection}
+use Rattle.hq_gql_tree.specs.Documents.{VarDefTree, DefinitionTree, operation, fragment, DocumentTree}
 
 abbrev mutual
   pub value_nest : ValueTree → ℕ

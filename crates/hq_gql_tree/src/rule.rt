@@ -1,4 +1,4 @@
-ghost use Rattle.std.specs.Prelude.{◌≡◌};
+ghost use Rattle.std.specs.Prelude.{◌≡◌, Some};
 ghost use Rattle.hq_gql_tree.specs.Rules.{rule_text};
 
 use std::fmt;
@@ -125,6 +125,8 @@ impl RuleId {
 }
 
 impl fmt::Display for RuleId {
+    ghost output = { λ rule. Some (rule_text rule) };
+
     fn fmt<W: fmt::Write>(&self, f: &mut fmt::Formatter<W>) -> fmt::Result {
         f.write_str(self.text())
     }

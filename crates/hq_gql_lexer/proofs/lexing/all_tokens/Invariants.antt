@@ -1,7 +1,7 @@
 use Rattle.std.proofs.Common.{length, ◌-◌}
 use Rattle.hq_gql_lexer.specs.Lexemes.{tokens_at}
 use Rattle.hq_gql_lexer.proofs.StepsLemmas.{IsMade}
-use Rattle.hq_gql_lexer.proofs.lexing.lex.Given as goal
+use Rattle.hq_gql_lexer.proofs.lexing.all_tokens.Given as goal
 
 abbrev pub invariant-loop-at : goal.invariant-loop-at
 invariant-loop-at l = IsMade tokens_at 0 l.at l.text l.tokens
