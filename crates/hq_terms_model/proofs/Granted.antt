@@ -48,19 +48,19 @@ none_permitted s g d t e =
 
 -- beyond the catalog no row is permitted
 pub beyond_catalog : (session : Session) (tables : List Table) (m : MetaTree) (d : List (List Row)) (t : ℕ) → length tables ≤ t →
-  [] ≡ permitted (schema_of tables m) (grants_of session tables m) d t
+    [] ≡ permitted (schema_of tables m) (grants_of session tables m) d t
 beyond_catalog session tables m d t beyond =
     none_permitted (schema_of tables m) (grants_of session tables m) d t
     (ap (λ (p : Permission). p.filter) (sym (grant_absent session tables m t (slice_get_past tables t beyond))))
 
 -- rows that are the permitted ones of each table of the catalog are so everywhere
 pub permitted_everywhere : (session : Session) (tables : List Table) (m : MetaTree) (d rows : List (List Row)) → length rows ≡ length tables →
-  ((t : ℕ) → t < length tables → get_or rows t [] ≡ permitted (schema_of tables m) (grants_of session tables m) d t) →
-  (t : ℕ) → table_rows rows t ≡ permitted (schema_of tables m) (grants_of session tables m) d t
+    ((t : ℕ) → t < length tables → get_or rows t [] ≡ permitted (schema_of tables m) (grants_of session tables m) d t) →
+    (t : ℕ) → table_rows rows t ≡ permitted (schema_of tables m) (grants_of session tables m) d t
 permitted_everywhere session tables m d rows same within t =
     elim (cases_lt t (length tables)) [
       | inl below ↦ within t below
       | inr beyond ↦
-        let past : length rows ≤ t = omega arith in
-        absent rows t [] (slice_get_past rows t past) ∙ beyond_catalog session tables m d t beyond
+          let past : length rows ≤ t = omega arith in
+          absent rows t [] (slice_get_past rows t past) ∙ beyond_catalog session tables m d t beyond
     ]

@@ -13,4 +13,4 @@ returns c =
     let many : length c.loop-at.rows ≡ length tables = omega arith in
     sees_permitted c.args.session.now tables meta seen.rows.now c.loop-at.rows
     (permitted_everywhere c.args.session.now tables meta seen.rows.now c.loop-at.rows many
-     (λ t below. let under : t < c.loop-at.at = omega arith in c.loop-at.invariant.permitted t under))
+    (λ t below. let under : t < c.loop-at.at = omega arith in c.loop-at.invariant.permitted t under))
