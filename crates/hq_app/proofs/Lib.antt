@@ -1,3 +1,0 @@
-mod Catalogs
-mod EachDue
-mod WrittenParts

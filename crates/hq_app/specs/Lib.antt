@@ -1,4 +1,0 @@
-pub mod Words
-pub mod Told
-pub mod Directory
-pub mod Loading

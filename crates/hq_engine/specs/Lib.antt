@@ -1,4 +1,0 @@
-pub mod ListBody
-pub mod ListRequest
-pub mod Answer
-pub mod Refusals
