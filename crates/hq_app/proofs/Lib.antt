@@ -1,0 +1,3 @@
+mod Catalogs
+mod EachDue
+mod WrittenParts

@@ -1,0 +1,93 @@
+-- The line that a refusal is told by.
+use Rattle.std.specs.Prelude.{ℕ, List, [], ◌∷◌, ◌++◌, codes}
+use Rattle.std.specs.List.{concat}
+use Rattle.std.specs.Fmt.{decimal}
+use Rattle.hq_catalog_read.specs.declared.refusal.CatalogRefusal.{CatalogRefusal}
+use Rattle.hq_catalog_read.specs.declared.refusal.CatalogRefusal.TheVariants as catalog
+use Rattle.hq_tables.specs.declared.load.refusal.LoadRefusal.{LoadRefusal}
+use Rattle.hq_tables.specs.declared.load.refusal.LoadRefusal.TheVariants as table
+use Rattle.hq_app.specs.declared.refusal.FileFault.{FileFault}
+use Rattle.hq_app.specs.declared.refusal.FileFault.TheVariants as fault
+use Rattle.hq_app.specs.declared.refusal.Refusal.{Refusal}
+use Rattle.hq_app.specs.declared.refusal.Refusal.TheVariants as refusal
+use Rattle.hq_app.specs.declared.phrase.Phrase.{Phrase}
+use Rattle.hq_app.specs.declared.phrase.Phrase.TheVariants.{Hq, Colon, Space, End, BadArguments, ReadFailed, WriteFailed, OutOfMemory, InputTooLong, NotBuilt, Missing, TooLarge, NotJson, Shape, Repeated, NoKey, NameLength, TooMany, Header, Width, NotUtf8, ZeroByte, NotInteger, NotBoolean, NullInNotNull, RepeatedKey, Memory}
+
+-- the text of a phrase
+unfoldable pub phrase_text : Phrase → List ℕ
+phrase_text Hq = codes "hq: "
+phrase_text Colon = codes ":"
+phrase_text Space = codes " "
+phrase_text End = codes "\n"
+phrase_text BadArguments = codes "bad arguments"
+phrase_text ReadFailed = codes "read failed"
+phrase_text WriteFailed = codes "write failed"
+phrase_text OutOfMemory = codes "out of memory"
+phrase_text InputTooLong = codes "input too long"
+phrase_text NotBuilt = codes "not built"
+phrase_text Missing = codes "Missing"
+phrase_text TooLarge = codes "TooLarge"
+phrase_text NotJson = codes "NotJson"
+phrase_text Shape = codes "Shape"
+phrase_text Repeated = codes "Repeated"
+phrase_text NoKey = codes "NoKey"
+phrase_text NameLength = codes "NameLength"
+phrase_text TooMany = codes "TooMany"
+phrase_text Header = codes "Header"
+phrase_text Width = codes "Width"
+phrase_text NotUtf8 = codes "NotUtf8"
+phrase_text ZeroByte = codes "ZeroByte"
+phrase_text NotInteger = codes "NotInteger"
+phrase_text NotBoolean = codes "NotBoolean"
+phrase_text NullInNotNull = codes "NullInNotNull"
+phrase_text RepeatedKey = codes "RepeatedKey"
+phrase_text Memory = codes "Memory"
+
+-- a line of one phrase
+abbrev pub plain_line : Phrase → List ℕ
+plain_line phrase = concat (phrase_text Hq ∷ phrase_text phrase ∷ phrase_text End ∷ [])
+
+-- each part after a space
+abbrev pub spaced : List (List ℕ) → List (List ℕ)
+spaced [] = []
+spaced (part ∷ parts) = phrase_text Space ∷ part ∷ spaced parts
+
+-- a line of a file, with the refusal's name and its fields
+abbrev pub file_line : (file : List ℕ) → Phrase → (fields : List (List ℕ)) → List ℕ
+file_line file name fields = concat (phrase_text Hq ∷ file ∷ phrase_text Colon ∷ phrase_text Space ∷ phrase_text name ∷ (spaced fields ++ phrase_text End ∷ []))
+
+abbrev pub catalog_line : (file : List ℕ) → CatalogRefusal → List ℕ
+catalog_line file catalog.NotJson = file_line file NotJson []
+catalog_line file (catalog.Shape path) = file_line file Shape (path ∷ [])
+catalog_line file (catalog.Repeated name) = file_line file Repeated (name ∷ [])
+catalog_line file (catalog.NoKey name) = file_line file NoKey (name ∷ [])
+catalog_line file (catalog.NameLength name) = file_line file NameLength (name ∷ [])
+catalog_line file (catalog.TooMany what count) = file_line file TooMany (what ∷ decimal count ∷ [])
+catalog_line file catalog.Memory = file_line file Memory []
+
+abbrev pub table_line : (file : List ℕ) → LoadRefusal → List ℕ
+table_line file table.Header = file_line file Header []
+table_line file (table.Width line) = file_line file Width (decimal line ∷ [])
+table_line file (table.NotUtf8 line col) = file_line file NotUtf8 (decimal line ∷ decimal col ∷ [])
+table_line file (table.ZeroByte line col) = file_line file ZeroByte (decimal line ∷ decimal col ∷ [])
+table_line file (table.NotInteger line col) = file_line file NotInteger (decimal line ∷ decimal col ∷ [])
+table_line file (table.NotBoolean line col) = file_line file NotBoolean (decimal line ∷ decimal col ∷ [])
+table_line file (table.NullInNotNull line col) = file_line file NullInNotNull (decimal line ∷ decimal col ∷ [])
+table_line file (table.RepeatedKey line earlier) = file_line file RepeatedKey (decimal line ∷ decimal earlier ∷ [])
+table_line file table.Memory = file_line file Memory []
+
+abbrev pub fault_line : (file : List ℕ) → FileFault → List ℕ
+fault_line file fault.Missing = file_line file Missing []
+fault_line file fault.TooLarge = file_line file TooLarge []
+fault_line file (fault.Catalog e) = catalog_line file e
+fault_line file (fault.Table e) = table_line file e
+
+-- the line of a refusal
+abbrev pub line_of : Refusal → List ℕ
+line_of refusal.BadWords = plain_line BadArguments
+line_of (refusal.File file f) = fault_line file f
+line_of refusal.ReadFailed = plain_line ReadFailed
+line_of refusal.WriteFailed = plain_line WriteFailed
+line_of refusal.Memory = plain_line OutOfMemory
+line_of refusal.InputTooLong = plain_line InputTooLong
+line_of refusal.NotBuilt = plain_line NotBuilt

@@ -1,0 +1,14 @@
+ghost use Rattle.std.specs.Prelude.{◌≡◌, true};
+ghost use Rattle.hq_terms.specs.Database.{is_database};
+
+use hq_tables::RowsList;
+use hq_terms::{Catalog, Meta};
+
+/// What a directory holds: the catalog, the metadata, and the rows of each table of the catalog, in its order.
+#[derive(Drop)]
+pub struct Loaded {
+    pub catalog: Catalog,
+    pub meta: Meta,
+    pub rows: RowsList,
+    ghost database: { is_database catalog.tables rows ≡ true },
+}

@@ -1,0 +1,4 @@
+pub mod ListBody
+pub mod ListRequest
+pub mod Answer
+pub mod Refusals

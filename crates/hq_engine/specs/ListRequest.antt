@@ -1,0 +1,59 @@
+-- The typed request of a list of plain columns.
+use Rattle.std.specs.Prelude.{ℕ, List, [], ◌∷◌, find, position, Bool, true, false, ◌&&◌, ◌==◌, cond, Option, Some, None, is_none, option_map, option_and_then, bytes_eq, slice_index_or}
+use Rattle.std.specs.List.{list_any}
+use Rattle.std.specs.Result.{result_ok}
+use Rattle.hq_base.specs.Body.{body_of}
+use Rattle.hq_terms.specs.Bexp.{BexpTree, always, and_of, or_of, not_of, comparison, within, is_null, like, through}
+use Rattle.hq_terms.specs.Meta.{TrackedTree, MetaTree}
+use Rattle.hq_terms.specs.Permission.{Permission, Mask, permission, role_of}
+use Rattle.hq_terms.specs.declared.role.Role.{Role}
+use Rattle.hq_terms.specs.declared.session.Session.{Session}
+use Rattle.hq_ask_tree.specs.declared.ask.Ask.{Ask}
+use Rattle.hq_ask_tree.specs.declared.ask.AskColumn.{AskColumn}
+use Rattle.hq_engine.specs.ListBody.{list_of}
+use Rattle.hq_engine.specs.declared.list_body.ListBody.{ListBody}
+
+-- a permission on all rows, without a limit
+abbrev pub is_always : BexpTree → Bool
+is_always always = true
+is_always _ = false
+
+abbrev pub has_no_mask : List Mask → Bool
+has_no_mask [] = true
+has_no_mask (m ∷ ms) = false
+
+abbrev pub is_plain : Permission → Bool
+is_plain p = is_always p.filter && is_none p.limit && has_no_mask p.masks
+
+-- the permitted column of this GraphQL name
+abbrev pub permitted_place : List ℕ → Option ℕ → Option ℕ
+permitted_place columns None = None
+permitted_place columns (Some c) = cond (list_any (λ d. d == c) columns) (Some c) None
+
+abbrev pub column_named : (names : List (List ℕ)) → List ℕ → List ℕ → Option ℕ
+column_named names columns name = permitted_place columns (position (λ n. bytes_eq n name) names)
+
+abbrev pub ask_column : (names : List (List ℕ)) → ℕ → AskColumn
+ask_column names c = record { key = slice_index_or names c []; column = c }
+
+-- the permitted columns of these GraphQL names, where each is one
+abbrev pub columns_named : (names : List (List ℕ)) → List ℕ → List (List ℕ) → Option (List AskColumn)
+columns_named names columns [] = Some []
+columns_named names columns (n ∷ ns) =
+    option_and_then (λ c. option_map (λ cs. ask_column names c ∷ cs) (columns_named names columns ns)) (column_named names columns n)
+
+abbrev pub ask_under : TrackedTree → Permission → ListBody → Option Ask
+ask_under k p body =
+    cond (is_plain p) (option_map (λ cs. record { key = k.roots.select; table = k.table; columns = cs }) (columns_named k.column_names p.columns body.columns)) None
+
+-- the request for the table of this root field, where the role may see all of its rows and these columns
+abbrev pub ask_of_table : MetaTree → Role → ListBody → TrackedTree → Option Ask
+ask_of_table m role body k = option_and_then (λ p. ask_under k p body) (permission role m k.table)
+
+abbrev pub list_request : MetaTree → Role → ListBody → Option Ask
+list_request m role body = option_and_then (ask_of_table m role body) (find (λ k. bytes_eq k.roots.select body.root) m.tracked)
+
+-- the request that a body makes, where it is built so far
+abbrev pub request_of : MetaTree → Session → (body : List ℕ) → Option Ask
+request_of m session body =
+    option_and_then (list_request m (role_of session.role)) (option_and_then list_of (result_ok (body_of body)))

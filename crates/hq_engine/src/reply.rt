@@ -1,0 +1,29 @@
+ghost use Rattle.std.specs.Prelude.{◌≡◌, IfOk, codes};
+ghost use Rattle.hq_base.specs.Json as tree;
+ghost use Rattle.hq_base.specs.Json.{json_view};
+ghost use Rattle.hq_engine.specs.Answer.{data_text};
+
+use hq_base::{Bytes, Json, Member, Memory, Reply, Txt};
+use std::alloc::Global;
+
+// An object with the one member `data`.
+fn data_object(alloc: Global, value: Json) -> Result<Json, Memory>
+    ensures { IfOk result (λ json. json_view json ≡ tree.obj (tree.member (codes "data") (json_view value) tree.no_member)) }
+{
+    let mut name = Txt::new(alloc);
+    name.push_str("data")?;
+    let mut members = Vec::new(alloc);
+    members.push(Member { name, value })?;
+    Ok(Json::Obj(members))
+}
+
+/// The reply whose data is this value.
+pub(crate) fn data_reply(alloc: Global, value: Json) -> Result<Reply, Memory>
+    ensures status { IfOk result (λ reply. reply.status ≡ 200) }
+    ensures body { IfOk result (λ reply. reply.body ≡ data_text (json_view value)) }
+{
+    let json = data_object(alloc, value)?;
+    let mut body = Bytes::new(alloc);
+    json.write_to(alloc, &mut body)?;
+    Ok(Reply { status: 200, body })
+}

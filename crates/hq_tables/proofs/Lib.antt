@@ -1,0 +1,10 @@
+pub mod Databases
+pub mod AllRecords
+pub mod Fields
+pub mod Headers
+pub mod Placed
+pub mod Records
+pub mod Arranged
+pub mod Keys
+pub mod NextRows
+pub mod Valid

@@ -1,0 +1,46 @@
+-- A field of a table file, as a value of its column (PostgreSQL, COPY with FORMAT csv and NULL '\N').
+use Rattle.std.specs.Prelude.{ℕ, List, Bool, Result, Ok, Err, ok_or, option_map, bytes_eq, codes, if◌then◌else◌}
+use Rattle.hq_base.specs.Due.{and_then}
+use Rattle.hq_base.specs.Refused.{text_of}
+use Rattle.hq_base.specs.declared.txt.TxtRefusal.{TxtRefusal}
+use Rattle.hq_base.specs.declared.txt.TxtRefusal.TheVariants as txt
+use Rattle.hq_base.specs.declared.value.Ty.{Ty}
+use Rattle.hq_base.specs.declared.value.Ty.TheVariants.{Integer, Bigint, Text, Boolean}
+use Rattle.hq_base.specs.declared.value.Val.{Val}
+use Rattle.hq_base.specs.declared.value.Val.TheVariants as val
+use Rattle.hq_terms.specs.Reading.{truth_value, whole_number}
+use Rattle.hq_terms.specs.declared.table.Column.{Column}
+use Rattle.hq_tables.specs.declared.field.FieldRefusal.{FieldRefusal}
+use Rattle.hq_tables.specs.declared.field.FieldRefusal.TheVariants.{NotUtf8, ZeroByte, NotInteger, NotBoolean, NullInNotNull, Memory}
+
+-- the field that stands for NULL, in quotes or not
+abbrev pub null_field : List ℕ
+null_field = codes "\\N"
+
+-- why a field is no text
+abbrev pub field_refusal : TxtRefusal → FieldRefusal
+field_refusal txt.NotUtf8 = NotUtf8
+field_refusal txt.ZeroByte = ZeroByte
+field_refusal txt.Memory = Memory
+
+abbrev pub field_text : Result (List ℕ) TxtRefusal → Result (List ℕ) FieldRefusal
+field_text (Ok s) = Ok s
+field_text (Err e) = Err (field_refusal e)
+
+-- NULL, where the column may hold it
+abbrev pub null_due : (nullable : Bool) → Result Val FieldRefusal
+null_due nullable = if nullable then Ok val.Null else Err NullInNotNull
+
+-- a text as a value of the type; a text column takes it as it stands
+abbrev pub typed_due : Ty → List ℕ → Result Val FieldRefusal
+typed_due Integer s = ok_or (option_map val.Int (whole_number Integer s)) NotInteger
+typed_due Bigint s = ok_or (option_map val.Int (whole_number Bigint s)) NotInteger
+typed_due Text s = Ok (val.Text s)
+typed_due Boolean s = ok_or (option_map val.Bool (truth_value s)) NotBoolean
+
+abbrev pub value_due : Column → List ℕ → Result Val FieldRefusal
+value_due c s = if bytes_eq s null_field then null_due c.nullable else typed_due c.ty s
+
+-- the value of a field, or the first of the refusals: not UTF-8, a zero byte, then NULL or what is not of the type
+abbrev pub field_due : Column → List ℕ → Result Val FieldRefusal
+field_due c field = and_then (value_due c) (field_text (text_of field))

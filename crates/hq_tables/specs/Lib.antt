@@ -1,0 +1,10 @@
+pub mod Pins
+pub mod Store
+pub mod Databases
+pub mod Flaky
+pub mod Field
+pub mod Header
+pub mod Load
+pub mod Places
+pub mod Keys
+pub mod Layouts

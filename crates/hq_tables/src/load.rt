@@ -1,0 +1,44 @@
+//! Table files, as `COPY t TO STDOUT WITH (FORMAT csv, HEADER, NULL '\N')` writes them.
+
+mod header;
+mod key;
+mod layout;
+mod record;
+mod records;
+mod refusal;
+mod rows;
+
+ghost use Rattle.std.specs.Prelude.{◌≡◌, ◌≤◌, true, length, IfOk};
+ghost use Rattle.hq_base.specs.Due.{Gives};
+ghost use Rattle.hq_terms.specs.Database.{are_rows};
+ghost use Rattle.hq_tables.specs.Header.{names_differ};
+ghost use Rattle.hq_tables.specs.Load.{table_due};
+ghost use Rattle.hq_tables.specs.declared.load.refusal.LoadRefusal.TheVariants as refusal;
+
+use crate::Rows;
+use hq_outside::LARGEST_FILE;
+use hq_terms::Table;
+use layout::Layout;
+use records::all_records;
+pub use refusal::LoadRefusal;
+use rows::read_rows;
+use std::alloc::Global;
+
+/// The rows of a table's file. The column names of the table differ, as those of a catalog's table do, and the file is
+/// one that `Files::load` may give.
+pub fn load_table(alloc: Global, bytes: &[u8], table: &Table) -> Result<Rows, LoadRefusal>
+    requires small { length bytes.now ≤ LARGEST_FILE }
+    requires names { names_differ table.now.columns ≡ true }
+    ensures due { Gives (λ rows. rows) refusal.Memory (table_due table.now bytes.now) result }
+    ensures valid { IfOk result (λ rows. are_rows table.now rows ≡ true) }
+{
+    let records = all_records(alloc, bytes)?;
+    let Some((header, records)) = records.as_slice().split_first() else {
+        return Err(LoadRefusal::Header);
+    };
+    let Some(layout) = Layout::of(alloc, table, header)? else {
+        return Err(LoadRefusal::Header);
+    };
+    let rows = read_rows(alloc, &layout, records)?;
+    Ok(Rows::of(alloc, rows, table)?)
+}

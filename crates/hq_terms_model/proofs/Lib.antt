@@ -1,0 +1,4 @@
+mod Values
+mod Patterns
+mod Granted
+mod Sees
