@@ -1,4 +1,4 @@
-ghost use Rattle.std.specs.Prelude.{◌≡◌, ◌∷◌, [], List, true, IfOk, codes};
+ghost use Rattle.std.specs.Prelude.{◌≡◌, ◌∷◌, [], List, true, false, IfOk, codes};
 ghost use Rattle.hq_terms.specs.declared.table.Column.{Column};
 ghost use Rattle.hq_terms.specs.declared.table.Table.{Table};
 ghost use Rattle.hq_terms.specs.Catalog.{full_name, is_table};
