@@ -210,18 +210,18 @@ pub struct World {
     rows: Database,
 }
 
-pub fn world(alloc: Global) -> Result<World, Fail> {
-    let catalog = catalog(alloc)?;
-    let rows = database(alloc, &catalog)?;
-    let meta = meta(alloc)?;
-    Ok(World {
-        catalog,
-        meta,
-        rows,
-    })
-}
-
 impl World {
+    pub fn new(alloc: Global) -> Result<World, Fail> {
+        let catalog = catalog(alloc)?;
+        let rows = database(alloc, &catalog)?;
+        let meta = meta(alloc)?;
+        Ok(World {
+            catalog,
+            meta,
+            rows,
+        })
+    }
+
     pub fn all(&self) -> Seen<'_> {
         self.with(&self.rows)
     }

@@ -1,4 +1,4 @@
-use crate::tests::fixture::{are, session, world};
+use crate::tests::fixture::{World, are, session};
 use crate::tests::fixture::{ARTICLE, AUTHOR};
 use crate::*;
 use hq_terms::TableId;
@@ -29,7 +29,7 @@ static CASES: [(&str, &str, usize, &str); 16] = [
 
 #[test]
 fn permitted_rows(rt: HostRuntime) -> Result<(), Fail> {
-    let world = world(rt.alloc())?;
+    let world = World::new(rt.alloc())?;
     for (role, id, t, want) in &CASES {
         let session = session(rt.alloc(), role, id)?;
         let rows = permitted(rt.alloc(), &world.all(), &session, TableId::new(*t))?;
@@ -40,7 +40,7 @@ fn permitted_rows(rt: HostRuntime) -> Result<(), Fail> {
 
 #[test]
 fn a_session_sees_its_permitted_rows_of_each_table(rt: HostRuntime) -> Result<(), Fail> {
-    let world = world(rt.alloc())?;
+    let world = World::new(rt.alloc())?;
     let seen = world.seen_by(rt.alloc(), "user", "2")?;
     assert_eq!(rt; seen.len(), 2);
     for (rows, want) in seen.as_slice().iter().zip(["1 2 3", "10 12 13"].iter()) {

@@ -1,4 +1,4 @@
-use crate::tests::fixture::{World, are, world};
+use crate::tests::fixture::{World, are};
 use crate::tests::fixture::{AN_ARTICLE, ARTICLE, ARTICLES, AUTHOR, ID, ITS_AUTHOR, RATING};
 use crate::tests::made::{equals, is_null, through};
 use crate::*;
@@ -39,7 +39,7 @@ static CASES: [((&str, &str), usize, usize, i64, &str); 9] = [
 
 #[test]
 fn related_rows_stand_in_the_order_of_their_keys(rt: HostRuntime) -> Result<(), Fail> {
-    let world = world(rt.alloc())?;
+    let world = World::new(rt.alloc())?;
     for (who, t, r, id, want) in &CASES {
         let rows = behind(rt.alloc(), &world, *who, *t, *r, *id)?;
         are(&rt, &rows, want, who.0)?;
@@ -58,7 +58,7 @@ static SEEING: [(&str, &str, &str); 4] = [
 
 #[test]
 fn a_relationship_in_where_reaches_permitted_rows(rt: HostRuntime) -> Result<(), Fail> {
-    let world = world(rt.alloc())?;
+    let world = World::new(rt.alloc())?;
     let wanted = through(rt.alloc(), ARTICLES, is_null(RATING, true))?;
     for (role, id, want) in &SEEING {
         let rows = world.seen_by(rt.alloc(), role, id)?;
@@ -73,7 +73,7 @@ fn a_relationship_in_where_reaches_permitted_rows(rt: HostRuntime) -> Result<(),
 // An article by an author who has another article: a relationship goes on from each remote row.
 #[test]
 fn relationships_stand_inside_one_another(rt: HostRuntime) -> Result<(), Fail> {
-    let world = world(rt.alloc())?;
+    let world = World::new(rt.alloc())?;
     let seen = world.all();
     let t = TableId::new(ARTICLE);
     let other = through(rt.alloc(), ARTICLES, equals(ID, 11))?;

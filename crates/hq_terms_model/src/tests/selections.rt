@@ -1,4 +1,4 @@
-use crate::tests::fixture::{are, world};
+use crate::tests::fixture::{World, are};
 use crate::tests::fixture::{ARTICLE, AUTHOR_ID, ID, ITS_AUTHOR, NAME, RATING};
 use crate::tests::made::{Entry, arguments, compare, number};
 use crate::*;
@@ -14,7 +14,7 @@ type Case = (&'static [Entry], &'static [usize], Option<u64>, Option<u64>, Optio
 // All articles as `admin` sees them, in the order of their keys, are selected.
 fn select(rt: &(impl Abort + AllocGlobal), cases: &[Case]) -> Result<(), Fail> {
     let alloc = rt.alloc();
-    let world = world(alloc)?;
+    let world = World::new(alloc)?;
     let rows = world.seen_by(alloc, "admin", "")?;
     let seen = world.with(&rows);
     let t = TableId::new(ARTICLE);
@@ -84,7 +84,7 @@ fn the_smaller_limit_counts_behind_the_offset(rt: HostRuntime) -> Result<(), Fai
 #[test]
 fn where_comes_before_all_else(rt: HostRuntime) -> Result<(), Fail> {
     let alloc = rt.alloc();
-    let world = world(alloc)?;
+    let world = World::new(alloc)?;
     let seen = world.all();
     let t = TableId::new(ARTICLE);
     let start = by_key(alloc, &seen, t)?;
@@ -109,7 +109,7 @@ static BY_AUTHORS: [(&str, Entry, &str); 4] = [
 #[test]
 fn a_sort_through_a_relationship_takes_the_permitted_row(rt: HostRuntime) -> Result<(), Fail> {
     let alloc = rt.alloc();
-    let world = world(alloc)?;
+    let world = World::new(alloc)?;
     let t = TableId::new(ARTICLE);
     for (role, entry, want) in &BY_AUTHORS {
         let rows = world.seen_by(alloc, role, "")?;

@@ -1,4 +1,4 @@
-use crate::tests::fixture::{are, txt, world};
+use crate::tests::fixture::{World, are, txt};
 use crate::tests::fixture::{ARTICLE, AUTHOR, EMAIL, ID, NAME, PUBLISHED, RATING, TITLE};
 use crate::tests::made::{both, compare, either, equals, flag, is_null, like, not, number, within, words};
 use crate::*;
@@ -11,7 +11,7 @@ use std::test::Fail;
 // authors only author 2 has an e-mail, `b@x`.
 fn hold(rt: &(impl Abort + AllocGlobal), t: usize, cases: &[(Bexp, &str)]) -> Result<(), Fail> {
     let alloc = rt.alloc();
-    let world = world(alloc)?;
+    let world = World::new(alloc)?;
     let seen = world.all();
     let t = TableId::new(t);
     let start = by_key(alloc, &seen, t)?;
