@@ -1,10 +1,9 @@
 -- Look-ups by place.
-use Rattle.std.proofs.Common.{◌≡◌, refl, ◌∙◌, ap, sym, subst, ℕ, zero, suc, ◌+◌, ◌<◌, List, [], ◌∷◌, Option, Some, None, get_or, arith, rules}
+use Rattle.std.proofs.Common.{◌≡◌, refl, ◌∙◌, ap, sym, ℕ, zero, suc, ◌+◌, List, [], ◌∷◌, Some, None, get_or, arith}
 use Rattle.std.specs.Prelude.{option_map, unwrap_or, slice_get}
 use Rattle.std.proofs.lemmas.Option.{get_or_from_slice_get, unwrap_or-slice_get}
-use Rattle.hq_terms.specs.Bexp.{BexpTree}
 use Rattle.hq_terms.specs.Meta.{MetaTree}
-use Rattle.hq_terms.specs.Schema.{SchemaTable, numbered, schema_of, schema_table, no_table, table}
+use Rattle.hq_terms.specs.Schema.{numbered, schema_of, schema_table, no_table, table}
 use Rattle.hq_terms.specs.declared.table.Table.{Table}
 
 -- an item that is there

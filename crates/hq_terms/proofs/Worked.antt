@@ -1,30 +1,28 @@
 -- The definitions at work on two tables: authors, and articles by them.
-use Rattle.std.specs.Prelude.{◌≡◌, ℕ, pos, List, [], ◌∷◌, map, Bool, true, false, Option, Some, None, Result, Ok, Err, codes, refl}
+use Rattle.std.specs.Prelude.{◌≡◌, ℕ, pos, List, [], ◌∷◌, map, Bool, true, false, Some, None, Err, codes, refl}
 use Rattle.hq_base.specs.declared.value.Ty.TheVariants.{Integer, Bigint, Text, Boolean}
 use Rattle.hq_base.specs.declared.value.Val.TheVariants as val
 use Rattle.hq_base.specs.Cells.{CellTree, null, int, text}
 use Rattle.hq_terms.specs.declared.op.Op.TheVariants.{Eq, Ne}
-use Rattle.hq_terms.specs.declared.table.Column.{Column}
 use Rattle.hq_terms.specs.declared.table.Table.{Table}
 use Rattle.hq_terms.specs.declared.meta.RootNames.{RootNames}
-use Rattle.hq_terms.specs.declared.meta.Rel.{Rel}
 use Rattle.hq_terms.specs.declared.session.Session.{Session}
 use Rattle.hq_terms.specs.declared.bexp.Operand.TheVariants as operand
 use Rattle.hq_terms.specs.declared.bind.BindRefusal.TheVariants.{NoVariable, BadVariable}
 use Rattle.hq_terms.specs.declared.want.Want.TheVariants as want
-use Rattle.hq_terms.specs.Bexp.{BexpTree, always, or_of, not_of, comparison, within, through, no_bexp, bexp}
+use Rattle.hq_terms.specs.Bexp.{BexpTree, always, or_of, not_of, comparison, through, no_bexp, bexp}
 use Rattle.hq_terms.specs.Binding.{bound}
 use Rattle.hq_terms.specs.Catalog.{is_catalog}
 use Rattle.hq_terms.specs.Database.{Row, is_database}
 use Rattle.hq_terms.specs.Fits.{fits}
 use Rattle.hq_terms.specs.Grants.{Grants, grants_of, limits}
-use Rattle.hq_terms.specs.Meta.{PermTree, TrackedTree, MetaTree}
+use Rattle.hq_terms.specs.Meta.{MetaTree}
 use Rattle.hq_terms.specs.Permitted.{permitted, seen_by, shown}
-use Rattle.hq_terms.specs.Related.{related, related_first}
+use Rattle.hq_terms.specs.Related.{related}
 use Rattle.hq_terms.specs.Schema.{Schema, schema_of}
 use Rattle.hq_terms.specs.Seen.{row_cell}
-use Rattle.hq_terms.specs.Selected.{SortKey, Selection, selected}
-use Rattle.hq_terms.specs.View.{View, Agree, view, seen_in}
+use Rattle.hq_terms.specs.Selected.{Selection, selected}
+use Rattle.hq_terms.specs.View.{Agree, view, seen_in}
 
 -- the authors
 abbrev author : Table

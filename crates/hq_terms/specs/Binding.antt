@@ -1,6 +1,6 @@
 -- A boolean expression for one session: each session name replaced by the session's value (Hasura, Authorization:
 -- session variables in permission rules).
-use Rattle.std.specs.Prelude.{ℕ, List, [], ◌∷◌, find, Bool, Option, Some, None, option_map, Result, Ok, Err, bytes_eq}
+use Rattle.std.specs.Prelude.{ℕ, List, [], ◌∷◌, find, Option, Some, None, option_map, Result, Ok, Err, bytes_eq}
 use Rattle.hq_base.specs.Due.{and_then, mapped}
 use Rattle.hq_base.specs.declared.value.Val.{Val}
 use Rattle.hq_terms.specs.Bexp.{BexpTree, always, and_of, or_of, not_of, comparison, within, is_null, like, through, BexpTrees, no_bexp, bexp, bexps_of}

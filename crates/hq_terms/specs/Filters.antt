@@ -1,6 +1,6 @@
 -- When an expression is one over a table: its columns and relationships are there, and operators and operands are of the
 -- column's type (Hasura, boolean expressions: operators).
-use Rattle.std.specs.Prelude.{ℕ, List, [], ◌∷◌, Bool, true, false, is_ok, ◌&&◌, Option, Some, None, option_map, is_some, slice_get}
+use Rattle.std.specs.Prelude.{ℕ, Bool, true, false, is_ok, ◌&&◌, Option, Some, None, option_map, is_some, slice_get}
 use Rattle.std.specs.List.{list_all}
 use Rattle.hq_base.specs.Patterns.{pattern_of}
 use Rattle.hq_base.specs.declared.value.Ty.{Ty}

@@ -1,5 +1,5 @@
 -- When a metadata fits a catalog (Hasura, Metadata API reference: tables, relationships, permissions).
-use Rattle.std.specs.Prelude.{ℕ, ◌^◌, List, [], ◌∷◌, length, Bool, true, false, not, cond, ◌&&◌, ◌==◌, nat_lt, nat_le, Option, Some, None, is_some, bytes_eq, codes}
+use Rattle.std.specs.Prelude.{ℕ, ◌^◌, List, [], ◌∷◌, length, Bool, true, not, cond, ◌&&◌, ◌==◌, nat_lt, nat_le, Option, Some, None, is_some, bytes_eq}
 use Rattle.std.specs.List.{list_all}
 use Rattle.hq_base.specs.Lists.{all_differ}
 use Rattle.hq_terms.specs.Bexp.{depth}

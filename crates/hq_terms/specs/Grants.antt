@@ -1,6 +1,6 @@
 -- What a session is granted: for each table perhaps a permission, bound (Hasura, Authorization: select permissions, session
 -- variables). With the schema it decides the statement that is asked.
-use Rattle.std.specs.Prelude.{ℕ, List, [], Bool, false, Option, Some, None, option_and_then, slice_index_or, unwrap_or}
+use Rattle.std.specs.Prelude.{ℕ, List, [], false, Option, None, option_and_then, slice_index_or, unwrap_or}
 use Rattle.std.specs.Result.{result_ok}
 use Rattle.hq_terms.specs.Bexp.{never}
 use Rattle.hq_terms.specs.Binding.{bound_permission}

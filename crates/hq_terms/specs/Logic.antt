@@ -1,10 +1,10 @@
 -- Truth in three values, and the comparisons of cells that have it (PostgreSQL, logical operators, comparison functions
 -- and operators, row and array comparisons, pattern matching).
-use Rattle.std.specs.Prelude.{List, [], ◌∷◌, Bool, true, false, cond, not, Option, Some, None, is_none}
+use Rattle.std.specs.Prelude.{List, [], ◌∷◌, Bool, true, false, cond, Option, Some, None}
 use Rattle.std.specs.declared.cmp.Ordering.{Ordering}
 use Rattle.std.specs.Ordering.{nat_cmp, int_cmp, bool_cmp, is_eq, is_ne, is_lt, is_le, is_gt, is_ge}
 use Rattle.std.specs.Cmp.Lexicographic.{slice_cmp}
-use Rattle.hq_base.specs.Cells.{CellTree, null, int, text, bool, json}
+use Rattle.hq_base.specs.Cells.{CellTree, null, int, text, bool}
 use Rattle.hq_base.specs.Patterns.{like}
 use Rattle.hq_terms.specs.declared.op.Op.{Op}
 use Rattle.hq_terms.specs.declared.op.Op.TheVariants.{Eq, Ne, Lt, Le, Gt, Ge}

@@ -1,5 +1,5 @@
 -- What a role may see of a table (Hasura, Authorization: select permissions).
-use Rattle.std.specs.Prelude.{ℕ, suc, List, [], ◌∷◌, filter, find, Bool, true, cond, ◌==◌, Option, Some, None, option_and_then, bytes_eq, codes}
+use Rattle.std.specs.Prelude.{ℕ, suc, List, [], ◌∷◌, filter, find, Bool, true, cond, ◌==◌, Option, Some, None, option_and_then, bytes_eq}
 use Rattle.std.specs.List.{list_any}
 use Rattle.hq_terms.specs.Bexp.{BexpTree, always}
 use Rattle.hq_terms.specs.Meta.{PermTree, TrackedTree, MetaTree, tracked_table}

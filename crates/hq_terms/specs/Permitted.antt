@@ -1,5 +1,5 @@
 -- The rows that a session may see of a database, and the cells that it is shown (Hasura, Authorization: row and column permissions).
-use Rattle.std.specs.Prelude.{ℕ, List, [], ◌∷◌, filter, Bool, false, cond, ◌==◌}
+use Rattle.std.specs.Prelude.{ℕ, List, [], ◌∷◌, filter, false, cond, ◌==◌}
 use Rattle.std.specs.declared.cmp.Ordering.{Ordering}
 use Rattle.std.specs.declared.cmp.Ordering.TheVariants.{Equal}
 use Rattle.std.specs.Ordering.{on, then_cmp}

@@ -1,7 +1,6 @@
 -- A schema: the tables of a catalog, each with its relationships (Hasura, Relationships). It has no rows, and it is the same
 -- for every role.
 use Rattle.std.specs.Prelude.{ℕ, suc, List, [], ◌∷◌, option_map, unwrap_or, true, slice_index_or}
-use Rattle.hq_base.specs.declared.value.Ty.{Ty}
 use Rattle.hq_base.specs.declared.value.Ty.TheVariants.{Text}
 use Rattle.hq_terms.specs.declared.table.Column.{Column}
 use Rattle.hq_terms.specs.declared.table.Table.{Table}

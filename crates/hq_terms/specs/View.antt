@@ -1,5 +1,5 @@
 -- What a session can tell of a database: its view. Two databases agree for a session where their views are equal.
-use Rattle.std.specs.Prelude.{◌≡◌, ℕ, suc, List, [], ◌∷◌, ◌++◌, map, Bool, cond, ◌&&◌, ◌==◌, Option, Some, None, option_map, slice_index_or, unwrap_or}
+use Rattle.std.specs.Prelude.{◌≡◌, ℕ, suc, List, [], ◌∷◌, ◌++◌, map, Bool, cond, ◌&&◌, ◌==◌, Option, Some, None, slice_index_or, unwrap_or}
 use Rattle.std.specs.List.{list_any}
 use Rattle.hq_base.specs.Cells.{CellTree, null}
 use Rattle.hq_terms.specs.Database.{Row}

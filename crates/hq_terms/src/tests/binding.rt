@@ -1,5 +1,6 @@
-use crate::tests::fixture::{alike, catalog, equals, is_null, meta, number, session, variable};
-use crate::tests::fixture::{DRAFT, ID, NAME, VIEWS};
+use crate::tests::fixture::{
+    DRAFT, ID, NAME, VIEWS, alike, catalog, equals, is_null, meta, number, session, variable,
+};
 use crate::*;
 use hq_base::{List, Txt, Val};
 use std::alloc::Global;
@@ -160,7 +161,11 @@ fn the_first_fault_from_the_left_is_told(rt: HostRuntime) -> Result<(), Fail> {
     let alloc = rt.alloc();
     let vars = [("good", "1"), ("bad", "one")];
     for (a, b, c, want) in &FAULTS {
-        let (a, b, c) = (variable(alloc, a)?, variable(alloc, b)?, variable(alloc, c)?);
+        let (a, b, c) = (
+            variable(alloc, a)?,
+            variable(alloc, b)?,
+            variable(alloc, c)?,
+        );
         let told = told(alloc, &bound(alloc, &whole(alloc, a, b, c)?, &vars)?)?;
         assert_eq!(rt; told.as_str(), *want);
     }

@@ -11,8 +11,11 @@ use std::process::Abort;
 use std::test::Fail;
 
 pub const ID: usize = 0;
+
 pub const NAME: usize = 1;
+
 pub const VIEWS: usize = 2;
+
 pub const DRAFT: usize = 3;
 
 pub fn text(alloc: Global, text: &str) -> Result<Txt, Fail>

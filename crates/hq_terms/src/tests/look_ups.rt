@@ -14,14 +14,29 @@ fn tables_columns_and_relationships_are_found_by_place(rt: HostRuntime) -> Resul
     };
     let (here, beyond) = (TableId::new(0), TableId::new(1));
     assert_eq!(rt; here.at(), 0);
-    assert!(rt; catalog.table(here).is_some_and(|table| table.name.as_str() == "item"));
+    assert!(rt;
+        catalog
+            .table(here)
+            .is_some_and(|table| table.name.as_str() == "item")
+    );
     assert!(rt; catalog.table(beyond).is_none());
-    assert!(rt; meta.tracked_table(here).is_some_and(|tracked| tracked.table == here));
+    assert!(rt;
+        meta.tracked_table(here)
+            .is_some_and(|tracked| tracked.table == here)
+    );
     assert!(rt; meta.tracked_table(beyond).is_none());
-    assert!(rt; scope.column(here, ColId::new(3)).is_some_and(|column| column.name.as_str() == "draft"));
+    assert!(rt;
+        scope
+            .column(here, ColId::new(3))
+            .is_some_and(|column| column.name.as_str() == "draft")
+    );
     assert!(rt; scope.column(here, ColId::new(4)).is_none());
     assert!(rt; scope.column(beyond, ColId::new(0)).is_none());
-    assert!(rt; scope.rel(here, RelId::new(0)).is_some_and(|rel| rel.name.as_str() == "parent"));
+    assert!(rt;
+        scope
+            .rel(here, RelId::new(0))
+            .is_some_and(|rel| rel.name.as_str() == "parent")
+    );
     assert!(rt; scope.rel(here, RelId::new(1)).is_none());
     assert!(rt; scope.rel(beyond, RelId::new(0)).is_none());
     Ok(())

@@ -1,5 +1,4 @@
-use crate::tests::fixture::{columns_at, meta, session};
-use crate::tests::fixture::{DRAFT, ID, NAME};
+use crate::tests::fixture::{DRAFT, ID, NAME, columns_at, meta, session};
 use crate::*;
 use hq_base::{List, Txt};
 use std::alloc::Global;
@@ -23,7 +22,12 @@ fn told_view(alloc: Global, view: &PermView) -> Result<String, Fail> {
         Bexp::True => "all rows",
         _ => "some rows",
     };
-    Ok(format!(in alloc; "{}{filter} {:?} {}", told.as_str(), view.limit, view.aggregations)?)
+    Ok(format!(in alloc;
+        "{}{filter} {:?} {}",
+        told.as_str(),
+        view.limit,
+        view.aggregations
+    )?)
 }
 
 // The name `admin` is Admin's alone; a role has its own permission, whole name for whole name; columns stand in the
@@ -94,7 +98,10 @@ fn a_table_that_is_not_tracked_shows_nothing(rt: HostRuntime) -> Result<(), Fail
     let meta = Meta {
         tracked: List::new(rt.alloc()),
     };
-    assert!(rt; meta.perm(rt.alloc(), &Role::Admin, TableId::new(0))?.is_none());
+    assert!(rt;
+        meta.perm(rt.alloc(), &Role::Admin, TableId::new(0))?
+            .is_none()
+    );
     assert!(rt; meta.tracked_table(TableId::new(0)).is_none());
     Ok(())
 }

@@ -61,11 +61,13 @@ fn texts_are_read_as_values_of_a_type(rt: HostRuntime) -> Result<(), Fail> {
 
 // PostgreSQL, logical operators: the tables of AND and OR, in the order true, false, unknown.
 static ALL: [Truth; 3] = [Truth::Yes, Truth::No, Truth::Unknown];
+
 static AND: [[Truth; 3]; 3] = [
     [Truth::Yes, Truth::No, Truth::Unknown],
     [Truth::No, Truth::No, Truth::No],
     [Truth::Unknown, Truth::No, Truth::Unknown],
 ];
+
 static OR: [[Truth; 3]; 3] = [
     [Truth::Yes, Truth::Yes, Truth::Yes],
     [Truth::Yes, Truth::No, Truth::Unknown],
@@ -83,7 +85,11 @@ fn truth_has_three_values(rt: HostRuntime) {
     assert_eq!(rt; Truth::of(true).negated(), Truth::No);
     assert_eq!(rt; Truth::of(false).negated(), Truth::Yes);
     assert_eq!(rt; Truth::Unknown.negated(), Truth::Unknown);
-    for (truth, yes) in [(Truth::Yes, true), (Truth::No, false), (Truth::Unknown, false)] {
+    for (truth, yes) in [
+        (Truth::Yes, true),
+        (Truth::No, false),
+        (Truth::Unknown, false),
+    ] {
         assert_eq!(rt; truth.is_yes(), yes);
     }
 }
