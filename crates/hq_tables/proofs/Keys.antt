@@ -58,7 +58,7 @@ values_tie : (xs ys : List Val) → is_eq (slice_cmp val_cmp xs ys) ≡ same_val
 values_tie [] [] = refl
 values_tie [] (y ∷ ys) = refl
 values_tie (x ∷ xs) [] = refl
-values_tie (x ∷ xs) (y ∷ ys) = rw (is_eq-then, val_ties x y, values_tie xs ys) refl
+values_tie (x ∷ xs) (y ∷ ys) = rw (is_eq-then (val_cmp x y) (slice_cmp val_cmp xs ys), val_ties x y, values_tie xs ys) refl
 
 -- values that are not distinct are equal
 val_same : (a b : Val) → same_cell (cell_of a) (cell_of b) ≡ true → a ≡ b
