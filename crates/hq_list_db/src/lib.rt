@@ -6,6 +6,8 @@ mod key;
 mod list_db;
 mod parts;
 mod sorted;
+#[cfg(test)]
+mod tests;
 mod value;
 
 pub use list_db::ListDb;

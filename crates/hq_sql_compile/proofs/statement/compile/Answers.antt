@@ -3,11 +3,10 @@ use Rattle.std.specs.Prelude.{slice_index_or}
 use Rattle.hq_terms.specs.Meta.{meta_view}
 use Rattle.hq_terms.specs.Schema.{schema_of, table}
 use Rattle.hq_terms.specs.declared.table.Table.{Table}
-use Rattle.hq_ask_tree.specs.Request.{ask_view}
 use Rattle.hq_sql_tree.specs.Form.{select_fits}
 use Rattle.hq_sql_tree.specs.Tree.{SelectTree}
 use Rattle.hq_sql_text.specs.Readable.{is_readable}
-use Rattle.hq_sql_compile.specs.Compiled.{list_statement, statement, table_at}
+use Rattle.hq_sql_compile.specs.Compiled.{list_statement, table_at}
 use Rattle.hq_sql_compile.proofs.Readable.{list_is_readable, has_key}
 use Rattle.hq_sql_compile.proofs.Sound.{IsOf, catalog_table}
 use Rattle.hq_sql_compile.proofs.Statements.{catalog_statement, list_resolved}
