@@ -1,5 +1,5 @@
 -- The GraphQL names of a tracked table's columns.
-use Rattle.std.proofs.Common.{◌≡◌, ◌∙◌, ℕ, zero, suc, ◌+◌, List, [], ◌∷◌, ◌++◌, map, filter, Bool, true, false, cond, not, ◌&&◌, ◌||◌, refl, sym, ap, subst, arith, append-nil}
+use Rattle.std.proofs.Common.{◌≡◌, ◌∙◌, ℕ, suc, ◌+◌, List, [], ◌∷◌, ◌++◌, map, filter, Bool, true, false, cond, refl, sym, ap, subst, arith, append-nil}
 use Rattle.std.specs.Prelude.{bytes_eq, slice_index_or}
 use Rattle.std.specs.List.{list_any}
 use Rattle.std.proofs.lemmas.Bool.{or_parts, or_from, false_from_ne_true, true≢false}
@@ -11,7 +11,7 @@ use Rattle.hq_terms.specs.SchemaNames.{fixed_inputs, all_names_differ}
 use Rattle.hq_terms.specs.declared.table.Column.{Column}
 use Rattle.hq_meta_form.specs.Form.{is_input_name, has_input_name}
 use Rattle.hq_meta_form.proofs.Differ.{all_differ-map}
-use Rattle.hq_meta_form.proofs.Tests.{all_differ-append, all_differ-filter, apart_filtered}
+use Rattle.hq_meta_form.proofs.ListTests.{all_differ-append, all_differ-filter, apart_filtered}
 
 -- the names at the places of the named columns are the free ones
 names_from : (all : List (List ℕ)) (k : ℕ) (rest : List (List ℕ)) → ((i : ℕ) → slice_index_or all (k + i) [] ≡ slice_index_or rest i []) → map (λ c. slice_index_or all c []) (named_from k rest) ≡ filter is_free_name rest
@@ -20,7 +20,7 @@ names_from all k (n ∷ ns) h =
     let first : slice_index_or all k [] ≡ n = let same : k + 0 ≡ k = omega arith in subst (λ i. slice_index_or all i [] ≡ n) same (h 0) in
     let later = names_from all (suc k) ns (λ i. let same : k + suc i ≡ suc k + i = omega arith in subst (λ j. slice_index_or all j [] ≡ slice_index_or ns i []) same (h (suc i))) in
     let kept : (b : Bool) → map (λ c. slice_index_or all c []) (cond b (k ∷ named_from (suc k) ns) (named_from (suc k) ns)) ≡ cond b (n ∷ filter is_free_name ns) (filter is_free_name ns) =
-        elim [ true ↦ rw (first, later) refl | false ↦ later ] in
+    elim [ true ↦ rw (first, later) refl | false ↦ later ] in
     kept (is_free_name n)
 
 pub free_names : (names : List (List ℕ)) → map (λ c. slice_index_or names c []) (named_from 0 names) ≡ filter is_free_name names
@@ -71,6 +71,6 @@ inputs_differ columns h k =
     let differ : all_differ bytes_eq names ≡ true = all_differ-map bytes_eq (λ c. c.name) columns ∙ h in
     let apart = apart_filtered bytes_eq is_free_name fixed_inputs names (inputs_apart columns k) in
     let free : all_names_differ (fixed_inputs ++ filter is_free_name names) ≡ true =
-        all_differ-append bytes_eq fixed_inputs (filter is_free_name names) refl (all_differ-filter bytes_eq is_free_name names differ) apart in
+    all_differ-append bytes_eq fixed_inputs (filter is_free_name names) refl (all_differ-filter bytes_eq is_free_name names differ) apart in
     let same = append-nil (map (λ c. slice_index_or names c []) (named_from 0 names)) ∙ free_names names in
     subst (λ (ns : List (List ℕ)). all_names_differ (fixed_inputs ++ ns) ≡ true) (sym same) free

@@ -1,14 +1,14 @@
 -- One tracked table of the form fits its catalog.
-use Rattle.std.proofs.Common.{◌≡◌, ◌∙◌, ℕ, suc, zero, ◌+◌, ◌<◌, List, [], ◌∷◌, ◌++◌, length, map, Bool, true, false, cond, not, ◌&&◌, ◌==◌, Option, Some, None, refl, sym, ap, subst, arith}
-use Rattle.std.specs.Prelude.{bytes_eq, nat_lt, nat_le, slice_get, slice_index_or, option_map, is_some}
-use Rattle.std.specs.List.{list_all, list_any}
+use Rattle.std.proofs.Common.{◌≡◌, ◌∙◌, ℕ, suc, zero, ◌+◌, ◌<◌, List, [], ◌∷◌, ◌++◌, length, map, Bool, true, false, not, ◌&&◌, ◌==◌, Some, refl, sym, ap, subst, arith}
+use Rattle.std.specs.Prelude.{bytes_eq, nat_lt, nat_le, slice_get}
+use Rattle.std.specs.List.{list_all}
 use Rattle.std.proofs.lemmas.Bool.{and_parts, and_from, lt-ltb, eq-eqb}
 use Rattle.std.proofs.lemmas.Option.{get_or_from_slice_get, slice_get_within}
 use Rattle.std.proofs.lemmas.List.{length-map}
 use Rattle.hq_base.specs.Lists.{all_differ}
 use Rattle.hq_terms.specs.Catalog.{is_catalog, is_catalog_name, is_table, is_foreign_key, holds_no_null, full_name}
-use Rattle.hq_terms.specs.Fits.{fits, fits_tracked, fits_perm, fits_rel, are_free_roots, objects_first}
-use Rattle.hq_terms.specs.Meta.{PermTree, TrackedTree, MetaTree}
+use Rattle.hq_terms.specs.Fits.{fits, fits_tracked, fits_perm, are_free_roots}
+use Rattle.hq_terms.specs.Meta.{PermTree, MetaTree}
 use Rattle.hq_terms.specs.Names.{is_free_name}
 use Rattle.hq_terms.specs.Schema.{Schema, SchemaTable, numbered, schema_table, schema_of, table}
 use Rattle.hq_terms.specs.SchemaNames.{names_differ, all_names_differ, fixed_types, types_of, roots_of, fields_of, inputs_of, has_columns, some_column, is_whole, key_is_named}
@@ -40,7 +40,8 @@ fits_one : (tables : List Table) (m : MetaTree) (at : ℕ) (t : Table) (perms : 
 fits_one tables m at t perms there name differ fit =
     let k = tracked_as at t perms in
     let s = schema_of tables m in
-    let long : length (map (λ c. c.name) t.columns) ≡ length (table s at).columns = length-map (λ (c : Column). c.name) t.columns ∙ ap length (sym (schema_columns tables m at t there)) in
+    let counted : length (map (λ (c : Column). c.name) t.columns) ≡ length t.columns = simp length-map in
+    let long : length (map (λ (c : Column). c.name) t.columns) ≡ length (table s at).columns = counted ∙ ap length (sym (schema_columns tables m at t there)) in
     all_eight (nat_lt at (length s)) (is_free_name t.name) (length (map (λ c. c.name) t.columns) == length (table s at).columns) (are_free_roots (root_names t.name))
     true true (all_differ (λ p q. bytes_eq p.role q.role) perms) (list_all (fits_perm s at) perms)
     (lt-ltb at (length s) (schema_place tables m at t there)) (is_free-name t.name name) (eq-eqb (length (map (λ c. c.name) t.columns)) (length (table s at).columns) long)
@@ -74,7 +75,7 @@ schema_names_differ tables at t perms catalog there name free m is s =
     let k = tracked_as at t perms in
     let columns = columns_differ tables at t catalog there in
     let types : all_names_differ (fixed_types ++ (types_of s k ++ [])) ≡ true =
-        types_differ t.name name (has_columns k) (some_column (λ ty. not (is_boolean ty)) s k) (some_column is_whole s k) in
+    types_differ t.name name (has_columns k) (some_column (λ ty. not (is_boolean ty)) s k) (some_column is_whole s k) in
     let roots : all_names_differ (roots_of s k ++ []) ≡ true = roots_differ t.name (has_columns k) (key_is_named s k) in
     let fields : all_names_differ (fields_of m k) ≡ true = fields_differ t.columns columns in
     let inputs : all_names_differ (inputs_of m k) ≡ true = inputs_differ t.columns columns free in

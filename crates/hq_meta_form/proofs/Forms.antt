@@ -1,31 +1,31 @@
 -- What a file of the form says of the metadata that it gives.
-use Rattle.std.proofs.Common.{◌≡◌, ◌∙◌, ℕ, List, [], ◌∷◌, Bool, true, false, cond, not, ◌&&◌, ◌==◌, Option, Some, None, Result, Ok, Err, codes, refl, sym, ap, subst}
-use Rattle.std.specs.Prelude.{bytes_eq, slice_get, option_map, is_some, ok_or, nat_le}
+use Rattle.std.proofs.Common.{◌≡◌, ℕ, List, [], ◌∷◌, Bool, true, false, cond, not, ◌&&◌, ◌==◌, Option, Some, None, Result, Ok, Err, IfOk, codes, refl, sym, subst}
+use Rattle.std.specs.Prelude.{bytes_eq, slice_get, option_map, is_some, ok_or}
 use Rattle.std.specs.Option.{option_and_then}
-use Rattle.std.specs.Result.{result_ok}
 use Rattle.std.specs.List.{list_all}
 use Rattle.std.specs.Cmp.Lexicographic.{bytes_decides}
-use Rattle.std.proofs.lemmas.Bool.{and_parts, and_from, not_from_false}
+use Rattle.std.proofs.lemmas.Bool.{and_parts, not_from_false}
 use Rattle.std.proofs.lemmas.Option.{option_and_then_some}
-use Rattle.hq_base.specs.Body.{body_of}
+use Rattle.hq_base.specs.Due.{Gives}
 use Rattle.hq_base.specs.Json.{JsonTree}
 use Rattle.hq_base.specs.Look.{str_in, array_in}
 use Rattle.hq_base.specs.Lists.{all_differ}
-use Rattle.hq_terms.specs.Bexp.{depth, always}
 use Rattle.hq_terms.specs.Catalog.{is_catalog}
-use Rattle.hq_terms.specs.Filters.{column_ty, is_filter}
-use Rattle.hq_terms.specs.Fits.{fits, fits_perm, limit_fits}
-use Rattle.hq_terms.specs.Meta.{PermTree, TrackedTree, MetaTree}
+use Rattle.hq_terms.specs.Filters.{column_ty}
+use Rattle.hq_terms.specs.Fits.{fits, fits_perm}
+use Rattle.hq_terms.specs.Meta.{PermTree, TrackedTree, MetaTree, meta_view}
+use Rattle.hq_terms.specs.declared.meta.Meta.{Meta}
 use Rattle.hq_terms.specs.Names.{is_admin_name, is_free_name}
 use Rattle.hq_terms.specs.Schema.{Schema, schema_of, table}
 use Rattle.hq_terms.specs.declared.table.Column.{Column}
 use Rattle.hq_terms.specs.declared.table.Table.{Table}
 use Rattle.hq_meta_form.specs.declared.word.Word.TheVariants as word
-use Rattle.hq_meta_form.specs.declared.refusal.MetaFormRefusal.TheVariants.{NotBuilt}
+use Rattle.hq_meta_form.specs.declared.refusal.MetaFormRefusal.{MetaFormRefusal}
+use Rattle.hq_meta_form.specs.declared.refusal.MetaFormRefusal.TheVariants.{NotBuilt, Memory}
 use Rattle.hq_meta_form.specs.Words.{word_text}
 use Rattle.hq_meta_form.specs.Shapes.{two_in, is_word, is_empty_object}
-use Rattle.hq_meta_form.specs.Form.{each, meta_of, meta_in, tracked_in, tracked_at, tracked_in_place, tracked_as, table_in, table_named, is_table_name, has_input_name, permissions_in, permission_in, permitted_in, permission, role_in, columns_in, column_in, column_named, some_different, of_different_roles, entry_in, source_in}
-use Rattle.hq_meta_form.proofs.Tests.{position-passes, each-all}
+use Rattle.hq_meta_form.specs.Form.{each, meta_in, tracked_in, tracked_at, tracked_in_place, tracked_as, table_in, table_named, is_table_name, has_input_name, permissions_in, permission_in, permitted_in, permission, role_in, columns_in, column_in, column_named, some_different, of_different_roles, entry_in, source_in}
+use Rattle.hq_meta_form.proofs.ListTests.{position-passes, each-all}
 use Rattle.hq_meta_form.proofs.TableNames.{IsTableName, table_name_parts}
 use Rattle.hq_meta_form.proofs.Fitting.{schema_columns, fits-tracked_as}
 
@@ -44,8 +44,9 @@ mapped_some f (Some x) y h step = let same : f x ≡ y = cc in step x refl same
 
 -- ---- permissions
 
-has_type : (columns : List Column) (c : ℕ) → Bool
-abbrev has_type columns c = is_some (option_map (λ (column : Column). column.ty) (slice_get columns c))
+-- whether a column is there, and so has a type
+abbrev has_type : (columns : List Column) (c : ℕ) → Bool
+has_type columns c = is_some (option_map (λ (column : Column). column.ty) (slice_get columns c))
 
 column_is_there : (columns : List Column) (j : JsonTree) (c : ℕ) → column_in columns j ≡ Some c → has_type columns c ≡ true
 column_is_there columns j c h =
@@ -88,10 +89,7 @@ permission_fits columns s at same j p h =
     subst (λ (q : PermTree). fits_perm s at q ≡ true) is
     (all_five (not (is_admin_name role)) (list_all (λ c. is_some (column_ty s at c)) cs) true true true here there refl refl refl))))
 
-pub record ArePermissions (columns : List Column) (ps : List PermTree) : Type 1 where
-  pub differ : all_differ (λ p q. bytes_eq p.role q.role) ps ≡ true
-  pub fit : (s : Schema) (at : ℕ) → (table s at).columns ≡ columns → list_all (fits_perm s at) ps ≡ true
-
+-- permissions of different roles, which fit
 permissions_are : {P : Type 0} (columns : List Column) (j : JsonTree) (ps : List PermTree) → permissions_in columns j ≡ Some ps
     → (all_differ (λ p q. bytes_eq p.role q.role) ps ≡ true → ((s : Schema) (at : ℕ) → (table s at).columns ≡ columns → list_all (fits_perm s at) ps ≡ true) → P) → P
 permissions_are columns j ps h step =
@@ -127,15 +125,18 @@ tracked_fits tables j k catalog h =
     subst (λ (l : TrackedTree). fits tables (record { tracked = l ∷ [] }) ≡ true) is
     (fits-tracked_as tables at u ps catalog here (subst (λ (v : Table). IsTableName v.name) same name) free differ (λ m. fit (schema_of tables m) at (schema_columns tables m at u here))))))))))
 
-was_some : {A : Type 0} {E : Type 0} (o : Option A) (e : E) (x : A) → ok_or o e ≡ Ok x → o ≡ Some x
-was_some None e x h = cc
-was_some (Some y) e x h = cc
-
--- the metadata of a file of the form fits the catalog
-pub form_fits : (tables : List Table) (bytes : List ℕ) (m : MetaTree) → is_catalog tables ≡ true → meta_of tables bytes ≡ Ok m → fits tables m ≡ true
-form_fits tables bytes m catalog h =
-    option_and_then_some (meta_in tables) (result_ok (body_of bytes)) m (was_some (option_and_then (meta_in tables) (result_ok (body_of bytes))) NotBuilt m h) (λ j _ given.
+-- the metadata that a JSON value of the form gives fits the catalog
+form_fits : (tables : List Table) (j : JsonTree) (m : MetaTree) → is_catalog tables ≡ true → meta_in tables j ≡ Some m → fits tables m ≡ true
+form_fits tables j m catalog given =
     option_and_then_some _ (source_in j) m given (λ source _ rest.
     option_and_then_some _ (entry_in source) m rest (λ entry _ last.
     mapped_some (λ (t : TrackedTree). record { tracked = t ∷ [] }) (tracked_in tables entry) m last (λ k tracked is.
-    subst (λ (n : MetaTree). fits tables n ≡ true) is (tracked_fits tables entry k catalog tracked)))))
+    subst (λ (n : MetaTree). fits tables n ≡ true) is (tracked_fits tables entry k catalog tracked))))
+
+was_some : {A E : Type 0} (o : Option A) (e : E) (x : A) → ok_or o e ≡ Ok x → o ≡ Some x
+was_some None e x h = cc
+was_some (Some y) e x h = cc
+
+pub given_fits : (tables : List Table) (j : JsonTree) (r : Result Meta MetaFormRefusal) → is_catalog tables ≡ true → Gives meta_view Memory (ok_or (meta_in tables j) NotBuilt) r → IfOk r (λ meta. fits tables (meta_view meta) ≡ true)
+given_fits tables j (Ok meta) catalog h = form_fits tables j (meta_view meta) catalog (was_some (meta_in tables j) NotBuilt (meta_view meta) h)
+given_fits tables j (Err e) catalog h = tt

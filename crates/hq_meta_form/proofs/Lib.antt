@@ -1,5 +1,5 @@
 mod Differ
-mod Tests
+mod ListTests
 mod TableNames
 mod ColumnNames
 mod Fitting

@@ -1,5 +1,5 @@
 -- The names of a tracked table's types and root fields: its name with fixed ends.
-use Rattle.std.proofs.Common.{◌≡◌, ◌∙◌, ℕ, List, [], ◌∷◌, ◌++◌, map, Bool, true, false, cond, not, ◌&&◌, ◌||◌, codes, refl, sym, ap, subst, append-nil}
+use Rattle.std.proofs.Common.{◌≡◌, ◌∙◌, ℕ, List, [], ◌∷◌, ◌++◌, map, Bool, true, false, cond, not, ◌&&◌, ◌||◌, codes, refl, sym, ap, subst, append-nil, arith}
 use Rattle.std.specs.Prelude.{bytes_eq, nat_eq}
 use Rattle.std.specs.List.{list_all, list_any}
 use Rattle.std.proofs.lemmas.Bool.{and_parts, and_from, or_parts, or_from, or_left, or_right, not-true, not_from_false, false_from_ne_true, true≢false}
@@ -10,7 +10,7 @@ use Rattle.hq_terms.specs.Names.{is_reserved, is_name, is_free_name, starts_name
 use Rattle.hq_terms.specs.SchemaNames.{fixed_types, all_names_differ}
 use Rattle.hq_terms.specs.Fits.{are_free_roots}
 use Rattle.hq_meta_form.specs.Form.{is_scalar_name, is_comparison_name, is_common_name, is_table_name, root_names}
-use Rattle.hq_meta_form.proofs.Tests.{all_differ-append}
+use Rattle.hq_meta_form.proofs.ListTests.{all_differ-append}
 
 -- a text that ends so
 abbrev ends : (text end : List ℕ) → Bool
@@ -152,9 +152,9 @@ none_fixed name h =
 
 pub types_differ : (name : List ℕ) → IsTableName name → (shown ordered whole : Bool)
     → all_names_differ (fixed_types ++ (cond shown (name ∷ (name ++ codes "_bool_exp") ∷ (name ++ codes "_order_by") ∷ (name ++ codes "_select_column")
-      ∷ (name ++ codes "_aggregate") ∷ (name ++ codes "_aggregate_fields")
-      ∷ cond ordered ((name ++ codes "_max_fields") ∷ (name ++ codes "_min_fields") ∷ []) []
-      ++ cond whole ((name ++ codes "_sum_fields") ∷ []) []) [] ++ [])) ≡ true
+    ∷ (name ++ codes "_aggregate") ∷ (name ++ codes "_aggregate_fields")
+    ∷ cond ordered ((name ++ codes "_max_fields") ∷ (name ++ codes "_min_fields") ∷ []) []
+    ++ cond whole ((name ++ codes "_sum_fields") ∷ []) []) [] ++ [])) ≡ true
 types_differ name h false ordered whole = refl
 types_differ name h true false false =
     some_types name (codes "_bool_exp" ∷ codes "_order_by" ∷ codes "_select_column" ∷ codes "_aggregate" ∷ codes "_aggregate_fields" ∷ []) (none_fixed name h) refl refl

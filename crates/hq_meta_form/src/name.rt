@@ -54,7 +54,9 @@ fn is_free(text: &Txt) -> bool
 fn is_scalar(name: &Txt) -> bool
     ensures { result ≡ is_scalar_name name.now }
 {
-    ["Boolean", "Int", "String", "bigint"].iter().any(|fixed| name.as_str() == *fixed)
+    ["Boolean", "Int", "String", "bigint"]
+        .iter()
+        .any(|fixed| name.as_str() == *fixed)
 }
 
 // Whether each schema has an input of this name that compares scalars.
@@ -74,14 +76,18 @@ fn is_comparison(name: &Txt) -> bool
 fn is_common(name: &Txt) -> bool
     ensures { result ≡ is_common_name name.now }
 {
-    ["order_by", "query_root"].iter().any(|fixed| name.as_str() == *fixed)
+    ["order_by", "query_root"]
+        .iter()
+        .any(|fixed| name.as_str() == *fixed)
 }
 
 // Whether a tracked table may have this name.
 fn may_name_table(name: &Txt) -> bool
     ensures { result ≡ is_table_name name.now }
 {
-    is_free(name) && name.as_str() != "_" && !(is_scalar(name) || is_comparison(name) || is_common(name))
+    is_free(name)
+        && name.as_str() != "_"
+        && !(is_scalar(name) || is_comparison(name) || is_common(name))
 }
 
 // Whether each boolean expression has an input of this name.
@@ -89,7 +95,9 @@ fn may_name_table(name: &Txt) -> bool
 fn is_input(name: &Txt) -> bool
     ensures { result ≡ is_input_name name.now }
 {
-    ["_and", "_not", "_or"].iter().any(|fixed| name.as_str() == *fixed)
+    ["_and", "_not", "_or"]
+        .iter()
+        .any(|fixed| name.as_str() == *fixed)
 }
 
 // Whether some column has the name of an input that each boolean expression has.
