@@ -12,6 +12,7 @@ mod order;
 mod path;
 mod pattern;
 mod reply;
+mod stable_sort;
 #[cfg(test)]
 mod tests;
 mod txt;
@@ -26,5 +27,6 @@ pub use order::compare;
 pub use path::{item_path, member_path, top_path};
 pub use pattern::{Pattern, PatternRefusal};
 pub use reply::Reply;
+pub use stable_sort::sort;
 pub use txt::{Txt, TxtRefusal};
 pub use value::{Cell, Ty, Val};

@@ -132,6 +132,14 @@ impl Txt {
         self.text.as_bytes()
     }
 
+    /// Every text is UTF-8 without a zero byte.
+    pub fn is_text(&self)
+        ensures utf8 { is_utf8 self.now ≡ true }
+        ensures no_zero { has_zero self.now ≡ false }
+    {
+        let _ = &self.text;
+    }
+
     /// An equal text.
     pub fn copy(&self, alloc: Global) -> Result<Txt, Memory>
         ensures { IfOk result (λ copy. copy ≡ self.now) }

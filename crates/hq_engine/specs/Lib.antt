@@ -1,4 +1,4 @@
 pub mod ListBody
 pub mod ListRequest
+pub mod Due
 pub mod Answer
-pub mod Refusals

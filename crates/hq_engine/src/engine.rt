@@ -1,19 +1,26 @@
-ghost use Rattle.std.specs.Prelude.{◌≡◌, ◌⊎◌, ◌<◌, ◌≤◌, true, length, IfOk, IfErr, Err};
-ghost use Rattle.hq_base.specs.Due.{Gives};
+ghost use Rattle.std.specs.Prelude.{◌≡◌, ◌⊎◌, ◌≤◌, true, length, IfOk, IfErr, IfSome, OnOk, Err, Some};
+ghost use Rattle.hq_base.specs.Json.{json_view};
 ghost use Rattle.hq_link.specs.Asked.{Asked, NotAsked};
+ghost use Rattle.hq_link.specs.Typed.{IsList, IsTyped};
+ghost use Rattle.hq_sql_tree.specs.Meaning.{meaning};
+ghost use Rattle.hq_sql_tree.specs.Tree.{SelectTree};
+ghost use Rattle.hq_sql_text.specs.Readable.{Spells};
+ghost use Rattle.hq_sql_compile.specs.Correct.{IsPlain};
 ghost use Rattle.hq_terms.specs.Fits.{fits};
+ghost use Rattle.hq_terms.specs.Grants.{grant, grants_of};
 ghost use Rattle.hq_terms.specs.Meta.{meta_view};
-ghost use Rattle.hq_engine.specs.Answer.{Answers, TellsDatabase, asked_text, text_of};
+ghost use Rattle.hq_engine.specs.Answer.{Asks, IsStatement, TellsDatabase, TellsFault, asked_text, compiled};
+ghost use Rattle.hq_engine.specs.Due.{due_reply};
 ghost use Rattle.hq_engine.specs.ListRequest.{request_of};
 
+use crate::EngineRefusal;
 use crate::list_request::request_of;
 use crate::reply::data_reply;
-use crate::{AskRefusal, EngineRefusal};
 use hq_ask_tree::Ask;
 use hq_base::{Bytes, Json, Memory, Reply};
 use hq_link::{Database, DbRefusal};
 use hq_sql_compile::compile;
-use hq_sql_text::print;
+use hq_sql_text::{one_tree, print};
 use hq_terms::{Catalog, Meta, Session};
 use std::alloc::Global;
 
@@ -34,23 +41,17 @@ impl Engine {
         Engine { catalog, meta }
     }
 
-    // The text that is asked for a request.
-    fn text(&self, alloc: Global, ask: &Ask) -> Result<Bytes, Memory>
-        requires { ask.now.table < length self.now.catalog.tables }
-        ensures { IfOk result (λ text. text ≡ asked_text self.now.catalog.tables (meta_view self.now.meta) ask.now) }
+    // The text of a request for a list of columns, of a table on which the session has a plain permission.
+    fn text(&self, alloc: Global, session: &Session, ask: &Ask) -> Result<Bytes, Memory>
+        requires list { IsList self.now.catalog.tables ask.now }
+        requires plain { IsPlain (grant (grants_of session.now self.now.catalog.tables (meta_view self.now.meta)) ask.now.table) }
+        ensures text { IfOk result (λ text. text ≡ asked_text self.now.catalog.tables (meta_view self.now.meta) ask.now) }
+        ensures statement { OnOk result (IsStatement self.now.catalog.tables (meta_view self.now.meta) session.now ask.now) }
+        ensures typed { OnOk result (IsTyped self.now.catalog.tables (compiled self.now.catalog.tables (meta_view self.now.meta) ask.now)) }
     {
+        let _ = session;
         let select = compile(alloc, ask, &self.catalog, &self.meta)?;
         print(alloc, &select)
-    }
-
-    // The request that a body makes, and its text.
-    fn asked(&self, alloc: Global, session: &Session, body: &[u8]) -> Result<Bytes, AskRefusal>
-        ensures { Gives (λ text. text) AskRefusal.Memory (text_of (asked_text self.now.catalog.tables (meta_view self.now.meta)) (request_of (meta_view self.now.meta) session.now body.now)) result }
-    {
-        match request_of(alloc, &self.meta, session, body)? {
-            Some(ask) => Ok(self.text(alloc, &ask)?),
-            None => Err(AskRefusal::NotBuilt),
-        }
     }
 
     /// The reply to a request of a session, over a database of the engine's catalog. The body has at most 1,048,576 bytes.
@@ -64,33 +65,52 @@ impl Engine {
     ) -> Result<Reply, EngineRefusal>
         requires limit { length body.now ≤ 1048576 }
         requires catalog { D.tables db.old ≡ self.now.catalog.tables }
-        ensures answer { Answers (asked_text self.now.catalog.tables (meta_view self.now.meta)) (request_of (meta_view self.now.meta) session.now body.now)
-            (record { asks = D.asks db.old; last = D.last db.old; faults = D.faults db.old })
-            (record { asks = D.asks db.new; last = D.last db.new; faults = D.faults db.new }) result }
+
+        // A reply is the due one, where the database is told.
+        ensures status { IfOk result (λ reply. reply.status ≡ 200) }
+        ensures reply { IfOk result (λ reply. IfSome (D.database db.old) (λ d.
+            due_reply self.now.catalog.tables (meta_view self.now.meta) d session.now body.now ≡ Some reply.body)) }
+
+        // One text is asked for a request, and none for a body that makes none.
+        ensures asks { Asks (asked_text self.now.catalog.tables (meta_view self.now.meta)) (request_of (meta_view self.now.meta) session.now body.now)
+            (record { asks = D.asks db.old; last = D.last db.old }) (record { asks = D.asks db.new; last = D.last db.new }) result }
+
+        // The text that is asked spells the compiled statement, and this means the object of the root fields.
+        ensures statement { OnOk result (IfSome (request_of (meta_view self.now.meta) session.now body.now) (λ ask.
+            IsStatement self.now.catalog.tables (meta_view self.now.meta) session.now ask)) }
+
+        // The database fails only where its count of faults rose in this call.
+        ensures failed { IfErr result (λ e. TellsFault (D.faults db.old) (D.faults db.new) e) }
 
         // The database is unchanged, and its count of faults never falls.
         ensures tables { D.tables db.new ≡ D.tables db.old }
         ensures database { D.database db.new ≡ D.database db.old }
         ensures later { D.faults db.old ≤ D.faults db.new }
     {
-        let text = self.asked(alloc, session, body)?;
+        let Some(request) = request_of(alloc, &self.meta, session, body)? else {
+            return Err(EngineRefusal::NotBuilt);
+        };
+        let text = self.text(alloc, session, &request)?;
         let data = ask(alloc, db, text.as_slice())?;
         Ok(data_reply(alloc, data)?)
     }
 }
 
-// Asks a text. A text of the engine's is SQL that fits the catalog, so the database has no other refusals for it; should one
-// come all the same, it counts as want of memory.
+// Asks a text of a statement that fits the database's catalog.
 fn ask<D: Database>(alloc: Global, db: &mut D, text: &[u8]) -> Result<Json, EngineRefusal>
+    requires { (s : SelectTree) × Spells text.now s × IsTyped (D.tables db.old) s }
     ensures asked { Asked (D.asks db.old) (D.asks db.new) (D.last db.new) text.now ⊎ ((result ≡ Err EngineRefusal.Memory) × NotAsked (D.asks db.old) (D.asks db.new) (D.last db.old) (D.last db.new)) }
+    ensures answered { IfOk result (λ json. IfSome (D.database db.old) (λ d. (s : SelectTree) → Spells text.now s → json_view json ≡ meaning s (record { tables = D.tables db.old; database = d }))) }
     ensures failed { IfErr result (λ e. TellsDatabase (D.faults db.old) (D.faults db.new) e) }
     ensures tables { D.tables db.new ≡ D.tables db.old }
     ensures database { D.database db.new ≡ D.database db.old }
     ensures later { D.faults db.old ≤ D.faults db.new }
 {
+    one_tree();
     match db.run(alloc, text) {
         Ok(data) => Ok(data),
         Err(DbRefusal::Failed { before, after }) => Err(EngineRefusal::Database { before, after }),
-        Err(_) => Err(EngineRefusal::Memory),
+        Err(DbRefusal::Memory) => Err(EngineRefusal::Memory),
+        Err(DbRefusal::NotSql | DbRefusal::NotTyped) => unreachable!(),
     }
 }

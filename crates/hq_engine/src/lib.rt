@@ -8,4 +8,4 @@ mod refusal;
 mod reply;
 
 pub use engine::Engine;
-pub use refusal::{AskRefusal, EngineRefusal};
+pub use refusal::EngineRefusal;

@@ -24,37 +24,3 @@ impl From<Memory> for EngineRefusal {
         EngineRefusal::Memory
     }
 }
-
-/// Why a body has no text to ask.
-#[derive(Clone, Copy, Debug, PartialEq, Eq, Error)]
-pub enum AskRefusal {
-    #[error("not built")]
-    NotBuilt,
-    #[error("out of memory")]
-    Memory,
-}
-
-impl From<Memory> for AskRefusal {
-    ghost use Rattle.std.specs.Prelude.{◌≡◌};
-    ghost use Rattle.hq_engine.specs.declared.refusal.AskRefusal.TheVariants as refusal;
-
-    ghost from_gives = { λ _ e. e ≡ refusal.Memory };
-
-    fn from(_: Memory) -> Self {
-        AskRefusal::Memory
-    }
-}
-
-impl From<AskRefusal> for EngineRefusal {
-    ghost use Rattle.std.specs.Prelude.{◌≡◌};
-    ghost use Rattle.hq_engine.specs.Refusals.{refused_ask};
-
-    ghost from_gives = { λ a e. e ≡ refused_ask a };
-
-    fn from(refusal: AskRefusal) -> Self {
-        match refusal {
-            AskRefusal::NotBuilt => EngineRefusal::NotBuilt,
-            AskRefusal::Memory => EngineRefusal::Memory,
-        }
-    }
-}

@@ -1,7 +1,7 @@
 ghost use Rattle.std.specs.Prelude.{◌≡◌, IfOk, codes};
 ghost use Rattle.hq_base.specs.Json as tree;
 ghost use Rattle.hq_base.specs.Json.{json_view};
-ghost use Rattle.hq_engine.specs.Answer.{data_text};
+ghost use Rattle.hq_engine.specs.Due.{data_text};
 
 use hq_base::{Bytes, Json, Member, Memory, Reply, Txt};
 use std::alloc::Global;

@@ -2,6 +2,10 @@ ghost use Rattle.std.specs.Prelude.{◌≡◌, ◌⊎◌, ◌≤◌, ℕ, true, 
 ghost use Rattle.hq_terms.specs.Catalog.{is_catalog};
 ghost use Rattle.hq_terms.specs.Database.{Row, is_database};
 ghost use Rattle.hq_terms.specs.declared.table.Table.{Table};
+ghost use Rattle.hq_base.specs.Json.{json_view};
+ghost use Rattle.hq_sql_tree.specs.Tree.{SelectTree};
+ghost use Rattle.hq_sql_text.specs.Readable.{Spells};
+ghost use Rattle.hq_link.specs.Answered.{Answered, NotFitting};
 ghost use Rattle.hq_link.specs.Asked.{Asked, NotAsked, TellsFailure};
 
 use crate::DbRefusal;
@@ -34,6 +38,13 @@ pub trait Database {
 
         // Each text is counted and kept, unless memory is wanted before it could be.
         ensures asked { Asked (asks self.old) (asks self.new) (last self.new) text.now ⊎ ((result ≡ Err DbRefusal.Memory) × NotAsked (asks self.old) (asks self.new) (last self.old) (last self.new)) }
+
+        // Where it is answered, the text is that of a statement that fits the catalog, and this is its meaning.
+        ensures answered { IfOk result (λ json. Answered (tables self.old) (database self.old) text.now (json_view json)) }
+
+        // NotSql comes where no statement is spelled so, and NotTyped where one is that does not fit the catalog.
+        ensures not_sql { result ≡ Err DbRefusal.NotSql → (s : SelectTree) → Spells text.now s → ⊥ }
+        ensures not_typed { result ≡ Err DbRefusal.NotTyped → NotFitting (tables self.old) text.now }
 
         // The database is unchanged, and the count of faults never falls.
         ensures tables { tables self.new ≡ tables self.old }

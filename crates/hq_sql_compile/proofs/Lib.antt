@@ -7,3 +7,4 @@ pub mod Extends
 pub mod ListMeans
 pub mod Meaning
 pub mod Statements
+pub mod Readable

@@ -5,6 +5,8 @@ use Rattle.std.specs.Prelude.{ℕ, ◌+◌, List, [], ◌∷◌, length, Bool, f
 use Rattle.hq_terms.specs.Database.{is_text}
 use Rattle.hq_terms.specs.Schema.{Schema, table, no_column}
 use Rattle.hq_terms.specs.declared.table.Column.{Column}
+use Rattle.hq_terms.specs.declared.table.Table.{Table}
+use Rattle.hq_ask_tree.specs.declared.ask.Ask.{Ask}
 use Rattle.hq_ask_tree.specs.declared.ask.AskColumn.{AskColumn}
 use Rattle.hq_ask_tree.specs.Request.{FieldTrees, no_field, field, FieldTree, column as column_field, list}
 use Rattle.hq_sql_tree.specs.Tree.{ExprTree, column, object, aggregate, PairTree, PairTrees, no_pair, pair, pairs_of, json_agg, orders_of, OrderTree, OutTree, SelectTree, rows, fold, table as from_table, one, JoinTrees, no_join, join, no_filter}
@@ -119,3 +121,15 @@ list_statement response schema name columns key fields =
     (one (table_alias 0))
     (join (list_of_rows schema name columns key 1 (pairs_of (column_pairs columns (table_alias 1) fields)) no_join) (join_alias 1) no_join)
     no_filter [] None None
+
+-- a table of a catalog by its place; beyond the catalog one of no name, without columns
+abbrev pub no_table : Table
+no_table = record { schema = []; name = []; columns = []; key = []; foreign = [] }
+
+abbrev pub table_at : List Table → ℕ → Table
+table_at tables t = slice_index_or tables t no_table
+
+-- the statement of a request for a list of columns of a catalog's table
+abbrev pub list_over : List Table → Ask → SelectTree
+list_over tables a =
+    list_statement a.key (table_at tables a.table).schema (table_at tables a.table).name (table_at tables a.table).columns (table_at tables a.table).key a.columns

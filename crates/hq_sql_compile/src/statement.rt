@@ -9,7 +9,8 @@ ghost use Rattle.hq_ask_tree.specs.Resolve.{resolved};
 ghost use Rattle.hq_sql_tree.specs.Tree as tree;
 ghost use Rattle.hq_sql_tree.specs.Meaning.{meaning};
 ghost use Rattle.hq_sql_tree.specs.View.{out_view, select_view, join_view};
-ghost use Rattle.hq_sql_compile.specs.Compiled.{table_alias, join_alias, value_name, statement, list_statement};
+ghost use Rattle.hq_sql_text.specs.Readable.{is_readable};
+ghost use Rattle.hq_sql_compile.specs.Compiled.{table_alias, join_alias, value_name, statement, list_statement, list_over};
 ghost use Rattle.hq_sql_compile.specs.Correct.{IsPlain};
 
 use crate::alias::{join_alias, table_alias, value_name};
@@ -74,10 +75,26 @@ fn list_statement(alloc: Global, ask: &Ask, table: &Table) -> Result<Select, Mem
     one_row(alloc, out, join)
 }
 
+/// The statement of a list of columns of a table of the catalog. It has a text that is read back.
+pub fn compile_list(alloc: Global, ask: &Ask, catalog: &Catalog) -> Result<Select, Memory>
+    requires { ask.now.table < length catalog.now.tables }
+    ensures list { IfOk result (λ select. select_view select ≡ list_over catalog.now.tables ask.now) }
+    ensures readable { OnOk result (is_readable (list_over catalog.now.tables ask.now) ≡ true) }
+{
+    let table = &catalog.tables.as_slice()[ask.table.at()];
+    let select = list_statement(alloc, ask, table)?;
+    select.fits();
+    Ok(select)
+}
+
 /// The one statement that answers a request for a list of columns. Its table is one of the catalog.
 pub fn compile(alloc: Global, ask: &Ask, catalog: &Catalog, meta: &Meta) -> Result<Select, Memory>
     requires { ask.now.table < length catalog.now.tables }
     ensures tree { IfOk result (λ select. select_view select ≡ statement (ask_view ask.now) (schema_of catalog.now.tables (meta_view meta.now))) }
+    ensures list { IfOk result (λ select. select_view select ≡ list_over catalog.now.tables ask.now) }
+
+    // It has a text that is read back.
+    ensures readable { OnOk result (is_readable (statement (ask_view ask.now) (schema_of catalog.now.tables (meta_view meta.now))) ≡ true) }
 
     // Over every database of the catalog the statement means what nested resolvers give over the permitted rows.
     ensures means { OnOk result ((g : Grants) (d : Items (Items Row)) → is_database catalog.now.tables d ≡ true → IsPlain (grant g ask.now.table) →
@@ -87,5 +104,5 @@ pub fn compile(alloc: Global, ask: &Ask, catalog: &Catalog, meta: &Meta) -> Resu
     let _ = meta;
     let table = &catalog.tables.as_slice()[ask.table.at()];
     let _columns_of_key = table.key.len();
-    list_statement(alloc, ask, table)
+    compile_list(alloc, ask, catalog)
 }

@@ -3,6 +3,7 @@
 
 mod copy;
 mod expr;
+mod fits;
 mod form;
 mod select;
 mod word;

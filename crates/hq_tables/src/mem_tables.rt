@@ -1,6 +1,7 @@
-ghost use Rattle.std.specs.Prelude.{◌≡◌, ◌<◌, ◌||◌, ◌==◌, ℕ, [], true, false, Some, length, slice_index_or};
+ghost use Rattle.std.specs.Prelude.{◌≡◌, ◌<◌, ◌≤◌, ◌||◌, ◌==◌, ℕ, [], true, false, Some, length, slice_index_or, IsOk, IfErr, OnOk, OnErr};
 ghost use Rattle.hq_terms.specs.Database.{is_database};
 ghost use Rattle.hq_tables.specs.Pins.{contains};
+ghost use Rattle.hq_tables.specs.Store.{TellsRise};
 
 use crate::table_set::TableSet;
 use crate::{Rows, RowsList, StoreRefusal, Tables};
@@ -59,7 +60,19 @@ impl Tables for MemTables {
         &self.catalog
     }
 
-    fn pin(&mut self, _alloc: Global, t: TableId) -> Result<(), StoreRefusal> {
+    fn pin(&mut self, _alloc: Global, t: TableId) -> Result<(), StoreRefusal>
+        requires { t < length (⟦<MemTables as Tables>⟧.tables self.old) }
+        ensures taken { IsOk result }
+
+        // What the trait says.
+        ensures pinned { OnOk result ((u : ℕ) → ⟦<MemTables as Tables>⟧.is_pinned self.new u ≡ ((u == t) || ⟦<MemTables as Tables>⟧.is_pinned self.old u)) }
+        ensures refused { OnErr result ((u : ℕ) → ⟦<MemTables as Tables>⟧.is_pinned self.new u ≡ ⟦<MemTables as Tables>⟧.is_pinned self.old u) }
+        ensures cause { IfErr result (λ e. TellsRise (⟦<MemTables as Tables>⟧.faults self.old) (⟦<MemTables as Tables>⟧.faults self.new) e) }
+        ensures later { ⟦<MemTables as Tables>⟧.faults self.old ≤ ⟦<MemTables as Tables>⟧.faults self.new }
+        ensures rows { (u : ℕ) → ⟦<MemTables as Tables>⟧.is_pinned self.old u ≡ true → ⟦<MemTables as Tables>⟧.rows self.new u ≡ ⟦<MemTables as Tables>⟧.rows self.old u }
+        ensures tables { ⟦<MemTables as Tables>⟧.tables self.new ≡ ⟦<MemTables as Tables>⟧.tables self.old }
+        ensures database { ⟦<MemTables as Tables>⟧.database self.new ≡ ⟦<MemTables as Tables>⟧.database self.old }
+    {
         self.mark(t);
         Ok(())
     }

@@ -26,6 +26,7 @@ step_on p x kept rest all before =
       | false ↦ λ e. e
     ]) before
 
+-- the same at the item of a place
 pub filter_step : {A : Type 0} (p : A → Bool) (xs : List A) (i : ℕ) (x : A) (kept : List A) →
     i < length xs → x ≡ get_or xs i x → kept ++ filter p (drop i xs) ≡ filter p xs →
     cond (p x) (kept ++ x ∷ []) kept ++ filter p (drop (i + 1) xs) ≡ filter p xs

@@ -14,6 +14,7 @@ use Rattle.hq_base.specs.declared.value.Ty.TheVariants.{Integer, Bigint, Text, B
 use Rattle.hq_terms.specs.Database.{int_fits}
 use Rattle.hq_terms.specs.Reading.{are_digits, is_whole_number, whole_number}
 
+-- digits spell numbers as `parse` has it
 digits : IsNumeralModel (λ ds. list_all is_ascii_digit ds ≡ true) (digits_value 10)
 digits = numerals_by_value _ (search rules)
 

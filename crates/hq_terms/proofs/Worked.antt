@@ -1,32 +1,30 @@
 -- The definitions at work on two tables: authors, and articles by them.
-use Rattle.std.specs.Prelude.{◌≡◌, ℕ, pos, List, [], ◌∷◌, map, Bool, true, false, Option, Some, None, Result, Ok, Err, codes, refl}
+use Rattle.std.specs.Prelude.{◌≡◌, ℕ, pos, List, [], ◌∷◌, map, Bool, true, false, Some, None, Err, codes, refl}
 use Rattle.hq_base.specs.declared.value.Ty.TheVariants.{Integer, Bigint, Text, Boolean}
 use Rattle.hq_base.specs.declared.value.Val.TheVariants as val
 use Rattle.hq_base.specs.Cells.{CellTree, null, int, text}
 use Rattle.hq_terms.specs.declared.op.Op.TheVariants.{Eq, Ne}
-use Rattle.hq_terms.specs.declared.table.Column.{Column}
 use Rattle.hq_terms.specs.declared.table.Table.{Table}
 use Rattle.hq_terms.specs.declared.meta.RootNames.{RootNames}
-use Rattle.hq_terms.specs.declared.meta.Rel.{Rel}
 use Rattle.hq_terms.specs.declared.session.Session.{Session}
 use Rattle.hq_terms.specs.declared.bexp.Operand.TheVariants as operand
 use Rattle.hq_terms.specs.declared.bind.BindRefusal.TheVariants.{NoVariable, BadVariable}
 use Rattle.hq_terms.specs.declared.want.Want.TheVariants as want
-use Rattle.hq_terms.specs.Bexp.{BexpTree, always, or_of, not_of, comparison, within, through, no_bexp, bexp}
+use Rattle.hq_terms.specs.Bexp.{BexpTree, always, or_of, not_of, comparison, through, no_bexp, bexp}
 use Rattle.hq_terms.specs.Binding.{bound}
 use Rattle.hq_terms.specs.Catalog.{is_catalog}
 use Rattle.hq_terms.specs.Database.{Row, is_database}
 use Rattle.hq_terms.specs.Fits.{fits}
 use Rattle.hq_terms.specs.Grants.{Grants, grants_of, limits}
-use Rattle.hq_terms.specs.Meta.{PermTree, TrackedTree, MetaTree}
+use Rattle.hq_terms.specs.Meta.{MetaTree}
 use Rattle.hq_terms.specs.Permitted.{permitted, seen_by, shown}
-use Rattle.hq_terms.specs.Related.{related, related_first}
+use Rattle.hq_terms.specs.Related.{related}
 use Rattle.hq_terms.specs.Schema.{Schema, schema_of}
 use Rattle.hq_terms.specs.Seen.{row_cell}
-use Rattle.hq_terms.specs.Selected.{SortKey, Selection, selected}
-use Rattle.hq_terms.specs.View.{View, view, seen_in}
+use Rattle.hq_terms.specs.Selected.{Selection, selected}
+use Rattle.hq_terms.specs.View.{Agree, view, seen_in}
 
--- the catalog
+-- the authors
 abbrev author : Table
 author = record {
   schema = codes "public";
@@ -39,6 +37,7 @@ author = record {
   foreign = [];
 }
 
+-- the articles, each perhaps by an author
 abbrev article : Table
 article = record {
   schema = codes "public";
@@ -53,6 +52,7 @@ article = record {
   foreign = record { columns = 1 ∷ []; remote = 0; references = 0 ∷ [] } ∷ [];
 }
 
+-- the catalog
 abbrev tables : List Table
 tables = author ∷ article ∷ []
 
@@ -74,6 +74,7 @@ own_or_published =
     or_of (bexp (comparison 3 Eq (operand.Const (val.Bool true)))
     (bexp (comparison 1 Eq (operand.Session (codes "x-hasura-user-id"))) no_bexp))
 
+-- the names of root fields
 abbrev roots_with : (select select_aggregate select_by_pk : List ℕ) → RootNames
 roots_with a b c = record { select = a; select_aggregate = b; select_by_pk = c }
 
@@ -99,12 +100,15 @@ meta = record {
       ∷ [];
 }
 
+-- the schema of the two
 abbrev schema : Schema
 schema = schema_of tables meta
 
+-- a session of the role user with this user id
 abbrev user : List ℕ → Session
 user id = record { role = codes "user"; vars = record { name = codes "x-hasura-user-id"; value = id } ∷ [] }
 
+-- what such a session is granted
 abbrev grants : List ℕ → Grants
 grants id = grants_of (user id) tables meta
 
@@ -112,23 +116,27 @@ grants id = grants_of (user id) tables meta
 abbrev ids : List Row → List CellTree
 ids = map (λ row. row_cell row 0)
 
+-- cells of whole numbers
 abbrev numbers : List ℕ → List CellTree
 numbers = map (λ n. int (pos n))
 
--- the two tables are a catalog, the metadata fits it, and the rows are a database of it
+-- the two tables are a catalog
 catalog_is : is_catalog tables ≡ true
 catalog_is = refl
 
+-- the metadata fits it
 meta_fits : fits tables meta ≡ true
 meta_fits = refl
 
+-- the rows are a database of it
 database_is : is_database tables database ≡ true
 database_is = refl
 
--- user 1 may see all articles, in the order of their ids; user 2 all but the one that is not published
+-- user 1 may see all articles, in the order of their ids
 permitted_to_1 : ids (permitted schema (grants (codes "1")) database 1) ≡ numbers (10 ∷ 11 ∷ 12 ∷ 13 ∷ [])
 permitted_to_1 = refl
 
+-- user 2 may see all but the one that is not published
 permitted_to_2 : ids (permitted schema (grants (codes "2")) database 1) ≡ numbers (10 ∷ 12 ∷ 13 ∷ [])
 permitted_to_2 = refl
 
@@ -136,23 +144,28 @@ permitted_to_2 = refl
 abbrev articles_of : ℕ → List CellTree
 articles_of n = ids (related schema (seen_by schema (grants (codes "2")) database) 0 0 (val.Int (pos n) ∷ []))
 
+-- of the two articles of author 1 user 2 sees the one that is published
 articles_of_1 : articles_of 1 ≡ numbers (10 ∷ [])
 articles_of_1 = refl
 
+-- author 2 has one article
 articles_of_2 : articles_of 2 ≡ numbers (12 ∷ [])
 articles_of_2 = refl
 
+-- author 3 has none
 articles_of_3 : articles_of 3 ≡ []
 articles_of_3 = refl
 
--- lists of articles as user 1
+-- a list without arguments
 abbrev plain : Selection
 plain = record { wanted = always; sorts = []; distinct = []; limit = None; offset = None }
 
+-- the ids of a list of articles as a user sees it
 abbrev listed : List ℕ → Selection → List CellTree
 listed id a =
     ids (selected schema (seen_by schema (grants id) database) 1 a (limits (grants id) 1) (permitted schema (grants id) database 1))
 
+-- a list sorted by rating
 abbrev by_rating : (desc nulls_first : Bool) → Selection
 by_rating desc nulls_first =
     record plain { sorts = record { through = []; column = 4; desc = desc; nulls_first = nulls_first } ∷ [] }
@@ -161,12 +174,15 @@ by_rating desc nulls_first =
 rating_desc : listed (codes "1") (by_rating true true) ≡ numbers (11 ∷ 13 ∷ 10 ∷ 12 ∷ [])
 rating_desc = refl
 
+-- descending with NULLs last
 rating_desc_nulls_last : listed (codes "1") (by_rating true false) ≡ numbers (13 ∷ 10 ∷ 12 ∷ 11 ∷ [])
 rating_desc_nulls_last = refl
 
+-- ascending with NULLs last, which is what asc alone means
 rating_asc : listed (codes "1") (by_rating false false) ≡ numbers (10 ∷ 12 ∷ 13 ∷ 11 ∷ [])
 rating_asc = refl
 
+-- ascending with NULLs first
 rating_asc_nulls_first : listed (codes "1") (by_rating false true) ≡ numbers (11 ∷ 10 ∷ 12 ∷ 13 ∷ [])
 rating_asc_nulls_first = refl
 
@@ -174,16 +190,19 @@ rating_asc_nulls_first = refl
 one_a_rating : listed (codes "1") (record plain { distinct = 4 ∷ [] }) ≡ numbers (10 ∷ 13 ∷ 11 ∷ [])
 one_a_rating = refl
 
+-- the same for user 2, who does not see the article without a rating
 one_a_rating_to_2 : listed (codes "2") (record plain { distinct = 4 ∷ [] }) ≡ numbers (10 ∷ 13 ∷ [])
 one_a_rating_to_2 = refl
 
--- a rating that is NULL is neither different from 5 nor not equal to it
+-- the rating is 5
 abbrev rating_is : BexpTree
 rating_is = comparison 4 Eq (operand.Const (val.Int (pos 5)))
 
+-- a rating that is NULL is not different from 5
 rating_differs : listed (codes "1") (record plain { wanted = comparison 4 Ne (operand.Const (val.Int (pos 5))) }) ≡ numbers (13 ∷ [])
 rating_differs = refl
 
+-- a rating that is NULL is not unequal to 5 either
 rating_is_not : listed (codes "1") (record plain { wanted = not_of rating_is }) ≡ numbers (13 ∷ [])
 rating_is_not = refl
 
@@ -194,17 +213,19 @@ by_ann : listed (codes "1") (record plain {
 }) ≡ numbers (10 ∷ 11 ∷ [])
 by_ann = refl
 
--- the list's own limit and the permission's, and an offset past the end
+-- a limit of 0 leaves none
 limit_0 : listed (codes "1") (record plain { limit = Some 0 }) ≡ []
 limit_0 = refl
 
+-- an offset past the end leaves none
 offset_past_end : listed (codes "1") (record plain { offset = Some 2147483647 }) ≡ []
 offset_past_end = refl
 
--- a session without the variable, and one whose text is no whole number of 32 bits
+-- a session without the variable
 no_variable : bound own_or_published schema [] 1 ≡ Err (NoVariable (codes "x-hasura-user-id"))
 no_variable = refl
 
+-- a session whose text is no whole number of 32 bits
 bad_variable : bound own_or_published schema (user (codes "abc")).vars 1 ≡ Err (BadVariable (codes "x-hasura-user-id") want.Integer)
 bad_variable = refl
 
@@ -225,11 +246,27 @@ view_of_2 : view schema (grants (codes "2")) database ≡ record {
 }
 view_of_2 = refl
 
+-- another database: other e-mails, and another title of the article that user 2 may not see
+abbrev other_database : List (List Row)
+other_database =
+    ((val.Int (pos 3) ∷ val.Text (codes "O'Hara") ∷ val.Text (codes "o@x") ∷ [])
+    ∷ (val.Int (pos 1) ∷ val.Text (codes "Ann") ∷ val.Text (codes "a@x") ∷ [])
+    ∷ (val.Int (pos 2) ∷ val.Text (codes "Bob") ∷ val.Null ∷ []) ∷ [])
+    ∷ ((val.Int (pos 10) ∷ val.Int (pos 1) ∷ val.Text (codes "A") ∷ val.Bool true ∷ val.Int (pos 5) ∷ [])
+    ∷ (val.Int (pos 11) ∷ val.Int (pos 1) ∷ val.Text (codes "Z") ∷ val.Bool false ∷ val.Null ∷ [])
+    ∷ (val.Int (pos 12) ∷ val.Int (pos 2) ∷ val.Text (codes "C") ∷ val.Bool true ∷ val.Int (pos 5) ∷ [])
+    ∷ (val.Int (pos 13) ∷ val.Null ∷ val.Text (codes "D") ∷ val.Bool true ∷ val.Int (pos 7) ∷ []) ∷ [])
+    ∷ []
+
+-- user 2 cannot tell the two databases apart
+agree_for_2 : Agree schema (grants (codes "2")) database other_database
+agree_for_2 = refl
+
 -- a list gives the same over the view, where a row is its position
 over_view : selected schema (seen_in (view schema (grants (codes "2")) database)) 1 (record plain { distinct = 4 ∷ [] }) None (0 ∷ 1 ∷ 2 ∷ []) ≡ 0 ∷ 2 ∷ []
 over_view = refl
 
--- with a rating that shows only where the author is user 1, all that a list does reads what is shown
+-- a grant under which a rating shows only where the author is user 1
 abbrev masked : Grants
 masked =
     None ∷ Some (record {
@@ -240,14 +277,18 @@ masked =
       masks = record { column = 4; shown = comparison 1 Eq (operand.Const (val.Int (pos 1))) } ∷ [];
     }) ∷ []
 
+-- the ids of a list under that grant
 abbrev listed_masked : Selection → List CellTree
 listed_masked a = ids (selected schema (seen_by schema masked database) 1 a None (permitted schema masked database 1))
 
+-- the shown ratings of articles 10 to 13
 shown_ratings : map (λ row. shown schema masked database 1 row 4) (permitted schema masked database 1) ≡ int (pos 5) ∷ null ∷ null ∷ null ∷ []
 shown_ratings = refl
 
+-- where reads what is shown
 masked_in_where : listed_masked (record plain { wanted = rating_is }) ≡ numbers (10 ∷ [])
 masked_in_where = refl
 
+-- so does a sort
 masked_in_order : listed_masked (by_rating true true) ≡ numbers (11 ∷ 12 ∷ 13 ∷ 10 ∷ [])
 masked_in_order = refl

@@ -1,6 +1,6 @@
 -- A boolean expression for one session: each session name replaced by the session's value (Hasura, Authorization:
 -- session variables in permission rules).
-use Rattle.std.specs.Prelude.{ℕ, List, [], ◌∷◌, find, Bool, Option, Some, None, option_map, Result, Ok, Err, bytes_eq}
+use Rattle.std.specs.Prelude.{ℕ, List, [], ◌∷◌, find, Option, Some, None, option_map, Result, Ok, Err, bytes_eq}
 use Rattle.hq_base.specs.Due.{and_then, mapped}
 use Rattle.hq_base.specs.declared.value.Val.{Val}
 use Rattle.hq_terms.specs.Bexp.{BexpTree, always, and_of, or_of, not_of, comparison, within, is_null, like, through, BexpTrees, no_bexp, bexp, bexps_of}
@@ -23,6 +23,7 @@ abbrev pub constant : (name : List ℕ) → Result Val Want → Result Operand B
 constant name (Ok v) = Ok (Const v)
 constant name (Err wanted) = Err (BadVariable name wanted)
 
+-- the constant of a variable, read from its text; NoVariable where the session has none
 abbrev pub constant_of : (List ℕ → Result Val Want) → (name : List ℕ) → Option (List ℕ) → Result Operand BindRefusal
 constant_of read name None = Err (NoVariable name)
 constant_of read name (Some text) = constant name (read text)
@@ -32,6 +33,7 @@ abbrev pub bound_operand : (List ℕ → Result Val Want) → List Var → Opera
 bound_operand read vars (Const v) = Ok (Const v)
 bound_operand read vars (Session name) = constant_of read name (variable vars name)
 
+-- operands whose texts are read in this way, or the fault of the first that has no value
 abbrev pub bound_operands : (List ℕ → Result Val Want) → List Var → List Operand → Result (List Operand) BindRefusal
 bound_operands read vars [] = Ok []
 bound_operands read vars (o ∷ os) = and_then (λ b. mapped (λ bs. b ∷ bs) (bound_operands read vars os)) (bound_operand read vars o)
@@ -53,6 +55,7 @@ abbrev mutual
   bound_all no_bexp s vars t = Ok []
   bound_all (bexp b bs) s vars t = and_then (λ x. mapped (λ xs. x ∷ xs) (bound_all bs s vars t)) (bound b s vars t)
 
+-- masks, each bound, or the fault of the first that does not bind
 abbrev pub bound_masks : List Mask → Schema → List Var → ℕ → Result (List Mask) BindRefusal
 bound_masks [] s vars t = Ok []
 bound_masks (m ∷ ms) s vars t =

@@ -1,6 +1,7 @@
--- What a catalog is: tables whose names, columns, keys and foreign keys fit together.
-use Rattle.std.specs.Prelude.{ℕ, ◌+◌, List, [], ◌∷◌, ◌++◌, length, Bool, true, false, ◌&&◌, ◌==◌, nat_lt, nat_le, Option, Some, None, slice_get, is_none, not, bytes_eq, codes}
-use Rattle.std.specs.List.{list_all, list_any}
+-- What a catalog is: tables whose names, columns, keys and foreign keys fit together (PostgreSQL, Constraints: not-null,
+-- primary keys, foreign keys).
+use Rattle.std.specs.Prelude.{ℕ, List, [], ◌∷◌, ◌++◌, length, Bool, true, false, ◌&&◌, ◌==◌, nat_lt, nat_le, Option, Some, None, slice_get, not, bytes_eq, codes}
+use Rattle.std.specs.List.{list_all}
 use Rattle.hq_base.specs.Lists.{all_differ}
 use Rattle.hq_base.specs.declared.value.Ty.{Ty}
 use Rattle.hq_base.specs.declared.value.Ty.TheVariants.{Integer, Bigint, Text, Boolean}
@@ -18,11 +19,12 @@ comparable Text Text = true
 comparable Boolean Boolean = true
 comparable _ _ = false
 
--- the type of a table's column, where it has that column
+-- the type of a column, where there is one
 abbrev pub type_of : Option Column → Option Ty
 type_of None = None
 type_of (Some c) = Some c.ty
 
+-- the type of a table's column, where it has that column
 abbrev pub column_type : Table → ℕ → Option Ty
 column_type t c = type_of (slice_get t.columns c)
 
@@ -44,16 +46,18 @@ abbrev pub can_pair : Option Ty → Option Ty → Bool
 can_pair (Some a) (Some b) = comparable a b
 can_pair _ _ = false
 
+-- the columns of two tables go together in pairs, none left over, and the values of each pair can be compared
 abbrev pub pairs_fit : Table → Table → List ℕ → List ℕ → Bool
 pairs_fit t u [] [] = true
 pairs_fit t u (c ∷ cs) (d ∷ ds) = can_pair (column_type t c) (column_type u d) && pairs_fit t u cs ds
 pairs_fit t u _ _ = false
 
--- a foreign key names at least one column of its table, and as many of a table of the catalog, pair by pair comparable
+-- the same, where the second table is one of the catalog
 abbrev pub pairs_fit_with : Table → Option Table → List ℕ → List ℕ → Bool
 pairs_fit_with t None cs ds = false
 pairs_fit_with t (Some u) cs ds = pairs_fit t u cs ds
 
+-- a foreign key names at least one column of its table, and as many of a table of the catalog, pair by pair comparable
 abbrev pub is_foreign_key : List Table → Table → ForeignKey → Bool
 is_foreign_key tables t f = nat_lt 0 (length f.columns) && pairs_fit_with t (slice_get tables f.remote) f.columns f.references
 

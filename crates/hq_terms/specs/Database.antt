@@ -1,4 +1,5 @@
--- A database over a catalog: for each table its rows in file order.
+-- A database over a catalog: for each table its rows in file order (PostgreSQL, Data Types: numeric, character and boolean
+-- types; Constraints: not-null, primary keys).
 use Rattle.std.specs.Prelude.{ℕ, ◌^◌, ◌-◌, ℤ, pos, negsuc, List, [], ◌∷◌, map, length, Bool, true, false, ◌&&◌, nat_lt, slice_index_or}
 use Rattle.std.specs.List.{list_all}
 use Rattle.hq_base.specs.Lists.{all_differ}
@@ -26,10 +27,12 @@ int_fits Bigint n = fits_bits 64 n
 int_fits Text n = false
 int_fits Boolean n = false
 
+-- the type text
 abbrev pub is_text : Ty → Bool
 is_text Text = true
 is_text _ = false
 
+-- the type boolean
 abbrev pub is_boolean : Ty → Bool
 is_boolean Boolean = true
 is_boolean _ = false
@@ -41,6 +44,7 @@ value_fits c (val.Int n) = int_fits c.ty n
 value_fits c (val.Text s) = is_text c.ty
 value_fits c (val.Bool b) = is_boolean c.ty
 
+-- a row has a value for each column, and each fits its column
 abbrev pub row_fits : List Column → Row → Bool
 row_fits [] [] = true
 row_fits (c ∷ cs) (v ∷ vs) = value_fits c v && row_fits cs vs
@@ -50,6 +54,7 @@ row_fits _ _ = false
 abbrev pub key_of : Table → Row → List Val
 key_of t row = map (λ c. slice_index_or row c val.Null) t.key
 
+-- two lists of values are equal, value by value
 abbrev pub same_values : List Val → List Val → Bool
 same_values [] [] = true
 same_values (a ∷ as') (b ∷ bs) = same_cell (cell_of a) (cell_of b) && same_values as' bs

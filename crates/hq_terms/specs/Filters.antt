@@ -1,6 +1,6 @@
 -- When an expression is one over a table: its columns and relationships are there, and operators and operands are of the
 -- column's type (Hasura, boolean expressions: operators).
-use Rattle.std.specs.Prelude.{ℕ, List, [], ◌∷◌, Bool, true, false, is_ok, ◌&&◌, Option, Some, None, option_map, is_some, slice_get}
+use Rattle.std.specs.Prelude.{ℕ, Bool, true, false, is_ok, ◌&&◌, Option, Some, None, option_map, is_some, slice_get}
 use Rattle.std.specs.List.{list_all}
 use Rattle.hq_base.specs.Patterns.{pattern_of}
 use Rattle.hq_base.specs.declared.value.Ty.{Ty}
@@ -23,6 +23,7 @@ constant_fits ty (val.Int n) = int_fits ty n
 constant_fits ty (val.Text s) = is_text ty
 constant_fits ty (val.Bool b) = is_boolean ty
 
+-- an operand for a column of a type: a constant of it, or any session name
 abbrev pub operand_fits : Ty → Operand → Bool
 operand_fits ty (Const v) = constant_fits ty v
 operand_fits ty (Session name) = true
@@ -32,6 +33,7 @@ abbrev pub is_pattern : Val → Bool
 is_pattern (val.Text s) = is_ok (pattern_of s)
 is_pattern _ = false
 
+-- an operand of LIKE: a pattern, or any session name
 abbrev pub pattern_fits : Operand → Bool
 pattern_fits (Const v) = is_pattern v
 pattern_fits (Session name) = true

@@ -1,5 +1,5 @@
--- When a metadata fits a catalog.
-use Rattle.std.specs.Prelude.{ℕ, ◌^◌, List, [], ◌∷◌, length, Bool, true, false, not, cond, ◌&&◌, ◌==◌, nat_lt, nat_le, Option, Some, None, is_some, bytes_eq, codes}
+-- When a metadata fits a catalog (Hasura, Metadata API reference: tables, relationships, permissions).
+use Rattle.std.specs.Prelude.{ℕ, ◌^◌, List, [], ◌∷◌, length, Bool, true, not, cond, ◌&&◌, ◌==◌, nat_lt, nat_le, Option, Some, None, is_some, bytes_eq}
 use Rattle.std.specs.List.{list_all}
 use Rattle.hq_base.specs.Lists.{all_differ}
 use Rattle.hq_terms.specs.Bexp.{depth}
@@ -26,6 +26,7 @@ abbrev pub objects_first : List Rel → Bool
 objects_first [] = true
 objects_first (r ∷ rs) = cond r.many (list_all (λ q. q.many) rs) (objects_first rs)
 
+-- a limit is below 2 ^ 63
 abbrev pub limit_fits : Option ℕ → Bool
 limit_fits None = true
 limit_fits (Some n) = nat_lt n (2 ^ 63)
@@ -40,6 +41,7 @@ fits_perm s t p =
     && nat_le (depth p.filter) 300
     && limit_fits p.limit
 
+-- the names of root fields are free Names
 abbrev pub are_free_roots : RootNames → Bool
 are_free_roots r = is_free_name r.select && is_free_name r.select_aggregate && is_free_name r.select_by_pk
 

@@ -1,5 +1,6 @@
--- What a session is granted: for each table perhaps a permission, bound. With the schema it decides the statement that is asked.
-use Rattle.std.specs.Prelude.{ℕ, List, [], Bool, false, Option, Some, None, option_and_then, slice_index_or, unwrap_or}
+-- What a session is granted: for each table perhaps a permission, bound (Hasura, Authorization: select permissions, session
+-- variables). With the schema it decides the statement that is asked.
+use Rattle.std.specs.Prelude.{ℕ, List, [], false, Option, None, option_and_then, slice_index_or, unwrap_or}
 use Rattle.std.specs.Result.{result_ok}
 use Rattle.hq_terms.specs.Bexp.{never}
 use Rattle.hq_terms.specs.Binding.{bound_permission}
@@ -13,6 +14,7 @@ use Rattle.hq_terms.specs.declared.table.Table.{Table}
 abbrev pub Grants : Type 0
 Grants = List (Option Permission)
 
+-- what the session is granted of one table: its permission, bound, where there is one that binds
 abbrev pub grant_of : Session → MetaTree → Schema → ℕ → SchemaTable → Option Permission
 grant_of session meta s t table =
     option_and_then (λ p. result_ok (bound_permission p s session.vars t)) (permission (role_of session.role) meta t)
@@ -21,10 +23,11 @@ grant_of session meta s t table =
 abbrev pub grants_of : Session → List Table → MetaTree → Grants
 grants_of session tables meta = let s = schema_of tables meta in numbered (grant_of session meta s) 0 s
 
--- the grant on a table by its place; where there is none, the one whose filter is never true
+-- the grant under which nothing is seen: its filter is never true
 abbrev pub no_grant : Permission
 no_grant = record { columns = []; filter = never; limit = None; aggregations = false; masks = [] }
 
+-- the grant on a table by its place; where there is none, the one whose filter is never true
 abbrev pub grant : Grants → ℕ → Permission
 grant g t = unwrap_or (slice_index_or g t None) no_grant
 

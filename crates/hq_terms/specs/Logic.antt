@@ -1,10 +1,10 @@
 -- Truth in three values, and the comparisons of cells that have it (PostgreSQL, logical operators, comparison functions
 -- and operators, row and array comparisons, pattern matching).
-use Rattle.std.specs.Prelude.{List, [], ◌∷◌, Bool, true, false, cond, not, Option, Some, None, is_none}
+use Rattle.std.specs.Prelude.{List, [], ◌∷◌, Bool, true, false, cond, Option, Some, None}
 use Rattle.std.specs.declared.cmp.Ordering.{Ordering}
 use Rattle.std.specs.Ordering.{nat_cmp, int_cmp, bool_cmp, is_eq, is_ne, is_lt, is_le, is_gt, is_ge}
 use Rattle.std.specs.Cmp.Lexicographic.{slice_cmp}
-use Rattle.hq_base.specs.Cells.{CellTree, null, int, text, bool, json}
+use Rattle.hq_base.specs.Cells.{CellTree, null, int, text, bool}
 use Rattle.hq_base.specs.Patterns.{like}
 use Rattle.hq_terms.specs.declared.op.Op.{Op}
 use Rattle.hq_terms.specs.declared.op.Op.TheVariants.{Eq, Ne, Lt, Le, Gt, Ge}
@@ -18,20 +18,24 @@ is_true Yes = true
 is_true No = false
 is_true Unknown = false
 
+-- a condition that is never unknown
 abbrev pub truth_of : Bool → Truth
 truth_of b = cond b Yes No
 
+-- NOT: of unknown it is unknown
 abbrev pub not3 : Truth → Truth
 not3 Yes = No
 not3 No = Yes
 not3 Unknown = Unknown
 
+-- AND: false where one side is, and true only where both are
 abbrev pub and3 : Truth → Truth → Truth
 and3 Yes b = b
 and3 No b = No
 and3 Unknown No = No
 and3 Unknown _ = Unknown
 
+-- OR: true where one side is, and false only where both are
 abbrev pub or3 : Truth → Truth → Truth
 or3 Yes b = Yes
 or3 No b = b
@@ -50,6 +54,7 @@ order_between (text a) (text b) = Some (slice_cmp nat_cmp a b)
 order_between (bool a) (bool b) = Some (bool_cmp a b)
 order_between _ _ = None
 
+-- how the left side is to stand to the right one
 abbrev pub op_test : Op → Ordering → Bool
 op_test Eq = is_eq
 op_test Ne = is_ne
@@ -58,6 +63,7 @@ op_test Le = is_le
 op_test Gt = is_gt
 op_test Ge = is_ge
 
+-- a test of an order, unknown where there is none
 abbrev pub tested : (Ordering → Bool) → Option Ordering → Truth
 tested test None = Unknown
 tested test (Some o) = truth_of (test o)
@@ -66,6 +72,7 @@ tested test (Some o) = truth_of (test o)
 abbrev pub compared : Op → CellTree → CellTree → Truth
 compared op a b = tested (op_test op) (order_between a b)
 
+-- whether two cells are equal
 abbrev pub equal : CellTree → CellTree → Truth
 equal = compared Eq
 

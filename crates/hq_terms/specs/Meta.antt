@@ -1,4 +1,4 @@
--- What metadata says, without where it lies in memory.
+-- What metadata says, without where it lies in memory (Hasura, Metadata format).
 use Rattle.std.specs.Prelude.{ℕ, List, map, find, Bool, Option, ◌==◌}
 use Rattle.hq_terms.specs.Bexp.{BexpTree, bexp_view}
 use Rattle.hq_terms.specs.declared.meta.RootNames.{RootNames}
@@ -28,7 +28,7 @@ pub record TrackedTree : Type 0 where
 pub record MetaTree : Type 0 where
   pub tracked : List TrackedTree
 
--- what each is seen as
+-- what a permission is seen as
 abbrev pub perm_view : Perm → PermTree
 perm_view p = record {
   role = p.role;
@@ -38,6 +38,7 @@ perm_view p = record {
   aggregations = p.aggregations;
 }
 
+-- what a tracked table is seen as
 abbrev pub tracked_view : Tracked → TrackedTree
 tracked_view t = record {
   table = t.table;
@@ -48,6 +49,7 @@ tracked_view t = record {
   perms = map perm_view t.perms;
 }
 
+-- what a metadata is seen as
 abbrev pub meta_view : Meta → MetaTree
 meta_view m = record { tracked = map tracked_view m.tracked }
 

@@ -1,4 +1,4 @@
--- Names (October 2021, 2.1.9 Names, 2.1.9 Reserved names).
+-- Names (GraphQL October 2021, 2.1.9: Names, Reserved Names).
 use Rattle.std.specs.Prelude.{ℕ, List, [], ◌∷◌, Bool, false, not, ◌&&◌, ◌||◌, ◌==◌, bytes_eq, codes}
 use Rattle.std.specs.Char.{is_ascii_alphabetic, is_ascii_alphanumeric}
 use Rattle.std.specs.List.{list_all}
@@ -7,6 +7,7 @@ use Rattle.std.specs.List.{list_all}
 abbrev pub starts_name : ℕ → Bool
 starts_name c = is_ascii_alphabetic c || (c == 95)
 
+-- a letter, a digit or an underscore
 abbrev pub continues_name : ℕ → Bool
 continues_name c = is_ascii_alphanumeric c || (c == 95)
 

@@ -1,5 +1,5 @@
 -- What a role may see of a table (Hasura, Authorization: select permissions).
-use Rattle.std.specs.Prelude.{ℕ, suc, List, [], ◌∷◌, filter, find, Bool, true, cond, ◌==◌, Option, Some, None, option_and_then, bytes_eq, codes}
+use Rattle.std.specs.Prelude.{ℕ, suc, List, [], ◌∷◌, filter, find, Bool, true, cond, ◌==◌, Option, Some, None, option_and_then, bytes_eq}
 use Rattle.std.specs.List.{list_any}
 use Rattle.hq_terms.specs.Bexp.{BexpTree, always}
 use Rattle.hq_terms.specs.Meta.{PermTree, TrackedTree, MetaTree, tracked_table}
@@ -30,6 +30,7 @@ abbrev pub named_from : (k : ℕ) → List (List ℕ) → List ℕ
 named_from k [] = []
 named_from k (n ∷ ns) = cond (is_free_name n) (k ∷ named_from (suc k) ns) (named_from (suc k) ns)
 
+-- the columns of a table that may stand in a schema
 abbrev pub named_columns : TrackedTree → List ℕ
 named_columns k = named_from 0 k.column_names
 
@@ -48,6 +49,7 @@ told_permission k p =
     with_columns (record { columns = []; filter = p.filter; limit = p.limit; aggregations = p.aggregations; masks = [] })
     (filter (λ c. list_any (λ d. d == c) p.cols) (named_columns k))
 
+-- a role's permission on a tracked table; a name is looked for whole
 abbrev pub permission_in : Role → TrackedTree → Option Permission
 permission_in Admin k = admin_permission k
 permission_in (Named name) k = option_and_then (told_permission k) (find (λ p. bytes_eq p.role name) k.perms)

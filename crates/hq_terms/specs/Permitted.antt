@@ -1,5 +1,5 @@
 -- The rows that a session may see of a database, and the cells that it is shown (Hasura, Authorization: row and column permissions).
-use Rattle.std.specs.Prelude.{ℕ, List, [], ◌∷◌, filter, Bool, false, cond, ◌==◌}
+use Rattle.std.specs.Prelude.{ℕ, List, [], ◌∷◌, filter, false, cond, ◌==◌}
 use Rattle.std.specs.declared.cmp.Ordering.{Ordering}
 use Rattle.std.specs.declared.cmp.Ordering.TheVariants.{Equal}
 use Rattle.std.specs.Ordering.{on, then_cmp}
@@ -26,6 +26,7 @@ by_key s d t = sort (columns_cmp (table s t).key) (table_rows d t)
 abbrev pub permitted_under : Permission → Schema → List (List Row) → ℕ → List Row
 permitted_under p s d t = filter (keeps p.filter s (all_of s d) t) (by_key s d t)
 
+-- the rows of a table that a session may see
 abbrev pub permitted : Schema → Grants → List (List Row) → ℕ → List Row
 permitted s g d t = permitted_under (grant g t) s d t
 
@@ -38,6 +39,7 @@ mask_of (m ∷ ms) c = cond (m.column == c) m.shown (mask_of ms c)
 abbrev pub shown_under : Permission → Schema → List (List Row) → ℕ → Row → ℕ → CellTree
 shown_under p s d t row c = cond (keeps (mask_of p.masks c) s (all_of s d) t row) (row_cell row c) null
 
+-- the cell of a row that a session is shown
 abbrev pub shown : Schema → Grants → List (List Row) → ℕ → Row → ℕ → CellTree
 shown s g d t = shown_under (grant g t) s d t
 

@@ -12,6 +12,7 @@ use Rattle.hq_terms.specs.Database.{int_fits}
 use Rattle.hq_terms.specs.declared.want.Want.{Want}
 use Rattle.hq_terms.specs.declared.want.Want.TheVariants as want
 
+-- one or more digits
 abbrev pub are_digits : List ℕ → Bool
 are_digits ds = nat_lt 0 (length ds) && list_all is_ascii_digit ds
 

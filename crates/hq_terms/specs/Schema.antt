@@ -1,6 +1,6 @@
--- A schema: the tables of a catalog, each with its relationships. It has no rows, and it is the same for every role.
+-- A schema: the tables of a catalog, each with its relationships (Hasura, Relationships). It has no rows, and it is the same
+-- for every role.
 use Rattle.std.specs.Prelude.{ℕ, suc, List, [], ◌∷◌, option_map, unwrap_or, true, slice_index_or}
-use Rattle.hq_base.specs.declared.value.Ty.{Ty}
 use Rattle.hq_base.specs.declared.value.Ty.TheVariants.{Text}
 use Rattle.hq_terms.specs.declared.table.Column.{Column}
 use Rattle.hq_terms.specs.declared.table.Table.{Table}
@@ -15,6 +15,7 @@ pub record SchemaTable : Type 0 where
   pub key : List ℕ
   pub rels : List Rel
 
+-- the tables, in the order of the catalog
 abbrev pub Schema : Type 0
 Schema = List SchemaTable
 
@@ -27,6 +28,7 @@ abbrev pub numbered : {A B : Type 0} → (ℕ → A → B) → (k : ℕ) → Lis
 numbered f k [] = []
 numbered f k (x ∷ xs) = f k x ∷ numbered f (suc k) xs
 
+-- a table of the catalog with its relationships
 abbrev pub schema_table : MetaTree → ℕ → Table → SchemaTable
 schema_table meta t table = record {
   schema = table.schema;
@@ -40,23 +42,26 @@ schema_table meta t table = record {
 abbrev pub schema_of : List Table → MetaTree → Schema
 schema_of tables meta = numbered (schema_table meta) 0 tables
 
--- a table by its place; beyond the catalog a table of no name, without columns and relationships
+-- the table that stands beyond the catalog: of no name, without columns and relationships
 abbrev pub no_table : SchemaTable
 no_table = record { schema = []; name = []; columns = []; key = []; rels = [] }
 
+-- a table by its place
 abbrev pub table : Schema → ℕ → SchemaTable
 table s t = slice_index_or s t no_table
 
--- a column by its place; beyond the table's columns a nullable text column of no name
+-- the column that stands beyond a table's columns: a nullable text of no name
 abbrev pub no_column : Column
 no_column = record { name = []; ty = Text; nullable = true }
 
+-- a column of a table, by the places of both
 abbrev pub column : Schema → ℕ → ℕ → Column
 column s t c = slice_index_or (table s t).columns c no_column
 
--- a relationship by its place; beyond the table's relationships one to the first table, without pairs
+-- the relationship that stands beyond a table's relationships: one to the first table, without pairs
 abbrev pub no_rel : Rel
 no_rel = record { name = []; remote = 0; pairs = []; many = true }
 
+-- a relationship of a table, by the places of both
 abbrev pub rel : Schema → ℕ → ℕ → Rel
 rel s t r = slice_index_or (table s t).rels r no_rel

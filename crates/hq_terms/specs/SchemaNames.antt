@@ -3,7 +3,7 @@ use Rattle.std.specs.Prelude.{ℕ, List, [], ◌∷◌, ◌++◌, map, filter, f
 use Rattle.std.specs.List.{list_all, list_any}
 use Rattle.hq_base.specs.Lists.{all_differ}
 use Rattle.hq_base.specs.declared.value.Ty.{Ty}
-use Rattle.hq_base.specs.declared.value.Ty.TheVariants.{Integer, Bigint, Text, Boolean}
+use Rattle.hq_base.specs.declared.value.Ty.TheVariants.{Integer, Bigint}
 use Rattle.hq_terms.specs.Database.{is_boolean}
 use Rattle.hq_terms.specs.Meta.{TrackedTree, MetaTree, tracked_table}
 use Rattle.hq_terms.specs.Permission.{named_columns}
@@ -22,6 +22,7 @@ fixed_types =
 abbrev pub fixed_inputs : List (List ℕ)
 fixed_inputs = codes "_and" ∷ codes "_not" ∷ codes "_or" ∷ []
 
+-- the types of whole numbers
 abbrev pub is_whole : Ty → Bool
 is_whole Integer = true
 is_whole Bigint = true
@@ -35,10 +36,12 @@ some_column test s k = list_any (λ c. test (column s k.table c).ty) (named_colu
 abbrev pub has_columns : TrackedTree → Bool
 has_columns k = list_any (λ c. true) (named_columns k)
 
+-- an entry is there and stands in a schema
 abbrev pub in_schema : Option TrackedTree → Bool
 in_schema None = false
 in_schema (Some k) = has_columns k
 
+-- a table, by its place, stands in a schema
 abbrev pub is_in_schema : MetaTree → ℕ → Bool
 is_in_schema m t = in_schema (tracked_table m t)
 
@@ -50,16 +53,19 @@ table_types s k =
     ∷ cond (some_column (λ ty. not (is_boolean ty)) s k) ((k.name ++ codes "_max_fields") ∷ (k.name ++ codes "_min_fields") ∷ []) []
     ++ cond (some_column is_whole s k) ((k.name ++ codes "_sum_fields") ∷ []) []
 
+-- the types of a table, none where it stands in no schema
 abbrev pub types_of : Schema → TrackedTree → List (List ℕ)
 types_of s k = cond (has_columns k) (table_types s k) []
 
--- the root fields of a table: the look-up by key where all columns of the key have GraphQL names
+-- all columns of the key have GraphQL names
 abbrev pub key_is_named : Schema → TrackedTree → Bool
 key_is_named s k = list_all (λ c. list_any (λ d. d == c) (named_columns k)) (table s k.table).key
 
+-- the root fields of a table: the look-up by key only where all columns of the key have GraphQL names
 abbrev pub table_roots : Schema → TrackedTree → List (List ℕ)
 table_roots s k = k.roots.select ∷ k.roots.select_aggregate ∷ cond (key_is_named s k) (k.roots.select_by_pk ∷ []) []
 
+-- the root fields of a table, none where it stands in no schema
 abbrev pub roots_of : Schema → TrackedTree → List (List ℕ)
 roots_of s k = cond (has_columns k) (table_roots s k) []
 
@@ -75,13 +81,15 @@ rels_in_schema m k = filter (λ r. is_in_schema m r.remote) k.rels
 abbrev pub rel_fields : Rel → List (List ℕ)
 rel_fields r = r.name ∷ cond r.many ((r.name ++ codes "_aggregate") ∷ []) []
 
--- the fields of a table's type, and the inputs of its boolean expressions
+-- the fields of a table's type
 abbrev pub fields_of : MetaTree → TrackedTree → List (List ℕ)
 fields_of m k = column_names_of k ++ flat_map rel_fields (rels_in_schema m k)
 
+-- the inputs of a table's boolean expressions
 abbrev pub inputs_of : MetaTree → TrackedTree → List (List ℕ)
 inputs_of m k = fixed_inputs ++ column_names_of k ++ map (λ r. r.name) (rels_in_schema m k)
 
+-- no two names of a list are equal
 abbrev pub all_names_differ : List (List ℕ) → Bool
 all_names_differ = all_differ bytes_eq
 

@@ -1,6 +1,6 @@
 -- What is seen of a database: the one argument over which truth, related rows and selected rows are defined.
-use Rattle.std.specs.Prelude.{ℕ, List, [], ◌∷◌, Bool, true, false, ◌&&◌, slice_index_or}
-use Rattle.hq_base.specs.Cells.{CellTree, null, cell_of}
+use Rattle.std.specs.Prelude.{ℕ, List, [], ◌∷◌, Bool, true, ◌&&◌, slice_index_or}
+use Rattle.hq_base.specs.Cells.{CellTree, cell_of}
 use Rattle.hq_base.specs.declared.value.Val.TheVariants as val
 use Rattle.hq_terms.specs.declared.meta.Pair.{Pair}
 use Rattle.hq_terms.specs.Logic.{is_true, equal}

@@ -42,11 +42,12 @@ sorts_cmp (k ∷ ks) s S t x y =
 abbrev pub ascending : List ℕ → List SortKey
 ascending = map (λ c. record { through = []; column = c; desc = false; nulls_first = false })
 
--- the entries that count: with none, those of the distinct columns
+-- these entries, and the others where these are none
 abbrev pub sorts_or : List SortKey → List SortKey → List SortKey
 sorts_or [] others = others
 sorts_or (k ∷ ks) others = k ∷ ks
 
+-- the entries that count: with none in order_by, those of the distinct columns
 abbrev pub entries : Selection → List SortKey
 entries a = sorts_or a.sorts (ascending a.distinct)
 

@@ -1,5 +1,5 @@
 -- The truth of a boolean expression at a row (Hasura, Filter query results: boolean expressions; PostgreSQL, logical and comparison operators).
-use Rattle.std.specs.Prelude.{ℕ, List, [], ◌∷◌, map, ◌&&◌, not, cond, Bool}
+use Rattle.std.specs.Prelude.{ℕ, map, ◌&&◌, not, cond, Bool}
 use Rattle.std.specs.List.{list_any}
 use Rattle.hq_base.specs.Cells.{CellTree, null, cell_of}
 use Rattle.hq_terms.specs.declared.bexp.Operand.{Operand}

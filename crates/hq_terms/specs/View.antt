@@ -1,5 +1,5 @@
 -- What a session can tell of a database: its view. Two databases agree for a session where their views are equal.
-use Rattle.std.specs.Prelude.{◌≡◌, ℕ, suc, List, [], ◌∷◌, ◌++◌, map, Bool, cond, ◌&&◌, ◌==◌, Option, Some, None, option_map, slice_index_or, unwrap_or}
+use Rattle.std.specs.Prelude.{◌≡◌, ℕ, suc, List, [], ◌∷◌, ◌++◌, map, Bool, cond, ◌&&◌, ◌==◌, Option, Some, None, slice_index_or, unwrap_or}
 use Rattle.std.specs.List.{list_any}
 use Rattle.hq_base.specs.Cells.{CellTree, null}
 use Rattle.hq_terms.specs.Database.{Row}
@@ -20,12 +20,15 @@ pub record View : Type 0 where
   pub tables : List (Option (List Cut))
   pub links : List (List (List (ℕ × ℕ)))
 
+-- the columns of a row with their cells
 abbrev pub cut : List ℕ → (ℕ → CellTree) → Cut
 cut cs cell = map (λ c. (c, cell c)) cs
 
+-- the permitted rows of a table, each cut down to the permitted columns
 abbrev pub cut_rows : Permission → Schema → List (List Row) → ℕ → List Cut
 cut_rows p s d t = map (λ row. cut p.columns (shown_under p s d t row)) (permitted_under p s d t)
 
+-- the entry of a table, none where nothing of it is granted
 abbrev pub view_table : Schema → List (List Row) → ℕ → Option Permission → Option (List Cut)
 view_table s d t None = None
 view_table s d t (Some p) = Some (cut_rows p s d t)
@@ -40,6 +43,7 @@ abbrev pub pairs_from : {A B : Type 0} → (A → B → Bool) → ℕ → List A
 pairs_from test k [] ys = []
 pairs_from test k (x ∷ xs) ys = map (λ j. (k, j)) (places_from (test x) 0 ys) ++ pairs_from test (suc k) xs ys
 
+-- the pairs of positions whose rows are linked by a relationship
 abbrev pub view_links : Schema → Grants → List (List Row) → ℕ → Rel → List (ℕ × ℕ)
 view_links s g d t r = pairs_from (linked_by r.pairs) 0 (permitted s g d t) (permitted s g d r.remote)
 
@@ -63,6 +67,7 @@ abbrev pub cut_cell : Cut → ℕ → CellTree
 cut_cell [] c = null
 cut_cell (e ∷ es) c = cond (e.0 == c) e.1 (cut_cell es c)
 
+-- a pair of positions stands in a list
 abbrev pub has_pair : List (ℕ × ℕ) → ℕ → ℕ → Bool
 has_pair ps i j = list_any (λ p. (p.0 == i) && (p.1 == j)) ps
 

@@ -18,6 +18,8 @@ mod role;
 mod scope;
 mod session;
 mod table;
+#[cfg(test)]
+mod tests;
 mod truth;
 mod want;
 

@@ -21,7 +21,7 @@ use Rattle.hq_terms.specs.declared.session.Var.{Var}
 use Rattle.hq_terms.specs.declared.table.Table.{Table}
 use Rattle.hq_terms.proofs.Places.{present, absent, at_0}
 
--- the grant of a table of the catalog, and of one beyond
+-- the grant of a table of the catalog: its permission, bound, or none
 pub grant_present : (session : Session) (tables : List Table) (m : MetaTree) (t : ℕ) (x : Table) → slice_get tables t ≡ Some x →
     grant (grants_of session tables m) t ≡ unwrap_or (option_and_then (λ p. result_ok (bound_permission p (schema_of tables m) session.vars t)) (permission (role_of session.role) m t)) no_grant
 grant_present session tables m t x here =
@@ -30,6 +30,7 @@ grant_present session tables m t x here =
     (present (grants_of session tables m) t None (grant_of session m s t (schema_table m t x))
     (at_0 (grant_of session m s) s t ∙ ap (option_map (grant_of session m s t)) (at_0 (schema_table m) tables t ∙ ap (option_map (schema_table m t)) here)))
 
+-- beyond the catalog nothing is granted
 pub grant_absent : (session : Session) (tables : List Table) (m : MetaTree) (t : ℕ) → slice_get tables t ≡ None → grant (grants_of session tables m) t ≡ no_grant
 grant_absent session tables m t none =
     let s = schema_of tables m in
@@ -37,11 +38,12 @@ grant_absent session tables m t none =
     (absent (grants_of session tables m) t None
     (at_0 (grant_of session m s) s t ∙ ap (option_map (grant_of session m s t)) (at_0 (schema_table m) tables t ∙ ap (option_map (schema_table m t)) none)))
 
--- where the filter is never true, no row is permitted
+-- a filter that is never true keeps no row
 none_kept : (s : Schema) (S : Sees Row) (t : ℕ) (rows : List Row) → filter (keeps never s S t) rows ≡ []
 none_kept s S t [] = refl
 none_kept s S t (row ∷ rows) = none_kept s S t rows
 
+-- where the filter is never true, no row is permitted
 pub none_permitted : (s : Schema) (g : Grants) (d : List (List Row)) (t : ℕ) → never ≡ (grant g t).filter → [] ≡ permitted s g d t
 none_permitted s g d t e =
     sym (none_kept s (all_of s d) t (by_key s d t)) ∙ ap (λ b. filter (keeps b s (all_of s d) t) (by_key s d t)) e

@@ -28,21 +28,25 @@ abbrev IsPlain : Option Permission → Type 0
 IsPlain None = Unit {0}
 IsPlain (Some p) = p.masks ≡ []
 
+-- to leave out a permission without columns adds no masks
 plain_with : (p : Permission) (cs : List ℕ) → p.masks ≡ [] → IsPlain (with_columns p cs)
 plain_with p [] e = tt
 plain_with p (c ∷ cs) e = e
 
+-- a permission of the metadata has no masks
 told_plain : (k : TrackedTree) (o : Option PermTree) → IsPlain (option_and_then (told_permission k) o)
 told_plain k None = tt
 told_plain k (Some p) =
     plain_with (record { columns = []; filter = p.filter; limit = p.limit; aggregations = p.aggregations; masks = [] })
     (filter (λ c. list_any (λ d. d == c) p.cols) (named_columns k)) refl
 
+-- nor has any role's permission on a tracked table
 in_plain : (role : Role) (k : TrackedTree) → IsPlain (permission_in role k)
 in_plain Admin k =
     plain_with (record { columns = []; filter = always; limit = None; aggregations = true; masks = [] }) (named_columns k) refl
 in_plain (Named name) k = told_plain k (find (λ p. bytes_eq p.role name) k.perms)
 
+-- nor on a table that is perhaps tracked
 tracked_plain : (role : Role) (o : Option TrackedTree) → IsPlain (option_and_then (permission_in role) o)
 tracked_plain role None = tt
 tracked_plain role (Some k) = in_plain role k
@@ -65,6 +69,7 @@ bound_plain (Some p) s vars t plain =
       | Err e ↦ refl
     ])
 
+-- no grant has masks
 masks_none : (session : Session) (tables : List Table) (m : MetaTree) (t : ℕ) → (grant (grants_of session tables m) t).masks ≡ []
 masks_none session tables m t =
     let go : (o : Option Table) → slice_get tables t ≡ o → (grant (grants_of session tables m) t).masks ≡ [] =

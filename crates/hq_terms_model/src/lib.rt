@@ -14,6 +14,8 @@ mod rows;
 mod seen;
 mod select;
 mod sort;
+#[cfg(test)]
+mod tests;
 
 pub use arguments::{Arguments, SortEntry};
 pub use boolean::truth;

@@ -10,6 +10,22 @@ anyway : {T E : Type 0} (r : Result T E) (P : Type 0) → P → OnOk r P
 anyway (Ok x) P p = p
 anyway (Err e) P p = tt
 
+-- the table at the request's place
+here : (tables : List Table) (t : ℕ) (x : Table) → t < length tables → x ≡ slice_index_or tables t x → x ≡ table_at tables t
+here [] t x lt e = absurd (omega arith)
+here (y ∷ tables) zero x lt e = e
+here (y ∷ tables) (suc t) x lt e = here tables t x (omega arith) e
+
+pub returns-clause-list : goal.returns-clause-list
+returns-clause-list c =
+    let x = c.index-as_slice-at.result in
+    let a = c.args.ask.now in
+    let is : x ≡ table_at c.args.catalog.now.tables a.table = here c.args.catalog.now.tables a.table x c.requires (cc) in
+    IfOk-weaker c.list_statement.result _ _ (λ select e. e ∙ ap (λ t. list_statement a.key t.schema t.name t.columns t.key a.columns) is) c.list_statement.ensures
+
+pub returns-clause-readable : goal.returns-clause-readable
+returns-clause-readable c = ?
+
 pub returns-clause-tree : goal.returns-clause-tree
 returns-clause-tree c =
     let tables = c.args.catalog.now.tables in

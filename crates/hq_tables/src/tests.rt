@@ -1,0 +1,4 @@
+mod fixture;
+mod load;
+mod rows;
+mod stores;

@@ -1,0 +1,6 @@
+mod binding;
+mod copies;
+mod fixture;
+mod look_ups;
+mod sessions;
+mod words;

@@ -1,0 +1,6 @@
+mod fixture;
+mod made;
+mod permissions;
+mod relationships;
+mod selections;
+mod truths;
