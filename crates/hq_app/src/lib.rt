@@ -2,14 +2,20 @@
 #![tactic(auto)]
 
 mod directory;
+mod line;
 mod loaded;
 mod loading;
 mod parts;
+mod phrase;
 mod refusal;
 mod refused;
+mod reply;
 mod words;
+mod world;
 
 pub use loaded::Loaded;
 pub use loading::load;
-pub use refusal::{FileFault, LoadingRefusal};
+pub use refusal::{FileFault, LoadingRefusal, Refusal};
+pub use reply::INPUT_LIMIT;
 pub use words::{Query, WordsRefusal};
+pub use world::{Ran, World};

@@ -2,3 +2,4 @@ pub mod ListBody
 pub mod ListRequest
 pub mod Due
 pub mod Answer
+pub mod Due
