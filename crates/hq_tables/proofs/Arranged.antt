@@ -46,6 +46,7 @@ IsArranged-more all values places k row v so_far within apart is =
       left = left_more all values places k row (get_or places k 0) so_far next apart;
     }
 
+-- of places below a bound each is below it
 all_at : (n : ℕ) (places : List ℕ) (k : ℕ) → list_all (λ p. ltb p n) places ≡ true → k < length places → get_or places k 0 < n
 all_at n [] k all within = absurd (omega (arith, within))
 all_at n (p ∷ places) zero all within = (Decides-ltb p n).0 (first_so (ltb p n) (list_all (λ p. ltb p n) places) all)

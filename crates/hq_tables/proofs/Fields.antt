@@ -11,6 +11,7 @@ field_at-slice_get [] i = refl
 field_at-slice_get (f ∷ fields) zero = refl
 field_at-slice_get (f ∷ fields) (suc i) = field_at-slice_get fields i
 
+-- what shows a field is there
 is_some : (r : Option (Bor (List ℕ))) (f : List ℕ) → option_map (λ s. s.now) r ≡ Some f → IsSome r
 is_some None f e = cc
 is_some (Some x) f e = refl
@@ -19,6 +20,7 @@ is_some (Some x) f e = refl
 pub has_field : (r : Option (Bor (List ℕ))) (fields : List (List ℕ)) (i : ℕ) → option_map (λ s. s.now) r ≡ field_at fields i → i < length fields → IsSome r
 has_field r fields i e h = is_some r (get_or fields i []) (e ∙ (field_at-slice_get fields i ∙ slice_get-get_or fields i [] h))
 
+-- a reference that shows a field is to that field
 held : (x : Bor (List ℕ)) (f : List ℕ) → option_map (λ (s : Bor (List ℕ)). s.now) (Some x) ≡ Some f → x.now ≡ f
 held x f e = cc
 

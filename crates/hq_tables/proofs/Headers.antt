@@ -8,6 +8,7 @@ use Rattle.hq_tables.specs.Header.{all_some}
 abbrev pub Found : {X Y : Type 0} → (X → Option Y) → List X → ℕ → List Y → Type 0
 Found f xs k found = all_some (map f xs) ≡ option_map (λ rest. found ++ rest) (all_some (map f (drop k xs)))
 
+-- at first none has found its value
 pub Found-none : {X Y : Type 0} (f : X → Option Y) (xs : List X) → Found f xs 0 []
 Found-none f xs = by (all_some (map f xs))
   where

@@ -24,11 +24,13 @@ use Rattle.hq_tables.specs.Load.{line_of_key}
 abbrev pub val_cmp : Val → Val → Ordering
 val_cmp = ghosts.cmp
 
+-- two orders joined are equal where both are
 is_eq-then : (o p : Ordering) → is_eq (ordering_then o p) ≡ (is_eq o && is_eq p)
 is_eq-then Less p = refl
 is_eq-then Equal p = refl
 is_eq-then Greater p = refl
 
+-- an order joined to equal is itself
 is_eq-last : (o : Ordering) → is_eq o ≡ is_eq (ordering_then o Equal)
 is_eq-last Less = refl
 is_eq-last Equal = refl
@@ -58,7 +60,7 @@ values_tie : (xs ys : List Val) → is_eq (slice_cmp val_cmp xs ys) ≡ same_val
 values_tie [] [] = refl
 values_tie [] (y ∷ ys) = refl
 values_tie (x ∷ xs) [] = refl
-values_tie (x ∷ xs) (y ∷ ys) = rw (is_eq-then, val_ties x y, values_tie xs ys) refl
+values_tie (x ∷ xs) (y ∷ ys) = rw (is_eq-then (val_cmp x y) (slice_cmp val_cmp xs ys), val_ties x y, values_tie xs ys) refl
 
 -- values that are not distinct are equal
 val_same : (a b : Val) → same_cell (cell_of a) (cell_of b) ≡ true → a ≡ b
@@ -82,6 +84,7 @@ val_same (val.Bool false) (val.Bool true) h = absurd (false≢true h)
 val_same (val.Bool true) (val.Bool false) h = absurd (false≢true h)
 val_same (val.Bool true) (val.Bool true) h = refl
 
+-- and so are lists of such values
 values_same : (xs ys : List Val) → same_values xs ys ≡ true → xs ≡ ys
 values_same [] [] h = refl
 values_same [] (y ∷ ys) h = absurd (false≢true h)
@@ -91,6 +94,7 @@ values_same (x ∷ xs) (y ∷ ys) h =
     let others = values_same xs ys (second_so (same_cell (cell_of x) (cell_of y)) (same_values xs ys) h) in
     rw (first, others) refl
 
+-- two tests that agree look up the same
 lookup-same : {K X : Type 0} (t u : K → Bool) (es : List (K × X)) → ((k : K) → t k ≡ u k) → lookup t es ≡ lookup u es
 lookup-same t u [] same = refl
 lookup-same t u (e ∷ es) same = rw (same e.0, lookup-same t u es same) refl
@@ -107,6 +111,7 @@ get-line_at lines key = lookup-same (λ k. is_eq (key_cmp key k)) (λ k. same_va
 pub line_at-noted : (old new : BTreeMap Key ℕ) (key : Key) (line : ℕ) → ((q : Key) → get key_cmp new q ≡ cond (is_at (key_cmp key) q) (Some line) (get key_cmp old q)) → (q : Key) → line_at new q ≡ cond (same_values key.items q.items) (Some line) (line_at old q)
 line_at-noted old new key line updated q = sym (get-line_at new q) ∙ (updated q ∙ rw (values_tie key.items q.items, get-line_at old q) refl)
 
+-- none beside a value changes nothing
 option_or-none : {X : Type 0} (o : Option X) → option_or o None ≡ o
 option_or-none None = refl
 option_or-none (Some x) = refl
@@ -120,6 +125,7 @@ position_from-push {X} u i (y ∷ ys) x = by (u y) (position_from-push u (i + 1)
     by true more = refl
     by false more = let same : i + 1 + length ys ≡ i + suc (length ys) = omega arith in more ∙ ap (λ n. option_or (position_from u (i + 1) ys) (cond (u x) (Some n) None)) same
 
+-- a row more has its number where no earlier one has the key
 line_of_key-push : (t : Table) (rows : List Row) (row : Row) (key : List Val) → line_of_key t (rows ++ row ∷ []) key ≡ option_or (line_of_key t rows key) (cond (same_values (key_of t row) key) (Some (2 + length rows)) None)
 line_of_key-push t rows row key = position_from-push (λ row. same_values (key_of t row) key) 2 rows row
 
@@ -138,6 +144,7 @@ Knows-more t rows row old new key line knows is absent at noted = record { known
         let other : same_values (key_of t row) q.items ≡ false = ap (λ k. same_values k q.items) (sym is) ∙ e in
         rw (line_of_key-push t rows row q.items, other, option_or-none (line_of_key t rows q.items)) (knows.known q)
 
+-- in no entries nothing is found
 lookup-nil : {X : Type 0} (key : Key) (lines : BTreeMap Key X) → lines.entries ≡ [] → lookup (λ k. same_values key.items k.items) lines.entries ≡ None
 lookup-nil key lines empty = rw empty refl
 

@@ -8,6 +8,7 @@ use Rattle.hq_tables.specs.Keys.{Key, Knows, line_at}
 use Rattle.hq_tables.specs.Load.{line_of_key, record_due, row_due}
 use Rattle.hq_tables.specs.declared.load.refusal.LoadRefusal.TheVariants.{RepeatedKey}
 
+-- the number that is noted under a key is that of the row with the key
 known_of : (t : Table) (rows : List Row) (row : Row) (lines : BTreeMap Key ℕ) (key : Key) → Knows t rows lines → key.items ≡ key_of t row → line_of_key t rows (key_of t row) ≡ line_at lines key
 known_of t rows row lines key knows is = ap (line_of_key t rows) (sym is) ∙ sym (knows.known key)
 

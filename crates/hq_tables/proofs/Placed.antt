@@ -46,6 +46,7 @@ head_of None r xs e = cc
 head_of (Some x) None xs e = cc
 head_of (Some x) (Some rest) xs e = (x, rest, refl, refl, cc)
 
+-- as many values as were there
 length-all_some : {X : Type 0} (os : List (Option X)) (xs : List X) → all_some os ≡ Some xs → length xs ≡ length os
 length-all_some [] [] e = refl
 length-all_some [] (x ∷ xs) e = cc
@@ -63,6 +64,7 @@ pub record IsPlace (names : List (List ℕ)) (name : List ℕ) (p : ℕ) : Type 
   pub here : get_or names p [] ≡ name
   pub value : (values : List Val) → value_named names values name ≡ get_or values p val.Null
 
+-- the place that is found, counted from a first one, is the place of the name
 place_found : (names : List (List ℕ)) (name : List ℕ) (i p : ℕ) → position_from (bytes_eq name) i names ≡ Some p → (k : ℕ) × (p ≡ i + k) × IsPlace names name k
 place_found [] name i p e = cc
 place_found (n ∷ ns) name i p e = by (bytes_eq name n) refl (place_found ns name (i + 1) p) e
@@ -85,6 +87,7 @@ place_found (n ∷ ns) name i p e = by (bytes_eq name n) refl (place_found ns na
         let behind : IsPlace (n ∷ ns) name (suc r.0) = record { within = omega (arith, r.2.within); here = r.2.here; value = value_past r.0 other r.2.value } in
         (suc r.0, omega (arith, r.1), behind)
 
+-- the place that is found is the place of the name
 pub is_place : (names : List (List ℕ)) (name : List ℕ) (p : ℕ) → position_from (bytes_eq name) 0 names ≡ Some p → IsPlace names name p
 is_place names name p e =
     let r = place_found names name 0 p e in
@@ -114,6 +117,7 @@ apart_from (d ∷ ds) names name p places here e other =
     ] in
     rw (h.4, not_there) (apart_from ds names name p h.1 here h.3 unlike.1)
 
+-- the places that are found are places of the header
 all_within : (columns : List Column) (names : List (List ℕ)) (places : List ℕ) → places_named columns names ≡ Some places → list_all (λ p. ltb p (length names)) places ≡ true
 all_within [] names places e = let none : [] ≡ places = cc in rw (← none) refl
 all_within (c ∷ cs) names places e =
@@ -121,6 +125,7 @@ all_within (c ∷ cs) names places e =
     let within = (Decides-ltb h.0 (length names)).1 (is_place names c.name h.0 h.2).within in
     rw h.4 (and_from (ltb h.0 (length names)) (list_all (λ p. ltb p (length names)) h.1) within (all_within cs names h.1 h.3))
 
+-- columns of different names have different places
 all_apart : (columns : List Column) (names : List (List ℕ)) (places : List ℕ) → places_named columns names ≡ Some places → all_differ (λ c d. bytes_eq c.name d.name) columns ≡ true → all_differ (λ p q. eqb p q) places ≡ true
 all_apart [] names places e differ = let none : [] ≡ places = cc in rw (← none) refl
 all_apart (c ∷ cs) names places e differ =

@@ -31,7 +31,7 @@ FieldsRead-stop line cs fs k c values e whole here within is = rw (here, drop_mo
 
 -- the next item of a list, and what follows it
 pub item_at : {X Y : Type 0} (f : X → Y) (xs : List X) (k : ℕ) (x : X) → k < length xs → x ≡ get_or xs k x → drop k (map f xs) ≡ f x ∷ drop (k + 1) (map f xs)
-item_at f xs k x within is = rw (drop-map, drop-map, drop_more xs k x within, ← is) refl
+item_at f xs k x within is = rw (drop-map f k xs, drop-map f (k + 1) xs, drop_more xs k x within, ← is) refl
 
 -- the first value, and the others
 pub next_of : (first : Result Val LoadRefusal) (r : Result (List Val) LoadRefusal) (vs : List Val) → and_then (λ v. mapped (λ rest. v ∷ rest) r) first ≡ Ok vs → (v : Val) × (rest : List Val) × (first ≡ Ok v) × (r ≡ Ok rest) × (vs ≡ v ∷ rest)

@@ -35,6 +35,7 @@ use Rattle.hq_tables.proofs.Records.{next_of}
 
 -- ---- how many
 
+-- no more records are read than may be
 few_from : (cfg : Config) (n : ℕ) (s : State) (xs : List ℕ) → length (records_from cfg n s xs) ≤ n
 unfolding records_from
 few_from cfg zero s xs = omega arith
@@ -44,6 +45,7 @@ few_from cfg (suc n) s xs = by (next_record cfg s [] [] xs) (few_from cfg n)
     by None few = omega arith
     by (Some p) few = omega (arith, few p.1 p.2)
 
+-- without its mark a text is no longer
 stripped : (bytes : List ℕ) → length (strip_bom bytes) ≤ length bytes
 unfolding strip_bom
 stripped [] = omega arith
@@ -60,6 +62,7 @@ few_records bytes =
 
 -- ---- a field's value fits its column
 
+-- NULL fits where it is taken
 null_fits : (c : Column) (v : Val) → null_due c.nullable ≡ Ok v → value_fits c v ≡ true
 null_fits c v e = by c.nullable refl e
   where
@@ -67,6 +70,7 @@ null_fits c v e = by c.nullable refl e
     by true is e = let here : val.Null ≡ v = cc in rw (← here) is
     by false is e = cc
 
+-- a number that is taken is in the range of its type
 number_fits : (ty : Ty) (s : List ℕ) (v : Val) → ok_or (option_map val.Int (whole_number ty s)) NotInteger ≡ Ok v → (n : ℤ) × (v ≡ val.Int n) × (int_fits ty n ≡ true)
 number_fits ty s v e = by (is_whole_number s && int_fits ty (signed_digits_value 10 s)) refl e
   where
@@ -74,16 +78,19 @@ number_fits ty s v e = by (is_whole_number s && int_fits ty (signed_digits_value
     by true is e = (signed_digits_value 10 s, cc, (and_parts (is_whole_number s) (int_fits ty (signed_digits_value 10 s)) is).1)
     by false is e = cc
 
+-- a truth value that is taken is one
 boolean_of : (o : Option Bool) (v : Val) → ok_or (option_map val.Bool o) NotBoolean ≡ Ok v → (b : Bool) × (v ≡ val.Bool b)
 boolean_of None v e = cc
 boolean_of (Some b) v e = (b, cc)
 
+-- a value that is read by type is of this type
 typed_fits : (ty : Ty) (s : List ℕ) (v : Val) → typed_due ty s ≡ Ok v → (c : Column) → c.ty ≡ ty → value_fits c v ≡ true
 typed_fits Integer s v e c is = let n = number_fits Integer s v e in rw (n.1, is) n.2
 typed_fits Bigint s v e c is = let n = number_fits Bigint s v e in rw (n.1, is) n.2
 typed_fits Text s v e c is = let here : val.Text s ≡ v = cc in rw (← here, is) refl
 typed_fits Boolean s v e c is = let b = boolean_of (truth_value s) v e in rw (b.1, is) refl
 
+-- the value of a text fits its column
 value_due-fits : (c : Column) (s : List ℕ) (v : Val) → value_due c s ≡ Ok v → value_fits c v ≡ true
 value_due-fits c s v e = by (bytes_eq s null_field) e
   where
@@ -91,6 +98,7 @@ value_due-fits c s v e = by (bytes_eq s null_field) e
     by true e = null_fits c v e
     by false e = typed_fits c.ty s v e c refl
 
+-- the value of a field fits its column
 field_due-fits : (c : Column) (f : List ℕ) (v : Val) → field_due c f ≡ Ok v → value_fits c v ≡ true
 field_due-fits c f v e = by (text_of f) e
   where
@@ -98,12 +106,14 @@ field_due-fits c f v e = by (text_of f) e
     by (Ok s) e = value_due-fits c s v e
     by (Err w) e = cc
 
+-- a value that is placed is the value
 placed_ok : (line col : ℕ) (r : Result Val FieldRefusal) (v : Val) → placed line col r ≡ Ok v → r ≡ Ok v
 placed_ok line col (Ok w) v e = let here : w ≡ v = cc in ap Ok here
 placed_ok line col (Err w) v e = cc
 
 -- ---- a record's row fits the table's columns
 
+-- the values of a record fit the columns of the file
 fields_due-fits : (line col : ℕ) (cs : List Column) (fs : List (List ℕ)) (vs : List Val) → length fs ≡ length cs → fields_due line col cs fs ≡ Ok vs → row_fits cs vs ≡ true
 fields_due-fits line col [] fs vs many e = let none : [] ≡ vs = cc in rw (← none) refl
 fields_due-fits line col (c ∷ cs) [] vs many e = absurd (omega (arith, many))
@@ -113,10 +123,12 @@ fields_due-fits line col (c ∷ cs) (f ∷ fs) vs many e =
     let others = fields_due-fits line (col + 1) cs fs h.1 (omega (arith, many)) h.3 in
     rw h.4 (and_from (value_fits c h.0) (row_fits cs h.1) first others)
 
+-- the value under a name, in front or behind
 one_named : (c : Column) (n : List ℕ) (ns : List (List ℕ)) (v : Val) (vs : List Val) (b : Bool) → bytes_eq c.name n ≡ b → (bytes_eq c.name n ≡ true → value_fits c v ≡ true) → (list_any (bytes_eq c.name) ns ≡ true → value_fits c (value_named ns vs c.name) ≡ true) → (b || list_any (bytes_eq c.name) ns) ≡ true → value_fits c (value_named (n ∷ ns) (v ∷ vs) c.name) ≡ true
 one_named c n ns v vs true is here later named = rw is (here is)
 one_named c n ns v vs false is here later named = rw is (later named)
 
+-- one option holds one value
 some_same : {X : Type 0} (o : Option X) (x y : X) → o ≡ Some x → o ≡ Some y → x ≡ y
 some_same o x y p q = cc
 
@@ -141,6 +153,7 @@ found_past d columns (c ∷ cs) h other =
     let unlike = or_parts (bytes_eq d.name c.name) (list_any (λ e. bytes_eq d.name e.name) cs) other in
     (rw unlike.0 h.0, found_past d columns cs h.1 unlike.1)
 
+-- among columns with different names each is found by its name
 found_self : (columns : List Column) → names_differ columns ≡ true → Each (λ c. find (λ e. bytes_eq e.name c.name) columns ≡ Some c) columns
 found_self [] differ = tt
 found_self (d ∷ columns) differ =
@@ -165,10 +178,12 @@ header_parts columns names cs e = by (length names == length columns) (list_all 
     by true false is e = cc
     by false b is e = cc
 
+-- what is mapped comes of a value
 mapped_ok : {X Y E : Type 0} (f : X → Y) (r : Result X E) (y : Y) → mapped f r ≡ Ok y → (x : X) × (r ≡ Ok x) × (y ≡ f x)
 mapped_ok f (Ok x) y e = (x, refl, cc)
 mapped_ok f (Err w) y e = cc
 
+-- the row of a record fits the columns of the table
 record_due-fits : (line : ℕ) (t : Table) (names : List (List ℕ)) (columns : List Column) (fields : List (List ℕ)) (row : Row) → names_differ t.columns ≡ true → header_due t.columns names ≡ Some columns → record_due line t names columns fields ≡ Ok row → row_fits t.columns row ≡ true
 record_due-fits line t names columns fields row differ header e = by (length fields == length columns) refl e
   where
@@ -182,6 +197,7 @@ record_due-fits line t names columns fields row differ header e = by (length fie
 
 -- ---- the rows' keys differ
 
+-- the row behind others is that of its record, and none of them has its key
 row_parts : (t : Table) (names : List (List ℕ)) (columns : List Column) (rows : List Row) (fields : List (List ℕ)) (row : Row) → row_due t names columns rows fields ≡ Ok row → (record_due (length rows + 2) t names columns fields ≡ Ok row) × (line_of_key t rows (key_of t row) ≡ None)
 row_parts t names columns rows fields row e = by (record_due (length rows + 2) t names columns fields) e
   where
@@ -193,6 +209,7 @@ row_parts t names columns rows fields row e = by (record_due (length rows + 2) t
     by (Ok r) e = let h = at r (line_of_key t rows (key_of t r)) refl e in (ap Ok h.0, sym (ap (λ x. line_of_key t rows (key_of t x)) h.0) ∙ h.1)
     by (Err w) e = cc
 
+-- an item that is none of those before it keeps all different
 all_differ-push : {X : Type 0} (same : X → X → Bool) (xs : List X) (y : X) → all_differ same xs ≡ true → list_any (λ x. same x y) xs ≡ false → all_differ same (xs ++ y ∷ []) ≡ true
 all_differ-push same [] y differ other = refl
 all_differ-push same (x ∷ xs) y differ other =
@@ -202,20 +219,24 @@ all_differ-push same (x ∷ xs) y differ other =
 
 -- ---- all rows
 
+-- rows that fit the columns and whose keys differ
 record IsValid (t : Table) (rows : List Row) : Type 0 where
   fits : list_all (row_fits t.columns) rows ≡ true
   differ : all_differ (λ x y. same_values (key_of t x) (key_of t y)) rows ≡ true
 
+-- a row that fits and whose key is new keeps them so
 IsValid-push : (t : Table) (rows : List Row) (row : Row) → IsValid t rows → row_fits t.columns row ≡ true → line_of_key t rows (key_of t row) ≡ None → IsValid t (rows ++ row ∷ [])
 IsValid-push t rows row valid fits new = record {
   fits = list_all-append (row_fits t.columns) rows (row ∷ []) ∙ rw (valid.fits, fits) refl;
   differ = all_differ-push (λ x y. same_values (key_of t x) (key_of t y)) rows row valid.differ (sym (is_some-position_from (λ x. same_values (key_of t x) (key_of t row)) 2 rows) ∙ ap is_some new);
 }
 
+-- what is joined to a value comes of it
 first_of : {X Y E : Type 0} (f : X → Result Y E) (r : Result X E) (y : Y) → and_then f r ≡ Ok y → (x : X) × (r ≡ Ok x) × (f x ≡ Ok y)
 first_of f (Ok x) y e = (x, refl, e)
 first_of f (Err w) y e = cc
 
+-- the rows of the records behind valid rows are valid with them, and as many more
 rows_due-keeps : (t : Table) (names : List (List ℕ)) (columns : List Column) (before : List Row) (rs : List (List (List ℕ))) (rows : List Row) → names_differ t.columns ≡ true → header_due t.columns names ≡ Some columns → IsValid t before → rows_due t names columns before rs ≡ Ok rows → IsValid t rows × (length rows ≡ length before + length rs)
 rows_due-keeps t names columns before [] rows differ header valid e = let same : before ≡ rows = cc in (subst (IsValid t) same valid, sym (ap length same) ∙ sym (add-zero (length before)))
 rows_due-keeps t names columns before (r ∷ rs) rows differ header valid e =

@@ -23,6 +23,7 @@ field_refusal txt.NotUtf8 = NotUtf8
 field_refusal txt.ZeroByte = ZeroByte
 field_refusal txt.Memory = Memory
 
+-- a text, or why the field is none
 abbrev pub field_text : Result (List ℕ) TxtRefusal → Result (List ℕ) FieldRefusal
 field_text (Ok s) = Ok s
 field_text (Err e) = Err (field_refusal e)
@@ -38,6 +39,7 @@ typed_due Bigint s = ok_or (option_map val.Int (whole_number Bigint s)) NotInteg
 typed_due Text s = Ok (val.Text s)
 typed_due Boolean s = ok_or (option_map val.Bool (truth_value s)) NotBoolean
 
+-- a text as a value of the column: NULL, or a value of its type
 abbrev pub value_due : Column → List ℕ → Result Val FieldRefusal
 value_due c s = if bytes_eq s null_field then null_due c.nullable else typed_due c.ty s
 

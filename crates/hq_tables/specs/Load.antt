@@ -24,6 +24,7 @@ refusal_at line col field.NotBoolean = NotBoolean line col
 refusal_at line col field.NullInNotNull = NullInNotNull line col
 refusal_at line col field.Memory = Memory
 
+-- the value of a field, or its refusal with its place
 abbrev pub placed : (line col : ℕ) → Result Val FieldRefusal → Result Val LoadRefusal
 placed line col (Ok v) = Ok v
 placed line col (Err e) = Err (refusal_at line col e)

@@ -91,7 +91,15 @@ impl Tables for FlakyTables {
         self.inner.pinned(t)
     }
 
-    fn release(&mut self) {
+    fn release(&mut self)
+        ensures left { pins_to_failure self.new ≡ pins_to_failure self.old }
+
+        // What the trait says.
+        ensures released { (u : ℕ) → ⟦<FlakyTables as Tables>⟧.is_pinned self.new u ≡ false }
+        ensures later { ⟦<FlakyTables as Tables>⟧.faults self.old ≤ ⟦<FlakyTables as Tables>⟧.faults self.new }
+        ensures tables { ⟦<FlakyTables as Tables>⟧.tables self.new ≡ ⟦<FlakyTables as Tables>⟧.tables self.old }
+        ensures database { ⟦<FlakyTables as Tables>⟧.database self.new ≡ ⟦<FlakyTables as Tables>⟧.database self.old }
+    {
         self.inner.release();
     }
 

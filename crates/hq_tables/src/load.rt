@@ -24,8 +24,8 @@ pub use refusal::LoadRefusal;
 use rows::read_rows;
 use std::alloc::Global;
 
-/// The rows of a table's file. The column names of the table differ, as those of a catalog's table do, and the file is
-/// one that `Files::load` may give.
+/// The rows of a table's file, in file order, or its first refusal. The column names of the table differ, as those of a
+/// catalog's table do, and the file has at most 268,435,456 bytes, as one that `Files::load` gives.
 pub fn load_table(alloc: Global, bytes: &[u8], table: &Table) -> Result<Rows, LoadRefusal>
     requires small { length bytes.now ≤ LARGEST_FILE }
     requires names { names_differ table.now.columns ≡ true }
