@@ -56,3 +56,8 @@ pub record Tells (old new : Option (List ℕ)) (before now : ℕ) (line : List �
 abbrev pub TellsDatabase : (before now : ℕ) → Refusal → Type 0
 TellsDatabase before now (refusal.Database b a) = (b ≡ before) × (a ≡ now) × Rose before now
 TellsDatabase before now r = ⊤
+
+-- no failed database
+abbrev pub NotDatabase : Refusal → Type 0
+NotDatabase (refusal.Database before after) = ⊥
+NotDatabase r = ⊤

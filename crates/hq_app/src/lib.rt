@@ -10,6 +10,7 @@ mod phrase;
 mod refusal;
 mod refused;
 mod reply;
+mod top;
 mod words;
 mod world;
 
@@ -17,5 +18,6 @@ pub use loaded::Loaded;
 pub use loading::load;
 pub use refusal::{FileFault, LoadingRefusal, Refusal};
 pub use reply::INPUT_LIMIT;
+pub use top::{answer_one, run};
 pub use words::{Query, WordsRefusal};
 pub use world::{Ran, World};

@@ -11,6 +11,7 @@ use crate::reply::reply_to;
 use crate::{Loaded, Query, Ran, Refusal, World, load};
 use hq_base::{List, Txt};
 use hq_engine::Engine;
+use hq_link::Database;
 use hq_list_db::ListDb;
 use hq_outside::{Door, Files, Sink, Source};
 use hq_tables::{MemTables, Tables};
