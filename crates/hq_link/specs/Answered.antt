@@ -1,7 +1,7 @@
 -- What a database answers to a text.
 use Rattle.std.specs.Prelude.{◌≡◌, ℕ, List, [], ◌∷◌, Option, Some, None, IfSome}
 use Rattle.hq_base.specs.Json as json
-use Rattle.hq_base.specs.Json.{JsonTree, MemberTrees, no_member, member}
+use Rattle.hq_base.specs.Json.{JsonTree, names_of}
 use Rattle.hq_terms.specs.Database.{Row}
 use Rattle.hq_terms.specs.declared.table.Table.{Table}
 use Rattle.hq_sql_tree.specs.Meaning.{meaning}
@@ -11,10 +11,6 @@ use Rattle.hq_sql_text.specs.Readable.{Spells}
 use Rattle.hq_link.specs.Typed.{IsTyped}
 
 -- the names of an object's members, in order
-abbrev pub names_of : MemberTrees → List (List ℕ)
-names_of no_member = []
-names_of (member name value ms) = name ∷ names_of ms
-
 abbrev pub member_names : JsonTree → Option (List (List ℕ))
 member_names (json.obj ms) = Some (names_of ms)
 member_names _ = None

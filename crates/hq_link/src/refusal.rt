@@ -1,3 +1,4 @@
+use hq_base::Memory;
 use thiserror::Error;
 
 /// Why a text was not answered.
@@ -14,4 +15,15 @@ pub enum DbRefusal {
     Failed { before: u64, after: u64 },
     #[error("out of memory")]
     Memory,
+}
+
+impl From<Memory> for DbRefusal {
+    ghost use Rattle.std.specs.Prelude.{◌≡◌};
+    ghost use Rattle.hq_link.specs.declared.refusal.DbRefusal.TheVariants as refusal;
+
+    ghost from_gives = { λ _ e. e ≡ refusal.Memory };
+
+    fn from(_: Memory) -> Self {
+        DbRefusal::Memory
+    }
 }

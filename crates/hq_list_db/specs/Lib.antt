@@ -1,1 +1,4 @@
 pub mod Keys
+pub mod Parts
+pub mod Value
+pub mod Recognised

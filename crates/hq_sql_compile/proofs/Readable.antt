@@ -2,6 +2,7 @@
 use Rattle.std.proofs.Common.{◌≡◌, ℕ, zero, suc, ◌+◌, ◌<◌, max, List, [], ◌∷◌, map, length, Bool, true, false, not, ◌&&◌, refl, ap, ◌∙◌, arith}
 use Rattle.std.specs.Prelude.{nat_lt, slice_index_or}
 use Rattle.std.specs.List.{list_all}
+use Rattle.std.proofs.lemmas.Bool.{le-leb}
 use Rattle.hq_terms.specs.Catalog.{is_catalog, is_table}
 use Rattle.hq_terms.specs.declared.table.Column.{Column}
 use Rattle.hq_terms.specs.declared.table.Table.{Table}
@@ -58,7 +59,7 @@ module _ (schema name : List ℕ) (columns : List Column) (k : ℕ) (ks : List �
   outer = list_of_rows schema name columns (k ∷ ks) 1 (pairs_of (column_pairs columns (table_alias 1) fields)) no_join
 
   inner_is : is_select inner ≡ true
-  inner_is = rw (pairs_are columns (table_alias 1) fields, outputs_are columns (table_alias 1) ks 1, keys_are columns (table_alias 1) ks) refl
+  inner_is = rw (le-leb 1 (suc (suc (length (key_outputs columns (table_alias 1) ks 1)))) (omega arith), pairs_are columns (table_alias 1) fields, outputs_are columns (table_alias 1) ks 1, keys_are columns (table_alias 1) ks) refl
 
   inner_low : select_depth inner ≡ 1
   inner_low = rw (pairs_low columns (table_alias 1) fields, outputs_low columns (table_alias 1) ks 1, keys_low columns (table_alias 1) ks) refl

@@ -6,4 +6,4 @@ mod columns;
 mod list;
 mod statement;
 
-pub use statement::{compile, compile_list};
+pub use statement::compile;

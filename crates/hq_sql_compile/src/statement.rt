@@ -75,18 +75,6 @@ fn list_statement(alloc: Global, ask: &Ask, table: &Table) -> Result<Select, Mem
     one_row(alloc, out, join)
 }
 
-/// The statement of a list of columns of a table of the catalog. It has a text that is read back.
-pub fn compile_list(alloc: Global, ask: &Ask, catalog: &Catalog) -> Result<Select, Memory>
-    requires { ask.now.table < length catalog.now.tables }
-    ensures list { IfOk result (λ select. select_view select ≡ list_over catalog.now.tables ask.now) }
-    ensures readable { OnOk result (is_readable (list_over catalog.now.tables ask.now) ≡ true) }
-{
-    let table = &catalog.tables.as_slice()[ask.table.at()];
-    let select = list_statement(alloc, ask, table)?;
-    select.fits();
-    Ok(select)
-}
-
 /// The one statement that answers a request for a list of columns. Its table is one of the catalog.
 pub fn compile(alloc: Global, ask: &Ask, catalog: &Catalog, meta: &Meta) -> Result<Select, Memory>
     requires { ask.now.table < length catalog.now.tables }
@@ -104,5 +92,7 @@ pub fn compile(alloc: Global, ask: &Ask, catalog: &Catalog, meta: &Meta) -> Resu
     let _ = meta;
     let table = &catalog.tables.as_slice()[ask.table.at()];
     let _columns_of_key = table.key.len();
-    compile_list(alloc, ask, catalog)
+    let select = list_statement(alloc, ask, table)?;
+    select.fits();
+    Ok(select)
 }
