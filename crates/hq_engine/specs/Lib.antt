@@ -2,4 +2,3 @@ pub mod ListBody
 pub mod ListRequest
 pub mod Due
 pub mod Answer
-pub mod Due
