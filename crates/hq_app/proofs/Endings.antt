@@ -135,19 +135,21 @@ due_reply_is given files text query held asked is =
 -- ---- the input and the reply
 
 pub input_ends : (c : Contents) (session : Session) (text : List ℕ) (old : Option (List ℕ)) (e : InputRefusal) → ReadsAll INPUT_LIMIT text (Err e) → Ends old old (reply_due c session text) (Err (of_input e))
+unfolding reply_due
 input_ends c session text old input.Failed h = tt
 input_ends c session text old input.TooLong h = rw (lt-ltb INPUT_LIMIT (length text) h) refl
 input_ends c session text old input.Memory h = tt
 
 none_due : (c : Contents) (session : Session) (text : List ℕ) → request_of c.meta session text ≡ None → due_reply c.tables c.meta c.rows session text ≡ None
-unfolding due_reply
 none_due c session text h = rw h refl
 
 pub engine_ends : (c : Contents) (session : Session) (text : List ℕ) (old : Option (List ℕ)) (e : EngineRefusal) → length text ≤ INPUT_LIMIT → (e ≡ engine.NotBuilt → request_of c.meta session text ≡ None)
     → Ends old old (reply_due c session text) (Err (of_engine e))
+unfolding reply_due
 engine_ends c session text old (engine.Database before after) short h = tt
 engine_ends c session text old engine.Memory short h = tt
 engine_ends c session text old engine.NotBuilt short h = rw (le-ltb INPUT_LIMIT (length text) short, none_due c session text (h refl)) refl
 
 pub reply_is : (c : Contents) (session : Session) (text bytes : List ℕ) → length text ≤ INPUT_LIMIT → due_reply c.tables c.meta c.rows session text ≡ Some bytes → reply_due c session text ≡ Ok bytes
+unfolding reply_due
 reply_is c session text bytes short h = rw (le-ltb INPUT_LIMIT (length text) short, h) refl

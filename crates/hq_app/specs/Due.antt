@@ -45,7 +45,7 @@ abbrev pub session_of : (role : List ℕ) → Session
 session_of role = record { role = role; vars = [] }
 
 -- what is due for an input, over what a directory holds
-abbrev pub reply_due : Contents → Session → (text : List ℕ) → Result (List ℕ) Refusal
+unfoldable pub reply_due : Contents → Session → (text : List ℕ) → Result (List ℕ) Refusal
 reply_due c session text = cond (nat_lt INPUT_LIMIT (length text)) (Err InputTooLong) (ok_or (due_reply c.tables c.meta c.rows session text) NotBuilt)
 
 -- what is due for a query

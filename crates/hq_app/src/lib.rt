@@ -21,3 +21,6 @@ pub use reply::INPUT_LIMIT;
 pub use top::{answer_one, run};
 pub use words::{Query, WordsRefusal};
 pub use world::{Ran, World};
+
+#[cfg(test)]
+mod tests;

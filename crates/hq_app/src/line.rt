@@ -1,22 +1,28 @@
-ghost use Rattle.hq_app.specs.Line.{plain_line, file_line, catalog_line, table_line, fault_line, line_of};
-ghost use Rattle.hq_app.specs.Wrote.{Wrote};
 ghost use Rattle.std.specs.Prelude.{◌∷◌, []};
 ghost use Rattle.std.specs.Fmt.{decimal};
+ghost use Rattle.hq_app.specs.Line.{database_line, plain_line, file_line, catalog_line, table_line, fault_line, line_of, part_text};
+ghost use Rattle.hq_app.specs.Wrote.{Wrote};
 
-use crate::parts::write_parts;
+use crate::parts::{Part, write_parts};
 use crate::phrase::Phrase;
 use crate::{FileFault, Refusal};
 use hq_base::Txt;
 use hq_catalog_read::CatalogRefusal;
 use hq_outside::{Sink, WriteFailed};
 use hq_tables::LoadRefusal;
-use itoa::Buffer;
 
 // Writes a line of one phrase.
 fn write_plain<E: Sink>(err: &mut E, phrase: Phrase) -> Result<(), WriteFailed>
     ensures { Wrote (E.written err.old) (E.written err.new) (E.faults err.old) (E.faults err.new) (plain_line phrase) result }
 {
-    write_parts(err, &[Phrase::Hq.bytes(), phrase.bytes(), Phrase::End.bytes()])
+    write_parts(
+        err,
+        &[
+            Part::Fixed(Phrase::Hq),
+            Part::Fixed(phrase),
+            Part::Fixed(Phrase::End),
+        ],
+    )
 }
 
 // Writes a line of a file, with a refusal's name.
@@ -26,68 +32,65 @@ fn write_name<E: Sink>(err: &mut E, file: &Txt, name: Phrase) -> Result<(), Writ
     write_parts(
         err,
         &[
-            Phrase::Hq.bytes(),
-            file.as_bytes(),
-            Phrase::Colon.bytes(),
-            Phrase::Space.bytes(),
-            name.bytes(),
-            Phrase::End.bytes(),
+            Part::Fixed(Phrase::Hq),
+            Part::Text(file),
+            Part::Fixed(Phrase::Colon),
+            Part::Fixed(Phrase::Space),
+            Part::Fixed(name),
+            Part::Fixed(Phrase::End),
         ],
     )
 }
 
 // Writes a line of a file, with a refusal's name and its one field.
-fn write_field<E: Sink>(err: &mut E, file: &Txt, name: Phrase, field: &[u8]) -> Result<(), WriteFailed>
-    ensures { Wrote (E.written err.old) (E.written err.new) (E.faults err.old) (E.faults err.new) (file_line file.now name (field.now ∷ [])) result }
+fn write_field<'a, E: Sink>(
+    err: &mut E,
+    file: &'a Txt,
+    name: Phrase,
+    field: Part<'a>,
+) -> Result<(), WriteFailed>
+    ensures { Wrote (E.written err.old) (E.written err.new) (E.faults err.old) (E.faults err.new) (file_line file.now name (part_text field ∷ [])) result }
 {
     write_parts(
         err,
         &[
-            Phrase::Hq.bytes(),
-            file.as_bytes(),
-            Phrase::Colon.bytes(),
-            Phrase::Space.bytes(),
-            name.bytes(),
-            Phrase::Space.bytes(),
+            Part::Fixed(Phrase::Hq),
+            Part::Text(file),
+            Part::Fixed(Phrase::Colon),
+            Part::Fixed(Phrase::Space),
+            Part::Fixed(name),
+            Part::Fixed(Phrase::Space),
             field,
-            Phrase::End.bytes(),
+            Part::Fixed(Phrase::End),
         ],
     )
 }
 
 // Writes a line of a file, with a refusal's name and its two fields.
-fn write_fields<E: Sink>(
+fn write_fields<'a, E: Sink>(
     err: &mut E,
-    file: &Txt,
+    file: &'a Txt,
     name: Phrase,
-    first: &[u8],
-    second: &[u8],
+    first: Part<'a>,
+    second: Part<'a>,
 ) -> Result<(), WriteFailed>
-    ensures { Wrote (E.written err.old) (E.written err.new) (E.faults err.old) (E.faults err.new) (file_line file.now name (first.now ∷ second.now ∷ [])) result }
+    ensures { Wrote (E.written err.old) (E.written err.new) (E.faults err.old) (E.faults err.new) (file_line file.now name (part_text first ∷ part_text second ∷ [])) result }
 {
     write_parts(
         err,
         &[
-            Phrase::Hq.bytes(),
-            file.as_bytes(),
-            Phrase::Colon.bytes(),
-            Phrase::Space.bytes(),
-            name.bytes(),
-            Phrase::Space.bytes(),
+            Part::Fixed(Phrase::Hq),
+            Part::Text(file),
+            Part::Fixed(Phrase::Colon),
+            Part::Fixed(Phrase::Space),
+            Part::Fixed(name),
+            Part::Fixed(Phrase::Space),
             first,
-            Phrase::Space.bytes(),
+            Part::Fixed(Phrase::Space),
             second,
-            Phrase::End.bytes(),
+            Part::Fixed(Phrase::End),
         ],
     )
-}
-
-// Writes a line of a file, with a refusal's name and a record's number.
-fn write_record<E: Sink>(err: &mut E, file: &Txt, name: Phrase, line: u64) -> Result<(), WriteFailed>
-    ensures { Wrote (E.written err.old) (E.written err.new) (E.faults err.old) (E.faults err.new) (file_line file.now name (decimal line ∷ [])) result }
-{
-    let mut digits = Buffer::new();
-    write_field(err, file, name, digits.format(line).as_bytes())
 }
 
 // Writes a line of a file, with a refusal's name and two numbers.
@@ -100,48 +103,34 @@ fn write_numbers<E: Sink>(
 ) -> Result<(), WriteFailed>
     ensures { Wrote (E.written err.old) (E.written err.new) (E.faults err.old) (E.faults err.new) (file_line file.now name (decimal first ∷ decimal second ∷ [])) result }
 {
-    let mut digits = Buffer::new();
-    let mut more = Buffer::new();
-    write_fields(
-        err,
-        file,
-        name,
-        digits.format(first).as_bytes(),
-        more.format(second).as_bytes(),
-    )
-}
-
-// Writes a line of a file, with a refusal's name, a text and a count.
-fn write_count<E: Sink>(
-    err: &mut E,
-    file: &Txt,
-    name: Phrase,
-    what: &Txt,
-    count: u64,
-) -> Result<(), WriteFailed>
-    ensures { Wrote (E.written err.old) (E.written err.new) (E.faults err.old) (E.faults err.new) (file_line file.now name (what.now ∷ decimal count ∷ [])) result }
-{
-    let mut digits = Buffer::new();
-    write_fields(
-        err,
-        file,
-        name,
-        what.as_bytes(),
-        digits.format(count).as_bytes(),
-    )
+    write_fields(err, file, name, Part::Number(first), Part::Number(second))
 }
 
 // Writes the line of a refused catalog.
-fn write_catalog<E: Sink>(err: &mut E, file: &Txt, refusal: &CatalogRefusal) -> Result<(), WriteFailed>
+fn write_catalog<'a, E: Sink>(
+    err: &mut E,
+    file: &'a Txt,
+    refusal: &'a CatalogRefusal,
+) -> Result<(), WriteFailed>
     ensures { Wrote (E.written err.old) (E.written err.new) (E.faults err.old) (E.faults err.new) (catalog_line file.now refusal.now) result }
 {
     match refusal {
         CatalogRefusal::NotJson => write_name(err, file, Phrase::NotJson),
-        CatalogRefusal::Shape { path } => write_field(err, file, Phrase::Shape, path.as_bytes()),
-        CatalogRefusal::Repeated { name } => write_field(err, file, Phrase::Repeated, name.as_bytes()),
-        CatalogRefusal::NoKey { table } => write_field(err, file, Phrase::NoKey, table.as_bytes()),
-        CatalogRefusal::NameLength { name } => write_field(err, file, Phrase::NameLength, name.as_bytes()),
-        CatalogRefusal::TooMany { what, count } => write_count(err, file, Phrase::TooMany, what, *count),
+        CatalogRefusal::Shape { path } => write_field(err, file, Phrase::Shape, Part::Text(path)),
+        CatalogRefusal::Repeated { name } => {
+            write_field(err, file, Phrase::Repeated, Part::Text(name))
+        }
+        CatalogRefusal::NoKey { table } => write_field(err, file, Phrase::NoKey, Part::Text(table)),
+        CatalogRefusal::NameLength { name } => {
+            write_field(err, file, Phrase::NameLength, Part::Text(name))
+        }
+        CatalogRefusal::TooMany { what, count } => write_fields(
+            err,
+            file,
+            Phrase::TooMany,
+            Part::Text(what),
+            Part::Number(*count),
+        ),
         CatalogRefusal::Memory => write_name(err, file, Phrase::Memory),
     }
 }
@@ -152,11 +141,15 @@ fn write_table<E: Sink>(err: &mut E, file: &Txt, refusal: LoadRefusal) -> Result
 {
     match refusal {
         LoadRefusal::Header => write_name(err, file, Phrase::Header),
-        LoadRefusal::Width { line } => write_record(err, file, Phrase::Width, line),
+        LoadRefusal::Width { line } => write_field(err, file, Phrase::Width, Part::Number(line)),
         LoadRefusal::NotUtf8 { line, col } => write_numbers(err, file, Phrase::NotUtf8, line, col),
         LoadRefusal::ZeroByte { line, col } => write_numbers(err, file, Phrase::ZeroByte, line, col),
-        LoadRefusal::NotInteger { line, col } => write_numbers(err, file, Phrase::NotInteger, line, col),
-        LoadRefusal::NotBoolean { line, col } => write_numbers(err, file, Phrase::NotBoolean, line, col),
+        LoadRefusal::NotInteger { line, col } => {
+            write_numbers(err, file, Phrase::NotInteger, line, col)
+        }
+        LoadRefusal::NotBoolean { line, col } => {
+            write_numbers(err, file, Phrase::NotBoolean, line, col)
+        }
         LoadRefusal::NullInNotNull { line, col } => {
             write_numbers(err, file, Phrase::NullInNotNull, line, col)
         }
@@ -168,7 +161,11 @@ fn write_table<E: Sink>(err: &mut E, file: &Txt, refusal: LoadRefusal) -> Result
 }
 
 // Writes the line of a refused file.
-fn write_fault<E: Sink>(err: &mut E, file: &Txt, fault: &FileFault) -> Result<(), WriteFailed>
+fn write_fault<'a, E: Sink>(
+    err: &mut E,
+    file: &'a Txt,
+    fault: &'a FileFault,
+) -> Result<(), WriteFailed>
     ensures { Wrote (E.written err.old) (E.written err.new) (E.faults err.old) (E.faults err.new) (fault_line file.now fault.now) result }
 {
     match fault {
@@ -181,20 +178,18 @@ fn write_fault<E: Sink>(err: &mut E, file: &Txt, fault: &FileFault) -> Result<()
 
 // Writes the line of a failed database.
 fn write_database<E: Sink>(err: &mut E, before: u64, after: u64) -> Result<(), WriteFailed>
-    ensures { Wrote (E.written err.old) (E.written err.new) (E.faults err.old) (E.faults err.new) (line_of (Refusal.Database before after)) result }
+    ensures { Wrote (E.written err.old) (E.written err.new) (E.faults err.old) (E.faults err.new) (database_line before after) result }
 {
-    let mut digits = Buffer::new();
-    let mut more = Buffer::new();
     write_parts(
         err,
         &[
-            Phrase::Hq.bytes(),
-            Phrase::DatabaseFailed.bytes(),
-            Phrase::Space.bytes(),
-            digits.format(before).as_bytes(),
-            Phrase::Space.bytes(),
-            more.format(after).as_bytes(),
-            Phrase::End.bytes(),
+            Part::Fixed(Phrase::Hq),
+            Part::Fixed(Phrase::DatabaseFailed),
+            Part::Fixed(Phrase::Space),
+            Part::Number(before),
+            Part::Fixed(Phrase::Space),
+            Part::Number(after),
+            Part::Fixed(Phrase::End),
         ],
     )
 }
