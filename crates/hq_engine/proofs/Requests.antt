@@ -83,7 +83,7 @@ under_parts : (k : TrackedTree) (p : Permission) (body : ListBody) (ask : Ask) �
 under_parts k p body ask e =
     let columns = columns_named k.column_names p.columns body.columns in
     let go : (b : Bool) → cond b (option_map (asked k) columns) None ≡ Some ask → (b ≡ true) × (ask.table ≡ k.table) × (columns ≡ Some ask.columns) =
-    elim [ true ↦ λ h. (refl, asked_parts k columns ask h) | false ↦ λ h. absurd cc ] in
+    elim [ true ↦ λ h. let q = asked_parts k columns ask h in (refl, q.0, q.1) | false ↦ λ h. absurd cc ] in
     go (is_plain p) e
 
 made_list : (tables : List Table) (m : MetaTree) (role : Role) (list : ListBody) (ask : Ask) → fits tables m ≡ true → list_request m role list ≡ Some ask → Made tables m role ask
@@ -100,8 +100,8 @@ made_list tables m role list ask fit e =
       fit = found_holds _ (fits_tracked (schema_of tables m) m) m.tracked k entries found;
       granted = granted;
       plain = parts.0;
-      table = parts.1.0;
-      columns = parts.1.1;
+      table = parts.1;
+      columns = parts.2;
     }))
 
 made : (tables : List Table) (m : MetaTree) (session : Session) (body : List ℕ) (ask : Ask) → fits tables m ≡ true → request_of m session body ≡ Some ask → Made tables m (role_of session.role) ask
@@ -191,7 +191,7 @@ made_is_plain tables m session ask by =
     let p : Permission = by.under in
     let t : ℕ = by.entry.table in
     let lt : t < length s = subst (λ n. t < n) (sym (numbered_length (schema_table m) 0 tables)) (entry_table tables m by.entry by.fit).0 in
-    let at : slice_index_or (grants_of session tables m) t None ≡ grant_of session m s t (slice_index_or s t schema.no_table) = numbered_at (grant_of session m s) 0 s t schema.no_table None lt in
+    let at : slice_index_or (grants_of session tables m) t None ≡ grant_of session m s t (slice_index_or s t schema.no_table) = numbered_at (grant_of session m s) 0 s t schema.no_table None lt ∙ ap (λ n. grant_of session m s n (slice_index_or s t schema.no_table)) (omega arith) in
     let bound : grant_of session m s t (slice_index_or s t schema.no_table) ≡ Some (record p { filter = always; masks = [] }) =
     ap (option_and_then (λ q. result_ok (bound_permission q s session.vars t))) by.granted ∙ plain_bound p s session.vars t by.plain in
     let is : grant (grants_of session tables m) t ≡ record p { filter = always; masks = [] } = ap (λ o. unwrap_or o no_grant) (at ∙ bound) in

@@ -111,6 +111,7 @@ fn ask<D: Database>(alloc: Global, db: &mut D, text: &[u8]) -> Result<Json, Engi
         Ok(data) => Ok(data),
         Err(DbRefusal::Failed { before, after }) => Err(EngineRefusal::Database { before, after }),
         Err(DbRefusal::Memory) => Err(EngineRefusal::Memory),
-        Err(DbRefusal::NotSql | DbRefusal::NotTyped) => unreachable!(),
+        Err(DbRefusal::NotSql) => unreachable!(),
+        Err(DbRefusal::NotTyped) => unreachable!(),
     }
 }

@@ -1,4 +1,4 @@
-ghost use Rattle.std.specs.Prelude.{◌≡◌, ◌⊎◌, ◌≤◌, ℕ, true, List as Items, Option, Err, IfErr, IfSome};
+ghost use Rattle.std.specs.Prelude.{◌≡◌, ◌⊎◌, ◌≤◌, ℕ, true, List as Items, Option, Err, IfOk, IfErr, IfSome};
 ghost use Rattle.hq_terms.specs.Catalog.{is_catalog};
 ghost use Rattle.hq_terms.specs.Database.{Row, is_database};
 ghost use Rattle.hq_terms.specs.declared.table.Table.{Table};
