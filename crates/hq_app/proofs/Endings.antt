@@ -1,5 +1,5 @@
 -- How a run ends, by its parts.
-use Rattle.std.proofs.Common.{◌≡◌, ◌⊎◌, ◌×◌, ◌↔◌, ◌≤◌, ◌<◌, ◌∙◌, ℕ, List, [], ◌++◌, length, Option, Some, None, IfSome, IfOk, IfErr, Result, Ok, Err, IsErrOf, Bool, true, false, cond, refl, sym, ap, subst, inl, inr, arith, append-nil}
+use Rattle.std.proofs.Common.{◌≡◌, ◌⊎◌, ◌↔◌, ◌≤◌, ◌<◌, ◌∙◌, ℕ, List, [], ◌++◌, length, Option, Some, None, IfSome, IfOk, IfErr, Result, Ok, Err, IsErrOf, Bool, true, false, cond, refl, sym, ap, subst, inl, inr, arith, append-nil}
 use Rattle.std.specs.Prelude.{nat_lt, ok_or, option_map, MatchOption}
 use Rattle.std.proofs.lemmas.Bool.{lt-ltb, le-ltb}
 use Rattle.std.specs.Io.KnownBytes.{Appends}
@@ -13,6 +13,8 @@ use Rattle.hq_terms.specs.Database.{Row}
 use Rattle.hq_terms.specs.Meta.{MetaTree}
 use Rattle.hq_terms.specs.declared.session.Session.{Session}
 use Rattle.hq_terms.specs.declared.table.Table.{Table}
+use Rattle.hq_ask_tree.specs.declared.ask.Ask.{Ask}
+use Rattle.hq_engine.specs.Answer.{Counts, Asks}
 use Rattle.hq_engine.specs.Due.{due_reply}
 use Rattle.hq_engine.specs.ListRequest.{request_of}
 use Rattle.hq_engine.specs.declared.refusal.EngineRefusal.{EngineRefusal}
@@ -153,3 +155,16 @@ engine_ends c session text old engine.NotBuilt short h = rw (le-ltb INPUT_LIMIT 
 pub reply_is : (c : Contents) (session : Session) (text bytes : List ℕ) → length text ≤ INPUT_LIMIT → due_reply c.tables c.meta c.rows session text ≡ Some bytes → reply_due c session text ≡ Ok bytes
 unfolding reply_due
 reply_is c session text bytes short h = rw (le-ltb INPUT_LIMIT (length text) short, h) refl
+
+-- a refusal under its name
+pub ends_as : (old new : Option (List ℕ)) (d : Result (List ℕ) Refusal) (a : Answer) (r : Refusal) → a ≡ Err r → Ends old new d (Err r) → Ends old new d a
+ends_as old new d a r is h = rw is h
+
+pub not_built : (text : Ask → List ℕ) (request : Option Ask) (before now : Counts) (e : EngineRefusal) → Asks text request before now (Err e) → e ≡ engine.NotBuilt → request ≡ None
+not_built text request before now (engine.Database b a) h same = cc
+not_built text request before now engine.Memory h same = cc
+not_built text request before now engine.NotBuilt h same = h.0
+
+pub written_is : (c : Contents) (session : Session) (text given body bytes : List ℕ) → given ≡ text → length text ≤ INPUT_LIMIT → due_reply c.tables c.meta c.rows session given ≡ Some body → bytes ≡ body → reply_due c session text ≡ Ok bytes
+written_is c session text given body bytes same short is written =
+    reply_is c session text bytes short (subst (λ (t : List ℕ). due_reply c.tables c.meta c.rows session t ≡ Some bytes) same (is ∙ ap (λ b. Some b) (sym written)))

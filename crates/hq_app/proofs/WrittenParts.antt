@@ -30,11 +30,17 @@ module _ {A : Type 0} (text : A → List ℕ) where
   taken_suc (part ∷ parts) zero d h = append-nil (text part)
   taken_suc (part ∷ parts) (suc i) d h = ap (λ w. text part ++ w) (taken_suc parts i d (omega arith)) ∙ sym (append_assoc (text part) (bytes_of (take i parts)) (text (get_or parts i d)))
 
-  pub bytes_of-taken : (parts : List A) (i : ℕ) (d : A) → i < length parts → bytes_of (take (i + 1) parts) ≡ bytes_of (take i parts) ++ text (get_or parts i d)
+  bytes_of-taken : (parts : List A) (i : ℕ) (d : A) → i < length parts → bytes_of (take (i + 1) parts) ≡ bytes_of (take i parts) ++ text (get_or parts i d)
   bytes_of-taken parts i d h = rw add-one (taken_suc parts i d h)
 
+  pub bytes_of-next : (parts : List A) (i : ℕ) (part : A) → i < length parts → part ≡ get_or parts i part → bytes_of (take (i + 1) parts) ≡ bytes_of (take i parts) ++ text part
+  bytes_of-next parts i part h is = bytes_of-taken parts i part h ∙ ap (λ p. bytes_of (take i parts) ++ text p) (sym is)
+
   -- the parts up to a part, that part, and those behind it
-  pub bytes_of-split : (parts : List A) (i : ℕ) (d : A) → i < length parts → bytes_of parts ≡ bytes_of (take i parts) ++ (text (get_or parts i d) ++ bytes_of (drop (suc i) parts))
+  bytes_of-split : (parts : List A) (i : ℕ) (d : A) → i < length parts → bytes_of parts ≡ bytes_of (take i parts) ++ (text (get_or parts i d) ++ bytes_of (drop (suc i) parts))
   bytes_of-split [] i d h = absurd (omega arith)
   bytes_of-split (part ∷ parts) zero d h = refl
   bytes_of-split (part ∷ parts) (suc i) d h = ap (λ w. text part ++ w) (bytes_of-split parts i d (omega arith)) ∙ sym (append_assoc (text part) (bytes_of (take i parts)) (text (get_or parts i d) ++ bytes_of (drop (suc i) parts)))
+
+  pub bytes_of-around : (parts : List A) (i : ℕ) (part : A) → i < length parts → part ≡ get_or parts i part → bytes_of parts ≡ bytes_of (take i parts) ++ (text part ++ bytes_of (drop (suc i) parts))
+  bytes_of-around parts i part h is = bytes_of-split parts i part h ∙ ap (λ p. bytes_of (take i parts) ++ (text p ++ bytes_of (drop (suc i) parts))) (sym is)

@@ -49,7 +49,7 @@ fn write_field<'a, E: Sink>(
     name: Phrase,
     field: Part<'a>,
 ) -> Result<(), WriteFailed>
-    ensures { Wrote (E.written err.old) (E.written err.new) (E.faults err.old) (E.faults err.new) (file_line file.now name (part_text field ∷ [])) result }
+    ensures { Wrote (E.written err.old) (E.written err.new) (E.faults err.old) (E.faults err.new) (file_line file.now name (part_text field.entry ∷ [])) result }
 {
     write_parts(
         err,
@@ -74,7 +74,7 @@ fn write_fields<'a, E: Sink>(
     first: Part<'a>,
     second: Part<'a>,
 ) -> Result<(), WriteFailed>
-    ensures { Wrote (E.written err.old) (E.written err.new) (E.faults err.old) (E.faults err.new) (file_line file.now name (part_text first ∷ part_text second ∷ [])) result }
+    ensures { Wrote (E.written err.old) (E.written err.new) (E.faults err.old) (E.faults err.new) (file_line file.now name (part_text first.entry ∷ part_text second.entry ∷ [])) result }
 {
     write_parts(
         err,

@@ -20,8 +20,8 @@ pub enum Part<'a> {
 
 // Writes a part, or what goes before a fault.
 fn write_part<K: Sink>(out: &mut K, part: Part) -> Result<(), WriteFailed>
-    ensures ok { OnOk result (Appends (K.written out.old) (K.written out.new) (part_text part)) }
-    ensures prefix { AppendsPrefix (K.written out.old) (K.written out.new) (part_text part) }
+    ensures ok { OnOk result (Appends (K.written out.old) (K.written out.new) (part_text part.entry)) }
+    ensures prefix { AppendsPrefix (K.written out.old) (K.written out.new) (part_text part.entry) }
     ensures cause { HasCause (K.faults out.old) (K.faults out.new) result }
 {
     match part {
