@@ -1,4 +1,5 @@
 pub mod Keys
+pub mod Keyed
 pub mod Parts
 pub mod Value
 pub mod Recognised

@@ -5,7 +5,7 @@ ghost use Rattle.hq_base.specs.Lists.{sort};
 ghost use Rattle.hq_terms.specs.Permitted.{columns_cmp};
 ghost use Rattle.hq_sql_tree.specs.Tree.{SelectTree};
 ghost use Rattle.hq_sql_tree.specs.View.{select_view};
-ghost use Rattle.hq_sql_text.specs.Readable.{Spells};
+ghost use Rattle.hq_sql_text.specs.Readable.{Spells, is_readable};
 ghost use Rattle.hq_sql_compile.specs.Compiled.{table_at, list_over};
 ghost use Rattle.hq_link.specs.Answered.{Answered, NotFitting, member_names};
 ghost use Rattle.hq_link.specs.Asked.{TellsFailure};
@@ -38,17 +38,29 @@ fn read_text(alloc: Global, text: &[u8]) -> Result<Select, DbRefusal>
     }
 }
 
-// The text of a list of columns, and what its statement means.
-fn own_text(alloc: Global, catalog: &Catalog, ask: &Ask) -> Result<Bytes, Memory>
+// The statement of a list of columns, and what it means.
+fn own_statement(alloc: Global, catalog: &Catalog, ask: &Ask) -> Result<Select, Memory>
     requires { IsList catalog.now.tables ask.now }
-    ensures spelled { IfOk result (λ text. Spells text (list_over catalog.now.tables ask.now)) }
+    ensures list { IfOk result (λ s. select_view s ≡ list_over catalog.now.tables ask.now) }
+    ensures readable { OnOk result (is_readable (list_over catalog.now.tables ask.now) ≡ true) }
     ensures means { OnOk result (IsOwn catalog.now.tables ask.now) }
 {
     let meta = Meta {
         tracked: List::new(alloc),
     };
     let select = compile(alloc, ask, catalog, &meta)?;
-    print(alloc, &select)
+    Ok(select)
+}
+
+// The text of a list of columns, and what its statement means.
+fn own_text(alloc: Global, catalog: &Catalog, ask: &Ask) -> Result<Bytes, Memory>
+    requires { IsList catalog.now.tables ask.now }
+    ensures spelled { IfOk result (λ text. Spells text (list_over catalog.now.tables ask.now)) }
+    ensures means { OnOk result (IsOwn catalog.now.tables ask.now) }
+{
+    let select = own_statement(alloc, catalog, ask)?;
+    let text = print(alloc, &select)?;
+    Ok(text)
 }
 
 // The list of columns that a statement of this text is that of.

@@ -69,33 +69,62 @@ fn list_rows(select: &Select) -> Option<&Select>
     }
 }
 
-fn is_named(table: &Table, schema: &Txt, name: &Txt) -> bool
-    ensures { result ≡ is_named schema.now name.now table.now }
+// The place of the table of this schema and name.
+fn table_place(tables: &[Table], schema: &Txt, name: &Txt) -> Option<usize>
+    ensures { result ≡ position (is_named schema.now name.now) tables.now }
 {
-    table.schema.as_bytes() == schema.as_bytes() && table.name.as_bytes() == name.as_bytes()
+    tables.iter().position(|t| {
+        t.schema.as_bytes() == schema.as_bytes() && t.name.as_bytes() == name.as_bytes()
+    })
 }
 
 // The place of the table that rows are taken from.
-fn from_place(tables: &[Table], select: &Select) -> Option<usize>
-    ensures { result ≡ option_and_then (from_place tables.now) (from_in (select_view select.now)) }
+fn from_place(tables: &[Table], from: &From) -> Option<usize>
+    ensures { result ≡ from_place tables.now (from_view from.now) }
+{
+    match from {
+        From::Table { schema, table, .. } => table_place(tables, schema, table),
+        From::Sub { .. } | From::One { .. } => None,
+    }
+}
+
+// What a select takes its rows from.
+fn from_in(select: &Select) -> Option<&From>
+    ensures { option_map (λ from. from_view from.now) result ≡ from_in (select_view select.now) }
 {
     match select {
-        Select::Rows {
-            from: From::Table { schema, table, .. },
-            ..
-        } => tables.iter().position(|t| is_named(t, schema, table)),
-        _ => None,
+        Select::Rows { from, .. } => Some(from),
+        Select::Fold { .. } => None,
     }
+}
+
+// The place of the table that a select's rows are taken from.
+fn rows_place(tables: &[Table], select: &Select) -> Option<usize>
+    ensures { result ≡ option_and_then (from_place tables.now) (from_in (select_view select.now)) }
+{
+    match from_in(select) {
+        Some(from) => from_place(tables, from),
+        None => None,
+    }
+}
+
+// The place of the column of this name.
+fn place_of(columns: &[Column], name: &Txt) -> Option<usize>
+    ensures { result ≡ position (λ x. bytes_eq x.name name.now) columns.now }
+{
+    columns
+        .iter()
+        .position(|c| c.name.as_bytes() == name.as_bytes())
 }
 
 // The place of the column that an expression is.
 fn column_place(columns: &[Column], expr: &Expr) -> Option<usize>
     ensures { result ≡ option_and_then (λ name. position (λ x. bytes_eq x.name name) columns.now) (column_name (expr_view expr.now)) }
 {
-    let name = column_name(expr)?;
-    columns
-        .iter()
-        .position(|c| c.name.as_bytes() == name.as_bytes())
+    match column_name(expr) {
+        Some(name) => place_of(columns, name),
+        None => None,
+    }
 }
 
 // The column that a pair is, under its name.
@@ -142,7 +171,7 @@ fn ask_in_rows(
 ) -> Result<Option<Ask>, Memory>
     ensures { IfOk result (λ ask. ask ≡ ask_in_rows tables.now key.now (select_view rows.now)) }
 {
-    let Some(place) = from_place(tables, rows) else {
+    let Some(place) = rows_place(tables, rows) else {
         return Ok(None);
     };
     let Some(pairs) = first_pairs(rows) else {

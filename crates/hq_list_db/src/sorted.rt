@@ -2,7 +2,7 @@
 ghost use Rattle.std.specs.Prelude.{◌≡◌, IfOk, map};
 ghost use Rattle.hq_base.specs.Lists.{sort};
 ghost use Rattle.hq_terms.specs.Permitted.{columns_cmp};
-ghost use Rattle.hq_list_db.specs.Keys.{key_cells};
+ghost use Rattle.hq_list_db.specs.Keyed.{keyed_view, keyed_row};
 
 use crate::key::{KeyCell, key_cells};
 use hq_base::Memory;
@@ -11,7 +11,8 @@ use hq_terms::ColId;
 use std::alloc::Global;
 
 /// A row beside the cells of its key, by which alone it is ordered.
-#[derive(PartialEq, Eq, PartialOrd, Ord)]
+#[derive(Drop)]
+#[derive_where(PartialEq, Eq, PartialOrd, Ord)]
 pub struct KeyedRow<'a> {
     key: Vec<KeyCell>,
     #[derive_where(skip(EqHashOrd))]
@@ -24,7 +25,7 @@ fn keyed_rows<'a>(
     rows: &'a [ValList],
     columns: &[ColId],
 ) -> Result<Vec<KeyedRow<'a>>, Memory>
-    ensures rows { IfOk result (λ keyed. map (λ k. k.row.now) keyed.items ≡ rows.now) }
+    ensures { IfOk result (λ keyed. map keyed_view keyed.items ≡ map (keyed_row columns.now) rows.now) }
 {
     let mut keyed = Vec::new(alloc);
     for row in rows {
