@@ -55,7 +55,7 @@ fn words<A: Iterator<Item = String> + Drop>(
 }
 
 // Tells why the words were not read. Gives the status that the program ends with.
-fn refuse<W: Write>(mut err: StdSink<W>, refusal: ArgumentsRefusal) -> ExitCode {
+fn refuse<W: Write + Drop>(mut err: StdSink<W>, refusal: ArgumentsRefusal) -> ExitCode {
     let (line, status) = match refusal {
         ArgumentsRefusal::BadArguments => (b"hq: bad arguments\n".as_slice(), 2),
         ArgumentsRefusal::Memory => (b"hq: out of memory\n".as_slice(), 7),
