@@ -1,7 +1,13 @@
+ghost use Rattle.std.specs.Prelude.{◌≢◌};
+
 use super::*;
 use hq_base::{Bytes, List, Memory, Txt};
+use hq_engine::Engine;
+use hq_list_db::ListDb;
 use hq_memory::{MemFiles, MemSink, MemSource, SureDoor, SureFiles, SureSink, SureSource};
-use hq_outside::{Door, File, FileList, Files, NumList, Sink, Source, names_differ};
+use hq_outside::{File, FileList, NumList, names_differ};
+use hq_tables::MemTables;
+use hq_terms::Session;
 use std::alloc::Global;
 use std::test::Fail;
 
@@ -209,5 +215,78 @@ fn an_input_beyond_the_limit_is_too_long(rt: HostRuntime) -> Result<(), Fail> {
         assert_eq!(rt; out.bytes(), b"".as_slice());
         assert_eq!(rt; err.bytes(), line.as_bytes());
     }
+    Ok(())
+}
+
+// What answering one request over a loaded directory leaves.
+fn answered_one(alloc: Global, input: &[u8]) -> Result<(u8, MemSink, MemSink), Fail> {
+    let files = folder(alloc, DIRECTORY)?;
+    if !names_differ(files.as_slice()) {
+        return Err(Memory.into());
+    }
+    let Ok(loaded) = load(alloc, &mut SureFiles::new(files), &text(alloc, "db")?) else {
+        return Err(Memory.into());
+    };
+    let Loaded {
+        catalog,
+        meta,
+        rows,
+    } = loaded;
+    let engine = Engine::new(catalog.copy(alloc)?, meta);
+    let mut db = ListDb::new(MemTables::new(catalog, rows));
+    let session = Session {
+        role: text(alloc, "user")?,
+        vars: List::new(alloc),
+    };
+    let mut input = MemSource::new(Bytes::from_slice(alloc, input)?, List::new(alloc));
+    let mut out = MemSink::new(alloc, 200, List::new(alloc))?;
+    let mut err = MemSink::new(alloc, 200, List::new(alloc))?;
+    let status = answer_one(
+        alloc, &engine, &session, &mut db, &mut input, &mut out, &mut err,
+    );
+    Ok((status, out, err))
+}
+
+#[test]
+fn one_request_is_answered_over_an_engine(rt: HostRuntime) -> Result<(), Fail> {
+    let (status, out, err) = answered_one(rt.alloc(), LIST)?;
+    assert_eq!(rt; status, 0);
+    assert_eq!(rt; out.bytes(), REPLY);
+    assert_eq!(rt; err.bytes(), b"".as_slice());
+    let (status, out, err) = answered_one(rt.alloc(), b"{}")?;
+    assert_eq!(rt; status, 9);
+    assert_eq!(rt; out.bytes(), b"".as_slice());
+    assert_eq!(rt; err.bytes(), b"hq: not built\n".as_slice());
+    Ok(())
+}
+
+// Over objects that never fail no fault is answered.
+fn run_sure(
+    alloc: Global,
+    words: &[Txt],
+    world: World<SureFiles, SureDoor, SureSource, SureSink, SureSink>,
+) -> u8
+    ensures no_read_fault { result ≢ 4 }
+    ensures no_write_fault { result ≢ 5 }
+{
+    run(alloc, words, world).status
+}
+
+#[test]
+fn sure_objects_never_fail(rt: HostRuntime) -> Result<(), Fail> {
+    let alloc = rt.alloc();
+    let words = word_list(alloc, WORDS)?;
+    let files = folder(alloc, DIRECTORY)?;
+    if !names_differ(files.as_slice()) {
+        return Err(Memory.into());
+    }
+    let world = World {
+        files: SureFiles::new(files),
+        door: SureDoor::new(alloc, List::new(alloc)),
+        input: SureSource::new(Bytes::from_slice(alloc, LIST)?),
+        out: SureSink::new(),
+        err: SureSink::new(),
+    };
+    assert_eq!(rt; run_sure(alloc, words.as_slice(), world), 0);
     Ok(())
 }
