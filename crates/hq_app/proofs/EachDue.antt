@@ -1,5 +1,5 @@
 -- The values of a list, one after the other.
-use Rattle.std.proofs.Common.{◌≡◌, ◌⊎◌, inl, inr, ℕ, suc, ◌+◌, ◌<◌, List, [], ◌∷◌, ◌++◌, length, drop, take, get_or, Option, Some, None, IfSome, Result, Ok, Err, Bool, true, false, ◌&&◌, refl, sym, ap, ◌∙◌, subst, append_assoc, add-one, drop-cons, take-suc}
+use Rattle.std.proofs.Common.{◌≡◌, ◌⊎◌, inl, inr, ℕ, suc, ◌+◌, ◌<◌, List, [], ◌∷◌, ◌++◌, length, drop, take, get_or, Option, Some, None, IfSome, Result, Ok, Err, Bool, true, ◌&&◌, refl, sym, ap, ◌∙◌, subst, append_assoc, add-one, drop-cons, take-suc}
 use Rattle.std.specs.Cmp.{first_so, second_so}
 use Rattle.hq_base.specs.Due.{and_then, mapped}
 use Rattle.hq_terms.specs.Database.{Row, are_rows, is_database}

@@ -1,18 +1,13 @@
 -- How a run ends, by its parts.
-use Rattle.std.proofs.Common.{◌≡◌, ◌⊎◌, ◌↔◌, ◌≤◌, ◌<◌, ◌∙◌, ℕ, List, [], ◌++◌, length, Option, Some, None, IfSome, IfOk, IfErr, Result, Ok, Err, IsErrOf, Bool, true, false, cond, refl, sym, ap, subst, inl, inr, arith, append-nil}
-use Rattle.std.specs.Prelude.{nat_lt, ok_or, option_map, MatchOption}
+use Rattle.std.proofs.Common.{◌≡◌, ◌⊎◌, ◌≤◌, ◌∙◌, ℕ, List, [], length, Option, Some, None, IfSome, Result, Ok, Err, IsErrOf, refl, sym, ap, subst, inl, inr, arith, append-nil}
 use Rattle.std.proofs.lemmas.Bool.{lt-ltb, le-ltb}
 use Rattle.std.specs.Io.KnownBytes.{Appends}
 use Rattle.hq_base.specs.Due.{and_then}
-use Rattle.hq_outside.specs.Causes.{Rose}
-use Rattle.hq_outside.specs.Streams.{AppendsPrefix, ReadsAll}
+use Rattle.hq_outside.specs.Streams.{ReadsAll}
 use Rattle.hq_outside.specs.declared.files.File.{File}
 use Rattle.hq_outside.specs.declared.streams.InputRefusal.{InputRefusal}
 use Rattle.hq_outside.specs.declared.streams.InputRefusal.TheVariants as input
-use Rattle.hq_terms.specs.Database.{Row}
-use Rattle.hq_terms.specs.Meta.{MetaTree}
 use Rattle.hq_terms.specs.declared.session.Session.{Session}
-use Rattle.hq_terms.specs.declared.table.Table.{Table}
 use Rattle.hq_ask_tree.specs.declared.ask.Ask.{Ask}
 use Rattle.hq_engine.specs.Answer.{Counts, Asks}
 use Rattle.hq_engine.specs.Due.{due_reply}
@@ -23,8 +18,8 @@ use Rattle.hq_app.specs.Words.{query_of}
 use Rattle.hq_app.specs.Wrote.{Wrote}
 use Rattle.hq_app.specs.Told.{GivesUnless}
 use Rattle.hq_app.specs.Loading.{Contents, loading_due, loaded_view, refused_as}
-use Rattle.hq_app.specs.Due.{of_words, of_loading, of_input, of_engine, session_of, reply_due, query_due, due}
-use Rattle.hq_app.specs.Ending.{Answer, Ends, Silent, Tells, status_of, refusal_status, told_line}
+use Rattle.hq_app.specs.Due.{of_words, of_loading, of_input, of_engine, session_of, reply_due, due}
+use Rattle.hq_app.specs.Ending.{Answer, Ends, Silent, Tells, status_of}
 use Rattle.hq_app.specs.declared.reply.TheConstants.{INPUT_LIMIT}
 use Rattle.hq_app.specs.declared.loaded.Loaded.{Loaded}
 use Rattle.hq_app.specs.declared.words.Query.{Query}

@@ -1,5 +1,5 @@
 -- What follows the front of a text.
-use Rattle.std.proofs.Common.{◌≡◌, ◌≢◌, ◌∙◌, ℕ, List, [], ◌∷◌, ◌++◌, Bor, Bool, true, false, ◌==◌, refl, sym, ap, subst, Option, Some, None, MatchOption, if◌then◌else◌, eq-eqb}
+use Rattle.std.proofs.Common.{◌≡◌, ◌≢◌, ◌∙◌, ℕ, List, [], ◌∷◌, ◌++◌, Bor, true, false, ◌==◌, refl, sym, ap, subst, Option, Some, None, MatchOption, if◌then◌else◌, eq-eqb}
 use Rattle.std.proofs.lemmas.Bool.{eqb-true}
 use Rattle.std.specs.Str.Pattern.{FindsTextPrefix, StripsPrefix}
 use Rattle.hq_base.specs.Text.{after}

@@ -143,7 +143,13 @@ fn write_table<E: Sink>(err: &mut E, file: &Txt, refusal: LoadRefusal) -> Result
         LoadRefusal::Header => write_name(err, file, Phrase::Header),
         LoadRefusal::Width { line } => write_field(err, file, Phrase::Width, Part::Number(line)),
         LoadRefusal::NotUtf8 { line, col } => write_numbers(err, file, Phrase::NotUtf8, line, col),
-        LoadRefusal::ZeroByte { line, col } => write_numbers(err, file, Phrase::ZeroByte, line, col),
+        LoadRefusal::ZeroByte { line, col } => write_numbers(
+            err,
+            file,
+            Phrase::ZeroByte,
+            line,
+            col,
+        ),
         LoadRefusal::NotInteger { line, col } => {
             write_numbers(err, file, Phrase::NotInteger, line, col)
         }

@@ -142,13 +142,33 @@ fn a_refused_file_is_told(rt: HostRuntime) -> Result<(), Fail> {
     );
     let cases: [(&[Held], u8, &str); 8] = [
         (&[METADATA, AUTHORS], 3, "hq: catalog.json: Missing\n"),
-        (&[("db/catalog.json", b"{"), METADATA, AUTHORS], 3, "hq: catalog.json: NotJson\n"),
-        (&[("db/catalog.json", b"{}")], 3, "hq: catalog.json: Shape $.tables\n"),
+        (
+            &[("db/catalog.json", b"{"), METADATA, AUTHORS],
+            3,
+            "hq: catalog.json: NotJson\n",
+        ),
+        (
+            &[("db/catalog.json", b"{}")],
+            3,
+            "hq: catalog.json: Shape $.tables\n",
+        ),
         (&[no_key], 3, "hq: catalog.json: NoKey public.author\n"),
         (&[CATALOG, METADATA], 3, "hq: public.author.csv: Missing\n"),
-        (&[CATALOG, METADATA, narrow], 3, "hq: public.author.csv: Width 2\n"),
-        (&[CATALOG, METADATA, repeated], 3, "hq: public.author.csv: RepeatedKey 5 3\n"),
-        (&[CATALOG, METADATA, five], 3, "hq: public.author.csv: RepeatedKey 5 3\n"),
+        (
+            &[CATALOG, METADATA, narrow],
+            3,
+            "hq: public.author.csv: Width 2\n",
+        ),
+        (
+            &[CATALOG, METADATA, repeated],
+            3,
+            "hq: public.author.csv: RepeatedKey 5 3\n",
+        ),
+        (
+            &[CATALOG, METADATA, five],
+            3,
+            "hq: public.author.csv: RepeatedKey 5 3\n",
+        ),
     ];
     for (held, want, line) in cases {
         let (status, out, err) = outcome(rt.alloc(), WORDS, held, LIST, [&[], &[], &[]])?;

@@ -109,7 +109,7 @@ pub fn answer_one<T: Tables, S: Source, K: Sink, E: Sink>(
     ensures ends { (answer : Answer) × (result ≡ status_of answer)
         × Tells (E.written err.old) (E.written err.new) (E.faults err.old) (E.faults err.new) (told_line answer)
         × IfSome (⟦<ListDb<T> as Database>⟧.database db.old) (λ rows. IfSome (S.left input.old) (λ left.
-            Ends (K.written out.old) (K.written out.new) (reply_due (contents engine.now.catalog.tables (meta_view engine.now.meta) rows) session.now left) answer)) }
+        Ends (K.written out.old) (K.written out.new) (reply_due (contents engine.now.catalog.tables (meta_view engine.now.meta) rows) session.now left) answer)) }
 
     // Nothing is written at a status other than 0 and 5.
     ensures silent { result ≢ 0 → result ≢ 5 → K.written out.new ≡ K.written out.old }
@@ -138,7 +138,7 @@ pub fn run<F: Files, D: Door, S: Source, K: Sink, E: Sink>(
     ensures ends { (answer : Answer) × (result.status ≡ status_of answer)
         × Tells (E.written world.err) (E.written result.world.err) (E.faults world.err) (E.faults result.world.err) (told_line answer)
         × IfSome (F.folder world.files) (λ folder. IfSome (S.left world.input) (λ left.
-            Ends (K.written world.out) (K.written result.world.out) (due words.now folder left) answer)) }
+        Ends (K.written world.out) (K.written result.world.out) (due words.now folder left) answer)) }
 
     // Nothing is written at a status other than 0 and 5.
     ensures silent { result.status ≢ 0 → result.status ≢ 5 → K.written result.world.out ≡ K.written world.out }

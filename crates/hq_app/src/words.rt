@@ -65,7 +65,9 @@ fn asked(words: &[Txt]) -> Option<(&Txt, &Txt)>
     ensures { MatchOption result (is_asking words.now ≡ false) (λ found. IsAsked words.now found.0.now found.1.now) }
 {
     match words {
-        [command, dir, header] if command.as_str() == "query" && names_role(header) => Some((dir, header)),
+        [command, dir, header] if command.as_str() == "query" && names_role(header) => Some((
+            dir, header,
+        )),
         _ => None,
     }
 }

@@ -1,4 +1,4 @@
-use Rattle.std.proofs.Common.{rules, ◌≡◌, ◌∙◌, ap, Err, ℕ, List}
+use Rattle.std.proofs.Common.{rules, ◌∙◌, ap, Err}
 use Rattle.std.proofs.lemmas.Result.{err_from_is_err_and}
 use Rattle.hq_app.specs.declared.refusal.LoadingRefusal.TheVariants.{Memory, Failed}
 use Rattle.hq_app.specs.Loading.{rows_in}

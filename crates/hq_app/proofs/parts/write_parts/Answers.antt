@@ -1,4 +1,4 @@
-use Rattle.std.proofs.Common.{rules, ◌≡◌, ℕ, List, sym, subst}
+use Rattle.std.proofs.Common.{rules, ℕ, List, sym, subst}
 use Rattle.std.specs.Io.KnownBytes.{Appends}
 use Rattle.hq_outside.specs.Streams.{AppendsPrefix}
 use Rattle.hq_app.specs.Line.{part_text}

@@ -1,4 +1,4 @@
-use Rattle.std.proofs.Common.{rules, ◌≡◌, ◌∙◌, ap, subst, Err, Ok, ℕ, List, None, Some}
+use Rattle.std.proofs.Common.{◌≡◌, ◌∙◌, ap, subst, Err, Ok, ℕ, List, None, Some}
 use Rattle.std.proofs.lemmas.Result.{err_from_is_err_and}
 use Rattle.hq_outside.specs.Streams.{ReadsAll}
 use Rattle.hq_terms.specs.Meta.{meta_view}

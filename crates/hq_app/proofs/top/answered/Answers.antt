@@ -1,9 +1,9 @@
-use Rattle.std.proofs.Common.{rules, ◌≡◌, ◌∙◌, ap, sym, subst, Err, Ok, Result, ℕ, List}
+use Rattle.std.proofs.Common.{◌≡◌, ◌∙◌, ap, sym, subst, Err, Ok, Result, ℕ, List}
 use Rattle.std.proofs.lemmas.Result.{err_from_is_err_and}
 use Rattle.hq_outside.specs.declared.files.File.{File}
 use Rattle.hq_app.specs.Told.{GivesUnless}
 use Rattle.hq_app.specs.Loading.{loaded_view, loading_due}
-use Rattle.hq_app.specs.Due.{session_of, reply_due, due}
+use Rattle.hq_app.specs.Due.{session_of, reply_due}
 use Rattle.hq_app.specs.Ending.{Ends}
 use Rattle.hq_app.specs.declared.loaded.Loaded.{Loaded}
 use Rattle.hq_app.specs.declared.refusal.LoadingRefusal.TheVariants.{Memory, Failed}

@@ -1,4 +1,3 @@
-use Rattle.std.proofs.Common.{◌≡◌, ℕ, List, Option, Some, None, MatchOption, Bor}
 use Rattle.hq_app.proofs.Fronts.{stripped}
 use Rattle.hq_app.proofs.words.behind.Goals as goal
 
