@@ -1,5 +1,5 @@
 -- The tables of a catalog.
-use Rattle.std.proofs.Common.{◌≡◌, ℕ, zero, suc, ◌<◌, List, [], ◌∷◌, length, get_or, Bool, true, ◌&&◌, nat_lt, nat_le, ◌==◌, not, bytes_eq, ap, refl, subst, sym, arith, slice_get}
+use Rattle.std.proofs.Common.{◌≡◌, ℕ, zero, suc, ◌<◌, List, [], ◌∷◌, length, get_or, Bool, true, ◌&&◌, nat_lt, nat_le, ◌==◌, bytes_eq, subst, sym, arith, slice_get}
 use Rattle.std.specs.List.{list_all}
 use Rattle.std.specs.Cmp.{first_so, second_so}
 use Rattle.hq_base.specs.Lists.{all_differ}

@@ -1,9 +1,10 @@
 -- The values of a list, one after the other.
-use Rattle.std.proofs.Common.{◌≡◌, ℕ, suc, ◌+◌, ◌<◌, List, [], ◌∷◌, ◌++◌, length, drop, take, get_or, Option, Some, None, IfSome, Result, Ok, Err, Bool, true, false, ◌&&◌, refl, sym, ap, ◌∙◌, subst, append_assoc, add-one, drop-cons, take-suc}
+use Rattle.std.proofs.Common.{◌≡◌, ◌⊎◌, inl, inr, ℕ, suc, ◌+◌, ◌<◌, List, [], ◌∷◌, ◌++◌, length, drop, take, get_or, Option, Some, None, IfSome, Result, Ok, Err, Bool, true, ◌&&◌, refl, sym, ap, ◌∙◌, subst, append_assoc, add-one, drop-cons, take-suc}
 use Rattle.std.specs.Cmp.{first_so, second_so}
 use Rattle.hq_base.specs.Due.{and_then, mapped}
 use Rattle.hq_terms.specs.Database.{Row, are_rows, is_database}
 use Rattle.hq_terms.specs.declared.table.Table.{Table}
+use Rattle.hq_app.specs.Told.{GivesUnless}
 use Rattle.hq_app.specs.Loading.{each_due}
 
 -- one value before the others
@@ -31,6 +32,24 @@ told-step (Some w) None f xs i x ys zs y within is same joins h k = cc
 told-step (Some w) (Some v) f xs i x ys zs y within is same joins h k =
     let told : v ≡ w = cc in
     ap (λ u. mapped (λ more. u ++ more) (each_due (f w) (drop (i + 1) xs))) joins ∙ sym (each_due-step (f w) xs i x ys y within is (subst (λ u. f u x ≡ Ok y) told k)) ∙ h
+
+each_due-refused : {X Y E : Type 0} (f : X → Result Y E) (xs : List X) (i : ℕ) (x : X) (ys : List Y) (e : E) → i < length xs → x ≡ get_or xs i x → f x ≡ Err e → mapped (λ more. ys ++ more) (each_due f (drop i xs)) ≡ Err e
+each_due-refused f xs i x ys e within is h =
+    let split : drop i xs ≡ x ∷ drop (i + 1) xs = rw add-one (drop-cons xs i x within ∙ ap (λ w. w ∷ drop (suc i) xs) (sym is)) in
+    ap (λ w. mapped (λ more. ys ++ more) (each_due f w)) split ∙ ap (λ r. mapped (λ more. ys ++ more) (and_then (λ z. mapped (λ more. z ∷ more) (each_due f (drop (i + 1) xs))) r)) h
+
+-- the refusal of an item is that of the list
+pub told-refused : {W X Y Z E : Type 0} (before now : Option W) (f : W → X → Result Y E) (xs : List X) (i : ℕ) (x : X) (ys : List Y) (e memory fault : E) (view : Z → List Y) (r : Result Z E) → r ≡ Err e → i < length xs → x ≡ get_or xs i x → now ≡ before
+    → IfSome before (λ w. mapped (λ more. ys ++ more) (each_due (f w) (drop i xs)) ≡ each_due (f w) xs)
+    → IfSome now (λ w. (e ≡ memory) ⊎ ((e ≡ fault) ⊎ (f w x ≡ Err e)))
+    → IfSome before (λ w. GivesUnless view memory fault (each_due (f w) xs) r)
+told-refused None now f xs i x ys e memory fault view r is_err within is same h k = tt
+told-refused (Some w) None f xs i x ys e memory fault view r is_err within is same h k = cc
+told-refused (Some w) (Some v) f xs i x ys e memory fault view r is_err within is same h (inl k) = rw is_err (inl k)
+told-refused (Some w) (Some v) f xs i x ys e memory fault view r is_err within is same h (inr (inl k)) = rw is_err (inr (inl k))
+told-refused (Some w) (Some v) f xs i x ys e memory fault view r is_err within is same h (inr (inr k)) =
+    let told : v ≡ w = cc in
+    rw is_err (inr (inr (sym h ∙ each_due-refused (f w) xs i x ys e within is (subst (λ u. f u x ≡ Err e) told k))))
 
 both_so : (a b : Bool) → a ≡ true → b ≡ true → (a && b) ≡ true
 both_so a b h k = cc

@@ -1,3 +1,5 @@
 mod Catalogs
 mod EachDue
 mod WrittenParts
+mod Fronts
+mod Endings

@@ -10,8 +10,10 @@ use Rattle.hq_app.specs.declared.refusal.FileFault.{FileFault}
 use Rattle.hq_app.specs.declared.refusal.FileFault.TheVariants as fault
 use Rattle.hq_app.specs.declared.refusal.Refusal.{Refusal}
 use Rattle.hq_app.specs.declared.refusal.Refusal.TheVariants as refusal
+use Rattle.hq_app.specs.declared.parts.Part.{Part}
+use Rattle.hq_app.specs.declared.parts.Part.TheVariants.{Fixed, Text, Number}
 use Rattle.hq_app.specs.declared.phrase.Phrase.{Phrase}
-use Rattle.hq_app.specs.declared.phrase.Phrase.TheVariants.{Hq, Colon, Space, End, BadArguments, ReadFailed, WriteFailed, OutOfMemory, InputTooLong, NotBuilt, Missing, TooLarge, NotJson, Shape, Repeated, NoKey, NameLength, TooMany, Header, Width, NotUtf8, ZeroByte, NotInteger, NotBoolean, NullInNotNull, RepeatedKey, Memory}
+use Rattle.hq_app.specs.declared.phrase.Phrase.TheVariants.{Hq, Colon, Space, End, BadArguments, ReadFailed, WriteFailed, DatabaseFailed, OutOfMemory, InputTooLong, NotBuilt, Missing, TooLarge, NotJson, Shape, Repeated, NoKey, NameLength, TooMany, Header, Width, NotUtf8, ZeroByte, NotInteger, NotBoolean, NullInNotNull, RepeatedKey, Memory}
 
 -- the text of a phrase
 unfoldable pub phrase_text : Phrase → List ℕ
@@ -22,6 +24,7 @@ phrase_text End = codes "\n"
 phrase_text BadArguments = codes "bad arguments"
 phrase_text ReadFailed = codes "read failed"
 phrase_text WriteFailed = codes "write failed"
+phrase_text DatabaseFailed = codes "database failed"
 phrase_text OutOfMemory = codes "out of memory"
 phrase_text InputTooLong = codes "input too long"
 phrase_text NotBuilt = codes "not built"
@@ -42,6 +45,12 @@ phrase_text NotBoolean = codes "NotBoolean"
 phrase_text NullInNotNull = codes "NullInNotNull"
 phrase_text RepeatedKey = codes "RepeatedKey"
 phrase_text Memory = codes "Memory"
+
+-- the text of a part
+abbrev pub part_text : Part → List ℕ
+part_text (Fixed phrase) = phrase_text phrase
+part_text (Text text) = text.now
+part_text (Number number) = decimal number
 
 -- a line of one phrase
 abbrev pub plain_line : Phrase → List ℕ
@@ -82,12 +91,16 @@ fault_line file fault.TooLarge = file_line file TooLarge []
 fault_line file (fault.Catalog e) = catalog_line file e
 fault_line file (fault.Table e) = table_line file e
 
+abbrev pub database_line : (before after : ℕ) → List ℕ
+database_line before after = concat (phrase_text Hq ∷ phrase_text DatabaseFailed ∷ (spaced (decimal before ∷ decimal after ∷ []) ++ phrase_text End ∷ []))
+
 -- the line of a refusal
 abbrev pub line_of : Refusal → List ℕ
 line_of refusal.BadWords = plain_line BadArguments
 line_of (refusal.File file f) = fault_line file f
 line_of refusal.ReadFailed = plain_line ReadFailed
 line_of refusal.WriteFailed = plain_line WriteFailed
+line_of (refusal.Database before after) = database_line before after
 line_of refusal.Memory = plain_line OutOfMemory
 line_of refusal.InputTooLong = plain_line InputTooLong
 line_of refusal.NotBuilt = plain_line NotBuilt

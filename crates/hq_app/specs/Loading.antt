@@ -19,7 +19,6 @@ use Rattle.hq_tables.specs.declared.load.refusal.LoadRefusal.{LoadRefusal}
 use Rattle.hq_tables.specs.declared.load.refusal.LoadRefusal.TheVariants as table
 use Rattle.hq_app.specs.Directory.{file_due, table_file}
 use Rattle.hq_app.specs.declared.loaded.Loaded.{Loaded}
-use Rattle.hq_app.specs.declared.refusal.FileFault.{FileFault}
 use Rattle.hq_app.specs.declared.refusal.FileFault.TheVariants as fault
 use Rattle.hq_app.specs.declared.refusal.LoadingRefusal.{LoadingRefusal}
 use Rattle.hq_app.specs.declared.refusal.LoadingRefusal.TheVariants as loading

@@ -2,14 +2,25 @@
 #![tactic(auto)]
 
 mod directory;
+mod line;
 mod loaded;
 mod loading;
 mod parts;
+mod phrase;
 mod refusal;
 mod refused;
+mod reply;
+mod top;
 mod words;
+mod world;
 
 pub use loaded::Loaded;
 pub use loading::load;
-pub use refusal::{FileFault, LoadingRefusal};
+pub use refusal::{FileFault, LoadingRefusal, Refusal};
+pub use reply::INPUT_LIMIT;
+pub use top::{answer_one, run};
 pub use words::{Query, WordsRefusal};
+pub use world::{Ran, World};
+
+#[cfg(test)]
+mod tests;

@@ -1,5 +1,7 @@
 ghost use Rattle.std.specs.Prelude.{◌≡◌, true};
 ghost use Rattle.hq_terms.specs.Database.{is_database};
+ghost use Rattle.hq_terms.specs.Fits.{fits as fits_tables};
+ghost use Rattle.hq_terms.specs.Meta.{meta_view};
 
 use hq_tables::RowsList;
 use hq_terms::{Catalog, Meta};
@@ -11,4 +13,5 @@ pub struct Loaded {
     pub meta: Meta,
     pub rows: RowsList,
     ghost database: { is_database catalog.tables rows ≡ true },
+    ghost fits: { fits_tables catalog.tables (meta_view meta) ≡ true },
 }

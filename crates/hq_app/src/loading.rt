@@ -3,6 +3,7 @@ ghost use Rattle.hq_outside.specs.Causes.{Rose};
 ghost use Rattle.hq_terms.specs.Meta.{meta_view};
 ghost use Rattle.hq_terms.specs.Catalog.{is_catalog};
 ghost use Rattle.hq_terms.specs.Database.{are_rows, is_database};
+ghost use Rattle.hq_terms.specs.Fits.{fits};
 ghost use Rattle.hq_tables.specs.Header.{names_differ};
 ghost use Rattle.hq_app.specs.Told.{GivesUnless};
 ghost use Rattle.hq_app.specs.Loading.{catalog_file, meta_file, catalog_in, meta_in, rows_in, each_due, loaded_view, loading_due};
@@ -67,8 +68,10 @@ fn load_meta<F: Files>(
     dir: &Txt,
     tables: &[Table],
 ) -> Result<Meta, LoadingRefusal>
+    requires { is_catalog tables.now ≡ true }
     ensures told { IfSome (F.folder files.old) (λ folder.
         GivesUnless meta_view LoadingRefusal.Memory LoadingRefusal.Failed (meta_in folder dir.now tables.now) result) }
+    ensures fits { IfOk result (λ meta. fits tables.now (meta_view meta) ≡ true) }
     ensures failed { IsErrOf result LoadingRefusal.Failed → Rose (F.faults files.old) (F.faults files.new) }
     ensures folder { F.folder files.new ≡ F.folder files.old }
     ensures later { F.faults files.old ≤ F.faults files.new }

@@ -1,8 +1,11 @@
 ghost use Rattle.std.specs.Prelude.{◌≡◌};
 ghost use Rattle.hq_app.specs.declared.refusal.LoadingRefusal.TheVariants as refusal;
 
+use crate::WordsRefusal;
 use hq_base::{Memory, Txt};
 use hq_catalog_read::CatalogRefusal;
+use hq_engine::EngineRefusal;
+use hq_outside::{InputRefusal, WriteFailed};
 use hq_tables::LoadRefusal;
 use thiserror::Error;
 
@@ -40,5 +43,131 @@ impl From<Memory> for LoadingRefusal {
 
     fn from(_: Memory) -> Self {
         LoadingRefusal::Memory
+    }
+}
+
+/// Why the program ends with another status than 0.
+#[derive(Debug, Drop, Error)]
+pub enum Refusal {
+    #[error("bad arguments")]
+    BadWords,
+    /// A file of the directory is absent, too large, or refused by its reader.
+    #[error("{fault}")]
+    File { file: Txt, fault: FileFault },
+    #[error("read failed")]
+    ReadFailed,
+    #[error("write failed")]
+    WriteFailed,
+    /// The database failed. Its count of faults rose from `before` to `after`.
+    #[error("database failed {before} {after}")]
+    Database { before: u64, after: u64 },
+    #[error("out of memory")]
+    Memory,
+    #[error("input too long")]
+    InputTooLong,
+    /// The metadata or the request is none of those that are built so far.
+    #[error("not built")]
+    NotBuilt,
+}
+
+impl Refusal {
+    ghost use Rattle.hq_app.specs.Ending.{refusal_status};
+
+    /// The status that the program ends with.
+    pub fn status(&self) -> u8
+        ensures { result ≡ refusal_status self.now }
+    {
+        match self {
+            Refusal::BadWords => 2,
+            Refusal::File { .. } => 3,
+            Refusal::ReadFailed => 4,
+            Refusal::WriteFailed => 5,
+            Refusal::Database { .. } => 6,
+            Refusal::Memory => 7,
+            Refusal::InputTooLong => 8,
+            Refusal::NotBuilt => 9,
+        }
+    }
+}
+
+impl From<Memory> for Refusal {
+    ghost use Rattle.std.specs.Prelude.{◌≡◌};
+    ghost use Rattle.hq_app.specs.declared.refusal.Refusal.TheVariants as ending;
+
+    ghost from_gives = { λ _ e. e ≡ ending.Memory };
+
+    fn from(_: Memory) -> Self {
+        Refusal::Memory
+    }
+}
+
+impl From<WriteFailed> for Refusal {
+    ghost use Rattle.std.specs.Prelude.{◌≡◌};
+    ghost use Rattle.hq_app.specs.declared.refusal.Refusal.TheVariants as ending;
+
+    ghost from_gives = { λ _ e. e ≡ ending.WriteFailed };
+
+    fn from(_: WriteFailed) -> Self {
+        Refusal::WriteFailed
+    }
+}
+
+impl From<WordsRefusal> for Refusal {
+    ghost use Rattle.std.specs.Prelude.{◌≡◌};
+    ghost use Rattle.hq_app.specs.Due.{of_words};
+
+    ghost from_gives = { λ r e. e ≡ of_words r };
+
+    fn from(refusal: WordsRefusal) -> Self {
+        match refusal {
+            WordsRefusal::BadWords => Refusal::BadWords,
+            WordsRefusal::Memory => Refusal::Memory,
+        }
+    }
+}
+
+impl From<LoadingRefusal> for Refusal {
+    ghost use Rattle.std.specs.Prelude.{◌≡◌};
+    ghost use Rattle.hq_app.specs.Due.{of_loading};
+
+    ghost from_gives = { λ r e. e ≡ of_loading r };
+
+    fn from(refusal: LoadingRefusal) -> Self {
+        match refusal {
+            LoadingRefusal::File { file, fault } => Refusal::File { file, fault },
+            LoadingRefusal::NotBuilt => Refusal::NotBuilt,
+            LoadingRefusal::Failed => Refusal::ReadFailed,
+            LoadingRefusal::Memory => Refusal::Memory,
+        }
+    }
+}
+
+impl From<InputRefusal> for Refusal {
+    ghost use Rattle.std.specs.Prelude.{◌≡◌};
+    ghost use Rattle.hq_app.specs.Due.{of_input};
+
+    ghost from_gives = { λ r e. e ≡ of_input r };
+
+    fn from(refusal: InputRefusal) -> Self {
+        match refusal {
+            InputRefusal::Failed => Refusal::ReadFailed,
+            InputRefusal::TooLong => Refusal::InputTooLong,
+            InputRefusal::Memory => Refusal::Memory,
+        }
+    }
+}
+
+impl From<EngineRefusal> for Refusal {
+    ghost use Rattle.std.specs.Prelude.{◌≡◌};
+    ghost use Rattle.hq_app.specs.Due.{of_engine};
+
+    ghost from_gives = { λ r e. e ≡ of_engine r };
+
+    fn from(refusal: EngineRefusal) -> Self {
+        match refusal {
+            EngineRefusal::Database { before, after } => Refusal::Database { before, after },
+            EngineRefusal::Memory => Refusal::Memory,
+            EngineRefusal::NotBuilt => Refusal::NotBuilt,
+        }
     }
 }

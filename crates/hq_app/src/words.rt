@@ -1,6 +1,6 @@
-ghost use Rattle.std.specs.Prelude.{◌≡◌, IfOk, ok_or};
-ghost use Rattle.hq_base.specs.Due.{Gives};
-ghost use Rattle.hq_app.specs.Words.{role_of, query_of};
+ghost use Rattle.std.specs.Prelude.{◌≡◌, ◌↔◌, IfOk, IsErrOf, MatchOption, None, Some, false, true};
+ghost use Rattle.hq_base.specs.Text.{after};
+ghost use Rattle.hq_app.specs.Words.{is_asking_role, is_role_word, is_asking, IsAsked, query_of};
 
 use hq_base::{Memory, Txt};
 use std::alloc::Global;
@@ -36,35 +36,56 @@ impl From<Memory> for WordsRefusal {
 // What stands before the role in its header word.
 const BEFORE_ROLE: &str = "X-Hasura-Role: ";
 
-// The role that a header word names.
-fn role(alloc: Global, header: &Txt) -> Result<Option<Txt>, Memory>
-    ensures { IfOk result (λ role. role ≡ role_of header.now) }
+// What follows a front, where the text begins with it.
+fn behind<'a>(text: &'a str, front: &str) -> Option<&'a str>
+    ensures { MatchOption result (after front.now text.now ≡ None) (λ rest. after front.now text.now ≡ Some rest.now) }
 {
-    let Some(role) = header.after(alloc, BEFORE_ROLE)? else {
-        return Ok(None);
-    };
-    match role.as_str() {
-        "" | "admin" => Ok(None),
-        _ => Ok(Some(role)),
+    text.strip_prefix(front)
+}
+
+// Whether a role may ask.
+fn may_ask(role: &str) -> bool
+    ensures { result ≡ is_asking_role role.now }
+{
+    !role.is_empty() && role != "admin"
+}
+
+// Whether a word names a role that may ask.
+fn names_role(header: &Txt) -> bool
+    ensures { result ≡ is_role_word header.now }
+{
+    match behind(header.as_str(), BEFORE_ROLE) {
+        Some(role) => may_ask(role),
+        None => false,
+    }
+}
+
+// The directory and the header word of words that ask.
+fn asked(words: &[Txt]) -> Option<(&Txt, &Txt)>
+    ensures { MatchOption result (is_asking words.now ≡ false) (λ found. IsAsked words.now found.0.now found.1.now) }
+{
+    match words {
+        [command, dir, header] if command.as_str() == "query" && names_role(header) => Some((
+            dir, header,
+        )),
+        _ => None,
     }
 }
 
 impl Query {
-    /// What these words ask, which are those behind the program's name. BadWords for all but `query`, a directory
-    /// and `X-Hasura-Role: ROLE` with a role that is neither empty nor `admin`.
+    /// What these words ask, which are those behind the program's name. BadWords exactly where they are not `query`, a
+    /// directory and `X-Hasura-Role: ROLE` with a role that is neither empty nor `admin`.
     pub fn read(alloc: Global, words: &[Txt]) -> Result<Query, WordsRefusal>
-        ensures { Gives (λ query. query) WordsRefusal.Memory (ok_or (query_of words.now) WordsRefusal.BadWords) result }
+        ensures words { IsErrOf result WordsRefusal.BadWords ↔ (query_of words.now ≡ None) }
+        ensures query { IfOk result (λ query. query_of words.now ≡ Some query) }
     {
-        let [command, dir, header] = words else {
-            return Err(WordsRefusal::BadWords);
-        };
-        if command.as_str() != "query" {
-            return Err(WordsRefusal::BadWords);
-        }
-        let Some(role) = role(alloc, header)? else {
+        let Some((dir, header)) = asked(words) else {
             return Err(WordsRefusal::BadWords);
         };
         let dir = dir.copy(alloc)?;
-        Ok(Query { dir, role })
+        match header.after(alloc, BEFORE_ROLE)? {
+            Some(role) => Ok(Query { dir, role }),
+            None => Err(WordsRefusal::Memory),
+        }
     }
 }

@@ -1,1 +1,6 @@
 mod Differ
+mod ListTests
+mod TableNames
+mod ColumnNames
+mod Fitting
+mod Forms

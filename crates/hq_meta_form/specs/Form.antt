@@ -1,5 +1,6 @@
 -- The first form of metadata.
-use Rattle.std.specs.Prelude.{ℕ, ℤ, pos, List, [], ◌∷◌, ◌++◌, Bool, false, ◌&&◌, ◌==◌, Option, Some, None, option_and_then, option_map, map, if◌then◌else◌, bytes_eq, codes, position, slice_get, is_some, Result, ok_or}
+use Rattle.std.specs.Prelude.{ℕ, ℤ, pos, List, [], ◌∷◌, ◌++◌, Bool, false, not, ◌&&◌, ◌||◌, ◌==◌, Option, Some, None, option_and_then, option_map, map, if◌then◌else◌, bytes_eq, codes, position, slice_get, is_some, Result, ok_or}
+use Rattle.std.specs.List.{list_any}
 use Rattle.std.specs.Result.{result_ok}
 use Rattle.std.specs.Ordering.{int_eq}
 use Rattle.hq_base.specs.Body.{body_of}
@@ -8,6 +9,7 @@ use Rattle.hq_base.specs.Json.{JsonTree}
 use Rattle.hq_base.specs.Look.{str_in, int_in, array_in}
 use Rattle.hq_terms.specs.Bexp.{always}
 use Rattle.hq_terms.specs.Names.{is_free_name}
+use Rattle.hq_terms.specs.SchemaNames.{fixed_inputs}
 use Rattle.hq_terms.specs.Meta.{PermTree, TrackedTree, MetaTree}
 use Rattle.hq_terms.specs.declared.table.Column.{Column}
 use Rattle.hq_terms.specs.declared.table.Table.{Table}
@@ -35,10 +37,27 @@ source_in j = option_and_then (λ top. if is_three (int_in top.1) then sole_in t
 abbrev pub entry_in : JsonTree → Option JsonTree
 entry_in j = option_and_then (λ source. if is_word word.Postgres source.0 && is_some (str_in source.1) then sole_in source.2 else None) (three_in word.Kind word.Name word.Tables j)
 
--- the place of the table of this name in schema `public`, where the name is one that a schema may give
+-- the names of types that each schema has and that are free: scalars, their comparisons, and two more
+unfoldable pub is_scalar_name : List ℕ → Bool
+is_scalar_name name = list_any (bytes_eq name) (codes "Boolean" ∷ codes "Int" ∷ codes "String" ∷ codes "bigint" ∷ [])
+
+unfoldable pub is_comparison_name : List ℕ → Bool
+is_comparison_name name =
+    bytes_eq name (codes "Boolean_comparison_exp") || bytes_eq name (codes "Int_comparison_exp")
+    || bytes_eq name (codes "String_comparison_exp") || bytes_eq name (codes "bigint_comparison_exp")
+
+unfoldable pub is_common_name : List ℕ → Bool
+is_common_name name = list_any (bytes_eq name) (codes "order_by" ∷ codes "query_root" ∷ [])
+
+-- A name that a tracked table may have: one that a schema may give, and of no type that each schema has. Root fields of the
+-- name `_` would begin with two underscores.
+abbrev pub is_table_name : List ℕ → Bool
+is_table_name name = is_free_name name && not (bytes_eq name (codes "_")) && not (is_scalar_name name || is_comparison_name name || is_common_name name)
+
+-- the place of the table of this name in schema `public`, where a tracked table may have the name
 abbrev pub table_named : List Table → List ℕ → Option ℕ
 table_named tables name =
-    if is_free_name name then position (λ t. bytes_eq t.schema (word_text word.Public) && bytes_eq t.name name) tables else None
+    if is_table_name name then position (λ t. bytes_eq t.schema (word_text word.Public) && bytes_eq t.name name) tables else None
 
 -- the table that `{"name":N,"schema":"public"}` names
 abbrev pub table_in : List Table → JsonTree → Option ℕ
@@ -98,8 +117,18 @@ tracked_as at table perms = record {
   perms = perms;
 }
 
+-- some column has the name of an input that each boolean expression has
+unfoldable pub is_input_name : List ℕ → Bool
+is_input_name name = list_any (bytes_eq name) fixed_inputs
+
+abbrev pub has_input_name : List Column → Bool
+has_input_name columns = list_any (λ c. is_input_name c.name) columns
+
+abbrev pub tracked_in_place : (at : ℕ) → Table → JsonTree → Option TrackedTree
+tracked_in_place at table perms = if has_input_name table.columns then None else option_map (tracked_as at table) (permissions_in table.columns perms)
+
 abbrev pub tracked_at : List Table → JsonTree → ℕ → Option TrackedTree
-tracked_at tables perms at = option_and_then (λ table. option_map (tracked_as at table) (permissions_in table.columns perms)) (slice_get tables at)
+tracked_at tables perms at = option_and_then (λ table. tracked_in_place at table perms) (slice_get tables at)
 
 -- the tracked table that `{"select_permissions":[PERMISSIONS],"table":TABLE}` gives
 abbrev pub tracked_in : List Table → JsonTree → Option TrackedTree

@@ -1,6 +1,8 @@
-ghost use Rattle.std.specs.Prelude.{◌≡◌, option_map, ok_or};
+ghost use Rattle.std.specs.Prelude.{◌≡◌, IfOk, option_map, ok_or, true};
 ghost use Rattle.hq_base.specs.Due.{Gives};
 ghost use Rattle.hq_base.specs.Json.{json_view};
+ghost use Rattle.hq_terms.specs.Catalog.{is_catalog};
+ghost use Rattle.hq_terms.specs.Fits.{fits};
 ghost use Rattle.hq_terms.specs.Meta.{meta_view};
 ghost use Rattle.hq_meta_form.specs.Form.{is_three, source_in, entry_in, meta_in, meta_of};
 
@@ -66,7 +68,10 @@ pub fn read_meta_form(
     bytes: &[u8],
     tables: &[Table],
 ) -> Result<Meta, MetaFormRefusal>
-    ensures { Gives meta_view MetaFormRefusal.Memory (meta_of tables.now bytes.now) result }
+    ensures gives { Gives meta_view MetaFormRefusal.Memory (meta_of tables.now bytes.now) result }
+
+    // The metadata fits the catalog of these tables.
+    ensures fits { is_catalog tables.now ≡ true → IfOk result (λ meta. fits tables.now (meta_view meta) ≡ true) }
 {
     match Json::from_body(alloc, bytes) {
         Ok(json) => meta(alloc, tables, &json),

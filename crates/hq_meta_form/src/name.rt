@@ -1,10 +1,10 @@
 ghost use Rattle.std.specs.Prelude.{◌≡◌, ◌&&◌, option_map, bytes_eq, position};
-ghost use Rattle.std.specs.List.{list_all};
+ghost use Rattle.std.specs.List.{list_all, list_any};
 ghost use Rattle.hq_base.specs.Json.{json_view};
 ghost use Rattle.hq_terms.specs.Names.{continues_name, is_name, is_reserved, is_free_name};
 ghost use Rattle.hq_meta_form.specs.Words.{word_text};
 ghost use Rattle.hq_meta_form.specs.declared.word.Word.TheVariants as word;
-ghost use Rattle.hq_meta_form.specs.Form.{table_named, table_in, column_named, column_in};
+ghost use Rattle.hq_meta_form.specs.Form.{is_scalar_name, is_comparison_name, is_common_name, is_table_name, is_input_name, has_input_name, table_named, table_in, column_named, column_in};
 
 use crate::shape::{is_the_word, two_members};
 use crate::word::Word;
@@ -49,6 +49,64 @@ fn is_free(text: &Txt) -> bool
     is_graphql_name(text) && !begins_reserved(text)
 }
 
+// Whether each schema has a scalar of this name.
+#[tactic(auto, unfolding(crate::specs::Form::is_scalar_name))]
+fn is_scalar(name: &Txt) -> bool
+    ensures { result ≡ is_scalar_name name.now }
+{
+    ["Boolean", "Int", "String", "bigint"]
+        .iter()
+        .any(|fixed| name.as_str() == *fixed)
+}
+
+// Whether each schema has an input of this name that compares scalars.
+#[tactic(auto, unfolding(crate::specs::Form::is_comparison_name))]
+fn is_comparison(name: &Txt) -> bool
+    ensures { result ≡ is_comparison_name name.now }
+{
+    let name = name.as_str();
+    name == "Boolean_comparison_exp"
+        || name == "Int_comparison_exp"
+        || name == "String_comparison_exp"
+        || name == "bigint_comparison_exp"
+}
+
+// Whether each schema has another type of this name.
+#[tactic(auto, unfolding(crate::specs::Form::is_common_name))]
+fn is_common(name: &Txt) -> bool
+    ensures { result ≡ is_common_name name.now }
+{
+    ["order_by", "query_root"]
+        .iter()
+        .any(|fixed| name.as_str() == *fixed)
+}
+
+// Whether a tracked table may have this name.
+fn may_name_table(name: &Txt) -> bool
+    ensures { result ≡ is_table_name name.now }
+{
+    is_free(name)
+        && name.as_str() != "_"
+        && !(is_scalar(name) || is_comparison(name) || is_common(name))
+}
+
+// Whether each boolean expression has an input of this name.
+#[tactic(auto, unfolding(crate::specs::Form::is_input_name))]
+fn is_input(name: &Txt) -> bool
+    ensures { result ≡ is_input_name name.now }
+{
+    ["_and", "_not", "_or"]
+        .iter()
+        .any(|fixed| name.as_str() == *fixed)
+}
+
+// Whether some column has the name of an input that each boolean expression has.
+pub fn has_input(columns: &[Column]) -> bool
+    ensures { result ≡ has_input_name columns.now }
+{
+    columns.iter().any(|column| is_input(&column.name))
+}
+
 // The place of the table of this name in schema `public`.
 fn public_table(tables: &[Table], name: &Txt) -> Option<usize>
     ensures { result ≡ position (λ t. bytes_eq t.schema (word_text word.Public) && bytes_eq t.name name.now) tables.now }
@@ -56,11 +114,11 @@ fn public_table(tables: &[Table], name: &Txt) -> Option<usize>
     tables.iter().position(|t| Word::Public.is(&t.schema) && t.name.as_str() == name.as_str())
 }
 
-// The table of this name in schema `public`, where a schema may give the name.
+// The table of this name in schema `public`, where a tracked table may have the name.
 fn find_table(tables: &[Table], name: &Txt) -> Option<TableId>
     ensures { result ≡ table_named tables.now name.now }
 {
-    if is_free(name) {
+    if may_name_table(name) {
         Some(TableId::new(public_table(tables, name)?))
     } else {
         None

@@ -36,12 +36,15 @@ fn table(alloc: Global, schema: &str, name: &str, names: &[&str]) -> Result<Tabl
     })
 }
 
-// A table of schema `other`, and two of schema `public`.
+// A table of schema `other`, and some of schema `public`.
 fn tables(alloc: Global) -> Result<TableList, Fail> {
     let mut tables = List::new(alloc);
     tables.push(table(alloc, "other", "author", &["id"])?)?;
     tables.push(table(alloc, "public", "author", &["id", "name", "e-mail"])?)?;
     tables.push(table(alloc, "public", "__log", &["id"])?)?;
+    tables.push(table(alloc, "public", "order_by", &["id"])?)?;
+    tables.push(table(alloc, "public", "_", &["id"])?)?;
+    tables.push(table(alloc, "public", "log", &["id", "_and"])?)?;
     Ok(tables)
 }
 
@@ -104,6 +107,9 @@ fn only_tables_of_the_form_are_tracked(rt: HostRuntime) -> Result<(), Fail> {
         (r#"{"name":"author","schema":"other"}"#, false),
         (r#"{"name":"article","schema":"public"}"#, false),
         (r#"{"name":"__log","schema":"public"}"#, false),
+        (r#"{"name":"order_by","schema":"public"}"#, false),
+        (r#"{"name":"_","schema":"public"}"#, false),
+        (r#"{"name":"log","schema":"public"}"#, false),
         (r#"{"name":"author","schema":"public","more":1}"#, false),
         (r#"{"name":"author"}"#, false),
         (r#""author""#, false),

@@ -6,7 +6,7 @@ ghost use Rattle.hq_terms.specs.Meta.{tracked_view};
 ghost use Rattle.hq_meta_form.specs.Form.{root_names, tracked_at, tracked_in};
 
 use crate::MetaFormRefusal;
-use crate::name::table_of;
+use crate::name::{has_input, table_of};
 use crate::permissions::permissions;
 use crate::shape::two_members;
 use crate::word::Word;
@@ -59,6 +59,9 @@ fn tracked_table(
         return Err(MetaFormRefusal::NotBuilt);
     };
     let columns = table.columns.as_slice();
+    if has_input(columns) {
+        return Err(MetaFormRefusal::NotBuilt);
+    }
     let perms = permissions(alloc, columns, perms)?;
     Ok(Tracked {
         table: at,

@@ -1,0 +1,63 @@
+-- How a run ends: its answer, the status and the line that tell it, and what it leaves.
+use Rattle.std.specs.Prelude.{◌≡◌, ◌⊎◌, ◌≤◌, ℕ, List, [], Option, Result, Ok, Err, ⊤}
+use Rattle.std.specs.Io.KnownBytes.{Appends}
+use Rattle.hq_outside.specs.Causes.{Rose}
+use Rattle.hq_outside.specs.Streams.{AppendsPrefix}
+use Rattle.hq_app.specs.Line.{line_of}
+use Rattle.hq_app.specs.declared.refusal.Refusal.{Refusal}
+use Rattle.hq_app.specs.declared.refusal.Refusal.TheVariants as refusal
+
+-- done, or refused
+abbrev pub Answer : Type 0
+Answer = Result (Unit {0}) Refusal
+
+abbrev pub refusal_status : Refusal → ℕ
+refusal_status refusal.BadWords = 2
+refusal_status (refusal.File file fault) = 3
+refusal_status refusal.ReadFailed = 4
+refusal_status refusal.WriteFailed = 5
+refusal_status (refusal.Database before after) = 6
+refusal_status refusal.Memory = 7
+refusal_status refusal.InputTooLong = 8
+refusal_status refusal.NotBuilt = 9
+
+abbrev pub status_of : Answer → ℕ
+status_of (Ok _) = 0
+status_of (Err r) = refusal_status r
+
+-- the line on standard error; nothing where all is done
+abbrev pub told_line : Answer → List ℕ
+told_line (Ok _) = []
+told_line (Err r) = line_of r
+
+-- What an answer says of what was due, and of what was written. Want of memory, a failed read and a failed database say
+-- nothing of it; all other refusals are the due ones.
+abbrev pub Ends : (old new : Option (List ℕ)) → (due : Result (List ℕ) Refusal) → Answer → Type 0
+Ends old new due (Ok _) = (bytes : List ℕ) × (due ≡ Ok bytes) × Appends old new bytes
+Ends old new due (Err refusal.WriteFailed) = (bytes : List ℕ) × (due ≡ Ok bytes) × AppendsPrefix old new bytes
+Ends old new due (Err refusal.ReadFailed) = ⊤
+Ends old new due (Err refusal.Memory) = ⊤
+Ends old new due (Err (refusal.Database before after)) = ⊤
+Ends old new due (Err r) = due ≡ Err r
+
+-- nothing is written but where all is done, or a write failed
+abbrev pub Silent : {A : Type 0} → (old new : A) → Answer → Type 0
+Silent old new (Ok _) = ⊤
+Silent old new (Err refusal.WriteFailed) = ⊤
+Silent old new (Err r) = new ≡ old
+
+-- a line was written whole, or a prefix of it before a fault
+pub record Tells (old new : Option (List ℕ)) (before now : ℕ) (line : List ℕ) : Type 0 where
+  pub prefix : AppendsPrefix old new line
+  pub whole : Appends old new line ⊎ Rose before now
+  pub later : before ≤ now
+
+-- a failed database tells how its count of faults rose
+abbrev pub TellsDatabase : (before now : ℕ) → Refusal → Type 0
+TellsDatabase before now (refusal.Database b a) = (b ≡ before) × (a ≡ now) × Rose before now
+TellsDatabase before now r = ⊤
+
+-- no failed database
+abbrev pub NotDatabase : Refusal → Type 0
+NotDatabase (refusal.Database before after) = ⊥
+NotDatabase r = ⊤

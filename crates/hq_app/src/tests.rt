@@ -1,0 +1,312 @@
+ghost use Rattle.std.specs.Prelude.{◌≢◌};
+
+use super::*;
+use hq_base::{Bytes, List, Memory, Txt};
+use hq_engine::Engine;
+use hq_list_db::ListDb;
+use hq_memory::{MemFiles, MemSink, MemSource, SureDoor, SureFiles, SureSink, SureSource};
+use hq_outside::{File, FileList, NumList, names_differ};
+use hq_tables::MemTables;
+use hq_terms::Session;
+use std::alloc::Global;
+use std::test::Fail;
+
+type Told = World<MemFiles, SureDoor, MemSource, MemSink, MemSink>;
+
+// A file by its name in the directory, and its bytes.
+type Held<'a> = (&'a str, &'a [u8]);
+
+const CATALOG: Held<'static> = (
+    "db/catalog.json",
+    br#"{"tables":[{"schema":"public","name":"author","columns":[{"name":"id","type":"integer","nullable":false},
+    {"name":"name","type":"text","nullable":false},{"name":"email","type":"text"}],"primary_key":["id"]}]}"#,
+);
+
+const METADATA: Held<'static> = (
+    "db/metadata.json",
+    br#"{"version":3,"sources":[{"name":"default","kind":"postgres","tables":[{"table":{"schema":"public","name":"author"},
+    "select_permissions":[{"role":"user","permission":{"columns":["id","name"],"filter":{}}}]}]}]}"#,
+);
+
+const AUTHORS: Held<'static> = (
+    "db/public.author.csv",
+    b"id,name,email\n3,O'Hara,\\N\n1,Ann,ann@example.com\n2,Bob,\\N\n",
+);
+
+const DIRECTORY: &[Held<'static>] = &[CATALOG, METADATA, AUTHORS];
+
+const WORDS: &[&str] = &["query", "db", "X-Hasura-Role: user"];
+
+const LIST: &[u8] = br#"{"query":"{ author { id name } }"}"#;
+
+const REPLY: &[u8] =
+    br#"{"data":{"author":[{"id":1,"name":"Ann"},{"id":2,"name":"Bob"},{"id":3,"name":"O'Hara"}]}}"#;
+
+fn text(alloc: Global, text: &str) -> Result<Txt, Fail> {
+    Ok(Txt::of(alloc, text.as_bytes())?)
+}
+
+fn numbers(alloc: Global, items: &[u64]) -> Result<NumList, Fail> {
+    Ok(List::from_vec(items.to_vec(alloc)?))
+}
+
+fn folder(alloc: Global, held: &[Held]) -> Result<FileList, Fail> {
+    let mut files = List::new(alloc);
+    for (name, bytes) in held {
+        files.push(File {
+            name: text(alloc, name)?,
+            bytes: Bytes::from_slice(alloc, bytes)?,
+        })?;
+    }
+    Ok(files)
+}
+
+fn word_list(alloc: Global, words: &[&str]) -> Result<List<Txt>, Fail> {
+    let mut list = List::new(alloc);
+    for word in words {
+        list.push(text(alloc, word)?)?;
+    }
+    Ok(list)
+}
+
+fn world(alloc: Global, held: &[Held], input: &[u8], failing: [&[u64]; 3]) -> Result<Told, Fail> {
+    let [loads, reads, writes] = failing;
+    let files = folder(alloc, held)?;
+    if !names_differ(files.as_slice()) {
+        return Err(Memory.into());
+    }
+    Ok(World {
+        files: MemFiles::new(files, numbers(alloc, loads)?),
+        door: SureDoor::new(alloc, List::new(alloc)),
+        input: MemSource::new(Bytes::from_slice(alloc, input)?, numbers(alloc, reads)?),
+        out: MemSink::new(alloc, 200, numbers(alloc, writes)?)?,
+        err: MemSink::new(alloc, 200, List::new(alloc))?,
+    })
+}
+
+// What a run over objects with these failing calls leaves: the status, and what was written.
+fn outcome(
+    alloc: Global,
+    words: &[&str],
+    held: &[Held],
+    input: &[u8],
+    failing: [&[u64]; 3],
+) -> Result<(u8, MemSink, MemSink), Fail> {
+    let words = word_list(alloc, words)?;
+    let ran = run(alloc, words.as_slice(), world(alloc, held, input, failing)?);
+    Ok((ran.status, ran.world.out, ran.world.err))
+}
+
+#[test]
+fn a_list_is_answered_in_key_order(rt: HostRuntime) -> Result<(), Fail> {
+    let (status, out, err) = outcome(rt.alloc(), WORDS, DIRECTORY, LIST, [&[], &[], &[]])?;
+    assert_eq!(rt; status, 0);
+    assert_eq!(rt; out.bytes(), REPLY);
+    assert_eq!(rt; err.bytes(), b"".as_slice());
+    Ok(())
+}
+
+#[test]
+fn words_of_another_form_are_refused(rt: HostRuntime) -> Result<(), Fail> {
+    let cases: [&[&str]; 6] = [
+        &[],
+        &["query", "db"],
+        &["db", "query", "X-Hasura-Role: user"],
+        &["query", "X-Hasura-Role: user", "db"],
+        &["query", "db", "X-Hasura-Role: admin"],
+        &["query", "db", "X-Hasura-Role: "],
+    ];
+    for words in cases {
+        let (status, out, err) = outcome(rt.alloc(), words, DIRECTORY, LIST, [&[], &[], &[]])?;
+        assert_eq!(rt; status, 2);
+        assert_eq!(rt; out.bytes(), b"".as_slice());
+        assert_eq!(rt; err.bytes(), b"hq: bad arguments\n".as_slice());
+    }
+    Ok(())
+}
+
+#[test]
+fn a_refused_file_is_told(rt: HostRuntime) -> Result<(), Fail> {
+    let narrow: Held = ("db/public.author.csv", b"id,name,email\n1,Ann\n");
+    let repeated: Held = (
+        "db/public.author.csv",
+        b"id,name,email\n3,Ann,\\N\n1,Bob,\\N\n2,Eve,\\N\n1,Joe,\\N\n",
+    );
+    let five: Held = (
+        "db/public.author.csv",
+        b"id,name,email\n4,Zoe,\\N\n1,Bob,\\N\n2,Eve,\\N\n1,Joe,\\N\n",
+    );
+    let no_key: Held = (
+        "db/catalog.json",
+        br#"{"tables":[{"schema":"public","name":"author","columns":[{"name":"id","type":"integer"}],"primary_key":[]}]}"#,
+    );
+    let cases: [(&[Held], u8, &str); 8] = [
+        (&[METADATA, AUTHORS], 3, "hq: catalog.json: Missing\n"),
+        (
+            &[("db/catalog.json", b"{"), METADATA, AUTHORS],
+            3,
+            "hq: catalog.json: NotJson\n",
+        ),
+        (
+            &[("db/catalog.json", b"{}")],
+            3,
+            "hq: catalog.json: Shape $.tables\n",
+        ),
+        (&[no_key], 3, "hq: catalog.json: NoKey public.author\n"),
+        (&[CATALOG, METADATA], 3, "hq: public.author.csv: Missing\n"),
+        (
+            &[CATALOG, METADATA, narrow],
+            3,
+            "hq: public.author.csv: Width 2\n",
+        ),
+        (
+            &[CATALOG, METADATA, repeated],
+            3,
+            "hq: public.author.csv: RepeatedKey 5 3\n",
+        ),
+        (
+            &[CATALOG, METADATA, five],
+            3,
+            "hq: public.author.csv: RepeatedKey 5 3\n",
+        ),
+    ];
+    for (held, want, line) in cases {
+        let (status, out, err) = outcome(rt.alloc(), WORDS, held, LIST, [&[], &[], &[]])?;
+        assert_eq!(rt; status, want, "{line}");
+        assert_eq!(rt; out.bytes(), b"".as_slice(), "{line}");
+        assert_eq!(rt; err.bytes(), line.as_bytes(), "{line}");
+    }
+    Ok(())
+}
+
+#[test]
+fn what_is_not_built_is_told(rt: HostRuntime) -> Result<(), Fail> {
+    let cases: [(&[Held], &[u8]); 6] = [
+        (&[CATALOG, AUTHORS], LIST),
+        (&[CATALOG, ("db/metadata.json", b"{}"), AUTHORS], LIST),
+        (DIRECTORY, b"{ author { id } }"),
+        (DIRECTORY, br#"{"query":"{ author { email } }"}"#),
+        (DIRECTORY, br#"{"query":"{ author { id age } }"}"#),
+        (DIRECTORY, b""),
+    ];
+    for (held, input) in cases {
+        let (status, out, err) = outcome(rt.alloc(), WORDS, held, input, [&[], &[], &[]])?;
+        assert_eq!(rt; status, 9);
+        assert_eq!(rt; out.bytes(), b"".as_slice());
+        assert_eq!(rt; err.bytes(), b"hq: not built\n".as_slice());
+    }
+    Ok(())
+}
+
+#[test]
+fn each_object_fails_in_turn(rt: HostRuntime) -> Result<(), Fail> {
+    let cases: [([&[u64]; 3], u8, &str); 6] = [
+        ([&[1], &[], &[]], 4, "hq: read failed\n"),
+        ([&[2], &[], &[]], 4, "hq: read failed\n"),
+        ([&[3], &[], &[]], 4, "hq: read failed\n"),
+        ([&[], &[1], &[]], 4, "hq: read failed\n"),
+        ([&[], &[2], &[]], 4, "hq: read failed\n"),
+        ([&[], &[], &[1]], 5, "hq: write failed\n"),
+    ];
+    for (failing, want, line) in cases {
+        let (status, out, err) = outcome(rt.alloc(), WORDS, DIRECTORY, LIST, failing)?;
+        assert_eq!(rt; status, want);
+        assert_eq!(rt; out.bytes(), b"".as_slice());
+        assert_eq!(rt; err.bytes(), line.as_bytes());
+    }
+    Ok(())
+}
+
+// An input of so many spaces.
+fn spaces(alloc: Global, count: usize) -> Result<Vec<u8>, Fail> {
+    Ok(vec![in alloc; b' '; count]?)
+}
+
+#[test]
+fn an_input_beyond_the_limit_is_too_long(rt: HostRuntime) -> Result<(), Fail> {
+    let alloc = rt.alloc();
+    for (count, want, line) in [
+        (INPUT_LIMIT, 9, "hq: not built\n"),
+        (INPUT_LIMIT + 1, 8, "hq: input too long\n"),
+    ] {
+        let input = spaces(alloc, count)?;
+        let (status, out, err) = outcome(alloc, WORDS, DIRECTORY, &input, [&[], &[], &[]])?;
+        assert_eq!(rt; status, want);
+        assert_eq!(rt; out.bytes(), b"".as_slice());
+        assert_eq!(rt; err.bytes(), line.as_bytes());
+    }
+    Ok(())
+}
+
+// What answering one request over a loaded directory leaves.
+fn answered_one(alloc: Global, input: &[u8]) -> Result<(u8, MemSink, MemSink), Fail> {
+    let files = folder(alloc, DIRECTORY)?;
+    if !names_differ(files.as_slice()) {
+        return Err(Memory.into());
+    }
+    let Ok(loaded) = load(alloc, &mut SureFiles::new(files), &text(alloc, "db")?) else {
+        return Err(Memory.into());
+    };
+    let Loaded {
+        catalog,
+        meta,
+        rows,
+    } = loaded;
+    let engine = Engine::new(catalog.copy(alloc)?, meta);
+    let mut db = ListDb::new(MemTables::new(catalog, rows));
+    let session = Session {
+        role: text(alloc, "user")?,
+        vars: List::new(alloc),
+    };
+    let mut input = MemSource::new(Bytes::from_slice(alloc, input)?, List::new(alloc));
+    let mut out = MemSink::new(alloc, 200, List::new(alloc))?;
+    let mut err = MemSink::new(alloc, 200, List::new(alloc))?;
+    let status = answer_one(
+        alloc, &engine, &session, &mut db, &mut input, &mut out, &mut err,
+    );
+    Ok((status, out, err))
+}
+
+#[test]
+fn one_request_is_answered_over_an_engine(rt: HostRuntime) -> Result<(), Fail> {
+    let (status, out, err) = answered_one(rt.alloc(), LIST)?;
+    assert_eq!(rt; status, 0);
+    assert_eq!(rt; out.bytes(), REPLY);
+    assert_eq!(rt; err.bytes(), b"".as_slice());
+    let (status, out, err) = answered_one(rt.alloc(), b"{}")?;
+    assert_eq!(rt; status, 9);
+    assert_eq!(rt; out.bytes(), b"".as_slice());
+    assert_eq!(rt; err.bytes(), b"hq: not built\n".as_slice());
+    Ok(())
+}
+
+// Over objects that never fail no fault is answered.
+fn run_sure(
+    alloc: Global,
+    words: &[Txt],
+    world: World<SureFiles, SureDoor, SureSource, SureSink, SureSink>,
+) -> u8
+    ensures no_read_fault { result ≢ 4 }
+    ensures no_write_fault { result ≢ 5 }
+{
+    run(alloc, words, world).status
+}
+
+#[test]
+fn sure_objects_never_fail(rt: HostRuntime) -> Result<(), Fail> {
+    let alloc = rt.alloc();
+    let words = word_list(alloc, WORDS)?;
+    let files = folder(alloc, DIRECTORY)?;
+    if !names_differ(files.as_slice()) {
+        return Err(Memory.into());
+    }
+    let world = World {
+        files: SureFiles::new(files),
+        door: SureDoor::new(alloc, List::new(alloc)),
+        input: SureSource::new(Bytes::from_slice(alloc, LIST)?),
+        out: SureSink::new(),
+        err: SureSink::new(),
+    };
+    assert_eq!(rt; run_sure(alloc, words.as_slice(), world), 0);
+    Ok(())
+}

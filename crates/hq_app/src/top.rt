@@ -1,0 +1,180 @@
+ghost use Rattle.std.specs.Prelude.{◌≡◌, ◌≢◌, ◌⊎◌, ◌≤◌, ◌↔◌, IsErrOf, IfErr, IfSome, None};
+ghost use Rattle.hq_outside.specs.Causes.{Rose};
+ghost use Rattle.hq_terms.specs.Meta.{meta_view};
+ghost use Rattle.hq_app.specs.Words.{query_of};
+ghost use Rattle.hq_app.specs.Loading.{contents, loaded_view};
+ghost use Rattle.hq_app.specs.Due.{session_of, reply_due, due};
+ghost use Rattle.hq_app.specs.Ending.{Answer, Ends, Silent, Tells, NotDatabase, status_of, told_line};
+
+use crate::line::write_line;
+use crate::reply::reply_to;
+use crate::{Loaded, Query, Ran, Refusal, World, load};
+use hq_base::{List, Txt};
+use hq_engine::Engine;
+use hq_link::Database;
+use hq_list_db::ListDb;
+use hq_outside::{Door, Files, Sink, Source};
+use hq_tables::{MemTables, Tables};
+use hq_terms::Session;
+use std::alloc::Global;
+
+// Answers a request of a role over what a directory holds.
+fn respond<S: Source, K: Sink>(
+    alloc: Global,
+    loaded: Loaded,
+    role: Txt,
+    input: &mut S,
+    out: &mut K,
+) -> Result<(), Refusal>
+    ensures told { IfSome (S.left input.old) (λ left.
+        Ends (K.written out.old) (K.written out.new) (reply_due (loaded_view loaded) (session_of role) left) result) }
+    ensures silent { Silent (K.written out.old) (K.written out.new) result }
+    ensures read { IsErrOf result Refusal.ReadFailed → Rose (S.faults input.old) (S.faults input.new) }
+    ensures write { IsErrOf result Refusal.WriteFailed → Rose (K.faults out.old) (K.faults out.new) }
+    ensures failed { IfErr result NotDatabase }
+    ensures words { IsErrOf result Refusal.BadWords → ⊥ }
+    ensures input_later { S.faults input.old ≤ S.faults input.new }
+    ensures out_later { K.faults out.old ≤ K.faults out.new }
+{
+    let Loaded {
+        catalog,
+        meta,
+        rows,
+    } = loaded;
+    let engine = Engine::new(catalog.copy(alloc)?, meta);
+    let mut db = ListDb::new(MemTables::new(catalog, rows));
+    let session = Session {
+        role,
+        vars: List::new(alloc),
+    };
+    reply_to(alloc, &engine, &session, &mut db, input, out)
+}
+
+// Reads the words, loads the directory, and answers the request.
+fn answered<F: Files, S: Source, K: Sink>(
+    alloc: Global,
+    words: &[Txt],
+    files: &mut F,
+    input: &mut S,
+    out: &mut K,
+) -> Result<(), Refusal>
+    ensures told { IfSome (F.folder files.old) (λ folder. IfSome (S.left input.old) (λ left.
+        Ends (K.written out.old) (K.written out.new) (due words.now folder left) result)) }
+    ensures silent { Silent (K.written out.old) (K.written out.new) result }
+    ensures words { IsErrOf result Refusal.BadWords ↔ (query_of words.now ≡ None) }
+    ensures read { IsErrOf result Refusal.ReadFailed →
+        Rose (F.faults files.old) (F.faults files.new) × (S.left input.new ≡ S.left input.old)
+        ⊎ Rose (S.faults input.old) (S.faults input.new) }
+    ensures write { IsErrOf result Refusal.WriteFailed → Rose (K.faults out.old) (K.faults out.new) }
+    ensures failed { IfErr result NotDatabase }
+    ensures folder { F.folder files.new ≡ F.folder files.old }
+    ensures files_later { F.faults files.old ≤ F.faults files.new }
+    ensures input_later { S.faults input.old ≤ S.faults input.new }
+    ensures out_later { K.faults out.old ≤ K.faults out.new }
+{
+    let query = Query::read(alloc, words)?;
+    let loaded = load(alloc, files, &query.dir)?;
+    respond(alloc, loaded, query.role, input, out)
+}
+
+// Tells a refusal on standard error. Gives the status of the answer.
+fn tell<E: Sink>(err: &mut E, answer: Result<(), Refusal>) -> u8
+    ensures status { result ≡ status_of answer }
+    ensures line { Tells (E.written err.old) (E.written err.new) (E.faults err.old) (E.faults err.new) (told_line answer) }
+{
+    match answer {
+        Ok(()) => 0,
+        Err(refusal) => {
+            let _ = write_line(err, &refusal);
+            refusal.status()
+        }
+    }
+}
+
+/// Answers one request over a database of the engine's catalog: reads it from the input to its end, writes the reply's body,
+/// and tells a refusal on standard error. Gives the status that the program ends with: 0, 4, 5, 6, 7, 8 or 9.
+pub fn answer_one<T: Tables, S: Source, K: Sink, E: Sink>(
+    alloc: Global,
+    engine: &Engine,
+    session: &Session,
+    db: &mut ListDb<T>,
+    input: &mut S,
+    out: &mut K,
+    err: &mut E,
+) -> u8
+    requires catalog { ⟦<ListDb<T> as Database>⟧.tables db.old ≡ engine.now.catalog.tables }
+
+    // The status is that of an answer, which is the due one unless memory or an object of the outside failed; standard error
+    // has its line.
+    ensures ends { (answer : Answer) × (result ≡ status_of answer)
+        × Tells (E.written err.old) (E.written err.new) (E.faults err.old) (E.faults err.new) (told_line answer)
+        × IfSome (⟦<ListDb<T> as Database>⟧.database db.old) (λ rows. IfSome (S.left input.old) (λ left.
+        Ends (K.written out.old) (K.written out.new) (reply_due (contents engine.now.catalog.tables (meta_view engine.now.meta) rows) session.now left) answer)) }
+
+    // Nothing is written at a status other than 0 and 5.
+    ensures silent { result ≢ 0 → result ≢ 5 → K.written out.new ≡ K.written out.old }
+
+    // A failure is told only where the count of that object rose.
+    ensures read { result ≡ 4 → Rose (S.faults input.old) (S.faults input.new) }
+    ensures write { result ≡ 5 → Rose (K.faults out.old) (K.faults out.new) }
+    ensures failed { result ≡ 6 → Rose (⟦<ListDb<T> as Database>⟧.faults db.old) (⟦<ListDb<T> as Database>⟧.faults db.new) }
+
+    // No count falls.
+    ensures input_later { S.faults input.old ≤ S.faults input.new }
+    ensures out_later { K.faults out.old ≤ K.faults out.new }
+{
+    tell(err, reply_to(alloc, engine, session, db, input, out))
+}
+
+/// The program: `query DIR "X-Hasura-Role: ROLE"` answers the request on the standard input over the directory, as the role.
+/// Everything that it touches is handed in, and handed back with the status that the program ends with.
+pub fn run<F: Files, D: Door, S: Source, K: Sink, E: Sink>(
+    alloc: Global,
+    words: &[Txt],
+    world: World<F, D, S, K, E>,
+) -> Ran<F, D, S, K, E>
+    // The status is that of an answer, which is the due one unless memory or an object of the outside failed; standard error
+    // has its line.
+    ensures ends { (answer : Answer) × (result.status ≡ status_of answer)
+        × Tells (E.written world.err) (E.written result.world.err) (E.faults world.err) (E.faults result.world.err) (told_line answer)
+        × IfSome (F.folder world.files) (λ folder. IfSome (S.left world.input) (λ left.
+        Ends (K.written world.out) (K.written result.world.out) (due words.now folder left) answer)) }
+
+    // Nothing is written at a status other than 0 and 5.
+    ensures silent { result.status ≢ 0 → result.status ≢ 5 → K.written result.world.out ≡ K.written world.out }
+    ensures words { (result.status ≡ 2) ↔ (query_of words.now ≡ None) }
+
+    // A failure is told only where the count of that object rose; a failed load comes before anything is read.
+    ensures read { result.status ≡ 4 →
+        Rose (F.faults world.files) (F.faults result.world.files) × (S.left result.world.input ≡ S.left world.input)
+        ⊎ Rose (S.faults world.input) (S.faults result.world.input) }
+    ensures write { result.status ≡ 5 → Rose (K.faults world.out) (K.faults result.world.out) }
+    ensures database { result.status ≢ 6 }
+
+    // The folder and the door are unchanged, and no count falls.
+    ensures folder { F.folder result.world.files ≡ F.folder world.files }
+    ensures door { result.world.door ≡ world.door }
+    ensures files_later { F.faults world.files ≤ F.faults result.world.files }
+    ensures input_later { S.faults world.input ≤ S.faults result.world.input }
+    ensures out_later { K.faults world.out ≤ K.faults result.world.out }
+{
+    let World {
+        mut files,
+        door,
+        mut input,
+        mut out,
+        mut err,
+    } = world;
+    let answer = answered(alloc, words, &mut files, &mut input, &mut out);
+    let status = tell(&mut err, answer);
+    Ran {
+        status,
+        world: World {
+            files,
+            door,
+            input,
+            out,
+            err,
+        },
+    }
+}
