@@ -3,4 +3,5 @@ mod made;
 mod permissions;
 mod relationships;
 mod selections;
+mod tables;
 mod truths;

@@ -48,7 +48,13 @@ pub fn within(alloc: Global, col: usize, numbers: &[i64], negated: bool) -> Resu
     })
 }
 
-pub fn like(alloc: Global, col: usize, pattern: &str, fold: bool, negated: bool) -> Result<Bexp, Fail> {
+pub fn like(
+    alloc: Global,
+    col: usize,
+    pattern: &str,
+    fold: bool,
+    negated: bool,
+) -> Result<Bexp, Fail> {
     Ok(Bexp::Like {
         col: ColId::new(col),
         fold,

@@ -1,6 +1,9 @@
-use crate::tests::fixture::{World, are, txt};
-use crate::tests::fixture::{ARTICLE, AUTHOR, EMAIL, ID, NAME, PUBLISHED, RATING, TITLE};
-use crate::tests::made::{both, compare, either, equals, flag, is_null, like, not, number, within, words};
+use crate::tests::fixture::{
+    ARTICLE, AUTHOR, EMAIL, ID, NAME, PUBLISHED, RATING, TITLE, World, are, txt,
+};
+use crate::tests::made::{
+    both, compare, either, equals, flag, is_null, like, not, number, within, words,
+};
 use crate::*;
 use hq_terms::{Bexp, Op, Operand, TableId, Truth};
 use std::alloc::Global;
@@ -59,8 +62,14 @@ fn and_and_or_have_three_values(rt: HostRuntime) -> Result<(), Fail> {
         (either(alloc, equals(ID, 13), rated())?, "10 12 13"),
         (both(alloc, rated(), equals(ID, 12))?, "12"),
         (both(alloc, Bexp::True, rated())?, "10 12"),
-        (not(alloc, both(alloc, rated(), equals(ID, 12))?)?, "10 11 13"),
-        (not(alloc, both(alloc, equals(ID, 11), rated())?)?, "10 12 13"),
+        (
+            not(alloc, both(alloc, rated(), equals(ID, 12))?)?,
+            "10 11 13",
+        ),
+        (
+            not(alloc, both(alloc, equals(ID, 11), rated())?)?,
+            "10 12 13",
+        ),
         (not(alloc, either(alloc, rated(), equals(ID, 12))?)?, "13"),
     ];
     hold(&rt, ARTICLE, &cases)
@@ -128,13 +137,18 @@ fn a_pattern_is_unknown_on_null(rt: HostRuntime) -> Result<(), Fail> {
 #[test]
 fn a_session_name_compares_with_nothing(rt: HostRuntime) -> Result<(), Fail> {
     let alloc = rt.alloc();
-    let own = |op| -> Result<Bexp, Fail> { Ok(compare(ID, op, Operand::Session(txt(alloc, "x")?))) };
+    let own = |op| -> Result<Bexp, Fail> {
+        Ok(compare(ID, op, Operand::Session(txt(alloc, "x")?)))
+    };
     let cases = [
         (own(Op::Eq)?, ""),
         (own(Op::Ne)?, ""),
         (not(alloc, own(Op::Eq)?)?, ""),
     ];
     hold(&rt, AUTHOR, &cases)?;
-    assert_eq!(rt; compared(Op::Eq, &hq_base::Val::Null, &hq_base::Val::Null), Truth::Unknown);
+    assert_eq!(rt;
+        compared(Op::Eq, &hq_base::Val::Null, &hq_base::Val::Null),
+        Truth::Unknown
+    );
     Ok(())
 }
