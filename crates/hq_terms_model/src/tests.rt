@@ -5,3 +5,4 @@ mod relationships;
 mod selections;
 mod tables;
 mod truths;
+mod written;

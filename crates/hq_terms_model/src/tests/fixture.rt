@@ -37,7 +37,7 @@ pub fn txt(alloc: Global, text: &str) -> Result<Txt, Fail> {
 }
 
 // The value of a word for a column type; `-` is NULL.
-fn value(alloc: Global, ty: Ty, word: &str) -> Result<Val, Fail> {
+pub fn value(alloc: Global, ty: Ty, word: &str) -> Result<Val, Fail> {
     if word == "-" {
         return Ok(Val::Null);
     }
