@@ -1,12 +1,11 @@
 -- What is granted, table by table.
-use Rattle.std.proofs.Common.{◌≡◌, refl, ◌∙◌, ap, sym, ℕ, List, [], ◌∷◌, filter, Bool, Option, Some, None, Result, Ok, Err, ◌<◌, ◌≤◌, length, get_or, inl, inr, arith}
+use Rattle.std.proofs.Common.{◌≡◌, refl, ◌∙◌, ap, sym, ℕ, List, [], ◌∷◌, filter, Some, None, ◌<◌, ◌≤◌, length, get_or, inl, inr, arith}
 use Rattle.std.specs.Prelude.{option_map, option_and_then, unwrap_or, slice_get}
 use Rattle.std.specs.Result.{result_ok}
 use Rattle.std.proofs.lemmas.Bool.{cases_lt}
 use Rattle.std.proofs.lemmas.Option.{slice_get_past}
-use Rattle.hq_base.specs.Due.{and_then, mapped}
-use Rattle.hq_terms.specs.Bexp.{BexpTree, never}
-use Rattle.hq_terms.specs.Binding.{bound, bound_masks, bound_permission}
+use Rattle.hq_terms.specs.Bexp.{never}
+use Rattle.hq_terms.specs.Binding.{bound_permission}
 use Rattle.hq_terms.specs.Grants.{Grants, grant, grants_of, grant_of, no_grant}
 use Rattle.hq_terms.specs.Database.{Row}
 use Rattle.hq_terms.specs.Permitted.{by_key, permitted}
@@ -15,9 +14,7 @@ use Rattle.hq_terms.specs.Truth.{keeps}
 use Rattle.hq_terms.specs.Meta.{MetaTree}
 use Rattle.hq_terms.specs.Permission.{Permission, permission, role_of}
 use Rattle.hq_terms.specs.Schema.{Schema, schema_of, schema_table}
-use Rattle.hq_terms.specs.declared.bind.BindRefusal.{BindRefusal}
 use Rattle.hq_terms.specs.declared.session.Session.{Session}
-use Rattle.hq_terms.specs.declared.session.Var.{Var}
 use Rattle.hq_terms.specs.declared.table.Table.{Table}
 use Rattle.hq_terms.proofs.Places.{present, absent, at_0}
 

@@ -1,10 +1,9 @@
 -- What it says of a text that it is a pattern, and that it is none.
-use Rattle.std.proofs.Common.{◌≡◌, refl, ◌∙◌, sym, ℕ, List, Bool, true, false, Option, Some, None, Result, Ok, Err, is_some}
+use Rattle.std.proofs.Common.{◌≡◌, refl, ℕ, List, Bool, true, false, Some, None, Ok, Err, is_some}
 use Rattle.std.specs.Prelude.{if◌then◌else◌}
 use Rattle.std.specs.Option.{option_map_or}
 use Rattle.std.specs.Str.{chars}
 use Rattle.hq_base.specs.Patterns.{steps_of, meets, like, pattern_of}
-use Rattle.hq_base.specs.declared.pattern.Step.{Step}
 use Rattle.hq_base.specs.declared.pattern.PatternRefusal.{PatternRefusal}
 use Rattle.hq_base.specs.declared.pattern.PatternRefusal.TheVariants.{EndsInEscape}
 

@@ -1,5 +1,5 @@
 -- What a session sees, as rows with all their cells: today no permission masks a cell.
-use Rattle.std.proofs.Common.{◌≡◌, refl, ◌∙◌, ap, sym, subst, ℕ, List, [], ◌∷◌, Bool, true, false, cond, Option, Some, None, Result, Ok, Err}
+use Rattle.std.proofs.Common.{◌≡◌, refl, ◌∙◌, ap, sym, subst, ℕ, List, [], ◌∷◌, true, cond, Option, Some, None, Result, Ok, Err}
 use Rattle.std.specs.Prelude.{option_and_then, unwrap_or, slice_get, find, filter, bytes_eq, ◌==◌}
 use Rattle.std.specs.List.{list_any}
 use Rattle.std.specs.Result.{result_ok}
@@ -8,12 +8,12 @@ use Rattle.hq_base.specs.Due.{and_then, mapped}
 use Rattle.hq_terms.specs.Bexp.{BexpTree, always}
 use Rattle.hq_terms.specs.Binding.{bound, bound_masks, bound_permission}
 use Rattle.hq_terms.specs.Database.{Row}
-use Rattle.hq_terms.specs.Grants.{Grants, grant, grants_of, no_grant}
+use Rattle.hq_terms.specs.Grants.{grant, grants_of, no_grant}
 use Rattle.hq_terms.specs.Meta.{PermTree, TrackedTree, MetaTree, tracked_table}
-use Rattle.hq_terms.specs.Permission.{Permission, Mask, named_columns, with_columns, admin_permission, told_permission, permission_in, permission, role_of}
+use Rattle.hq_terms.specs.Permission.{Permission, Mask, named_columns, with_columns, told_permission, permission_in, permission, role_of}
 use Rattle.hq_terms.specs.Permitted.{permitted, seen_by, shown, mask_of}
 use Rattle.hq_terms.specs.Schema.{Schema, schema_of, rel}
-use Rattle.hq_terms.specs.Seen.{Sees, all_of, row_cell, linked_by, table_rows}
+use Rattle.hq_terms.specs.Seen.{all_of, row_cell, linked_by, table_rows}
 use Rattle.hq_terms.specs.Truth.{keeps}
 use Rattle.hq_terms.specs.declared.bind.BindRefusal.{BindRefusal}
 use Rattle.hq_terms.specs.declared.role.Role.{Role}

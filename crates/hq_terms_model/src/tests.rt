@@ -3,4 +3,6 @@ mod made;
 mod permissions;
 mod relationships;
 mod selections;
+mod tables;
 mod truths;
+mod written;

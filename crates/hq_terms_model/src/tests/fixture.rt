@@ -1,46 +1,43 @@
 use crate::tests::made::{compare, either, flag, is_null, number, places, through};
+use crate::tests::tables::catalog;
 use crate::{Database, Row, RowList, Seen, permitted_tables};
 use hq_base::{List, Txt, Ty, Val};
-use hq_catalog_read::read_catalog;
 use hq_terms::*;
 use std::alloc::Global;
 use std::process::Abort;
 use std::test::Fail;
 
 pub const AUTHOR: usize = 0;
+
 pub const NAME: usize = 1;
+
 pub const EMAIL: usize = 2;
 
 pub const ARTICLE: usize = 1;
+
 pub const AUTHOR_ID: usize = 1;
+
 pub const TITLE: usize = 2;
+
 pub const PUBLISHED: usize = 3;
+
 pub const RATING: usize = 4;
 
 pub const ID: usize = 0;
 
 // The relationships of author to its articles, as one object and as a list; and that of article to its author.
 pub const AN_ARTICLE: usize = 0;
+
 pub const ARTICLES: usize = 1;
+
 pub const ITS_AUTHOR: usize = 0;
-
-static CATALOG: &str = r#"{"tables":[
-    {"schema":"public","name":"author","primary_key":["id"],"columns":[{"name":"id","type":"integer"},
-        {"name":"name","type":"text","nullable":false},{"name":"email","type":"text"}]},
-    {"schema":"public","name":"article","primary_key":["id"],"columns":[{"name":"id","type":"integer"},
-        {"name":"author_id","type":"integer"},{"name":"title","type":"text","nullable":false},
-        {"name":"published","type":"boolean","nullable":false},{"name":"rating","type":"bigint"}]}]}"#;
-
-pub fn catalog(alloc: Global) -> Result<Catalog, Fail> {
-    Ok(read_catalog(alloc, CATALOG.as_bytes())?)
-}
 
 pub fn txt(alloc: Global, text: &str) -> Result<Txt, Fail> {
     Ok(Txt::of(alloc, text.as_bytes())?)
 }
 
 // The value of a word for a column type; `-` is NULL.
-fn value(alloc: Global, ty: Ty, word: &str) -> Result<Val, Fail> {
+pub fn value(alloc: Global, ty: Ty, word: &str) -> Result<Val, Fail> {
     if word == "-" {
         return Ok(Val::Null);
     }
@@ -70,6 +67,7 @@ fn rows(alloc: Global, table: &Table, all: &[&str]) -> Result<RowList, Fail> {
 
 // Rows in file order, which is not that of the keys.
 static AUTHORS: [&str; 3] = ["3 O'Hara -", "1 Ann -", "2 Bob b@x"];
+
 static ARTICLE_ROWS: [&str; 4] = ["13 - D t 7", "11 1 B f -", "12 2 C t 5", "10 1 A t 5"];
 
 pub fn database(alloc: Global, catalog: &Catalog) -> Result<Database, Fail> {
@@ -105,7 +103,13 @@ fn perm(alloc: Global, role: &str, cols: &[usize], filter: Bexp) -> Result<Perm,
     })
 }
 
-fn tracked(alloc: Global, t: usize, names: &[&str], rels: RelList, perms: PermList) -> Result<Tracked, Fail> {
+fn tracked(
+    alloc: Global,
+    t: usize,
+    names: &[&str],
+    rels: RelList,
+    perms: PermList,
+) -> Result<Tracked, Fail> {
     let mut column_names = List::new(alloc);
     for name in names {
         column_names.push(txt(alloc, name)?)?;

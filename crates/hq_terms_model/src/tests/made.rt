@@ -13,10 +13,6 @@ pub fn flag(b: bool) -> Operand {
     Operand::Const(Val::Bool(b))
 }
 
-pub fn words(alloc: Global, text: &str) -> Result<Operand, Fail> {
-    Ok(Operand::Const(Val::Text(txt(alloc, text)?)))
-}
-
 pub fn compare(col: usize, op: Op, operand: Operand) -> Bexp {
     Bexp::Cmp {
         col: ColId::new(col),
@@ -34,35 +30,6 @@ pub fn is_null(col: usize, yes: bool) -> Bexp {
         col: ColId::new(col),
         yes,
     }
-}
-
-pub fn within(alloc: Global, col: usize, numbers: &[i64], negated: bool) -> Result<Bexp, Fail> {
-    let mut operands = List::new(alloc);
-    for n in numbers {
-        operands.push(number(*n))?;
-    }
-    Ok(Bexp::Within {
-        col: ColId::new(col),
-        operands,
-        negated,
-    })
-}
-
-pub fn like(alloc: Global, col: usize, pattern: &str, fold: bool, negated: bool) -> Result<Bexp, Fail> {
-    Ok(Bexp::Like {
-        col: ColId::new(col),
-        fold,
-        negated,
-        operand: words(alloc, pattern)?,
-    })
-}
-
-pub fn not(alloc: Global, bexp: Bexp) -> Result<Bexp, Fail> {
-    Ok(Bexp::Not(Box::new(alloc, bexp)?))
-}
-
-pub fn both(alloc: Global, a: Bexp, b: Bexp) -> Result<Bexp, Fail> {
-    Ok(Bexp::And(Vec::from_array(alloc, [a, b])?))
 }
 
 pub fn either(alloc: Global, a: Bexp, b: Bexp) -> Result<Bexp, Fail> {

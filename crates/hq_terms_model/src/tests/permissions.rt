@@ -1,5 +1,4 @@
-use crate::tests::fixture::{World, are, session};
-use crate::tests::fixture::{ARTICLE, AUTHOR};
+use crate::tests::fixture::{ARTICLE, AUTHOR, World, are, session};
 use crate::*;
 use hq_terms::TableId;
 use std::test::Fail;
@@ -46,5 +45,10 @@ fn a_session_sees_its_permitted_rows_of_each_table(rt: HostRuntime) -> Result<()
     for (rows, want) in seen.as_slice().iter().zip(["1 2 3", "10 12 13"].iter()) {
         are(&rt, rows, want, "user 2")?;
     }
-    are(&rt, &by_key(rt.alloc(), &world.all(), TableId::new(ARTICLE))?, "10 11 12 13", "by key")
+    are(
+        &rt,
+        &by_key(rt.alloc(), &world.all(), TableId::new(ARTICLE))?,
+        "10 11 12 13",
+        "by key",
+    )
 }

@@ -1,5 +1,6 @@
-use crate::tests::fixture::{World, are};
-use crate::tests::fixture::{AN_ARTICLE, ARTICLE, ARTICLES, AUTHOR, ID, ITS_AUTHOR, RATING};
+use crate::tests::fixture::{
+    AN_ARTICLE, ARTICLE, ARTICLES, AUTHOR, ID, ITS_AUTHOR, RATING, World, are,
+};
 use crate::tests::made::{equals, is_null, through};
 use crate::*;
 use hq_base::{List, Val};
@@ -8,7 +9,14 @@ use std::alloc::Global;
 use std::test::Fail;
 
 // The ids behind a relationship of the row with this id, as a session sees them.
-fn behind(alloc: Global, world: &World, who: (&str, &str), t: usize, r: usize, id: i64) -> Result<RowList, Fail> {
+fn behind(
+    alloc: Global,
+    world: &World,
+    who: (&str, &str),
+    t: usize,
+    r: usize,
+    id: i64,
+) -> Result<RowList, Fail> {
     let rows = world.seen_by(alloc, who.0, who.1)?;
     let seen = world.with(&rows);
     let t = TableId::new(t);
@@ -78,6 +86,12 @@ fn relationships_stand_inside_one_another(rt: HostRuntime) -> Result<(), Fail> {
     let t = TableId::new(ARTICLE);
     let other = through(rt.alloc(), ARTICLES, equals(ID, 11))?;
     let wanted = through(rt.alloc(), ITS_AUTHOR, other)?;
-    let kept = kept(rt.alloc(), &seen, t, &wanted, &by_key(rt.alloc(), &seen, t)?)?;
+    let kept = kept(
+        rt.alloc(),
+        &seen,
+        t,
+        &wanted,
+        &by_key(rt.alloc(), &seen, t)?,
+    )?;
     are(&rt, &kept, "10 11", "articles beside article 11")
 }

@@ -1,5 +1,4 @@
-use crate::tests::fixture::{World, are};
-use crate::tests::fixture::{ARTICLE, AUTHOR_ID, ID, ITS_AUTHOR, NAME, RATING};
+use crate::tests::fixture::{ARTICLE, AUTHOR_ID, ID, ITS_AUTHOR, NAME, RATING, World, are};
 use crate::tests::made::{Entry, arguments, compare, number};
 use crate::*;
 use hq_base::List;
@@ -9,7 +8,14 @@ use std::test::Fail;
 
 // What a list asks for beside `where`: its entries, its distinct columns, its limit and offset; the permission's limit;
 // and the ids of the rows.
-type Case = (&'static [Entry], &'static [usize], Option<u64>, Option<u64>, Option<u64>, &'static str);
+type Case = (
+    &'static [Entry],
+    &'static [usize],
+    Option<u64>,
+    Option<u64>,
+    Option<u64>,
+    &'static str,
+);
 
 // All articles as `admin` sees them, in the order of their keys, are selected.
 fn select(rt: &(impl Abort + AllocGlobal), cases: &[Case]) -> Result<(), Fail> {
@@ -21,15 +27,24 @@ fn select(rt: &(impl Abort + AllocGlobal), cases: &[Case]) -> Result<(), Fail> {
     let start = by_key(alloc, &seen, t)?;
     for (sorts, distinct, limit, offset, most, want) in cases {
         let arguments = arguments(alloc, Bexp::True, sorts, distinct, *limit, *offset)?;
-        are(rt, &selected(alloc, &seen, t, &arguments, *most, &start)?, want, want)?;
+        are(
+            rt,
+            &selected(alloc, &seen, t, &arguments, *most, &start)?,
+            want,
+            want,
+        )?;
     }
     Ok(())
 }
 
 const ASC: Entry = (&[], RATING, false, false);
+
 const ASC_NULLS_FIRST: Entry = (&[], RATING, false, true);
+
 const DESC: Entry = (&[], RATING, true, true);
+
 const DESC_NULLS_LAST: Entry = (&[], RATING, true, false);
+
 const BY_ID_FROM_LAST: Entry = (&[], ID, true, true);
 
 // The ratings of articles 10 to 13 are 5, NULL, 5 and 7: articles 10 and 12 tie.
@@ -39,7 +54,14 @@ static SORTED: [Case; 6] = [
     (&[ASC_NULLS_FIRST], &[], None, None, None, "11 10 12 13"),
     (&[DESC], &[], None, None, None, "11 13 10 12"),
     (&[DESC_NULLS_LAST], &[], None, None, None, "13 10 12 11"),
-    (&[DESC_NULLS_LAST, BY_ID_FROM_LAST], &[], None, None, None, "13 12 10 11"),
+    (
+        &[DESC_NULLS_LAST, BY_ID_FROM_LAST],
+        &[],
+        None,
+        None,
+        None,
+        "13 12 10 11",
+    ),
 ];
 
 #[test]
@@ -50,7 +72,14 @@ fn ties_keep_their_order_and_nulls_have_a_place(rt: HostRuntime) -> Result<(), F
 // Without entries the order is by the distinct columns, ascending, NULLs last. NULLs are one group.
 static DISTINCT: [Case; 5] = [
     (&[], &[RATING], None, None, None, "10 13 11"),
-    (&[DESC, BY_ID_FROM_LAST], &[RATING], None, None, None, "11 13 12"),
+    (
+        &[DESC, BY_ID_FROM_LAST],
+        &[RATING],
+        None,
+        None,
+        None,
+        "11 13 12",
+    ),
     (&[], &[AUTHOR_ID], None, None, None, "10 12 13"),
     (&[], &[AUTHOR_ID, RATING], None, None, None, "10 11 12 13"),
     (&[], &[RATING], Some(1), Some(1), None, "13"),
@@ -90,11 +119,22 @@ fn where_comes_before_all_else(rt: HostRuntime) -> Result<(), Fail> {
     let start = by_key(alloc, &seen, t)?;
     let wanted = compare(ID, Op::Ne, number(10));
     let arguments = arguments(alloc, wanted, &[ASC], &[RATING], Some(2), Some(1))?;
-    are(&rt, &selected(alloc, &seen, t, &arguments, Some(9), &start)?, "13 11", "where")?;
-    are(&rt, &selected(alloc, &seen, t, &arguments, Some(9), &List::new(alloc))?, "", "no rows")
+    are(
+        &rt,
+        &selected(alloc, &seen, t, &arguments, Some(9), &start)?,
+        "13 11",
+        "where",
+    )?;
+    are(
+        &rt,
+        &selected(alloc, &seen, t, &arguments, Some(9), &List::new(alloc))?,
+        "",
+        "no rows",
+    )
 }
 
 const BY_AUTHOR: Entry = (&[ITS_AUTHOR], NAME, false, false);
+
 const BY_AUTHOR_FROM_LAST: Entry = (&[ITS_AUTHOR], NAME, true, true);
 
 // A role, an entry, and the ids. The authors of articles 10 to 13 are Ann, Ann, Bob and none; role `others` may not see
@@ -116,7 +156,12 @@ fn a_sort_through_a_relationship_takes_the_permitted_row(rt: HostRuntime) -> Res
         let seen = world.with(&rows);
         let arguments = arguments(alloc, Bexp::True, &[*entry], &[], None, None)?;
         let start = by_key(alloc, &seen, t)?;
-        are(&rt, &selected(alloc, &seen, t, &arguments, None, &start)?, want, role)?;
+        are(
+            &rt,
+            &selected(alloc, &seen, t, &arguments, None, &start)?,
+            want,
+            role,
+        )?;
     }
     Ok(())
 }

@@ -1,140 +1,86 @@
-use crate::tests::fixture::{World, are, txt};
-use crate::tests::fixture::{ARTICLE, AUTHOR, EMAIL, ID, NAME, PUBLISHED, RATING, TITLE};
-use crate::tests::made::{both, compare, either, equals, flag, is_null, like, not, number, within, words};
+use crate::tests::fixture::{ARTICLE, AUTHOR, World, are};
+use crate::tests::written::expression;
 use crate::*;
-use hq_terms::{Bexp, Op, Operand, TableId, Truth};
-use std::alloc::Global;
-use std::process::Abort;
+use hq_base::Val;
+use hq_terms::{Op, TableId, Truth};
 use std::test::Fail;
 
-// Each expression is true at the rows of these ids. The ratings of articles 10 to 13 are 5, NULL, 5 and 7; of the
-// authors only author 2 has an e-mail, `b@x`.
-fn hold(rt: &(impl Abort + AllocGlobal), t: usize, cases: &[(Bexp, &str)]) -> Result<(), Fail> {
+// The ratings of articles 10 to 13 are 5, NULL, 5 and 7, their titles A to D, and only article 11 is not published. Of
+// the authors Ann, Bob and O'Hara only author 2 has an e-mail, `b@x`. An expression has its parts before it: `a b and`.
+static CASES: [(usize, &str, &str); 44] = [
+    // A comparison with NULL is unknown; a test for NULL never is.
+    (ARTICLE, "rating:eq:5", "10 12"),
+    (ARTICLE, "rating:ne:5", "13"),
+    (ARTICLE, "rating:lt:7", "10 12"),
+    (ARTICLE, "rating:le:7", "10 12 13"),
+    (ARTICLE, "rating:gt:5", "13"),
+    (ARTICLE, "rating:ge:5", "10 12 13"),
+    (ARTICLE, "rating:null", "11"),
+    (ARTICLE, "rating:known", "10 12 13"),
+    // The negation of unknown is unknown.
+    (ARTICLE, "rating:eq:5 not", "13"),
+    (ARTICLE, "rating:ne:5 not", "10 12"),
+    (ARTICLE, "rating:null not", "10 12 13"),
+    (ARTICLE, "true not", ""),
+    // Unknown or true is true, unknown and false is false, and all else with unknown is unknown.
+    (ARTICLE, "rating:eq:5 id:eq:11 or", "10 11 12"),
+    (ARTICLE, "id:eq:13 rating:eq:5 or", "10 12 13"),
+    (ARTICLE, "rating:eq:5 id:eq:12 and", "12"),
+    (ARTICLE, "true rating:eq:5 and", "10 12"),
+    (ARTICLE, "rating:eq:5 id:eq:12 and not", "10 11 13"),
+    (ARTICLE, "id:eq:11 rating:eq:5 and not", "10 12 13"),
+    (ARTICLE, "rating:eq:5 id:eq:12 or not", "13"),
+    // No parts: And is true, Or is false.
+    (ARTICLE, "true", "10 11 12 13"),
+    (ARTICLE, "all-of-none", "10 11 12 13"),
+    (ARTICLE, "any-of-none", ""),
+    (ARTICLE, "any-of-none not", "10 11 12 13"),
+    // NULL is neither in a list nor not in it, but of the empty list it is known not to be.
+    (ARTICLE, "rating:in:5", "10 12"),
+    (ARTICLE, "rating:in:7,5", "10 12 13"),
+    (ARTICLE, "rating:nin:5", "13"),
+    (ARTICLE, "rating:nin:1,2", "10 12 13"),
+    (ARTICLE, "rating:nin:5 not", "10 12"),
+    (ARTICLE, "rating:in", ""),
+    (ARTICLE, "rating:nin", "10 11 12 13"),
+    // Texts compare by their bytes, and false stands before true.
+    (ARTICLE, "title:gt:B", "12 13"),
+    (ARTICLE, "title:lt:a", "10 11 12 13"),
+    (ARTICLE, "title:le:AA", "10"),
+    (ARTICLE, "published:lt:t", "11"),
+    (ARTICLE, "published:eq:t", "10 12 13"),
+    // A pattern is unknown on NULL, and its letters are as they are but for `ilike`.
+    (AUTHOR, "email:like:_@%", "2"),
+    (AUTHOR, "email:nlike:z%", "2"),
+    (AUTHOR, "email:like:z% not", "2"),
+    (AUTHOR, "name:like:o'h%", ""),
+    (AUTHOR, "name:ilike:o'h%", "3"),
+    (AUTHOR, "name:nlike:%O%", "1 2"),
+    (AUTHOR, "name:nilike:%O%", "1"),
+    // A session name that is not bound stands for NULL.
+    (AUTHOR, "id:own", ""),
+    (AUTHOR, "id:own not", ""),
+];
+
+#[test]
+fn an_expression_is_true_at_these_rows(rt: HostRuntime) -> Result<(), Fail> {
     let alloc = rt.alloc();
     let world = World::new(alloc)?;
     let seen = world.all();
-    let t = TableId::new(t);
-    let start = by_key(alloc, &seen, t)?;
-    for (bexp, want) in cases {
-        let rows = kept(alloc, &seen, t, bexp, &start)?;
-        are(rt, &rows, want, format!(in alloc; "{bexp:?}")?.as_str())?;
+    for (t, words, want) in &CASES {
+        let t = TableId::new(*t);
+        let bexp = expression(alloc, &seen, t, words)?;
+        let rows = kept(alloc, &seen, t, &bexp, &by_key(alloc, &seen, t)?)?;
+        are(&rt, &rows, want, words)?;
     }
     Ok(())
 }
 
 #[test]
-fn a_comparison_with_null_is_unknown(rt: HostRuntime) -> Result<(), Fail> {
-    let cases = [
-        (equals(RATING, 5), "10 12"),
-        (compare(RATING, Op::Ne, number(5)), "13"),
-        (compare(RATING, Op::Lt, number(7)), "10 12"),
-        (compare(RATING, Op::Le, number(7)), "10 12 13"),
-        (compare(RATING, Op::Gt, number(5)), "13"),
-        (compare(RATING, Op::Ge, number(5)), "10 12 13"),
-        (is_null(RATING, true), "11"),
-        (is_null(RATING, false), "10 12 13"),
-    ];
-    hold(&rt, ARTICLE, &cases)
-}
-
-#[test]
-fn the_negation_of_unknown_is_unknown(rt: HostRuntime) -> Result<(), Fail> {
-    let alloc = rt.alloc();
-    let cases = [
-        (not(alloc, equals(RATING, 5))?, "13"),
-        (not(alloc, compare(RATING, Op::Ne, number(5)))?, "10 12"),
-        (not(alloc, is_null(RATING, true))?, "10 12 13"),
-        (not(alloc, Bexp::True)?, ""),
-    ];
-    hold(&rt, ARTICLE, &cases)
-}
-
-// Unknown or true is true, unknown and false is false, and all else with unknown is unknown.
-#[test]
-fn and_and_or_have_three_values(rt: HostRuntime) -> Result<(), Fail> {
-    let alloc = rt.alloc();
-    let rated = || equals(RATING, 5);
-    let cases = [
-        (either(alloc, rated(), equals(ID, 11))?, "10 11 12"),
-        (either(alloc, equals(ID, 13), rated())?, "10 12 13"),
-        (both(alloc, rated(), equals(ID, 12))?, "12"),
-        (both(alloc, Bexp::True, rated())?, "10 12"),
-        (not(alloc, both(alloc, rated(), equals(ID, 12))?)?, "10 11 13"),
-        (not(alloc, both(alloc, equals(ID, 11), rated())?)?, "10 12 13"),
-        (not(alloc, either(alloc, rated(), equals(ID, 12))?)?, "13"),
-    ];
-    hold(&rt, ARTICLE, &cases)
-}
-
-#[test]
-fn an_empty_list_is_true_in_and_and_false_in_or(rt: HostRuntime) -> Result<(), Fail> {
-    let alloc = rt.alloc();
-    let cases = [
-        (Bexp::True, "10 11 12 13"),
-        (Bexp::And(Vec::new(alloc)), "10 11 12 13"),
-        (Bexp::Or(Vec::new(alloc)), ""),
-        (not(alloc, Bexp::Or(Vec::new(alloc)))?, "10 11 12 13"),
-    ];
-    hold(&rt, ARTICLE, &cases)
-}
-
-#[test]
-fn null_is_neither_in_a_list_nor_not_in_it(rt: HostRuntime) -> Result<(), Fail> {
-    let alloc = rt.alloc();
-    let cases = [
-        (within(alloc, RATING, &[5], false)?, "10 12"),
-        (within(alloc, RATING, &[7, 5], false)?, "10 12 13"),
-        (within(alloc, RATING, &[5], true)?, "13"),
-        (within(alloc, RATING, &[1, 2], true)?, "10 12 13"),
-        (not(alloc, within(alloc, RATING, &[5], true)?)?, "10 12"),
-        // Of the empty list also NULL is known not to be.
-        (within(alloc, RATING, &[], false)?, ""),
-        (within(alloc, RATING, &[], true)?, "10 11 12 13"),
-    ];
-    hold(&rt, ARTICLE, &cases)
-}
-
-#[test]
-fn texts_compare_by_bytes_and_false_before_true(rt: HostRuntime) -> Result<(), Fail> {
-    let alloc = rt.alloc();
-    let cases = [
-        (compare(TITLE, Op::Gt, words(alloc, "B")?), "12 13"),
-        (compare(TITLE, Op::Lt, words(alloc, "a")?), "10 11 12 13"),
-        (compare(TITLE, Op::Le, words(alloc, "AA")?), "10"),
-        (compare(PUBLISHED, Op::Lt, flag(true)), "11"),
-        (compare(PUBLISHED, Op::Eq, flag(true)), "10 12 13"),
-        // Values of two kinds are not compared.
-        (compare(TITLE, Op::Ne, number(1)), ""),
-    ];
-    hold(&rt, ARTICLE, &cases)
-}
-
-#[test]
-fn a_pattern_is_unknown_on_null(rt: HostRuntime) -> Result<(), Fail> {
-    let alloc = rt.alloc();
-    let cases = [
-        (like(alloc, EMAIL, "_@%", false, false)?, "2"),
-        (like(alloc, EMAIL, "z%", false, true)?, "2"),
-        (not(alloc, like(alloc, EMAIL, "z%", false, false)?)?, "2"),
-        (like(alloc, NAME, "o'h%", false, false)?, ""),
-        (like(alloc, NAME, "o'h%", true, false)?, "3"),
-        (like(alloc, NAME, "%O%", false, true)?, "1 2"),
-        (like(alloc, NAME, "%O%", true, true)?, "1"),
-    ];
-    hold(&rt, AUTHOR, &cases)
-}
-
-// A session name that is not bound stands for NULL.
-#[test]
-fn a_session_name_compares_with_nothing(rt: HostRuntime) -> Result<(), Fail> {
-    let alloc = rt.alloc();
-    let own = |op| -> Result<Bexp, Fail> { Ok(compare(ID, op, Operand::Session(txt(alloc, "x")?))) };
-    let cases = [
-        (own(Op::Eq)?, ""),
-        (own(Op::Ne)?, ""),
-        (not(alloc, own(Op::Eq)?)?, ""),
-    ];
-    hold(&rt, AUTHOR, &cases)?;
-    assert_eq!(rt; compared(Op::Eq, &hq_base::Val::Null, &hq_base::Val::Null), Truth::Unknown);
-    Ok(())
+fn null_does_not_equal_null(rt: HostRuntime) {
+    assert_eq!(rt; compared(Op::Eq, &Val::Null, &Val::Null), Truth::Unknown);
+    assert_eq!(rt;
+        compared(Op::Ne, &Val::Int(1), &Val::Bool(true)),
+        Truth::Unknown
+    );
 }

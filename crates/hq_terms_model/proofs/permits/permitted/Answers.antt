@@ -1,4 +1,4 @@
-use Rattle.std.proofs.Common.{◌≡◌, ◌∙◌}
+use Rattle.std.proofs.Common.{◌∙◌}
 use Rattle.hq_terms_model.specs.Granted.{granted_to}
 use Rattle.hq_terms_model.specs.Seen.{schema_in}
 use Rattle.hq_terms_model.proofs.Granted.{none_permitted}

@@ -1,4 +1,4 @@
-use Rattle.std.proofs.Common.{◌≡◌, ◌<◌, ◌≤◌, ℕ, length, get_or, [], arith}
+use Rattle.std.proofs.Common.{◌≡◌, ◌<◌, length, arith}
 use Rattle.hq_terms.specs.Meta.{meta_view}
 use Rattle.hq_terms_model.proofs.Granted.{permitted_everywhere}
 use Rattle.hq_terms_model.proofs.Sees.{sees_permitted}
