@@ -10,7 +10,7 @@ use Rattle.hq_base.specs.Body.{body_of}
 use Rattle.hq_terms.specs.Bexp.{BexpTree, always, and_of, or_of, not_of, comparison, within, is_null, like, through}
 use Rattle.hq_terms.specs.Binding.{bound_permission}
 use Rattle.hq_terms.specs.Fits.{fits, fits_tracked}
-use Rattle.hq_terms.specs.Grants.{Grants, grant, grant_of, grants_of, no_grant}
+use Rattle.hq_terms.specs.Grants.{grant, grant_of, grants_of, no_grant}
 use Rattle.hq_terms.specs.Meta.{MetaTree, TrackedTree}
 use Rattle.hq_terms.specs.Permission.{Permission, Mask, permission, role_of}
 use Rattle.hq_terms.specs.Schema.{Schema, SchemaTable, schema_of, schema_table, numbered, table}
@@ -21,11 +21,11 @@ use Rattle.hq_terms.specs.declared.session.Var.{Var}
 use Rattle.hq_terms.specs.declared.table.Table.{Table}
 use Rattle.hq_ask_tree.specs.declared.ask.Ask.{Ask}
 use Rattle.hq_ask_tree.specs.declared.ask.AskColumn.{AskColumn}
-use Rattle.hq_sql_compile.specs.Compiled.{no_table, table_at}
+use Rattle.hq_sql_compile.specs.Compiled.{table_at}
 use Rattle.hq_sql_compile.specs.Correct.{IsPlain}
 use Rattle.hq_link.specs.Typed.{IsList}
 use Rattle.hq_engine.specs.ListBody.{list_of}
-use Rattle.hq_engine.specs.ListRequest.{is_always, has_no_mask, is_plain, permitted_place, column_named, ask_column, columns_named, ask_under, ask_of_table, list_request, request_of}
+use Rattle.hq_engine.specs.ListRequest.{is_always, has_no_mask, is_plain, permitted_place, column_named, ask_column, columns_named, ask_under, list_request, request_of}
 use Rattle.hq_engine.specs.declared.list_body.ListBody.{ListBody}
 
 both : (a b : Bool) → (a && b) ≡ true → (a ≡ true) × (b ≡ true)

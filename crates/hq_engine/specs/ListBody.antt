@@ -1,5 +1,5 @@
 -- The bodies that are answered so far: one object with the one member `query`, whose text is one list of plain columns.
-use Rattle.std.specs.Prelude.{ℕ, List, [], ◌∷◌, ◌++◌, length, Bool, true, false, ◌&&◌, ◌||◌, ◌==◌, nat_le, nat_lt, Option, Some, None, option_and_then, cond, bytes_eq, codes, take, drop, ◌-◌}
+use Rattle.std.specs.Prelude.{ℕ, List, [], ◌∷◌, ◌++◌, length, Bool, false, ◌&&◌, ◌||◌, ◌==◌, nat_le, nat_lt, Option, Some, None, option_and_then, cond, bytes_eq, codes, take, drop, ◌-◌}
 use Rattle.std.specs.List.{list_all}
 use Rattle.hq_base.specs.Lists.{all_differ}
 use Rattle.hq_terms.specs.Names.{is_name}

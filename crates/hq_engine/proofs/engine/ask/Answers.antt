@@ -10,7 +10,6 @@ use Rattle.hq_link.specs.Answered.{Answered, NotFitting}
 use Rattle.hq_link.specs.Typed.{IsTyped}
 use Rattle.hq_engine.proofs.engine.ask.Goals as goal
 
-
 -- what is answered is the meaning of each statement that the text spells
 answered_means : (tables : List Table) (text : List ℕ) (value : JsonTree) → ((a b : SelectTree) → Spells text a → Spells text b → a ≡ b) → (database : Option (List (List Row))) → Answered tables database text value
     → IfSome database (λ d. (s : SelectTree) → Spells text s → value ≡ meaning s (record { tables = tables; database = d }))
