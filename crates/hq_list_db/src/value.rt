@@ -60,12 +60,7 @@ fn rows_json(alloc: Global, rows: &[KeyedRow<'_>], columns: &[AskColumn]) -> Res
 }
 
 /// The object of a list over the rows of its table, in ascending order of their key.
-pub fn list_json(
-    alloc: Global,
-    table: &Table,
-    rows: &[ValList],
-    ask: &Ask,
-) -> Result<Json, Memory>
+pub fn list_json(alloc: Global, table: &Table, rows: &[ValList], ask: &Ask) -> Result<Json, Memory>
     ensures { IfOk result (λ json. json_view json ≡ list_value ask.now.key ask.now.columns (sort (columns_cmp table.now.key) rows.now)) }
 {
     let sorted = sorted_rows(alloc, rows, table.key.as_slice())?;

@@ -15,7 +15,8 @@ fn compact(alloc: Global, json: &Json) -> Result<Bytes, Fail> {
 }
 
 // By place, byte by byte, and then by number.
-const ENTRIES: &[u8] = br#"{"entries":[{"at":"B","size":0,"done":true},{"at":"a","size":-9223372036854775808,"done":null},{"at":"b","size":null,"done":false},{"at":"b","size":7,"done":true}]}"#;
+const ENTRIES: &[u8] =
+    br#"{"entries":[{"at":"B","size":0,"done":true},{"at":"a","size":-9223372036854775808,"done":null},{"at":"b","size":null,"done":false},{"at":"b","size":7,"done":true}]}"#;
 
 #[test]
 fn rows_come_in_the_order_of_their_key(rt: HostRuntime) -> Result<(), Fail> {
@@ -36,7 +37,10 @@ fn rows_come_in_the_order_of_their_key(rt: HostRuntime) -> Result<(), Fail> {
 const REFUSED: &[(&[u8], DbRefusal)] = &[
     (b"", DbRefusal::NotSql),
     (b"SELECT 1", DbRefusal::NotSql),
-    (br#"SELECT "t0"."u" AS "v" FROM (SELECT TRUE AS "u") AS "t0""#, DbRefusal::NotTyped),
+    (
+        br#"SELECT "t0"."u" AS "v" FROM (SELECT TRUE AS "u") AS "t0""#,
+        DbRefusal::NotTyped,
+    ),
 ];
 
 #[test]
@@ -48,7 +52,10 @@ fn other_texts_are_refused(rt: HostRuntime) -> Result<(), Fail> {
     }
     let mut longer = text_of(alloc, &catalog(alloc)?, &entries(alloc)?)?;
     longer.push(b' ')?;
-    assert_eq!(rt; db.run(alloc, longer.as_slice()).err(), Some(DbRefusal::NotSql));
+    assert_eq!(rt;
+        db.run(alloc, longer.as_slice()).err(),
+        Some(DbRefusal::NotSql)
+    );
     Ok(())
 }
 

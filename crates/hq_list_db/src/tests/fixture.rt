@@ -118,7 +118,8 @@ pub fn catalog(alloc: Global) -> Result<Catalog, Memory>
 }
 
 /// Four entries, not in the order of their key.
-const ENTRIES: &[u8] = b"number,place,size,done\n2,b,7,t\n1,b,\\N,f\n3,a,-9223372036854775808,\\N\n10,B,0,t\n";
+const ENTRIES: &[u8] =
+    b"number,place,size,done\n2,b,7,t\n1,b,\\N,f\n3,a,-9223372036854775808,\\N\n10,B,0,t\n";
 
 /// A store of these entries.
 pub fn store(alloc: Global) -> Result<MemTables, Fail>
