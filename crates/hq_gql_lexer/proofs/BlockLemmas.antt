@@ -50,6 +50,7 @@ open_more at k bytes rest is_open more cut open_yet e on h =
           ∙ is_open.so_far;
     }
 
+-- where three quotes are next, the block ends
 closed_here : (rest : List ℕ) → 0 < length rest → starts_with nat_eq rest quotes ≡ true → block_len 0 rest ≡ Some 0
 closed_here [] some closed = absurd (omega arith)
 closed_here (b ∷ rest) some closed = cond-true _ (Some 0) _ closed

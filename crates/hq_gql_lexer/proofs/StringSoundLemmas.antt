@@ -22,6 +22,7 @@ use Rattle.hq_gql_lexer.proofs.PlainLemmas.{plain_read, closed_by}
 use Rattle.hq_gql_lexer.proofs.QuotesLemmas.{begins, block_read, block_closed_by}
 use Rattle.hq_gql_lexer.proofs.TokenLemmas.{IsTokenInFront, same_token}
 
+-- where there is an answer, something was found
 found_ok : {A : Type 0} (o : Option A) (e : LexRefusal) (x : A) → ok_or o e ≡ Ok x → o ≡ Some x
 found_ok None e x h = cc
 found_ok (Some y) e x h = let same : y ≡ x = cc in ap Some same
@@ -41,6 +42,7 @@ no_third bytes rest after split empty not_block = false_from_ne_true _ (λ third
     let three : bytes ≡ 34 ∷ 34 ∷ 34 ∷ drop 1 after = split ∙ ap (λ r. 34 ∷ (r ++ after)) empty ∙ ap (λ more. 34 ∷ 34 ∷ more) (quote_first after third) in
     false≢true (sym not_block ∙ ap (λ bs. starts_with nat_eq bs quotes) three))
 
+-- what is taken as a string in one quote is one
 pub plain_sound : (at : ℕ) (bytes : List ℕ) (k : TokenKind) (n : ℕ) → next_is (λ b. b == 34) bytes ≡ true → starts_with nat_eq bytes quotes ≡ false
     → plain_at at bytes ≡ Ok (k, n) → IsTokenInFront bytes k n
 unfolding plain_at
@@ -99,6 +101,7 @@ block_sound at bytes k n starts h =
       is = inr string;
     })))
 
+-- what is taken as a string is one
 pub string_sound : (at : ℕ) (bytes : List ℕ) (k : TokenKind) (n : ℕ) → next_is (λ b. b == 34) bytes ≡ true → string_at at bytes ≡ Ok (k, n) → IsTokenInFront bytes k n
 unfolding string_at
 string_sound at bytes k n starts h = ⊎_elim

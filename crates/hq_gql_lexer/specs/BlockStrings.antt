@@ -39,10 +39,11 @@ abbrev pub dedented : List (List ℕ) → List (List ℕ)
 dedented [] = []
 dedented (first ∷ lines) = first ∷ map (drop (unwrap_or (common_indent lines) 0)) lines
 
--- the lines without the blank ones at both ends
+-- the lines without the blank ones in front
 abbrev pub without_blank_front : List (List ℕ) → List (List ℕ)
 without_blank_front lines = drop (prefix_len is_blank lines) lines
 
+-- the lines without the blank ones at the end
 abbrev pub without_blank_back : List (List ℕ) → List (List ℕ)
 without_blank_back lines = take (length lines - suffix_len is_blank lines) lines
 

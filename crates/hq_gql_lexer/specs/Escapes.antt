@@ -36,6 +36,7 @@ character_of unit bytes =
     if is_high_surrogate unit then option_map (λ c. (c, 12)) (pair_of unit (unit_at bytes))
     else (if is_low_surrogate unit || unit == 0 then None else Some (unit, 6))
 
+-- the character of a `\u` escape at the front, and how many bytes it takes
 unfoldable pub unicode_escape : List ℕ → Option (ℕ × ℕ)
 unicode_escape bytes = option_and_then (λ unit. character_of unit (drop 6 bytes)) (unit_at bytes)
 
