@@ -1,12 +1,12 @@
 -- Escapes: their bytes, and that nothing else decides them.
-use Rattle.std.proofs.Common.{◌≡◌, ℕ, zero, suc, ◌+◌, ◌*◌, ◌<◌, Bool, true, false, cond, List, [], ◌∷◌, ◌++◌, length, drop, Option, Some, None, refl, sym, ap, ◌∙◌, subst, inl, inr, ⊎_elim, arith, ◌⊎◌, lit<, append_assoc}
-use Rattle.std.specs.Prelude.{◌≢◌, ◌&&◌, ◌||◌, ◌==◌, nat_lt}
+use Rattle.std.proofs.Common.{◌≡◌, ℕ, suc, ◌+◌, ◌*◌, ◌<◌, Bool, true, false, cond, List, [], ◌∷◌, ◌++◌, length, drop, Option, Some, None, refl, sym, ap, ◌∙◌, subst, inl, inr, ⊎_elim, arith, ◌⊎◌, lit<, append_assoc}
+use Rattle.std.specs.Prelude.{◌≢◌, ◌||◌, ◌==◌}
 use Rattle.std.specs.List.{list_all}
-use Rattle.std.specs.Option.{option_map, option_and_then}
+use Rattle.std.specs.Option.{option_map}
 use Rattle.std.specs.Char.{IsScalar, is_digit, digit_value}
 use Rattle.std.specs.Char.Utf16.{is_high_surrogate, is_low_surrogate, surrogate_pair_char}
 use Rattle.std.specs.Str.{IsAscii}
-use Rattle.std.proofs.lemmas.Bool.{cases_Bool, cond-true, cond-false, false≢true, eqb-true, ltb-true}
+use Rattle.std.proofs.lemmas.Bool.{cases_Bool, false≢true, eqb-true, ltb-true}
 use Rattle.std.proofs.lemmas.Bool.Decides.{nat_tests}
 use Rattle.std.proofs.lemmas.Option.{cond_some, option_and_then_some}
 use Rattle.hq_gql_lexer.specs.Characters.{is_line_end}
@@ -16,7 +16,7 @@ use lib.Utf8.{low_scalar}
 use Rattle.std.proofs.lemmas.Str.Ascii.{IsAscii-cons, IsAscii-nil}
 use Rattle.std.proofs.lemmas.Str.{IsAscii-append}
 use Rattle.std.proofs.lemmas.List.{append-nil, drop_at, length-append}
-use Rattle.hq_gql_lexer.proofs.TextLemmas.{and_parts, or_parts, both}
+use Rattle.hq_gql_lexer.proofs.TextLemmas.{and_parts, both}
 use Rattle.hq_gql_lexer.proofs.OptionLemmas.{option_map-add, option_map-zero}
 
 -- a byte that neither ends a plain string or its line nor takes what follows

@@ -1,23 +1,22 @@
 -- What is ignored is of its productions.
-use Rattle.std.proofs.Common.{◌≡◌, ℕ, zero, suc, ◌+◌, ◌-◌, ◌<◌, ◌≤◌, Bool, true, false, cond, List, [], ◌∷◌, ◌++◌, length, take, drop, Option, Some, None, Result, Ok, Err, refl, sym, ap, ◌∙◌, subst, inl, inr, ⊎_elim, arith, ◌⊎◌}
-use Rattle.std.specs.Prelude.{IsTrue, ◌&&◌, ◌==◌, not, nat_eq, nat_lt}
+use Rattle.std.proofs.Common.{◌≡◌, ℕ, zero, suc, ◌+◌, ◌<◌, ◌≤◌, Bool, true, false, cond, List, [], ◌∷◌, ◌++◌, length, take, drop, Option, Some, None, Result, Ok, Err, refl, sym, ap, ◌∙◌, subst, inl, inr, ⊎_elim, arith, ◌⊎◌}
+use Rattle.std.specs.Prelude.{IsTrue, ◌==◌, not, nat_eq, nat_lt}
 use Rattle.std.specs.List.{list_all, prefix_len, starts_with}
 use Rattle.std.specs.Str.{IsUtf8}
 use Rattle.std.specs.Str.Lossy.{utf8_valid_len}
 use lib.Utf8.{encode, low_scalar}
-use Rattle.std.proofs.lemmas.Bool.{cases_Bool, cond-true, cond-false, false≢true, eqb-true, ltb-false, cases_lt}
-use Rattle.std.proofs.lemmas.Bool.Decides.{nat_tests}
-use Rattle.std.proofs.lemmas.List.{length-append, length-take, length-take-le, length-drop, take_all, drop_all}
+use Rattle.std.proofs.lemmas.Bool.{false≢true, eqb-true, ltb-false, cases_lt}
+use Rattle.std.proofs.lemmas.List.{length-append, length-take, length-take-le, take_all, drop_all}
 use Rattle.std.proofs.lemmas.List.Folds.{list_all-append}
 use Rattle.std.proofs.lemmas.List.Sums.{prefix_len-le-length}
 use Rattle.std.proofs.lemmas.Str.{encode_ascii}
 use Rattle.hq_gql_lexer.specs.declared.refusal.LexRefusal.{LexRefusal}
-use Rattle.hq_gql_lexer.specs.Characters.{next_is, is_line_end, is_white_space, is_source}
+use Rattle.hq_gql_lexer.specs.Characters.{next_is, is_line_end, is_source}
 use Rattle.hq_gql_lexer.specs.Steps.{◌>>=◌}
 use Rattle.hq_gql_lexer.specs.Lexemes.{comment_at, byte_order_mark, is_ignored, ignored_at}
-use Rattle.hq_gql_lexer.specs.Grammar.{IsCharacter, IsCommentRest, nothing, character, IsComment, IsIgnored}
+use Rattle.hq_gql_lexer.specs.Grammar.{IsCommentRest, nothing, character, IsComment, IsIgnored}
 use Rattle.hq_gql_lexer.proofs.TextLemmas.{and_parts}
-use Rattle.hq_gql_lexer.proofs.CharacterLemmas.{is_high, TextParts, none, ascii, wide, text_parts, encode-is_high, length-encode_some}
+use Rattle.hq_gql_lexer.proofs.CharacterLemmas.{TextParts, none, ascii, wide, text_parts, length-encode_some}
 use Rattle.hq_gql_lexer.proofs.LinesLemmas.{not_end, end_after}
 use Rattle.hq_gql_lexer.proofs.NumberLemmas.{all_in_front}
 use Rattle.hq_gql_lexer.proofs.EscapeLemmas.{tested}

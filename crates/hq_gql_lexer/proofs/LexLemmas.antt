@@ -1,6 +1,6 @@
 -- The tokens of a text are those of the productions, in order.
-use Rattle.std.proofs.Common.{◌≡◌, ℕ, zero, suc, ◌+◌, ◌-◌, ◌<◌, ◌≤◌, List, [], ◌∷◌, ◌++◌, length, take, drop, Option, Some, None, Result, Ok, Err, refl, sym, ap, ◌∙◌, subst, inl, inr, arith}
-use Rattle.std.specs.Prelude.{MatchOption, IfOk}
+use Rattle.std.proofs.Common.{◌≡◌, ℕ, zero, suc, ◌+◌, ◌-◌, ◌<◌, ◌≤◌, List, [], ◌∷◌, ◌++◌, length, take, drop, Option, Some, None, Result, Ok, Err, sym, ap, ◌∙◌, subst, inl, inr, arith}
+use Rattle.std.specs.Prelude.{IfOk}
 use Rattle.std.proofs.lemmas.List.{length-append, length-drop, length-take-le, take-append-drop}
 use Rattle.hq_base.specs.Due.{Gives}
 use Rattle.hq_gql_lexer.specs.declared.refusal.LexRefusal.{LexRefusal}
@@ -8,13 +8,13 @@ use Rattle.hq_gql_lexer.specs.declared.refusal.LexRefusal.TheVariants as refusal
 use Rattle.hq_gql_lexer.specs.declared.token.Token.{Token}
 use Rattle.hq_gql_lexer.specs.declared.token.TokenKind.{TokenKind}
 use Rattle.hq_gql_lexer.specs.declared.token.TokenKind.TheVariants as kind
-use Rattle.hq_gql_lexer.specs.Steps.{◌>>=◌, steps}
+use Rattle.hq_gql_lexer.specs.Steps.{steps}
 use Rattle.hq_gql_lexer.specs.Lexemes.{lexeme_at, tokens_in, tokens_at, tokens_of}
 use Rattle.hq_gql_lexer.specs.declared.token.Punct.{Punct}
 use Rattle.hq_gql_lexer.specs.declared.token.Punct.TheVariants as punct
-use Rattle.hq_gql_lexer.specs.Grammar.{punct_text, IsName, IsInteger, IsToken, IsIgnored, Lexes, nothing, ignored, token}
+use Rattle.hq_gql_lexer.specs.Grammar.{punct_text, IsName, IsInteger, IsToken, Lexes, nothing, ignored, token}
 use Rattle.hq_gql_lexer.specs.Spans.{AreInOrder}
-use Rattle.hq_gql_lexer.proofs.StepsLemmas.{bind_ok, IsFirstStep, steps_first, steps_from}
+use Rattle.hq_gql_lexer.proofs.StepsLemmas.{bind_ok, steps_first, steps_from}
 use Rattle.hq_gql_lexer.proofs.SoundLemmas.{IsLexeme, lexeme_sound}
 
 -- one lexeme, and what comes after it

@@ -7,7 +7,7 @@ use Rattle.std.proofs.lemmas.Bool.{cases_Bool, cond-true, cond-false, false≢tr
 use Rattle.std.proofs.lemmas.List.{append-nil, length-map, map-append, length-drop}
 use Rattle.std.proofs.lemmas.Slice.{between_to_end}
 use Rattle.hq_gql_lexer.specs.Characters.{is_line_end, next_is}
-use Rattle.hq_gql_lexer.specs.BlockStrings.{onto_first, lines_of, indent_of, is_blank, lesser, common_indent}
+use Rattle.hq_gql_lexer.specs.BlockStrings.{onto_first, lines_of, lesser}
 
 -- a test of what a list is mapped to
 pub prefix_len-map : {X Y : Type 0} (p : Y → Bool) (f : X → Y) (xs : List X) → prefix_len p (map f xs) ≡ prefix_len (λ x. p (f x)) xs

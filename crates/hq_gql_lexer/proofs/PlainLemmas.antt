@@ -1,9 +1,7 @@
 -- Plain strings are of their production, and their values are texts.
-use Rattle.std.proofs.Common.{◌≡◌, ℕ, zero, suc, ◌+◌, ◌-◌, ◌<◌, ◌≤◌, Bool, true, false, cond, List, [], ◌∷◌, ◌++◌, length, take, drop, Option, Some, None, Result, Ok, Err, refl, sym, ap, ◌∙◌, subst, inl, inr, ⊎_elim, arith, append_assoc, ◌⊎◌}
-use Rattle.std.specs.Prelude.{IsTrue, not, ◌≢◌, ◌&&◌, ◌||◌, ◌==◌, nat_le, nat_lt}
-use Rattle.std.specs.List.{list_all}
+use Rattle.std.proofs.Common.{◌≡◌, ℕ, zero, suc, ◌+◌, ◌-◌, ◌<◌, ◌≤◌, Bool, true, false, cond, List, [], ◌∷◌, ◌++◌, length, take, drop, Option, Some, None, Result, Ok, Err, refl, sym, ap, ◌∙◌, subst, ⊎_elim, arith, append_assoc}
+use Rattle.std.specs.Prelude.{IsTrue, not, ◌≢◌, ◌&&◌, ◌==◌}
 use Rattle.std.specs.Option.{option_map}
-use Rattle.std.specs.Char.{IsScalar}
 use Rattle.std.specs.Str.{IsUtf8}
 use lib.Utf8.{encode, low_scalar}
 use Rattle.std.proofs.lemmas.Bool.{cases_Bool, cond-true, cond-false, false≢true, eqb-true, eqb-false}
@@ -11,17 +9,17 @@ use Rattle.std.proofs.lemmas.Bool.Decides.{nat_tests}
 use Rattle.std.proofs.lemmas.List.{length-append, drop_at, take_at}
 use Rattle.std.proofs.lemmas.Str.{encode_ascii, IsUtf8-drop, IsCharBoundary-from_take, IsUtf8-from_ascii}
 use Rattle.hq_gql_lexer.specs.declared.refusal.LexRefusal.{LexRefusal}
-use Rattle.hq_gql_lexer.specs.declared.characters.Form.TheVariants.{Plain, Block}
-use Rattle.hq_gql_lexer.specs.Characters.{next_is, is_line_end, is_source}
+use Rattle.hq_gql_lexer.specs.declared.characters.Form.TheVariants.{Plain}
+use Rattle.hq_gql_lexer.specs.Characters.{is_line_end, is_source}
 use Rattle.hq_gql_lexer.specs.Escapes.{escape_at}
-use Rattle.hq_gql_lexer.specs.Steps.{◌>>=◌, Step, steps}
+use Rattle.hq_gql_lexer.specs.Steps.{steps}
 use Rattle.hq_gql_lexer.specs.Strings.{plain_len, source_at, escaped, character_at, characters}
-use Rattle.hq_gql_lexer.specs.Grammar.{IsCharacter, IsPlainRest, closed, character, escape}
-use Rattle.hq_gql_lexer.proofs.TextLemmas.{IsText, IsText-nil, IsText-append, and_parts, or_parts}
+use Rattle.hq_gql_lexer.specs.Grammar.{IsPlainRest, closed, character, escape}
+use Rattle.hq_gql_lexer.proofs.TextLemmas.{IsText, IsText-nil, IsText-append, and_parts}
 use Rattle.hq_gql_lexer.proofs.CharacterLemmas.{is_high, TextParts, none, ascii, wide, text_parts, encode-is_high, length-encode_some, encode-IsText}
 use Rattle.hq_gql_lexer.proofs.EscapeLemmas.{IsInner, plain_len_over, IsEscape, escape_shape}
-use Rattle.hq_gql_lexer.proofs.ReadLemmas.{IsRead, characters_read}
-use Rattle.hq_gql_lexer.proofs.StepsLemmas.{IsFirstStep, steps_first, steps_skip, Copies, IsCopied, copied}
+use Rattle.hq_gql_lexer.proofs.ReadLemmas.{characters_read}
+use Rattle.hq_gql_lexer.proofs.StepsLemmas.{steps_first, steps_skip, Copies, copied}
 
 -- a character past U+007F is passed over, and copied
 pub high_inner : (b : ℕ) → is_high b ≡ true → IsInner b

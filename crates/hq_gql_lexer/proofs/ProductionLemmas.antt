@@ -1,13 +1,12 @@
 -- Names and numbers are texts.
-use Rattle.std.proofs.Common.{◌≡◌, ℕ, Bool, true, false, List, [], ◌∷◌, ◌++◌, refl, sym, subst, inl, inr, ⊎_elim, arith, ◌⊎◌}
-use Rattle.std.specs.Prelude.{◌&&◌, ◌||◌, ◌==◌, MatchBool}
-use Rattle.std.specs.List.{list_all}
+use Rattle.std.proofs.Common.{◌≡◌, ℕ, true, false, List, [], ◌∷◌, ◌++◌, refl, sym, subst, inl, inr, ⊎_elim, arith}
+use Rattle.std.specs.Prelude.{◌||◌, ◌==◌}
 use Rattle.std.specs.Char.{is_ascii_digit}
 use Rattle.std.proofs.lemmas.Bool.{cases_Bool, MatchBool-at_true, MatchBool-at_false}
 use Rattle.std.proofs.lemmas.Bool.Decides.{nat_tests}
 use Rattle.hq_gql_lexer.specs.Characters.{is_name_start, is_name_continue}
 use Rattle.hq_gql_lexer.specs.Grammar.{IsOptional, IsName, IsDigits, IsNatural, IsInteger, IsFraction, IsSignedDigits, IsExponent, IsFloat}
-use Rattle.hq_gql_lexer.proofs.TextLemmas.{IsText, IsText-nil, IsText-append, IsText-byte, IsText-all, is_ascii_text, both, and_parts, or_parts}
+use Rattle.hq_gql_lexer.proofs.TextLemmas.{IsText, IsText-nil, IsText-append, IsText-byte, IsText-all, is_ascii_text, both}
 
 -- a digit is a text
 ascii_digit : (b : ℕ) → is_ascii_digit b ≡ true → is_ascii_text b ≡ true

@@ -1,6 +1,6 @@
 -- Block strings are of their production, and their values before they are laid out are texts.
-use Rattle.std.proofs.Common.{◌≡◌, ℕ, zero, suc, ◌+◌, ◌-◌, ◌<◌, ◌≤◌, Bool, true, false, cond, List, [], ◌∷◌, ◌++◌, length, take, drop, Option, Some, None, Result, Ok, Err, refl, sym, ap, ◌∙◌, subst, ⊎_elim, arith, append_assoc, lit<}
-use Rattle.std.specs.Prelude.{IsTrue, ◌≢◌, ◌==◌, nat_eq}
+use Rattle.std.proofs.Common.{◌≡◌, ℕ, zero, suc, ◌+◌, ◌-◌, ◌<◌, ◌≤◌, Bool, true, false, cond, List, [], ◌∷◌, ◌++◌, length, take, drop, Option, Some, None, Ok, refl, sym, ap, ◌∙◌, subst, ⊎_elim, arith, append_assoc, lit<}
+use Rattle.std.specs.Prelude.{IsTrue, nat_eq}
 use Rattle.std.specs.List.{list_all, starts_with}
 use Rattle.std.specs.Option.{option_map}
 use Rattle.std.specs.Str.{IsUtf8, IsAscii}
@@ -11,17 +11,16 @@ use Rattle.std.proofs.lemmas.Bool.{cases_Bool, cond-true, cond-false, false≢tr
 use Rattle.std.proofs.lemmas.Bool.Decides.{nat_tests}
 use Rattle.std.proofs.lemmas.List.{length-append, length-drop, take-append-le, drop-append-le, take-append-drop}
 use Rattle.std.proofs.lemmas.Str.{encode_ascii, IsUtf8-from_ascii}
-use Rattle.hq_gql_lexer.specs.declared.refusal.LexRefusal.{LexRefusal}
 use Rattle.hq_gql_lexer.specs.declared.characters.Form.TheVariants.{Block}
 use Rattle.hq_gql_lexer.specs.Characters.{is_source}
 use Rattle.hq_gql_lexer.specs.Steps.{steps}
 use Rattle.hq_gql_lexer.specs.Strings.{quotes, block_step, block_len, source_at, character_at, characters}
-use Rattle.hq_gql_lexer.specs.Grammar.{IsCharacter, IsBlockRest, closed, character, escape}
+use Rattle.hq_gql_lexer.specs.Grammar.{IsBlockRest, closed, character, escape}
 use Rattle.hq_gql_lexer.proofs.TextLemmas.{IsText, IsText-nil, IsText-append, IsText-all, is_ascii_text, and_parts}
 use Rattle.hq_gql_lexer.proofs.CharacterLemmas.{is_high, TextParts, none, ascii, wide, text_parts, encode-is_high, length-encode_some, encode-IsText}
 use Rattle.hq_gql_lexer.proofs.OptionLemmas.{option_map-add, option_map-zero}
-use Rattle.hq_gql_lexer.proofs.StepsLemmas.{IsFirstStep, steps_first, steps_skip, Copies, IsCopied, copied}
-use Rattle.hq_gql_lexer.proofs.ReadLemmas.{IsRead, characters_read}
+use Rattle.hq_gql_lexer.proofs.StepsLemmas.{steps_first, steps_skip, Copies, copied}
+use Rattle.hq_gql_lexer.proofs.ReadLemmas.{characters_read}
 use Rattle.hq_gql_lexer.proofs.BlockLemmas.{block_skip}
 use Rattle.hq_gql_lexer.proofs.PlainLemmas.{copies_source, source_first, counted_back, wide_source, source_some, IsUtf8-behind}
 

@@ -1,9 +1,8 @@
 -- Each token is of its production, and what is ignored of its.
-use Rattle.std.proofs.Common.{◌≡◌, ℕ, zero, suc, ◌+◌, ◌-◌, ◌<◌, ◌≤◌, Bool, true, false, cond, List, [], ◌∷◌, ◌++◌, length, take, drop, Option, Some, None, Result, Ok, Err, refl, sym, ap, ◌∙◌, subst, inl, inr, ⊎_elim, arith, ◌⊎◌, append_assoc}
-use Rattle.std.specs.Prelude.{IsTrue, ◌≢◌, ◌&&◌, ◌||◌, ◌==◌, not, nat_eq, nat_lt, MatchOption}
-use Rattle.std.specs.List.{list_all, prefix_len, starts_with}
-use Rattle.std.specs.Option.{ok_or}
-use Rattle.std.proofs.lemmas.Bool.{cases_Bool, cond-true, cond-false, false≢true, eqb-true, eqb-false}
+use Rattle.std.proofs.Common.{◌≡◌, ℕ, zero, suc, ◌<◌, ◌≤◌, Bool, true, false, cond, List, [], ◌∷◌, length, take, drop, Option, Some, None, Result, Ok, Err, refl, sym, ap, ◌∙◌, subst, inl, inr, ⊎_elim, arith, ◌⊎◌}
+use Rattle.std.specs.Prelude.{◌==◌, nat_eq, MatchOption}
+use Rattle.std.specs.List.{prefix_len, starts_with}
+use Rattle.std.proofs.lemmas.Bool.{cases_Bool, cond-true, cond-false, eqb-true, eqb-false}
 use Rattle.hq_gql_lexer.specs.declared.refusal.LexRefusal.{LexRefusal}
 use Rattle.hq_gql_lexer.specs.declared.refusal.LexRefusal.TheVariants.{BadByte}
 use Rattle.hq_gql_lexer.specs.declared.token.Punct.{Punct}
@@ -18,12 +17,12 @@ use Rattle.std.proofs.lemmas.List.Sums.{prefix_len-le-length}
 use Rattle.hq_gql_lexer.proofs.EscapeLemmas.{tested}
 use Rattle.hq_gql_lexer.proofs.ReadLemmas.{unless}
 use Rattle.hq_gql_lexer.proofs.LinesLemmas.{prefix_len_yes, prefix_len_no}
-use Rattle.hq_gql_lexer.proofs.NumberLemmas.{IsNumberInFront, number_in_front, integer_in_front, name_in_front}
+use Rattle.hq_gql_lexer.proofs.NumberLemmas.{number_in_front, integer_in_front, name_in_front}
 use Rattle.hq_gql_lexer.proofs.QuotesLemmas.{begins}
 use Rattle.hq_gql_lexer.proofs.WithinLemmas.{number_within}
 use Rattle.hq_gql_lexer.proofs.TokenLemmas.{IsTokenInFront, same_token}
 use Rattle.hq_gql_lexer.proofs.StringSoundLemmas.{string_sound}
-use Rattle.hq_gql_lexer.proofs.IgnoredLemmas.{IsIgnoredInFront, ignored_sound}
+use Rattle.hq_gql_lexer.proofs.IgnoredLemmas.{ignored_sound}
 use Rattle.hq_gql_lexer.proofs.StepsLemmas.{bind_ok}
 
 -- one test of a byte: its punctuator has this text, or a later test decides

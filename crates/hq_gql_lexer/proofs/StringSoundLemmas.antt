@@ -1,21 +1,20 @@
 -- Strings are of their productions.
-use Rattle.std.proofs.Common.{◌≡◌, ℕ, zero, suc, ◌+◌, ◌-◌, ◌<◌, ◌≤◌, Bool, true, false, cond, List, [], ◌∷◌, ◌++◌, length, take, drop, Option, Some, None, Result, Ok, Err, refl, sym, ap, ◌∙◌, subst, inl, inr, ⊎_elim, arith, append_assoc}
+use Rattle.std.proofs.Common.{◌≡◌, ℕ, ◌+◌, true, false, List, [], ◌∷◌, ◌++◌, length, take, drop, Option, Some, None, Ok, refl, sym, ap, ◌∙◌, subst, inl, inr, ⊎_elim, arith, append_assoc}
 use Rattle.std.specs.Prelude.{◌==◌, nat_eq}
 use Rattle.std.specs.List.{starts_with}
 use Rattle.std.specs.Option.{ok_or}
-use Rattle.std.proofs.lemmas.Bool.{cases_Bool, cond-true, cond-false, false≢true, eqb-true, false_from_ne_true}
-use Rattle.std.proofs.lemmas.List.{length-append, drop-drop, take_at, drop_at}
+use Rattle.std.proofs.lemmas.Bool.{false≢true, eqb-true, false_from_ne_true}
+use Rattle.std.proofs.lemmas.List.{length-append, take_at, drop_at}
 use Rattle.hq_gql_lexer.specs.declared.refusal.LexRefusal.{LexRefusal}
 use Rattle.hq_gql_lexer.specs.declared.refusal.LexRefusal.TheVariants.{OpenString}
 use Rattle.hq_gql_lexer.specs.declared.characters.Form.TheVariants.{Plain, Block}
 use Rattle.hq_gql_lexer.specs.declared.token.TokenKind.{TokenKind}
 use Rattle.hq_gql_lexer.specs.declared.token.TokenKind.TheVariants as kind
 use Rattle.hq_gql_lexer.specs.Characters.{next_is}
-use Rattle.hq_gql_lexer.specs.Steps.{◌>>=◌}
 use Rattle.hq_gql_lexer.specs.Strings.{quotes, plain_len, block_len, characters}
 use Rattle.hq_gql_lexer.specs.BlockStrings.{block_value}
 use Rattle.hq_gql_lexer.specs.Lexemes.{plain_at, block_at, string_at}
-use Rattle.hq_gql_lexer.specs.Grammar.{IsPlainRest, IsBlockRest, IsPlainString, IsBlockString, IsToken}
+use Rattle.hq_gql_lexer.specs.Grammar.{IsPlainString, IsBlockString}
 use Rattle.hq_gql_lexer.proofs.StepsLemmas.{bind_ok}
 use Rattle.hq_gql_lexer.proofs.EscapeLemmas.{tested}
 use Rattle.hq_gql_lexer.proofs.PlainLemmas.{plain_read, closed_by}

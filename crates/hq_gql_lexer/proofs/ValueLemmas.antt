@@ -1,8 +1,7 @@
 -- The value of a block string is a text.
-use Rattle.std.proofs.Common.{◌≡◌, ℕ, zero, suc, ◌+◌, ◌-◌, ◌<◌, ◌≤◌, min, Bool, true, false, cond, List, [], ◌∷◌, ◌++◌, length, take, drop, map, Option, Some, None, refl, sym, ap, ◌∙◌, subst, ⊎_elim, arith, append_assoc}
-use Rattle.std.specs.Prelude.{not, ◌==◌, nat_eq, unwrap_or, ⊤}
+use Rattle.std.proofs.Common.{◌≡◌, ℕ, zero, suc, ◌-◌, ◌<◌, ◌≤◌, min, Bool, true, false, cond, List, [], ◌∷◌, ◌++◌, length, take, drop, map, Option, Some, None, refl, sym, ap, ◌∙◌, subst, ⊎_elim, arith}
+use Rattle.std.specs.Prelude.{◌==◌, nat_eq, unwrap_or, ⊤}
 use Rattle.std.specs.List.{list_all, prefix_len, suffix_len, AllByRecursion, join_with_byte}
-use Rattle.std.specs.Char.{IsScalar}
 use lib.Utf8.{encode}
 use Rattle.std.proofs.lemmas.Bool.{cases_Bool, cond-true, cond-false, eqb-true}
 use Rattle.std.proofs.lemmas.Bool.Decides.{nat_tests}
@@ -10,9 +9,9 @@ use Rattle.std.proofs.lemmas.List.{length-append}
 use Rattle.std.proofs.lemmas.Str.{IsUtf8-from_ascii}
 use Rattle.std.proofs.lemmas.Str.Ascii.{IsAscii-cons, IsAscii-nil}
 use Rattle.hq_base.specs.Text.{has_zero}
-use Rattle.hq_gql_lexer.specs.Characters.{next_is, is_white_space, is_line_end}
+use Rattle.hq_gql_lexer.specs.Characters.{next_is, is_white_space}
 use Rattle.hq_gql_lexer.specs.BlockStrings.{onto_first, lines_of, indent_of, is_blank, lesser, common_indent, dedented, without_blank_front, without_blank_back, block_value}
-use Rattle.hq_gql_lexer.proofs.TextLemmas.{IsText, IsText-nil, IsText-append, IsText-byte, and_parts, or_parts, is_ascii_text}
+use Rattle.hq_gql_lexer.proofs.TextLemmas.{IsText, IsText-nil, IsText-append, IsText-byte, and_parts, or_parts}
 use Rattle.hq_gql_lexer.proofs.CharacterLemmas.{is_high, TextParts, none, ascii, wide, text_parts, encode-is_high, length-encode_some, encode-IsText, IsUtf8-tail}
 use Rattle.hq_gql_lexer.proofs.LinesLemmas.{not_end, inside, prefix_len_yes, prefix_len_no}
 

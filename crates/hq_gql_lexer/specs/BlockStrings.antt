@@ -1,6 +1,6 @@
 -- The value of a block string (GraphQL October 2021, 2.9.4, BlockStringValue).
-use Rattle.std.specs.Prelude.{ℕ, ◌+◌, ◌-◌, min, List, [], ◌∷◌, take, drop, length, map, Bool, ◌==◌, Option, Some, None, if◌then◌else◌, unwrap_or}
-use Rattle.std.specs.List.{list_all, prefix_len, suffix_len, join_with_byte}
+use Rattle.std.specs.Prelude.{ℕ, ◌-◌, min, List, [], ◌∷◌, take, drop, length, map, Bool, ◌==◌, Option, Some, None, if◌then◌else◌, unwrap_or}
+use Rattle.std.specs.List.{prefix_len, suffix_len, join_with_byte}
 use Rattle.hq_gql_lexer.specs.Characters.{next_is, is_white_space}
 
 -- a byte put before the first line

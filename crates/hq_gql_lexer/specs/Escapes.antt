@@ -1,6 +1,5 @@
 -- Escapes in strings (GraphQL October 2021, 2.9.4).
-use Rattle.std.specs.Prelude.{ℕ, ◌+◌, ◌*◌, List, [], ◌∷◌, drop, Bool, ◌&&◌, ◌||◌, ◌==◌, Option, Some, None, if◌then◌else◌, option_and_then, option_map}
-use Rattle.std.specs.List.{list_all}
+use Rattle.std.specs.Prelude.{ℕ, ◌+◌, ◌*◌, List, ◌∷◌, drop, ◌&&◌, ◌||◌, ◌==◌, Option, Some, None, if◌then◌else◌, option_and_then, option_map}
 use Rattle.std.specs.Char.{is_digit, digit_value}
 use Rattle.std.specs.Char.Utf16.{is_high_surrogate, is_low_surrogate, surrogate_pair_char}
 
