@@ -20,7 +20,6 @@ pub record VarDefTree : Type 0 where
   pub default : Option PlacedTree
   pub directives : List DirectiveTree
 
--- what a definition of a variable is seen as
 abbrev pub var_def_view : VarDef → VarDefTree
 var_def_view v = record {
   at = v.at;
@@ -39,7 +38,6 @@ pub record OperationTree : Type 0 where
   pub directives : List DirectiveTree
   pub selections : SelectionTrees
 
--- what an operation is seen as
 abbrev pub operation_view : Operation → OperationTree
 operation_view o = record {
   at = o.at;
@@ -58,7 +56,6 @@ pub record FragmentTree : Type 0 where
   pub directives : List DirectiveTree
   pub selections : SelectionTrees
 
--- what a fragment is seen as
 abbrev pub fragment_view : Fragment → FragmentTree
 fragment_view f = record {
   at = f.at;
@@ -73,7 +70,6 @@ pub data DefinitionTree : Type 0 where
   operation : OperationTree → DefinitionTree
   fragment : FragmentTree → DefinitionTree
 
--- what a definition is seen as
 abbrev pub definition_view : Definition → DefinitionTree
 definition_view (definition.Operation o) = operation (operation_view o)
 definition_view (definition.Fragment f) = fragment (fragment_view f)

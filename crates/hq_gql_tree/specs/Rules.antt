@@ -3,7 +3,7 @@ use Rattle.std.specs.Prelude.{ℕ, List, codes}
 use Rattle.hq_gql_tree.specs.declared.rule.RuleId.{RuleId}
 use Rattle.hq_gql_tree.specs.declared.rule.RuleId.TheVariants as rule
 
--- the number of a rule; those of validation are the numbers of their sections in the GraphQL specification, October 2021
+-- those of validation are the numbers of their sections in the GraphQL specification, October 2021
 unfoldable pub rule_text : RuleId → List ℕ
 rule_text rule.InvalidBody = codes "F1"
 rule_text rule.RequestForm = codes "F2"

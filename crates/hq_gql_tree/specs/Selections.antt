@@ -28,37 +28,33 @@ pub record InlineHead : Type 0 where
   pub cond : Option TypeCond
   pub directives : List DirectiveTree
 
+-- a selection; a field without a selection set has none below it
 mutual
-  -- a selection; a field without a selection set has none below it
   pub data SelectionTree : Type 0 where
     field : FieldHead → SelectionTrees → SelectionTree
     spread : SpreadTree → SelectionTree
     inline : InlineHead → SelectionTrees → SelectionTree
 
-  -- selections, in the order of the text
   pub data SelectionTrees : Type 0 where
     no_selection : SelectionTrees
     selection : SelectionTree → SelectionTrees → SelectionTrees
 
--- the selections of a list
+-- the selections of a list, and the list of selections
 abbrev pub selections_of : List SelectionTree → SelectionTrees
 selections_of [] = no_selection
 selections_of (s ∷ more) = selection s (selections_of more)
 
--- the list of selections
 abbrev pub selections_in : SelectionTrees → List SelectionTree
 selections_in no_selection = []
 selections_in (selection s more) = s ∷ selections_in more
 
--- what a fragment spread is seen as
 abbrev pub spread_view : Spread → SpreadTree
 spread_view s = record { at = s.at; name = s.name; directives = map directive_view s.directives.items }
 
--- a field with its selections
+-- a field and an inline fragment, each with its selections
 abbrev pub FieldTree : Type 0
 FieldTree = FieldHead × SelectionTrees
 
--- an inline fragment with its selections
 abbrev pub InlineTree : Type 0
 InlineTree = InlineHead × SelectionTrees
 
@@ -68,7 +64,6 @@ selection_step (Selection-F.Field f) = field f.0 f.1
 selection_step (Selection-F.Spread s) = spread (spread_view s)
 selection_step (Selection-F.Inline i) = inline i.0 i.1
 
--- one level of a field, whose parts are seen already
 abbrev pub field_step : Field-F SelectionTree FieldTree InlineTree → FieldTree
 field_step f = (
   record {
@@ -81,18 +76,15 @@ field_step f = (
   selections_of f.selections.items,
 )
 
--- one level of an inline fragment, whose parts are seen already
 abbrev pub inline_step : Inline-F SelectionTree FieldTree InlineTree → InlineTree
 inline_step i = (record { at = i.at; cond = i.cond; directives = map directive_view i.directives.items }, selections_of i.selections.items)
 
--- what a selection is seen as
+-- what each is seen as
 abbrev pub selection_view : Selection → SelectionTree
 selection_view = fold-Selection SelectionTree FieldTree InlineTree selection_step field_step inline_step
 
--- what a field is seen as
 abbrev pub field_view : Field → FieldTree
 field_view = fold-Field SelectionTree FieldTree InlineTree selection_step field_step inline_step
 
--- what an inline fragment is seen as
 abbrev pub inline_view : Inline → InlineTree
 inline_view = fold-Inline SelectionTree FieldTree InlineTree selection_step field_step inline_step

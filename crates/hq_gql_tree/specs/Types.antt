@@ -3,7 +3,6 @@ use Rattle.std.specs.Prelude.{ℕ, List}
 use Rattle.hq_gql_tree.specs.declared.type_ref.TypeRefTree.{TypeRefTree, fold-TypeRefTree}
 use Rattle.hq_gql_tree.specs.declared.type_ref.TypeRefTree.TheOpen.{TypeRefTree-F}
 
--- a type: one by its name, a list, or one without null
 pub data TypeTree : Type 0 where
   named : (at : ℕ) (name : List ℕ) → TypeTree
   list : (at : ℕ) → TypeTree → TypeTree

@@ -6,8 +6,8 @@ use Rattle.hq_gql_tree.specs.declared.value.Argument.{Argument, fold-Argument}
 use Rattle.hq_gql_tree.specs.declared.value.Value.TheOpen.{Value-F, Placed-F, Argument-F}
 use Rattle.hq_gql_tree.specs.declared.value.Directive.{Directive}
 
+-- a value; elements and members stand in the order of the text
 mutual
-  -- a value; elements and members stand in the order of the text
   pub data ValueTree : Type 0 where
     int : List ℕ → ValueTree
     float : List ℕ → ValueTree
@@ -19,12 +19,10 @@ mutual
     object : MemberTrees → ValueTree
     variable : List ℕ → ValueTree
 
-  -- the elements of a list, each with its place
   pub data ElementTrees : Type 0 where
     no_element : ElementTrees
     element : (at : ℕ) → ValueTree → ElementTrees → ElementTrees
 
-  -- the members of an object, each with its place, its name and the place of its value
   pub data MemberTrees : Type 0 where
     no_member : MemberTrees
     member : (at : ℕ) (name : List ℕ) → (value_at : ℕ) → ValueTree → MemberTrees → MemberTrees
@@ -40,22 +38,20 @@ pub record ArgumentTree : Type 0 where
   pub name : List ℕ
   pub value : PlacedTree
 
--- the elements of a list
+-- the elements and the members of a list
 abbrev pub elements_of : List PlacedTree → ElementTrees
 elements_of [] = no_element
 elements_of (v ∷ vs) = element v.at v.value (elements_of vs)
 
--- the members of a list of arguments
 abbrev pub members_of : List ArgumentTree → MemberTrees
 members_of [] = no_member
 members_of (a ∷ more) = member a.at a.name a.value.at a.value.value (members_of more)
 
--- the list of elements
+-- the list of elements, and of members
 abbrev pub elements_in : ElementTrees → List PlacedTree
 elements_in no_element = []
 elements_in (element at v vs) = record { at = at; value = v } ∷ elements_in vs
 
--- the list of members
 abbrev pub members_in : MemberTrees → List ArgumentTree
 members_in no_member = []
 members_in (member at name value_at v more) = record { at = at; name = name; value = record { at = value_at; value = v } } ∷ members_in more
@@ -72,23 +68,19 @@ value_step (Value-F.List vs) = list (elements_of vs.items)
 value_step (Value-F.Object ms) = object (members_of ms.items)
 value_step (Value-F.Variable name) = variable name
 
--- one level of a placed value, whose part is seen already
 abbrev pub placed_step : Placed-F ValueTree ArgumentTree PlacedTree → PlacedTree
 placed_step p = record { at = p.at; value = p.value }
 
--- one level of an argument, whose part is seen already
 abbrev pub argument_step : Argument-F ValueTree ArgumentTree PlacedTree → ArgumentTree
 argument_step a = record { at = a.at; name = a.name; value = a.value }
 
--- what a value is seen as
+-- what each is seen as
 abbrev pub value_view : Value → ValueTree
 value_view = fold-Value ValueTree ArgumentTree PlacedTree value_step argument_step placed_step
 
--- what a placed value is seen as
 abbrev pub placed_view : Placed → PlacedTree
 placed_view = fold-Placed ValueTree ArgumentTree PlacedTree value_step argument_step placed_step
 
--- what an argument is seen as
 abbrev pub argument_view : Argument → ArgumentTree
 argument_view = fold-Argument ValueTree ArgumentTree PlacedTree value_step argument_step placed_step
 
@@ -98,6 +90,5 @@ pub record DirectiveTree : Type 0 where
   pub name : List ℕ
   pub args : List ArgumentTree
 
--- what a directive is seen as
 abbrev pub directive_view : Directive → DirectiveTree
 directive_view d = record { at = d.at; name = d.name; args = map argument_view d.args.items }
