@@ -1,5 +1,5 @@
 -- The closing quotes of a block string.
-use Rattle.std.proofs.Common.{◌≡◌, ℕ, zero, suc, ◌+◌, ◌-◌, ◌<◌, ◌≤◌, Bool, true, false, List, [], ◌∷◌, length, drop, Option, Some, None, refl, sym, ap, ◌∙◌, arith, subst}
+use Rattle.std.proofs.Common.{◌≡◌, ℕ, zero, suc, ◌+◌, ◌-◌, ◌<◌, ◌≤◌, true, false, List, [], ◌∷◌, length, drop, Some, refl, sym, ap, ◌∙◌, arith, subst}
 use Rattle.std.specs.Prelude.{nat_eq, slice_range}
 use Rattle.std.specs.List.{starts_with}
 use Rattle.std.specs.Option.{option_map}
@@ -50,6 +50,7 @@ open_more at k bytes rest is_open more cut open_yet e on h =
           ∙ is_open.so_far;
     }
 
+-- where three quotes are next, the block ends
 closed_here : (rest : List ℕ) → 0 < length rest → starts_with nat_eq rest quotes ≡ true → block_len 0 rest ≡ Some 0
 closed_here [] some closed = absurd (omega arith)
 closed_here (b ∷ rest) some closed = cond-true _ (Some 0) _ closed

@@ -1,12 +1,12 @@
 -- Escapes: their bytes, and that nothing else decides them.
-use Rattle.std.proofs.Common.{◌≡◌, ℕ, zero, suc, ◌+◌, ◌*◌, ◌<◌, Bool, true, false, cond, List, [], ◌∷◌, ◌++◌, length, drop, Option, Some, None, refl, sym, ap, ◌∙◌, subst, inl, inr, ⊎_elim, arith, ◌⊎◌, lit<, append_assoc}
-use Rattle.std.specs.Prelude.{◌≢◌, ◌&&◌, ◌||◌, ◌==◌, nat_lt}
+use Rattle.std.proofs.Common.{◌≡◌, ℕ, suc, ◌+◌, ◌*◌, ◌<◌, Bool, true, false, cond, List, [], ◌∷◌, ◌++◌, length, drop, Option, Some, None, refl, sym, ap, ◌∙◌, subst, inl, inr, ⊎_elim, arith, ◌⊎◌, lit<, append_assoc}
+use Rattle.std.specs.Prelude.{◌≢◌, ◌||◌, ◌==◌}
 use Rattle.std.specs.List.{list_all}
-use Rattle.std.specs.Option.{option_map, option_and_then}
+use Rattle.std.specs.Option.{option_map}
 use Rattle.std.specs.Char.{IsScalar, is_digit, digit_value}
 use Rattle.std.specs.Char.Utf16.{is_high_surrogate, is_low_surrogate, surrogate_pair_char}
 use Rattle.std.specs.Str.{IsAscii}
-use Rattle.std.proofs.lemmas.Bool.{cases_Bool, cond-true, cond-false, false≢true, eqb-true, ltb-true}
+use Rattle.std.proofs.lemmas.Bool.{cases_Bool, false≢true, eqb-true, ltb-true}
 use Rattle.std.proofs.lemmas.Bool.Decides.{nat_tests}
 use Rattle.std.proofs.lemmas.Option.{cond_some, option_and_then_some}
 use Rattle.hq_gql_lexer.specs.Characters.{is_line_end}
@@ -16,7 +16,7 @@ use lib.Utf8.{low_scalar}
 use Rattle.std.proofs.lemmas.Str.Ascii.{IsAscii-cons, IsAscii-nil}
 use Rattle.std.proofs.lemmas.Str.{IsAscii-append}
 use Rattle.std.proofs.lemmas.List.{append-nil, drop_at, length-append}
-use Rattle.hq_gql_lexer.proofs.TextLemmas.{and_parts, or_parts, both}
+use Rattle.hq_gql_lexer.proofs.TextLemmas.{and_parts, both}
 use Rattle.hq_gql_lexer.proofs.OptionLemmas.{option_map-add, option_map-zero}
 
 -- a byte that neither ends a plain string or its line nor takes what follows
@@ -29,6 +29,7 @@ pub record IsInner (b : ℕ) : Type 0 where
 pub plain_len_inner : (b : ℕ) (bytes : List ℕ) → IsInner b → plain_len false (b ∷ bytes) ≡ option_map (λ n. 1 + n) (plain_len false bytes)
 plain_len_inner b bytes h = rw h.no_end (rw h.no_quote (rw h.no_slash refl))
 
+-- a front of such bytes is passed over
 pub plain_len_over : (p : ℕ → Bool) → ((b : ℕ) → p b ≡ true → IsInner b) → (front bytes : List ℕ) → list_all p front ≡ true
     → plain_len false (front ++ bytes) ≡ option_map (λ n. length front + n) (plain_len false bytes)
 plain_len_over p inner [] bytes h = option_map-zero (plain_len false bytes)
@@ -44,15 +45,18 @@ plain_len_taken b bytes h = rw h refl
 abbrev pub is_hex : ℕ → Bool
 is_hex b = is_digit b 16
 
+-- a hexadecimal digit is no byte that is none
 hex_differs : (b n : ℕ) → is_hex n ≡ false → is_hex b ≡ true → (b == n) ≡ false
 hex_differs b n other h = ⊎_elim
     (λ (same : (b == n) ≡ true). absurd (false≢true (sym other ∙ ap is_hex (sym (eqb-true b n same)) ∙ h)))
     (λ (apart : (b == n) ≡ false). apart)
     (cases_Bool (b == n))
 
+-- neither of two
 neither : {s t : Bool} → s ≡ false → t ≡ false → (s || t) ≡ false
 neither h k = rw h k
 
+-- a hexadecimal digit is no line end, no quote and no `\`
 hex_inner : (b : ℕ) → is_hex b ≡ true → IsInner b
 hex_inner b h = record {
   no_end = neither (hex_differs b 10 refl h) (hex_differs b 13 refl h);
@@ -60,12 +64,15 @@ hex_inner b h = record {
   no_slash = hex_differs b 92 refl h;
 }
 
+-- a hexadecimal digit is ASCII
 hex_ascii : (b : ℕ) → is_hex b ≡ true → b < 128
 hex_ascii b h = grind (arith, nat_tests)
 
+-- a hexadecimal digit is worth less than 16
 hex_small : (b : ℕ) → is_hex b ≡ true → digit_value b < 16
 hex_small b h = ltb-true (digit_value b) 16 h
 
+-- hexadecimal digits are ASCII
 hex_IsAscii : (digits : List ℕ) → list_all is_hex digits ≡ true → IsAscii digits
 hex_IsAscii [] h = IsAscii-nil
 hex_IsAscii (b ∷ digits) h = let ok = and_parts (is_hex b) (list_all is_hex digits) h in IsAscii-cons b digits (hex_ascii b ok.0) (hex_IsAscii digits ok.1)
@@ -80,9 +87,11 @@ pub record IsUnit (bytes : List ℕ) (unit : ℕ) : Type 0 where
   pub small : unit < 65536
   pub alone : (other : List ℕ) → unit_at (92 ∷ 117 ∷ (digits ++ other)) ≡ Some unit
 
+-- four digits are worth less than 65536
 unit_small : (a b c d unit : ℕ) → a < 16 → b < 16 → c < 16 → d < 16 → ((a * 16 + b) * 16 + c) * 16 + d ≡ unit → unit < 65536
 unit_small a b c d unit ha hb hc hd e = omega arith
 
+-- where a unit is read there are a `\u` and four digits
 pub unit_shape : (bytes : List ℕ) (unit : ℕ) → unit_at bytes ≡ Some unit → IsUnit bytes unit
 unit_shape [] unit h = cc
 unit_shape (x ∷ []) unit h = cc
@@ -129,6 +138,7 @@ pub record IsSimple (e c : ℕ) : Type 0 where
   pub small : c < 128
   pub some : 0 < c
 
+-- a byte that begins a simple escape is no byte that begins none
 simple_apart : (e n c : ℕ) → simple_escape n ≡ None → simple_escape e ≡ Some c → (e == n) ≡ false
 simple_apart e n c other h = ⊎_elim
     (λ (same : (e == n) ≡ true). absurd (none_some (sym other ∙ ap simple_escape (sym (eqb-true e n same)) ∙ h)))
@@ -138,6 +148,7 @@ simple_apart e n c other h = ⊎_elim
     none_some : None ≡ Some c → ⊥
     none_some h = cc
 
+-- the byte of a simple escape ends no line, and stands for an ASCII character that is not zero
 simple_shape : (e c : ℕ) → simple_escape e ≡ Some c → IsSimple e c
 simple_shape e c h = record {
   no_end = neither (simple_apart e 10 c refl h) (simple_apart e 13 c refl h);
@@ -151,12 +162,15 @@ pub record IsCharacterOf (unit c : ℕ) : Type 0 where
   pub is_scalar : IsScalar c
   pub some : c ≢ 0
 
+-- a unit that is no surrogate and not zero is a character
 lone_character : (unit : ℕ) → unit < 65536 → is_high_surrogate unit ≡ false → (is_low_surrogate unit || unit == 0) ≡ false → IsCharacterOf unit unit
 lone_character unit small high low = record { is_scalar = grind (arith, nat_tests); some = grind (arith, nat_tests) }
 
+-- a high surrogate and a low one are a character
 pair_character : (high low : ℕ) → is_high_surrogate high ≡ true → is_low_surrogate low ≡ true → IsCharacterOf high (surrogate_pair_char high low)
 pair_character high low h l = record { is_scalar = grind (arith, nat_tests); some = grind (arith, nat_tests) }
 
+-- the escape of a unit that is read is what its unit and the bytes behind it say
 some_unit : (unit n : ℕ) (bytes : List ℕ) (c : Option (ℕ × ℕ)) → unit_at bytes ≡ Some unit → character_of unit (drop 6 bytes) ≡ c → unicode_escape bytes ≡ c
 unfolding unicode_escape
 some_unit unit n bytes c e f = rw e f
@@ -181,17 +195,20 @@ one_unit more unit u high low =
       some = is.some;
     }
 
+-- the bytes behind a `\` that are two units, cut behind the second
 split_in_two : (more front next second rest : List ℕ) → 92 ∷ more ≡ 92 ∷ 117 ∷ (front ++ next) → next ≡ 92 ∷ 117 ∷ (second ++ rest)
     → more ≡ 117 ∷ ((front ++ 92 ∷ 117 ∷ second) ++ rest)
 split_in_two more front next second rest e f =
     let begins : more ≡ 117 ∷ (front ++ next) = cc in
     begins ∙ ap (λ bytes. 117 ∷ (front ++ bytes)) f ∙ ap (λ bytes. 117 ∷ bytes) (sym (append_assoc front (92 ∷ 117 ∷ second) rest))
 
+-- five counts of bytes, one after the other, are one
 counted : (k m j : ℕ) (found : Option ℕ) → 3 + k + m ≡ j
     → option_map (λ n. 1 + n) (option_map (λ n. k + n) (option_map (λ n. 1 + n) (option_map (λ n. 1 + n) (option_map (λ n. m + n) found)))) ≡ option_map (λ n. j + n) found
 counted k m j None e = refl
 counted k m j (Some n) e = ap Some (omega arith)
 
+-- two units hold no closing quote
 passes_two : (front second tail : List ℕ) → list_all is_hex front ≡ true → list_all is_hex second ≡ true
     → plain_len true (117 ∷ ((front ++ 92 ∷ 117 ∷ second) ++ tail)) ≡ option_map (λ n. suc (length (front ++ 92 ∷ 117 ∷ second)) + n) (plain_len false tail)
 passes_two front second tail h k =
@@ -229,15 +246,18 @@ pub tested : {A : Type 0} (t : Bool) (x y z : A) → cond t x y ≡ z → ((t �
 tested true x y z h = inl (refl, h)
 tested false x y z h = inr (refl, h)
 
+-- equal answers are of the same escape
 same_escape : (more : List ℕ) (x y : ℕ × ℕ) → Some x ≡ Some y → IsEscape more x.0 x.1 → IsEscape more y.0 y.1
 same_escape more x y e is =
     let same : x ≡ y = cc in
     subst (λ p. IsEscape more p.0 p.1) same is
 
+-- where a pair is answered, its test has passed
 paired : (t : Bool) (x : ℕ) (y : ℕ × ℕ) → option_map (λ c. (c, 12)) (cond t (Some x) None) ≡ Some y → (t ≡ true) × (◌≡◌ {A = Option (ℕ × ℕ)} (Some (x, 12)) (Some y))
 paired true x y h = (refl, h)
 paired false x y h = cc
 
+-- a `\u` escape of two units
 pair_shape : (more : List ℕ) (unit : ℕ) (c : ℕ × ℕ) (u : IsUnit (92 ∷ more) unit) (second : Option ℕ) → is_high_surrogate unit ≡ true
     → unit_at u.rest ≡ second → option_map (λ c. (c, 12)) (pair_of unit second) ≡ Some c → IsEscape more c.0 c.1
 pair_shape more unit c u None high e h = cc
@@ -245,10 +265,12 @@ pair_shape more unit c u (Some low) high e h =
     let found = paired (is_low_surrogate low) (surrogate_pair_char unit low) c h in
     same_escape more (surrogate_pair_char unit low, 12) c found.1 (two_units more unit low u (unit_shape u.rest low e) high found.0)
 
+-- where a lone unit is answered, its test has failed
 alone_of : (t : Bool) (x y : ℕ × ℕ) → cond t None (Some x) ≡ Some y → (t ≡ false) × (Some x ≡ Some y)
 alone_of true x y h = cc
 alone_of false x y h = (refl, h)
 
+-- a `\u` escape, by its unit
 unicode_shape : (more : List ℕ) (unit c n : ℕ) (u : IsUnit (92 ∷ more) unit) → character_of unit u.rest ≡ Some (c, n) → IsEscape more c n
 unicode_shape more unit c n u h = ⊎_elim
     (λ (pair : (is_high_surrogate unit ≡ true) × (option_map (λ c. (c, 12)) (pair_of unit (unit_at u.rest)) ≡ Some (c, n))).
@@ -258,9 +280,11 @@ unicode_shape more unit c n u h = ⊎_elim
     same_escape more (unit, 6) (c, n) found.1 (one_unit more unit u lone.0 found.0))
     (tested (is_high_surrogate unit) _ _ _ h)
 
+-- a unit takes six bytes
 behind_unit : (bytes : List ℕ) (unit : ℕ) (u : IsUnit bytes unit) → drop 6 bytes ≡ u.rest
 behind_unit bytes unit u = ap (drop 6) u.split ∙ drop_at u.digits u.rest 4 u.four
 
+-- a simple escape
 simple_is_escape : (e : ℕ) (rest : List ℕ) (c : ℕ) → simple_escape e ≡ Some c → IsEscape (e ∷ rest) c 2
 unfolding escape_at
 simple_is_escape e rest c h =
@@ -277,6 +301,7 @@ simple_is_escape e rest c h =
       some = omega (arith, is.some);
     }
 
+-- each escape that is read: its bytes, its character, and that no closing quote is among them
 pub escape_shape : (more : List ℕ) (c n : ℕ) → escape_at (92 ∷ more) ≡ Some (c, n) → IsEscape more c n
 unfolding escape_at unicode_escape
 escape_shape [] c n h = cc

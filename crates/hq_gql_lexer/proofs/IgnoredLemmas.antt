@@ -1,23 +1,22 @@
 -- What is ignored is of its productions.
-use Rattle.std.proofs.Common.{◌≡◌, ℕ, zero, suc, ◌+◌, ◌-◌, ◌<◌, ◌≤◌, Bool, true, false, cond, List, [], ◌∷◌, ◌++◌, length, take, drop, Option, Some, None, Result, Ok, Err, refl, sym, ap, ◌∙◌, subst, inl, inr, ⊎_elim, arith, ◌⊎◌}
-use Rattle.std.specs.Prelude.{IsTrue, ◌&&◌, ◌==◌, not, nat_eq, nat_lt}
+use Rattle.std.proofs.Common.{◌≡◌, ℕ, zero, suc, ◌+◌, ◌<◌, ◌≤◌, Bool, true, false, cond, List, [], ◌∷◌, ◌++◌, length, take, drop, Option, Some, None, Result, Ok, Err, refl, sym, ap, ◌∙◌, subst, inl, inr, ⊎_elim, arith, ◌⊎◌}
+use Rattle.std.specs.Prelude.{IsTrue, ◌==◌, not, nat_eq, nat_lt}
 use Rattle.std.specs.List.{list_all, prefix_len, starts_with}
 use Rattle.std.specs.Str.{IsUtf8}
 use Rattle.std.specs.Str.Lossy.{utf8_valid_len}
 use lib.Utf8.{encode, low_scalar}
-use Rattle.std.proofs.lemmas.Bool.{cases_Bool, cond-true, cond-false, false≢true, eqb-true, ltb-false, cases_lt}
-use Rattle.std.proofs.lemmas.Bool.Decides.{nat_tests}
-use Rattle.std.proofs.lemmas.List.{length-append, length-take, length-take-le, length-drop, take_all, drop_all}
+use Rattle.std.proofs.lemmas.Bool.{false≢true, eqb-true, ltb-false, cases_lt}
+use Rattle.std.proofs.lemmas.List.{length-append, length-take, length-take-le, take_all, drop_all}
 use Rattle.std.proofs.lemmas.List.Folds.{list_all-append}
 use Rattle.std.proofs.lemmas.List.Sums.{prefix_len-le-length}
 use Rattle.std.proofs.lemmas.Str.{encode_ascii}
 use Rattle.hq_gql_lexer.specs.declared.refusal.LexRefusal.{LexRefusal}
-use Rattle.hq_gql_lexer.specs.Characters.{next_is, is_line_end, is_white_space, is_source}
+use Rattle.hq_gql_lexer.specs.Characters.{next_is, is_line_end, is_source}
 use Rattle.hq_gql_lexer.specs.Steps.{◌>>=◌}
 use Rattle.hq_gql_lexer.specs.Lexemes.{comment_at, byte_order_mark, is_ignored, ignored_at}
-use Rattle.hq_gql_lexer.specs.Grammar.{IsCharacter, IsCommentRest, nothing, character, IsComment, IsIgnored}
+use Rattle.hq_gql_lexer.specs.Grammar.{IsCommentRest, nothing, character, IsComment, IsIgnored}
 use Rattle.hq_gql_lexer.proofs.TextLemmas.{and_parts}
-use Rattle.hq_gql_lexer.proofs.CharacterLemmas.{is_high, TextParts, none, ascii, wide, text_parts, encode-is_high, length-encode_some}
+use Rattle.hq_gql_lexer.proofs.CharacterLemmas.{TextParts, none, ascii, wide, text_parts, length-encode_some}
 use Rattle.hq_gql_lexer.proofs.LinesLemmas.{not_end, end_after}
 use Rattle.hq_gql_lexer.proofs.NumberLemmas.{all_in_front}
 use Rattle.hq_gql_lexer.proofs.EscapeLemmas.{tested}
@@ -26,10 +25,12 @@ use Rattle.hq_gql_lexer.proofs.StepsLemmas.{bind_ok}
 use Rattle.hq_gql_lexer.proofs.PlainLemmas.{wide_source, wide_no_end}
 use Rattle.hq_gql_lexer.proofs.QuotesLemmas.{begins}
 
+-- what is not so is false
 not_true : (t : Bool) → not t ≡ true → t ≡ false
 not_true true h = absurd (false≢true h)
 not_true false h = refl
 
+-- what holds of all bytes holds of the rest
 all_parts : (p : ℕ → Bool) (front rest : List ℕ) → list_all p (front ++ rest) ≡ true → list_all p rest ≡ true
 all_parts p front rest h = (and_parts (list_all p front) (list_all p rest) (sym (list_all-append p front rest) ∙ h)).1
 
@@ -54,9 +55,11 @@ pub record IsCommentInFront (bytes : List ℕ) (n : ℕ) : Type 0 where
   pub is_rest : IsCommentRest (take n bytes)
   pub ends : (drop n bytes ≡ []) ⊎ IsTrue (next_is is_line_end (drop n bytes))
 
+-- a test that all bytes pass, by how far they go
 all_of_prefix : (p : ℕ → Bool) (bytes : List ℕ) → length bytes ≤ prefix_len p bytes → list_all p bytes ≡ true
 all_of_prefix p bytes h = ap (list_all p) (sym (take_all (prefix_len p bytes) bytes h)) ∙ all_in_front p bytes
 
+-- what is taken as a comment is one
 comment_sound : (at : ℕ) (bytes : List ℕ) (n : ℕ) → comment_at at bytes ≡ Ok n → IsCommentInFront bytes n
 unfolding comment_at
 comment_sound at bytes n h =
@@ -91,15 +94,18 @@ pub record IsIgnoredInFront (bytes : List ℕ) (n : ℕ) : Type 0 where
   pub within : n ≤ length bytes
   pub is : IsIgnored (take n bytes) (drop n bytes)
 
+-- white space, a line end and a comma are ignored
 one_ignored : (bytes : List ℕ) → next_is is_ignored bytes ≡ true → IsIgnoredInFront bytes 1
 one_ignored [] h = absurd (false≢true h)
 one_ignored (b ∷ bytes) h = record { some = omega arith; within = omega arith; is = inl (b, refl, h) }
 
+-- a byte order mark is ignored
 mark_ignored : (bytes : List ℕ) → starts_with nat_eq bytes byte_order_mark ≡ true → IsIgnoredInFront bytes 3
 mark_ignored bytes h =
     let split = begins byte_order_mark bytes h in
     record { some = omega arith; within = omega (arith, ap length split); is = inr (inl (ap (take 3) split)) }
 
+-- a comment is ignored
 comment_ignored : (bytes : List ℕ) (n : ℕ) → next_is (λ b. b == 35) bytes ≡ true → IsCommentInFront (drop 1 bytes) n → IsIgnoredInFront bytes (n + 1)
 comment_ignored [] n h is = absurd (false≢true h)
 comment_ignored (b ∷ bytes) n h is =
@@ -112,9 +118,11 @@ comment_ignored (b ∷ bytes) n h is =
     } in
     subst (IsIgnoredInFront (b ∷ bytes)) (sym count) (record { some = omega arith; within = omega (arith, is.within); is = inr (inr comment) })
 
+-- equal answers have equal counts
 same_count : (n m : ℕ) → ◌≡◌ {A = Result (Option ℕ) LexRefusal} (Ok (Some n)) (Ok (Some m)) → n ≡ m
 same_count n m h = cc
 
+-- what is ignored is of the productions
 pub ignored_sound : (at : ℕ) (bytes : List ℕ) (n : ℕ) → ignored_at at bytes ≡ Ok (Some n) → IsIgnoredInFront bytes n
 unfolding ignored_at
 ignored_sound at bytes n h = ⊎_elim

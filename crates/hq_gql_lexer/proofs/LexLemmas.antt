@@ -1,6 +1,6 @@
 -- The tokens of a text are those of the productions, in order.
-use Rattle.std.proofs.Common.{◌≡◌, ℕ, zero, suc, ◌+◌, ◌-◌, ◌<◌, ◌≤◌, List, [], ◌∷◌, ◌++◌, length, take, drop, Option, Some, None, Result, Ok, Err, refl, sym, ap, ◌∙◌, subst, inl, inr, arith}
-use Rattle.std.specs.Prelude.{MatchOption, IfOk}
+use Rattle.std.proofs.Common.{◌≡◌, ℕ, zero, suc, ◌+◌, ◌-◌, ◌<◌, ◌≤◌, List, [], ◌∷◌, ◌++◌, length, take, drop, Option, Some, None, Result, Ok, Err, sym, ap, ◌∙◌, subst, inl, inr, arith}
+use Rattle.std.specs.Prelude.{IfOk}
 use Rattle.std.proofs.lemmas.List.{length-append, length-drop, length-take-le, take-append-drop}
 use Rattle.hq_base.specs.Due.{Gives}
 use Rattle.hq_gql_lexer.specs.declared.refusal.LexRefusal.{LexRefusal}
@@ -8,13 +8,13 @@ use Rattle.hq_gql_lexer.specs.declared.refusal.LexRefusal.TheVariants as refusal
 use Rattle.hq_gql_lexer.specs.declared.token.Token.{Token}
 use Rattle.hq_gql_lexer.specs.declared.token.TokenKind.{TokenKind}
 use Rattle.hq_gql_lexer.specs.declared.token.TokenKind.TheVariants as kind
-use Rattle.hq_gql_lexer.specs.Steps.{◌>>=◌, steps}
+use Rattle.hq_gql_lexer.specs.Steps.{steps}
 use Rattle.hq_gql_lexer.specs.Lexemes.{lexeme_at, tokens_in, tokens_at, tokens_of}
 use Rattle.hq_gql_lexer.specs.declared.token.Punct.{Punct}
 use Rattle.hq_gql_lexer.specs.declared.token.Punct.TheVariants as punct
-use Rattle.hq_gql_lexer.specs.Grammar.{punct_text, IsName, IsInteger, IsToken, IsIgnored, Lexes, nothing, ignored, token}
+use Rattle.hq_gql_lexer.specs.Grammar.{punct_text, IsName, IsInteger, IsToken, Lexes, nothing, ignored, token}
 use Rattle.hq_gql_lexer.specs.Spans.{AreInOrder}
-use Rattle.hq_gql_lexer.proofs.StepsLemmas.{bind_ok, IsFirstStep, steps_first, steps_from}
+use Rattle.hq_gql_lexer.proofs.StepsLemmas.{bind_ok, steps_first, steps_from}
 use Rattle.hq_gql_lexer.proofs.SoundLemmas.{IsLexeme, lexeme_sound}
 
 -- one lexeme, and what comes after it
@@ -33,6 +33,7 @@ lexes_one at bytes (Some k) n others is behind =
     subst (λ text. Lexes at text (record { from = at; to = at + n; kind = k } ∷ others)) (take-append-drop n bytes)
     (subst (λ j. Lexes at (take n bytes ++ drop n bytes) (record { from = at; to = at + j; kind = k } ∷ others)) len built)
 
+-- what the steps make from a place on is of the productions
 lexes_from : (m at : ℕ) (bytes : List ℕ) (tokens : List Token) → length bytes < m → steps tokens_at 0 at bytes ≡ Ok tokens → Lexes at bytes tokens
 lexes_from zero at bytes tokens h e = absurd (omega arith)
 lexes_from (suc m) at [] tokens h e = let none : [] ≡ tokens = cc in subst (Lexes at []) none (nothing at)
@@ -70,14 +71,17 @@ punct_some punct.OpenBrace = omega arith
 punct_some punct.Pipe = omega arith
 punct_some punct.CloseBrace = omega arith
 
+-- no name is empty
 name_some : (text : List ℕ) → IsName text → 0 < length text
 name_some [] h = absurd h
 name_some (b ∷ text) h = omega arith
 
+-- no whole number is empty
 integer_some : (text : List ℕ) → IsInteger text → 0 < length text
 integer_some [] h = absurd h
 integer_some (b ∷ text) h = omega arith
 
+-- no token is empty
 token_some : (text next : List ℕ) (k : TokenKind) → IsToken text next k → 0 < length text
 token_some text next (kind.Punct p) is = subst (λ t. 0 < length t) (sym is) (punct_some p)
 token_some text next (kind.Name name) is = name_some text is.1
@@ -87,10 +91,12 @@ token_some text next (kind.Float number) is =
 token_some text next (kind.Str value) (inl string) = omega (arith, ap length string.opened)
 token_some text next (kind.Str value) (inr string) = omega (arith, ap length string.opened)
 
+-- tokens that stand behind a place stand behind each earlier one
 in_order_from : (from from' to : ℕ) (tokens : List Token) → from' ≤ from → AreInOrder from to tokens → AreInOrder from' to tokens
 in_order_from from from' to [] h is = omega arith
 in_order_from from from' to (t ∷ ts) h is = (omega (arith, is.0), is.1, is.2)
 
+-- the spans of tokens are in order, within the text
 spans : (at : ℕ) (text : List ℕ) (tokens : List Token) → Lexes at text tokens → AreInOrder at (at + length text) tokens
 spans at text tokens (nothing at') = omega arith
 spans at text tokens (ignored at' front next ts is more) =
@@ -102,10 +108,12 @@ spans at text tokens (token at' k front next ts is more) =
     let some = token_some front next k is in
     (omega arith, omega (arith, some), subst (λ to. AreInOrder (at' + length front) to ts) (omega (arith, length-append front next)) inner)
 
+-- so are those of an answer
 pub given_lexes : (text : List ℕ) (result : Result (List Token) LexRefusal) → Gives (λ t. t) refusal.Memory (tokens_of text) result → IfOk result (λ tokens. Lexes 0 text tokens)
 given_lexes text (Ok tokens) h = tokens_of-Lexes text tokens h
 given_lexes text (Err e) h = tt
 
+-- so are those of an answer
 pub given_spans : (text : List ℕ) (result : Result (List Token) LexRefusal) → Gives (λ t. t) refusal.Memory (tokens_of text) result → IfOk result (λ tokens. AreInOrder 0 (length text) tokens)
 given_spans text (Ok tokens) h = subst (λ to. AreInOrder 0 to tokens) (omega arith) (spans 0 text tokens (tokens_of-Lexes text tokens h))
 given_spans text (Err e) h = tt

@@ -7,7 +7,7 @@ use Rattle.std.proofs.lemmas.Bool.{cases_Bool, cond-true, cond-false, false≢tr
 use Rattle.std.proofs.lemmas.List.{append-nil, length-map, map-append, length-drop}
 use Rattle.std.proofs.lemmas.Slice.{between_to_end}
 use Rattle.hq_gql_lexer.specs.Characters.{is_line_end, next_is}
-use Rattle.hq_gql_lexer.specs.BlockStrings.{onto_first, lines_of, indent_of, is_blank, lesser, common_indent}
+use Rattle.hq_gql_lexer.specs.BlockStrings.{onto_first, lines_of, lesser}
 
 -- a test of what a list is mapped to
 pub prefix_len-map : {X Y : Type 0} (p : Y → Bool) (f : X → Y) (xs : List X) → prefix_len p (map f xs) ≡ prefix_len (λ x. p (f x)) xs
@@ -18,6 +18,7 @@ prefix_len-map p f (x ∷ xs) = ap (λ n. cond (p (f x)) (1 + n) 0) (prefix_len-
 abbrev pub not_end : ℕ → Bool
 not_end b = not (is_line_end b)
 
+-- a map of a list from behind
 reverse-map : {X Y : Type 0} (f : X → Y) (xs : List X) → reverse (map f xs) ≡ map f (reverse xs)
 reverse-map f [] = refl
 reverse-map f (x ∷ xs) =
@@ -33,6 +34,7 @@ abbrev pub least_with : Option ℕ → Option ℕ → Option ℕ
 least_with None other = other
 least_with (Some n) other = lesser n other
 
+-- the least of three numbers, two by two
 lesser_twice : (n m : ℕ) (other : Option ℕ) → lesser n (lesser m other) ≡ lesser (min n m) other
 lesser_twice n m None = refl
 lesser_twice n m (Some k) = ap Some (omega arith)
@@ -56,6 +58,7 @@ neither true t x y z h = absurd (false≢true h)
 neither false true x y z h = absurd (false≢true h)
 neither false false x y z h = refl
 
+-- a byte that ends no line stands on the first one
 pub inside : (b : ℕ) (bytes : List ℕ) → not_end b ≡ true → lines_of (b ∷ bytes) ≡ onto_first b (lines_of bytes)
 inside b bytes h = neither (b == 10) (b == 13) _ _ _ h
 
@@ -63,6 +66,7 @@ inside b bytes h = neither (b == 10) (b == 13) _ _ _ h
 pub prefix_len_yes : {X : Type 0} (p : X → Bool) (x : X) (xs : List X) → p x ≡ true → prefix_len p (x ∷ xs) ≡ suc (prefix_len p xs)
 prefix_len_yes p x xs h = cond-true (p x) (1 + prefix_len p xs) 0 h ∙ omega arith
 
+-- a front ends at what fails the test
 pub prefix_len_no : {X : Type 0} (p : X → Bool) (x : X) (xs : List X) → p x ≡ false → prefix_len p (x ∷ xs) ≡ 0
 prefix_len_no p x xs h = cond-false (p x) (1 + prefix_len p xs) 0 h
 
@@ -98,6 +102,7 @@ end_of true t h = refl
 end_of false true h = refl
 end_of false false h = absurd (false≢true (sym h))
 
+-- behind a line that is not the last there is a line end
 pub end_after : (bytes : List ℕ) → prefix_len not_end bytes < length bytes → next_is is_line_end (drop (prefix_len not_end bytes) bytes) ≡ true
 end_after [] some = absurd (omega arith)
 end_after (b ∷ bytes) some = ⊎_elim
@@ -117,6 +122,7 @@ lines_end so_far all rest line after n e len front back none =
     let whole : length rest ≤ prefix_len not_end rest = omega (arith, len, ap length back, length-drop n rest) in
     ap (λ l. so_far ++ l ∷ []) (front ∙ ap (λ k. take k rest) len) ∙ ap (λ ls. so_far ++ ls) (sym (line_last rest whole)) ∙ e
 
+-- a turn of the loop over lines: one line more, and those of what follows its end
 pub lines_on : (so_far all : List (List ℕ)) (rest line after next : List ℕ) (n : ℕ)
     → so_far ++ lines_of rest ≡ all → n ≡ prefix_len not_end rest → line ≡ take n rest → after ≡ drop n rest → 0 < length after
     → (IsTrue (next_is is_line_end after) → lines_of after ≡ [] ∷ lines_of next)

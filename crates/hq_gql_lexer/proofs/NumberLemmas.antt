@@ -27,14 +27,17 @@ all_in_front p (b ∷ bytes) = ⊎_elim
 pub matched_true : {s : Bool} (P Q : Type 0) → s ≡ true → P → MatchBool s P Q
 matched_true P Q h p = subst (λ t. MatchBool t P Q) (sym h) p
 
+-- the second of two cases, where the test fails
 pub matched_false : {s : Bool} (P Q : Type 0) → s ≡ false → Q → MatchBool s P Q
 matched_false P Q h q = subst (λ t. MatchBool t P Q) (sym h) q
 
+-- the digits that are counted are digits, one or more
 digits_in_front : (bytes : List ℕ) → next_is is_ascii_digit bytes ≡ true → IsDigits (take (digits_len bytes) bytes)
 digits_in_front [] h = absurd (false≢true h)
 digits_in_front (b ∷ bytes) h =
     subst (λ n. IsDigits (take n (b ∷ bytes))) (sym (prefix_len_yes is_ascii_digit b bytes h)) (both h (all_in_front is_ascii_digit bytes))
 
+-- what is counted as digits without a leading 0 is so
 natural_in_front : (bytes : List ℕ) → next_is is_ascii_digit bytes ≡ true → IsNatural (take (natural_len bytes) bytes)
 natural_in_front [] h = absurd (false≢true h)
 natural_in_front (b ∷ bytes) h = ⊎_elim
@@ -50,16 +53,20 @@ unsigned : (text : List ℕ) → next_is (λ b. b == 45) text ≡ false → IsNa
 unsigned [] plain is_natural = is_natural
 unsigned (b ∷ text) plain is_natural = matched_false _ _ plain is_natural
 
+-- a byte that fails a test fails it also where the text is cut behind it
 next_is-take : (p : ℕ → Bool) (n b : ℕ) (bytes : List ℕ) → p b ≡ false → next_is p (take n (b ∷ bytes)) ≡ false
 next_is-take p zero b bytes h = refl
 next_is-take p (suc n) b bytes h = h
 
+-- behind a `-` at which a number starts there is a digit
 digit_or : (b : ℕ) (more : Bool) → (is_ascii_digit b || b == 45 && more) ≡ true → (b == 45) ≡ true → more ≡ true
 digit_or b more h minus = grind (arith, nat_tests)
 
+-- a number that starts with no `-` starts with a digit
 digit_alone : (b : ℕ) (more : Bool) → (is_ascii_digit b || b == 45 && more) ≡ true → (b == 45) ≡ false → is_ascii_digit b ≡ true
 digit_alone b more h plain = grind (arith, nat_tests)
 
+-- what is counted as an IntegerPart is one
 pub integer_in_front : (bytes : List ℕ) → starts_number bytes ≡ true → IsInteger (take (integer_len bytes) bytes)
 integer_in_front [] h = absurd (false≢true h)
 integer_in_front (b ∷ bytes) h = ⊎_elim
@@ -75,6 +82,7 @@ integer_in_front (b ∷ bytes) h = ⊎_elim
     (unsigned (take n (b ∷ bytes)) (next_is-take (λ b. b == 45) n b bytes plain) (natural_in_front (b ∷ bytes) (digit_alone b (next_is is_ascii_digit bytes) h plain))))
     (cases_Bool (b == 45))
 
+-- what is counted as a FractionalPart is one, or nothing
 pub fraction_in_front : (bytes : List ℕ) → IsOptional IsFraction (take (fraction_len bytes) bytes)
 fraction_in_front [] = inl refl
 fraction_in_front (b ∷ bytes) =
@@ -93,6 +101,7 @@ unsigned_digits : (text : List ℕ) → next_is (λ b. b == 43 || b == 45) text 
 unsigned_digits [] plain is_digits = is_digits
 unsigned_digits (b ∷ text) plain is_digits = matched_false _ _ plain is_digits
 
+-- what is counted as digits behind a sign is so
 signed_in_front : (bytes : List ℕ) → 0 < signed_digits_len bytes → IsSignedDigits (take (signed_digits_len bytes) bytes)
 signed_in_front [] some = absurd (omega arith)
 signed_in_front (b ∷ bytes) some = ⊎_elim
@@ -124,6 +133,7 @@ signed_in_front (b ∷ bytes) some = ⊎_elim
     (cases_Bool (is_ascii_digit b)))
     (cases_Bool (b == 43 || b == 45))
 
+-- what is counted as an ExponentPart is one, or nothing
 pub exponent_in_front : (bytes : List ℕ) → IsOptional IsExponent (take (exponent_len bytes) bytes)
 exponent_in_front [] = inl refl
 exponent_in_front (b ∷ bytes) =
@@ -144,19 +154,24 @@ pub record IsNumberInFront (bytes : List ℕ) : Type 0 where
   pub is_float : integer_len bytes < number_len bytes → IsFloat (take (number_len bytes) bytes)
   pub at_least : integer_len bytes ≤ number_len bytes
 
+-- a front of three parts
 cut_in_three : (w f e : ℕ) (bytes : List ℕ) → take (w + f + e) bytes ≡ take w bytes ++ (take f (drop w bytes) ++ take e (drop (w + f) bytes))
 cut_in_three w f e bytes = take-add (w + f) e bytes ∙ ap (λ xs. xs ++ take e (drop (w + f) bytes)) (take-add w f bytes) ∙ append_assoc (take w bytes) _ _
 
+-- what makes a front longer is not empty
 longer_by_some : (w n : ℕ) (bytes more : List ℕ) → take n bytes ≡ take w bytes ++ more → w < n → n ≤ length bytes → more ≢ []
 longer_by_some w n bytes more cut longer within none = absurd
     (omega (arith, ap length cut, ap length none, length-append (take w bytes) more, length-take n bytes, length-take w bytes))
 
+-- a sum is no less than its first part
 at_least : (w f e : ℕ) → w ≤ w + f + e
 at_least w f e = omega arith
 
+-- a number that is no less is equal or more
 same_or_more : (w n : ℕ) → w ≤ n → (n ≡ w) ⊎ (w < n)
 same_or_more w n h = grind arith
 
+-- what is counted as a number is a whole one where it is an IntegerPart alone, and else a FloatValue
 pub number_in_front : (bytes : List ℕ) → starts_number bytes ≡ true → number_len bytes ≤ length bytes → IsNumberInFront bytes
 number_in_front bytes h within =
     let whole = integer_len bytes in
@@ -178,6 +193,7 @@ number_in_front bytes h within =
       at_least = at_least whole fraction exponent;
     }
 
+-- a number is a text
 pub number-IsText : (bytes : List ℕ) → starts_number bytes ≡ true → number_len bytes ≤ length bytes → IsText (take (number_len bytes) bytes)
 number-IsText bytes h within =
     let found = number_in_front bytes h within in

@@ -1,9 +1,7 @@
 -- Plain strings are of their production, and their values are texts.
-use Rattle.std.proofs.Common.{◌≡◌, ℕ, zero, suc, ◌+◌, ◌-◌, ◌<◌, ◌≤◌, Bool, true, false, cond, List, [], ◌∷◌, ◌++◌, length, take, drop, Option, Some, None, Result, Ok, Err, refl, sym, ap, ◌∙◌, subst, inl, inr, ⊎_elim, arith, append_assoc, ◌⊎◌}
-use Rattle.std.specs.Prelude.{IsTrue, not, ◌≢◌, ◌&&◌, ◌||◌, ◌==◌, nat_le, nat_lt}
-use Rattle.std.specs.List.{list_all}
+use Rattle.std.proofs.Common.{◌≡◌, ℕ, zero, suc, ◌+◌, ◌-◌, ◌<◌, ◌≤◌, Bool, true, false, cond, List, [], ◌∷◌, ◌++◌, length, take, drop, Option, Some, None, Result, Ok, Err, refl, sym, ap, ◌∙◌, subst, ⊎_elim, arith, append_assoc}
+use Rattle.std.specs.Prelude.{IsTrue, not, ◌≢◌, ◌&&◌, ◌==◌}
 use Rattle.std.specs.Option.{option_map}
-use Rattle.std.specs.Char.{IsScalar}
 use Rattle.std.specs.Str.{IsUtf8}
 use lib.Utf8.{encode, low_scalar}
 use Rattle.std.proofs.lemmas.Bool.{cases_Bool, cond-true, cond-false, false≢true, eqb-true, eqb-false}
@@ -11,28 +9,31 @@ use Rattle.std.proofs.lemmas.Bool.Decides.{nat_tests}
 use Rattle.std.proofs.lemmas.List.{length-append, drop_at, take_at}
 use Rattle.std.proofs.lemmas.Str.{encode_ascii, IsUtf8-drop, IsCharBoundary-from_take, IsUtf8-from_ascii}
 use Rattle.hq_gql_lexer.specs.declared.refusal.LexRefusal.{LexRefusal}
-use Rattle.hq_gql_lexer.specs.declared.characters.Form.TheVariants.{Plain, Block}
-use Rattle.hq_gql_lexer.specs.Characters.{next_is, is_line_end, is_source}
+use Rattle.hq_gql_lexer.specs.declared.characters.Form.TheVariants.{Plain}
+use Rattle.hq_gql_lexer.specs.Characters.{is_line_end, is_source}
 use Rattle.hq_gql_lexer.specs.Escapes.{escape_at}
-use Rattle.hq_gql_lexer.specs.Steps.{◌>>=◌, Step, steps}
+use Rattle.hq_gql_lexer.specs.Steps.{steps}
 use Rattle.hq_gql_lexer.specs.Strings.{plain_len, source_at, escaped, character_at, characters}
-use Rattle.hq_gql_lexer.specs.Grammar.{IsCharacter, IsPlainRest, closed, character, escape}
-use Rattle.hq_gql_lexer.proofs.TextLemmas.{IsText, IsText-nil, IsText-append, and_parts, or_parts}
+use Rattle.hq_gql_lexer.specs.Grammar.{IsPlainRest, closed, character, escape}
+use Rattle.hq_gql_lexer.proofs.TextLemmas.{IsText, IsText-nil, IsText-append, and_parts}
 use Rattle.hq_gql_lexer.proofs.CharacterLemmas.{is_high, TextParts, none, ascii, wide, text_parts, encode-is_high, length-encode_some, encode-IsText}
 use Rattle.hq_gql_lexer.proofs.EscapeLemmas.{IsInner, plain_len_over, IsEscape, escape_shape}
-use Rattle.hq_gql_lexer.proofs.ReadLemmas.{IsRead, characters_read}
-use Rattle.hq_gql_lexer.proofs.StepsLemmas.{IsFirstStep, steps_first, steps_skip, Copies, IsCopied, copied}
+use Rattle.hq_gql_lexer.proofs.ReadLemmas.{characters_read}
+use Rattle.hq_gql_lexer.proofs.StepsLemmas.{steps_first, steps_skip, Copies, copied}
 
 -- a character past U+007F is passed over, and copied
 pub high_inner : (b : ℕ) → is_high b ≡ true → IsInner b
 high_inner b h = record { no_end = grind (arith, nat_tests); no_quote = grind (arith, nat_tests); no_slash = grind (arith, nat_tests) }
 
+-- a byte of 128 and more stands in any text
 pub high_source : (b : ℕ) → is_high b ≡ true → is_source b ≡ true
 high_source b h = grind (arith, nat_tests)
 
+-- a byte of 128 and more stands for itself
 pub copies_source : (b : ℕ) → is_high b ≡ true → (at : ℕ) (bytes : List ℕ) → source_at at (b ∷ bytes) ≡ Ok (b ∷ [], 1)
 copies_source b h at bytes = cond-true (is_source b) _ _ (high_source b h)
 
+-- so it does in a plain string
 copies_plain : Copies (character_at Plain)
 unfolding character_at
 copies_plain at b bytes h = cond-false (b == 92) _ _ (high_inner b h).no_slash ∙ copies_source b h at bytes
@@ -43,6 +44,7 @@ pub record IsInside (b : ℕ) (behind : List ℕ) (n : ℕ) : Type 0 where
   pub no_quote : (b == 34) ≡ false
   pub more : plain_len (b == 92) behind ≡ Some n
 
+-- where a count is more than zero, no test has ended it
 three_ways : (s t : Bool) (o : Option ℕ) (n : ℕ) → cond s None (cond t (Some 0) (option_map (λ k. 1 + k) o)) ≡ Some (suc n)
     → (s ≡ false) × (t ≡ false) × (o ≡ Some n)
 three_ways true t o n h = cc
@@ -50,11 +52,13 @@ three_ways false true o n h = let e : 0 ≡ suc n = cc in absurd (omega arith)
 three_ways false false None n h = cc
 three_ways false false (Some k) n h = let e : 1 + k ≡ suc n = cc in (refl, refl, ap Some (omega arith))
 
+-- the first byte before the closing quote
 inside_first : (b n : ℕ) (behind : List ℕ) → plain_len false (b ∷ behind) ≡ Some (suc n) → IsInside b behind n
 inside_first b n behind h =
     let found = three_ways (is_line_end b) (b == 34) (plain_len (b == 92) behind) n h in
     record { no_end = found.0; no_quote = found.1; more = found.2 }
 
+-- where there is an answer, its test has passed
 ok_of : {A : Type 0} (t : Bool) (x y : A) (e : LexRefusal) → cond t (Ok x) (Err e) ≡ Ok y → (t ≡ true) × (◌≡◌ {A = Result A LexRefusal} (Ok x) (Ok y))
 ok_of true x y e h = (refl, h)
 ok_of false x y e h = cc
@@ -66,6 +70,7 @@ source_first at b bytes piece n h =
     let same : ◌≡◌ {A = List ℕ × ℕ} (b ∷ [], 1) (piece, n) = let e = found.1 in cc in
     (found.0, ap (λ p. p.0) same, ap (λ p. p.1) same)
 
+-- a byte that is no `\` stands for itself
 plain_source : (at b : ℕ) (bytes piece : List ℕ) (n : ℕ) → (b == 92) ≡ false → character_at Plain at (b ∷ bytes) ≡ Ok (piece, n)
     → IsTrue (is_source b) × (b ∷ [] ≡ piece) × (1 ≡ n)
 unfolding character_at
@@ -77,16 +82,19 @@ pub record IsEscaped (bytes piece : List ℕ) (n : ℕ) : Type 0 where
   pub found : escape_at bytes ≡ Some (c, n)
   pub is : encode c ≡ piece
 
+-- a step at an escape takes the escape, and gives its character
 escaped_first : (at n : ℕ) (bytes piece : List ℕ) (o : Option (ℕ × ℕ)) → escape_at bytes ≡ o → escaped at o ≡ Ok (piece, n) → IsEscaped bytes piece n
 escaped_first at n bytes piece None e h = cc
 escaped_first at n bytes piece (Some c) e h =
     let same : ◌≡◌ {A = List ℕ × ℕ} (encode c.0, c.1) (piece, n) = cc in
     record { c = c.0; found = e ∙ ap (λ k. Some (c.0, k)) (ap (λ p. p.1) same); is = ap (λ p. p.0) same }
 
+-- a step at a `\` takes an escape
 plain_escape : (at b : ℕ) (bytes piece : List ℕ) (n : ℕ) → (b == 92) ≡ true → character_at Plain at (b ∷ bytes) ≡ Ok (piece, n) → IsEscaped (b ∷ bytes) piece n
 unfolding character_at
 plain_escape at b bytes piece n slash h = escaped_first at n (b ∷ bytes) piece (escape_at (b ∷ bytes)) refl (sym (cond-true (b == 92) _ _ slash) ∙ h)
 
+-- what is left of a count
 pub counted_back : (k n : ℕ) (o : Option ℕ) → option_map (λ m. k + m) o ≡ Some (k + n) → o ≡ Some n
 counted_back k n None h = cc
 counted_back k n (Some m) h = let e : k + m ≡ k + n = cc in ap Some (omega arith)
@@ -97,12 +105,15 @@ IsUtf8-behind front rest f u =
     let cut = IsCharBoundary-from_take (front ++ rest) (length front) u (omega (arith, length-append front rest)) (subst IsUtf8 (sym (take_at front rest (length front) refl)) f) in
     subst IsUtf8 (drop_at front rest (length front) refl) (IsUtf8-drop (front ++ rest) (length front) u cut)
 
+-- a character past U+007F is one that a text may hold
 pub wide_source : (c : ℕ) → 128 ≤ c → is_source c ≡ true
 wide_source c h = grind (arith, nat_tests)
 
+-- a character past U+007F ends no line
 pub wide_no_end : (c : ℕ) → 128 ≤ c → is_line_end c ≡ false
 wide_no_end c h = grind (arith, nat_tests)
 
+-- no character that a text may hold is zero
 pub source_some : (c : ℕ) → is_source c ≡ true → c ≢ 0
 source_some c h zero' = absurd (false≢true (ap is_source (sym zero') ∙ h))
 
@@ -112,6 +123,7 @@ pub record IsReadPlain (at : ℕ) (inside after value : List ℕ) : Type 0 where
   pub utf8 : IsUtf8 inside
   pub read : steps (character_at Plain) 0 at inside ≡ Ok value
 
+-- bytes that the test tells apart differ
 pub apart : (b n : ℕ) → (b == n) ≡ false → b ≢ n
 apart b n h same = absurd (omega (arith, eqb-false b n h))
 
@@ -132,6 +144,7 @@ behind_escape at rest after others c n is ends utf8 read =
           ∙ ap (λ j. steps (character_at Plain) j (at + 1) rest) (sym count) ∙ read;
     }
 
+-- what is read between the quotes of a plain string is of the production
 pub plain_parts : (m at : ℕ) (inside after value : List ℕ) → length inside < m → IsReadPlain at inside after value → TextParts inside → IsPlainRest (inside ++ 34 ∷ []) value
 plain_parts zero at inside after value h is parts = absurd (omega arith)
 plain_parts (suc m) at inside after value h is none = let e : [] ≡ value = let r = is.read in cc in subst (IsPlainRest (34 ∷ [])) e closed
@@ -183,12 +196,14 @@ pub record IsClosed (bytes : List ℕ) (n : ℕ) : Type 0 where
   pub split : bytes ≡ take n bytes ++ 34 ∷ after
   pub len : length (take n bytes) ≡ n
 
+-- where the count is zero, the closing quote is next
 ends_here : (s t : Bool) (o : Option ℕ) → cond s None (cond t (Some 0) (option_map (λ k. 1 + k) o)) ≡ Some 0 → t ≡ true
 ends_here true t o h = cc
 ends_here false true o h = refl
 ends_here false false None h = cc
 ends_here false false (Some k) h = let e : 1 + k ≡ 0 = cc in absurd (omega arith)
 
+-- behind what is counted stands the closing quote
 pub closed_by : (taken : Bool) (bytes : List ℕ) (n : ℕ) → plain_len taken bytes ≡ Some n → IsClosed bytes n
 closed_by taken [] n h = cc
 closed_by taken (b ∷ bytes) zero h =

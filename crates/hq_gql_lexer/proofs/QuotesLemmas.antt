@@ -1,6 +1,6 @@
 -- Block strings are of their production, and their values before they are laid out are texts.
-use Rattle.std.proofs.Common.{◌≡◌, ℕ, zero, suc, ◌+◌, ◌-◌, ◌<◌, ◌≤◌, Bool, true, false, cond, List, [], ◌∷◌, ◌++◌, length, take, drop, Option, Some, None, Result, Ok, Err, refl, sym, ap, ◌∙◌, subst, ⊎_elim, arith, append_assoc, lit<}
-use Rattle.std.specs.Prelude.{IsTrue, ◌≢◌, ◌==◌, nat_eq}
+use Rattle.std.proofs.Common.{◌≡◌, ℕ, zero, suc, ◌+◌, ◌-◌, ◌<◌, ◌≤◌, Bool, true, false, cond, List, [], ◌∷◌, ◌++◌, length, take, drop, Option, Some, None, Ok, refl, sym, ap, ◌∙◌, subst, ⊎_elim, arith, append_assoc, lit<}
+use Rattle.std.specs.Prelude.{IsTrue, nat_eq}
 use Rattle.std.specs.List.{list_all, starts_with}
 use Rattle.std.specs.Option.{option_map}
 use Rattle.std.specs.Str.{IsUtf8, IsAscii}
@@ -11,17 +11,16 @@ use Rattle.std.proofs.lemmas.Bool.{cases_Bool, cond-true, cond-false, false≢tr
 use Rattle.std.proofs.lemmas.Bool.Decides.{nat_tests}
 use Rattle.std.proofs.lemmas.List.{length-append, length-drop, take-append-le, drop-append-le, take-append-drop}
 use Rattle.std.proofs.lemmas.Str.{encode_ascii, IsUtf8-from_ascii}
-use Rattle.hq_gql_lexer.specs.declared.refusal.LexRefusal.{LexRefusal}
 use Rattle.hq_gql_lexer.specs.declared.characters.Form.TheVariants.{Block}
 use Rattle.hq_gql_lexer.specs.Characters.{is_source}
 use Rattle.hq_gql_lexer.specs.Steps.{steps}
 use Rattle.hq_gql_lexer.specs.Strings.{quotes, block_step, block_len, source_at, character_at, characters}
-use Rattle.hq_gql_lexer.specs.Grammar.{IsCharacter, IsBlockRest, closed, character, escape}
+use Rattle.hq_gql_lexer.specs.Grammar.{IsBlockRest, closed, character, escape}
 use Rattle.hq_gql_lexer.proofs.TextLemmas.{IsText, IsText-nil, IsText-append, IsText-all, is_ascii_text, and_parts}
 use Rattle.hq_gql_lexer.proofs.CharacterLemmas.{is_high, TextParts, none, ascii, wide, text_parts, encode-is_high, length-encode_some, encode-IsText}
 use Rattle.hq_gql_lexer.proofs.OptionLemmas.{option_map-add, option_map-zero}
-use Rattle.hq_gql_lexer.proofs.StepsLemmas.{IsFirstStep, steps_first, steps_skip, Copies, IsCopied, copied}
-use Rattle.hq_gql_lexer.proofs.ReadLemmas.{IsRead, characters_read}
+use Rattle.hq_gql_lexer.proofs.StepsLemmas.{steps_first, steps_skip, Copies, copied}
+use Rattle.hq_gql_lexer.proofs.ReadLemmas.{characters_read}
 use Rattle.hq_gql_lexer.proofs.BlockLemmas.{block_skip}
 use Rattle.hq_gql_lexer.proofs.PlainLemmas.{copies_source, source_first, counted_back, wide_source, source_some, IsUtf8-behind}
 
@@ -31,21 +30,27 @@ begins needle bytes h =
     let front : needle ≡ take (length needle) bytes = same_text needle (take (length needle) bytes) (sym h) in
     sym (take-append-drop (length needle) bytes) ∙ ap (λ xs. xs ++ drop (length needle) bytes) (sym front)
 
+-- whether a text begins with some bytes is seen in as many of its own
 starts_local : (needle xs ys : List ℕ) → length needle ≤ length xs → starts_with nat_eq (xs ++ ys) needle ≡ starts_with nat_eq xs needle
 starts_local needle xs ys h = ap (pointwise nat_eq needle) (take-append-le (length needle) xs ys h)
 
+-- a `\"""` begins with itself
 starts_slashed : (rest : List ℕ) → starts_with nat_eq (92 ∷ (quotes ++ rest)) (92 ∷ quotes) ≡ true
 starts_slashed rest = refl
 
+-- bytes that differ fail the test
 not_it : (n b : ℕ) → (n ≡ b → ⊥) → nat_eq n b ≡ false
 not_it n b h = grind (arith, nat_tests)
 
+-- no byte of 128 and more is a quote
 differs_quote : (b : ℕ) → is_high b ≡ true → 34 ≡ b → ⊥
 differs_quote b h e = grind (arith, nat_tests)
 
+-- no byte of 128 and more is a `\`
 differs_slash : (b : ℕ) → is_high b ≡ true → 92 ≡ b → ⊥
 differs_slash b h e = grind (arith, nat_tests)
 
+-- quotes are ASCII
 quotes_ascii : IsAscii quotes
 quotes_ascii = IsAscii-cons 34 (34 ∷ 34 ∷ []) (lit< tt) (IsAscii-cons 34 (34 ∷ []) (lit< tt) (IsAscii-cons 34 [] (lit< tt) IsAscii-nil))
 
@@ -53,18 +58,22 @@ quotes_ascii = IsAscii-cons 34 (34 ∷ 34 ∷ []) (lit< tt) (IsAscii-cons 34 (34
 high_quote : (b : ℕ) (bytes : List ℕ) → is_high b ≡ true → starts_with nat_eq (b ∷ bytes) quotes ≡ false
 high_quote b bytes h = rw (not_it 34 b (differs_quote b h)) refl
 
+-- no `\"""` begins at a byte of 128 and more
 high_slash : (b : ℕ) (bytes : List ℕ) → is_high b ≡ true → starts_with nat_eq (b ∷ bytes) (92 ∷ quotes) ≡ false
 high_slash b bytes h = rw (not_it 92 b (differs_slash b h)) refl
 
+-- a byte of 128 and more stands for itself in a block string
 copies_block : Copies (character_at Block)
 unfolding character_at
 copies_block at b bytes h = cond-false (starts_with nat_eq (b ∷ bytes) (92 ∷ quotes)) _ _ (high_slash b bytes h) ∙ copies_source b h at bytes
 
+-- a byte of 128 and more closes no block
 block_len_high : (b : ℕ) (bytes : List ℕ) → is_high b ≡ true → block_len 0 (b ∷ bytes) ≡ option_map (λ n. 1 + n) (block_len 0 bytes)
 block_len_high b bytes h =
     cond-false (starts_with nat_eq (b ∷ bytes) quotes) (Some 0) _ (high_quote b bytes h)
     ∙ ap (λ k. option_map (λ n. 1 + n) (block_len (k - 1) bytes)) (cond-false (starts_with nat_eq (b ∷ bytes) (92 ∷ quotes)) 4 1 (high_slash b bytes h))
 
+-- nor does a front of such bytes
 block_len_over : (front bytes : List ℕ) → list_all is_high front ≡ true → block_len 0 (front ++ bytes) ≡ option_map (λ n. length front + n) (block_len 0 bytes)
 block_len_over [] bytes h = option_map-zero (block_len 0 bytes)
 block_len_over (b ∷ front) bytes h =
@@ -78,6 +87,7 @@ two_ways true o n h = let e : 0 ≡ suc n = cc in absurd (omega arith)
 two_ways false None n h = cc
 two_ways false (Some k) n h = let e : 1 + k ≡ suc n = cc in (refl, ap Some (omega arith))
 
+-- the first byte before the closing quotes
 pub inside_block : (b n : ℕ) (behind : List ℕ) → block_len 0 (b ∷ behind) ≡ Some (suc n)
     → (starts_with nat_eq (b ∷ behind) quotes ≡ false) × (block_len (block_step (b ∷ behind) - 1) behind ≡ Some n)
 inside_block b n behind h = two_ways _ _ n h
@@ -95,6 +105,7 @@ pub record IsSlashed (b : ℕ) (rest after : List ℕ) : Type 0 where
   pub ends : block_len 0 (drop 3 rest ++ (quotes ++ after)) ≡ Some (length (drop 3 rest))
   pub three : length rest ≡ 3 + length (drop 3 rest)
 
+-- what a `\"""` has taken is counted
 three_at_least : (bytes : List ℕ) (n : ℕ) → block_len 3 bytes ≡ Some n → (3 ≤ n) × (3 ≤ length bytes)
 three_at_least [] n h = cc
 three_at_least (a ∷ []) n h = cc
@@ -105,6 +116,7 @@ three_at_least (a ∷ b ∷ c ∷ bytes) n h = (three (block_len 0 bytes) n h, o
     three None n h = cc
     three (Some k) n h = let e : 1 + (1 + (1 + k)) ≡ n = cc in omega arith
 
+-- a `\"""` stands whole before the closing quotes
 slashed_inside : (b : ℕ) (rest after : List ℕ) → starts_with nat_eq (b ∷ (rest ++ (quotes ++ after))) (92 ∷ quotes) ≡ true
     → block_len (block_step (b ∷ (rest ++ (quotes ++ after))) - 1) (rest ++ (quotes ++ after)) ≡ Some (length rest) → IsSlashed b rest after
 slashed_inside b rest after slash h =
@@ -136,6 +148,7 @@ slash_first at b rest piece n is_slash front h =
     let same : ◌≡◌ {A = List ℕ × ℕ} (quotes, 4) (piece, n) = cc in
     (ap (λ p. p.0) same, ap (λ p. p.1) same)
 
+-- a byte at which no `\"""` begins stands for itself
 block_source : (at b : ℕ) (rest piece : List ℕ) (n : ℕ) → starts_with nat_eq (b ∷ rest) (92 ∷ quotes) ≡ false → character_at Block at (b ∷ rest) ≡ Ok (piece, n)
     → IsTrue (is_source b) × (b ∷ [] ≡ piece) × (1 ≡ n)
 unfolding character_at
@@ -152,10 +165,12 @@ high_no_quote : (front bytes : List ℕ) → list_all is_high front ≡ true →
 high_no_quote [] bytes h some = absurd (omega arith)
 high_no_quote (b ∷ front) bytes h some = high_quote b (front ++ bytes) (and_parts (is_high b) (list_all is_high front) h).0
 
+-- no `\"""` begins at a wide character
 high_no_slash : (front bytes : List ℕ) → list_all is_high front ≡ true → 0 < length front → starts_with nat_eq (front ++ bytes) (92 ∷ quotes) ≡ false
 high_no_slash [] bytes h some = absurd (omega arith)
 high_no_slash (b ∷ front) bytes h some = high_slash b (front ++ bytes) (and_parts (is_high b) (list_all is_high front) h).0
 
+-- what is read between the quotes of a block string is of the production
 pub block_parts : (m at : ℕ) (inside after raw : List ℕ) → length inside < m → IsReadBlock at inside after raw → TextParts inside → IsBlockRest (inside ++ quotes) raw
 block_parts zero at inside after raw h is parts = absurd (omega arith)
 block_parts (suc m) at inside after raw h is none = let e : [] ≡ raw = let r = is.read in cc in subst (IsBlockRest quotes) e closed
@@ -220,18 +235,22 @@ pub record IsClosedBlock (bytes : List ℕ) (n : ℕ) : Type 0 where
   pub split : bytes ≡ take n bytes ++ (quotes ++ after)
   pub len : length (take n bytes) ≡ n
 
+-- where the count is zero, the closing quotes are next
 block_ends_here : (t : Bool) (o : Option ℕ) → cond t (Some 0) (option_map (λ k. 1 + k) o) ≡ Some 0 → t ≡ true
 block_ends_here true o h = refl
 block_ends_here false None h = cc
 block_ends_here false (Some k) h = let e : 1 + k ≡ 0 = cc in absurd (omega arith)
 
+-- a count without its first byte
 one_more : (o : Option ℕ) (n : ℕ) → option_map (λ k. 1 + k) o ≡ Some (suc n) → o ≡ Some n
 one_more o n h = counted_back 1 n o (h ∙ ap Some (omega arith))
 
+-- a count with a first byte is not zero
 none_is_zero : (o : Option ℕ) → option_map (λ k. 1 + k) o ≡ Some 0 → ⊥
 none_is_zero None h = cc
 none_is_zero (Some k) h = let e : 1 + k ≡ 0 = cc in omega arith
 
+-- behind what is counted stand the closing quotes
 pub block_closed_by : (taken : ℕ) (bytes : List ℕ) (n : ℕ) → block_len taken bytes ≡ Some n → IsClosedBlock bytes n
 block_closed_by taken [] n h = cc
 block_closed_by (suc taken) (b ∷ bytes) zero h = absurd (none_is_zero (block_len taken bytes) h)
@@ -258,6 +277,7 @@ block_read at n bytes raw ends read =
     } in
     block_parts (suc (length (take n bytes))) at (take n bytes) is.after raw (omega arith) here (text_parts (take n bytes) all.utf8)
 
+-- quotes are a text
 quotes-IsText : IsText quotes
 quotes-IsText = IsText-all is_ascii_text (λ b h. h) quotes refl
 

@@ -1,9 +1,8 @@
 -- Each token is of its production, and what is ignored of its.
-use Rattle.std.proofs.Common.{◌≡◌, ℕ, zero, suc, ◌+◌, ◌-◌, ◌<◌, ◌≤◌, Bool, true, false, cond, List, [], ◌∷◌, ◌++◌, length, take, drop, Option, Some, None, Result, Ok, Err, refl, sym, ap, ◌∙◌, subst, inl, inr, ⊎_elim, arith, ◌⊎◌, append_assoc}
-use Rattle.std.specs.Prelude.{IsTrue, ◌≢◌, ◌&&◌, ◌||◌, ◌==◌, not, nat_eq, nat_lt, MatchOption}
-use Rattle.std.specs.List.{list_all, prefix_len, starts_with}
-use Rattle.std.specs.Option.{ok_or}
-use Rattle.std.proofs.lemmas.Bool.{cases_Bool, cond-true, cond-false, false≢true, eqb-true, eqb-false}
+use Rattle.std.proofs.Common.{◌≡◌, ℕ, zero, suc, ◌<◌, ◌≤◌, Bool, true, false, cond, List, [], ◌∷◌, length, take, drop, Option, Some, None, Result, Ok, Err, refl, sym, ap, ◌∙◌, subst, inl, inr, ⊎_elim, arith, ◌⊎◌}
+use Rattle.std.specs.Prelude.{◌==◌, nat_eq, MatchOption}
+use Rattle.std.specs.List.{prefix_len, starts_with}
+use Rattle.std.proofs.lemmas.Bool.{cases_Bool, cond-true, cond-false, eqb-true, eqb-false}
 use Rattle.hq_gql_lexer.specs.declared.refusal.LexRefusal.{LexRefusal}
 use Rattle.hq_gql_lexer.specs.declared.refusal.LexRefusal.TheVariants.{BadByte}
 use Rattle.hq_gql_lexer.specs.declared.token.Punct.{Punct}
@@ -18,14 +17,15 @@ use Rattle.std.proofs.lemmas.List.Sums.{prefix_len-le-length}
 use Rattle.hq_gql_lexer.proofs.EscapeLemmas.{tested}
 use Rattle.hq_gql_lexer.proofs.ReadLemmas.{unless}
 use Rattle.hq_gql_lexer.proofs.LinesLemmas.{prefix_len_yes, prefix_len_no}
-use Rattle.hq_gql_lexer.proofs.NumberLemmas.{IsNumberInFront, number_in_front, integer_in_front, name_in_front}
+use Rattle.hq_gql_lexer.proofs.NumberLemmas.{number_in_front, integer_in_front, name_in_front}
 use Rattle.hq_gql_lexer.proofs.QuotesLemmas.{begins}
 use Rattle.hq_gql_lexer.proofs.WithinLemmas.{number_within}
 use Rattle.hq_gql_lexer.proofs.TokenLemmas.{IsTokenInFront, same_token}
 use Rattle.hq_gql_lexer.proofs.StringSoundLemmas.{string_sound}
-use Rattle.hq_gql_lexer.proofs.IgnoredLemmas.{IsIgnoredInFront, ignored_sound}
+use Rattle.hq_gql_lexer.proofs.IgnoredLemmas.{ignored_sound}
 use Rattle.hq_gql_lexer.proofs.StepsLemmas.{bind_ok}
 
+-- one test of a byte: its punctuator has this text, or a later test decides
 by_test : (b n : ℕ) (x p : Punct) (rest : Option Punct) → punct_text x ≡ n ∷ [] → cond (b == n) (Some x) rest ≡ Some p
     → (rest ≡ Some p → punct_text p ≡ b ∷ []) → punct_text p ≡ b ∷ []
 by_test b n x p rest text h else' = ⊎_elim
@@ -35,6 +35,7 @@ by_test b n x p rest text h else' = ⊎_elim
     (λ (other : (b == n) ≡ false). else' (sym (cond-false (b == n) (Some x) rest other) ∙ h))
     (cases_Bool (b == n))
 
+-- the punctuator of a byte has that byte as its text
 punct_of_text : (b : ℕ) (p : Punct) → punct_of b ≡ Some p → punct_text p ≡ b ∷ []
 unfolding punct_of
 punct_of_text b p h =
@@ -52,10 +53,12 @@ punct_of_text b p h =
     by_test b 124 punct.Pipe p _ refl h (λ h.
     by_test b 125 punct.CloseBrace p _ refl h (λ h. cc)))))))))))))
 
+-- a punctuator of one byte
 one_byte_some : (o : Option Punct) (x : Punct × ℕ) → one_byte o ≡ Some x → (p : Punct) × (o ≡ Some p) × (◌≡◌ {A = Punct × ℕ} (p, 1) x)
 one_byte_some None x h = cc
 one_byte_some (Some p) x h = (p, refl, cc)
 
+-- what is taken as a punctuator is one
 punct_sound : (bytes : List ℕ) (p : Punct) (n : ℕ) → punct_at bytes ≡ Some (p, n) → IsTokenInFront bytes (kind.Punct p) n
 unfolding punct_at
 punct_sound [] p n h = cc
@@ -87,10 +90,12 @@ after_front p (b ∷ bytes) = ⊎_elim
     (λ (fails : p b ≡ false). ap (λ n. next_is p (drop n (b ∷ bytes))) (prefix_len_no p b bytes fails) ∙ fails)
     (cases_Bool (p b))
 
+-- no name is empty
 name_some : (n : ℕ) (bytes : List ℕ) → IsName (take n bytes) → 0 < n
 name_some zero bytes h = absurd h
 name_some (suc n) bytes h = omega arith
 
+-- what is taken as a name is one, and no name goes on behind it
 name_sound : (bytes : List ℕ) (k : TokenKind) (n : ℕ) → next_is is_name_start bytes ≡ true → name_at bytes ≡ Ok (k, n) → IsTokenInFront bytes k n
 unfolding name_at
 name_sound bytes k n starts h =
@@ -103,10 +108,12 @@ name_sound bytes k n starts h =
       is = (refl, is_name, after_front is_name_continue bytes);
     })
 
+-- no whole number is empty
 integer_some : (n : ℕ) (bytes : List ℕ) → IsInteger (take n bytes) → 0 < n
 integer_some zero bytes h = absurd h
 integer_some (suc n) bytes h = omega arith
 
+-- what is taken as a number is one, and nothing that may not follow stands behind it
 pub number_sound : (at : ℕ) (bytes : List ℕ) (k : TokenKind) (n : ℕ) → starts_number bytes ≡ true → number_at at bytes ≡ Ok (k, n) → IsTokenInFront bytes k n
 unfolding number_at
 number_sound at bytes k n starts h =
@@ -133,6 +140,7 @@ punct_or_ok : (o : Option (Punct × ℕ)) (other : Result (TokenKind × ℕ) Lex
 punct_or_ok None other x h = inr h
 punct_or_ok (Some p) other x h = inl (p, refl, cc)
 
+-- what is taken as a token is of its production
 pub token_sound : (at : ℕ) (bytes : List ℕ) (k : TokenKind) (n : ℕ) → token_at at bytes ≡ Ok (k, n) → IsTokenInFront bytes k n
 unfolding token_at
 token_sound at bytes k n h = ⊎_elim
@@ -159,9 +167,11 @@ pub record IsLexeme (at : ℕ) (bytes : List ℕ) (o : Option TokenKind) (n : �
   pub within : n ≤ length bytes
   pub is : MatchOption o (IsIgnored (take n bytes) (drop n bytes)) (IsToken (take n bytes) (drop n bytes))
 
+-- equal answers are of the same lexeme
 same_lexeme : (at : ℕ) (bytes : List ℕ) (x y : Option TokenKind × ℕ) → ◌≡◌ {A = Result (Option TokenKind × ℕ) LexRefusal} (Ok x) (Ok y) → IsLexeme at bytes x.0 x.1 → IsLexeme at bytes y.0 y.1
 same_lexeme at bytes x y e is = let same : x ≡ y = cc in subst (λ p. IsLexeme at bytes p.0 p.1) same is
 
+-- what stands at the front, by whether it is ignored
 lexeme_by : (at : ℕ) (bytes : List ℕ) (i : Option ℕ) (o : Option TokenKind) (n : ℕ) → ignored_at at bytes ≡ Ok i → ignored_or i (token_at at bytes) ≡ Ok (o, n) → IsLexeme at bytes o n
 lexeme_by at bytes (Some m) o n found h =
     let is = ignored_sound at bytes m found in
@@ -170,6 +180,7 @@ lexeme_by at bytes None o n found h = bind_ok (token_at at bytes) _ (o, n) h (λ
     let is = token_sound at bytes t.0 t.1 read in
     same_lexeme at bytes (Some t.0, t.1) (o, n) end (record { some = is.some; within = is.within; is = is.is }))
 
+-- what stands at the front is of its production
 pub lexeme_sound : (at : ℕ) (bytes : List ℕ) (o : Option TokenKind) (n : ℕ) → lexeme_at at bytes ≡ Ok (o, n) → IsLexeme at bytes o n
 unfolding lexeme_at
 lexeme_sound at bytes o n h = bind_ok (ignored_at at bytes) _ (o, n) h (λ i found more. lexeme_by at bytes i o n found more)

@@ -1,5 +1,5 @@
 -- A loop that goes over a text step by step.
-use Rattle.std.proofs.Common.{true, ◌≡◌, ℕ, zero, suc, ◌+◌, ◌-◌, ◌<◌, ◌≤◌, List, [], ◌∷◌, ◌++◌, length, drop, Result, Ok, Err, refl, sym, ap, ◌∙◌, append_assoc, arith, rules, subst}
+use Rattle.std.proofs.Common.{true, ◌≡◌, ℕ, zero, suc, ◌+◌, ◌-◌, ◌<◌, ◌≤◌, List, [], ◌∷◌, ◌++◌, length, drop, Result, Ok, Err, refl, sym, ap, ◌∙◌, append_assoc, arith, subst}
 use Rattle.std.specs.Prelude.{slice_range}
 use Rattle.std.proofs.lemmas.List.{drop_all, drop-drop, append-nil, length-drop}
 use Rattle.std.proofs.lemmas.Slice.{between_to_end}
@@ -13,6 +13,7 @@ use Rattle.hq_gql_lexer.specs.Steps.{◌>>=◌, Step, steps}
 abbrev pub with_front : {X : Type 0} → List X → Result (List X) LexRefusal → Result (List X) LexRefusal
 with_front front more = more >>= λ xs. Ok (front ++ xs)
 
+-- two pieces one behind the other are one
 with_front_twice : {X : Type 0} (front piece : List X) (more : Result (List X) LexRefusal) → with_front front (with_front piece more) ≡ with_front (front ++ piece) more
 with_front_twice front piece (Ok xs) = ap Ok (sym (append_assoc front piece xs))
 with_front_twice front piece (Err e) = refl
@@ -91,10 +92,12 @@ pub record IsFirstStep {X : Type 0} (step : Step (List X)) (at b : ℕ) (bytes :
   pub behind : steps step (n - 1) (at + 1) bytes ≡ Ok others
   pub whole : piece ++ others ≡ all
 
+-- two steps in a row that give a value each gave one
 pub bind_ok : {A B : Type 0} {P : Type 0} (r : Result A LexRefusal) (f : A → Result B LexRefusal) (y : B) → (r >>= f) ≡ Ok y → ((x : A) → r ≡ Ok x → f x ≡ Ok y → P) → P
 bind_ok (Ok x) f y h k = k x refl h
 bind_ok (Err e) f y h k = cc
 
+-- steps that give a value begin with one that does
 pub steps_first : {X : Type 0} (step : Step (List X)) (at b : ℕ) (bytes : List ℕ) (all : List X) → steps step 0 at (b ∷ bytes) ≡ Ok all → IsFirstStep step at b bytes all
 steps_first step at b bytes all h =
     bind_ok (step at (b ∷ bytes)) _ all h (λ x first more.
@@ -102,6 +105,7 @@ steps_first step at b bytes all h =
     let same : x.0 ++ others ≡ all = cc in
     record { piece = x.0; n = x.1; others = others; first = first; behind = behind; whole = same }))
 
+-- an empty front adds nothing
 with_no_front : {X : Type 0} (more : Result (List X) LexRefusal) → more ≡ with_front [] more
 with_no_front (Ok xs) = refl
 with_no_front (Err e) = refl
@@ -110,6 +114,7 @@ with_no_front (Err e) = refl
 abbrev pub Copies : Step (List ℕ) → Type 0
 Copies step = (at b : ℕ) (bytes : List ℕ) → is_high b ≡ true → step at (b ∷ bytes) ≡ Ok (b ∷ [], 1)
 
+-- a front of such bytes is copied
 pub copy_all : (step : Step (List ℕ)) → Copies step → (at : ℕ) (front bytes : List ℕ) → list_all is_high front ≡ true
     → steps step 0 at (front ++ bytes) ≡ with_front front (steps step 0 (at + length front) bytes)
 copy_all step copies at [] bytes h = ap (λ k. steps step 0 k bytes) (omega arith) ∙ with_no_front (steps step 0 (at + 0) bytes)
@@ -127,6 +132,7 @@ pub record IsCopied (step : Step (List ℕ)) (at : ℕ) (front bytes all : List 
   pub behind : steps step 0 (at + length front) bytes ≡ Ok others
   pub whole : front ++ others ≡ all
 
+-- what is made of a text with such a front
 pub copied : (step : Step (List ℕ)) → Copies step → (at : ℕ) (front bytes all : List ℕ) → list_all is_high front ≡ true
     → steps step 0 at (front ++ bytes) ≡ Ok all → IsCopied step at front bytes all
 copied step copies at front bytes all h e =

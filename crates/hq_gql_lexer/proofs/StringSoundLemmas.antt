@@ -1,27 +1,27 @@
 -- Strings are of their productions.
-use Rattle.std.proofs.Common.{◌≡◌, ℕ, zero, suc, ◌+◌, ◌-◌, ◌<◌, ◌≤◌, Bool, true, false, cond, List, [], ◌∷◌, ◌++◌, length, take, drop, Option, Some, None, Result, Ok, Err, refl, sym, ap, ◌∙◌, subst, inl, inr, ⊎_elim, arith, append_assoc}
+use Rattle.std.proofs.Common.{◌≡◌, ℕ, ◌+◌, true, false, List, [], ◌∷◌, ◌++◌, length, take, drop, Option, Some, None, Ok, refl, sym, ap, ◌∙◌, subst, inl, inr, ⊎_elim, arith, append_assoc}
 use Rattle.std.specs.Prelude.{◌==◌, nat_eq}
 use Rattle.std.specs.List.{starts_with}
 use Rattle.std.specs.Option.{ok_or}
-use Rattle.std.proofs.lemmas.Bool.{cases_Bool, cond-true, cond-false, false≢true, eqb-true, false_from_ne_true}
-use Rattle.std.proofs.lemmas.List.{length-append, drop-drop, take_at, drop_at}
+use Rattle.std.proofs.lemmas.Bool.{false≢true, eqb-true, false_from_ne_true}
+use Rattle.std.proofs.lemmas.List.{length-append, take_at, drop_at}
 use Rattle.hq_gql_lexer.specs.declared.refusal.LexRefusal.{LexRefusal}
 use Rattle.hq_gql_lexer.specs.declared.refusal.LexRefusal.TheVariants.{OpenString}
 use Rattle.hq_gql_lexer.specs.declared.characters.Form.TheVariants.{Plain, Block}
 use Rattle.hq_gql_lexer.specs.declared.token.TokenKind.{TokenKind}
 use Rattle.hq_gql_lexer.specs.declared.token.TokenKind.TheVariants as kind
 use Rattle.hq_gql_lexer.specs.Characters.{next_is}
-use Rattle.hq_gql_lexer.specs.Steps.{◌>>=◌}
 use Rattle.hq_gql_lexer.specs.Strings.{quotes, plain_len, block_len, characters}
 use Rattle.hq_gql_lexer.specs.BlockStrings.{block_value}
 use Rattle.hq_gql_lexer.specs.Lexemes.{plain_at, block_at, string_at}
-use Rattle.hq_gql_lexer.specs.Grammar.{IsPlainRest, IsBlockRest, IsPlainString, IsBlockString, IsToken}
+use Rattle.hq_gql_lexer.specs.Grammar.{IsPlainString, IsBlockString}
 use Rattle.hq_gql_lexer.proofs.StepsLemmas.{bind_ok}
 use Rattle.hq_gql_lexer.proofs.EscapeLemmas.{tested}
 use Rattle.hq_gql_lexer.proofs.PlainLemmas.{plain_read, closed_by}
 use Rattle.hq_gql_lexer.proofs.QuotesLemmas.{begins, block_read, block_closed_by}
 use Rattle.hq_gql_lexer.proofs.TokenLemmas.{IsTokenInFront, same_token}
 
+-- where there is an answer, something was found
 found_ok : {A : Type 0} (o : Option A) (e : LexRefusal) (x : A) → ok_or o e ≡ Ok x → o ≡ Some x
 found_ok None e x h = cc
 found_ok (Some y) e x h = let same : y ≡ x = cc in ap Some same
@@ -41,6 +41,7 @@ no_third bytes rest after split empty not_block = false_from_ne_true _ (λ third
     let three : bytes ≡ 34 ∷ 34 ∷ 34 ∷ drop 1 after = split ∙ ap (λ r. 34 ∷ (r ++ after)) empty ∙ ap (λ more. 34 ∷ 34 ∷ more) (quote_first after third) in
     false≢true (sym not_block ∙ ap (λ bs. starts_with nat_eq bs quotes) three))
 
+-- what is taken as a string in one quote is one
 pub plain_sound : (at : ℕ) (bytes : List ℕ) (k : TokenKind) (n : ℕ) → next_is (λ b. b == 34) bytes ≡ true → starts_with nat_eq bytes quotes ≡ false
     → plain_at at bytes ≡ Ok (k, n) → IsTokenInFront bytes k n
 unfolding plain_at
@@ -99,6 +100,7 @@ block_sound at bytes k n starts h =
       is = inr string;
     })))
 
+-- what is taken as a string is one
 pub string_sound : (at : ℕ) (bytes : List ℕ) (k : TokenKind) (n : ℕ) → next_is (λ b. b == 34) bytes ≡ true → string_at at bytes ≡ Ok (k, n) → IsTokenInFront bytes k n
 unfolding string_at
 string_sound at bytes k n starts h = ⊎_elim

@@ -9,5 +9,6 @@ pub record IsTokenInFront (bytes : List ℕ) (k : TokenKind) (n : ℕ) : Type 0 
   pub within : n ≤ length bytes
   pub is : IsToken (take n bytes) (drop n bytes) k
 
+-- equal answers are of the same token
 pub same_token : (bytes : List ℕ) (x y : TokenKind × ℕ) → x ≡ y → IsTokenInFront bytes x.0 x.1 → IsTokenInFront bytes y.0 y.1
 same_token bytes x y e is = subst (λ p. IsTokenInFront bytes p.0 p.1) e is

@@ -1,6 +1,6 @@
 -- The value of a block string (GraphQL October 2021, 2.9.4, BlockStringValue).
-use Rattle.std.specs.Prelude.{ℕ, ◌+◌, ◌-◌, min, List, [], ◌∷◌, take, drop, length, map, Bool, ◌==◌, Option, Some, None, if◌then◌else◌, unwrap_or}
-use Rattle.std.specs.List.{list_all, prefix_len, suffix_len, join_with_byte}
+use Rattle.std.specs.Prelude.{ℕ, ◌-◌, min, List, [], ◌∷◌, take, drop, length, map, Bool, ◌==◌, Option, Some, None, if◌then◌else◌, unwrap_or}
+use Rattle.std.specs.List.{prefix_len, suffix_len, join_with_byte}
 use Rattle.hq_gql_lexer.specs.Characters.{next_is, is_white_space}
 
 -- a byte put before the first line
@@ -39,10 +39,11 @@ abbrev pub dedented : List (List ℕ) → List (List ℕ)
 dedented [] = []
 dedented (first ∷ lines) = first ∷ map (drop (unwrap_or (common_indent lines) 0)) lines
 
--- the lines without the blank ones at both ends
+-- the lines without the blank ones in front
 abbrev pub without_blank_front : List (List ℕ) → List (List ℕ)
 without_blank_front lines = drop (prefix_len is_blank lines) lines
 
+-- the lines without the blank ones at the end
 abbrev pub without_blank_back : List (List ℕ) → List (List ℕ)
 without_blank_back lines = take (length lines - suffix_len is_blank lines) lines
 

@@ -1,6 +1,5 @@
 -- Escapes in strings (GraphQL October 2021, 2.9.4).
-use Rattle.std.specs.Prelude.{ℕ, ◌+◌, ◌*◌, List, [], ◌∷◌, drop, Bool, ◌&&◌, ◌||◌, ◌==◌, Option, Some, None, if◌then◌else◌, option_and_then, option_map}
-use Rattle.std.specs.List.{list_all}
+use Rattle.std.specs.Prelude.{ℕ, ◌+◌, ◌*◌, List, ◌∷◌, drop, ◌&&◌, ◌||◌, ◌==◌, Option, Some, None, if◌then◌else◌, option_and_then, option_map}
 use Rattle.std.specs.Char.{is_digit, digit_value}
 use Rattle.std.specs.Char.Utf16.{is_high_surrogate, is_low_surrogate, surrogate_pair_char}
 
@@ -36,6 +35,7 @@ character_of unit bytes =
     if is_high_surrogate unit then option_map (λ c. (c, 12)) (pair_of unit (unit_at bytes))
     else (if is_low_surrogate unit || unit == 0 then None else Some (unit, 6))
 
+-- the character of a `\u` escape at the front, and how many bytes it takes
 unfoldable pub unicode_escape : List ℕ → Option (ℕ × ℕ)
 unicode_escape bytes = option_and_then (λ unit. character_of unit (drop 6 bytes)) (unit_at bytes)
 

@@ -1,6 +1,6 @@
 -- The productions of the lexical grammar (GraphQL October 2021, section 2.1): which bytes are which token. `next` is
 -- what follows them, where the standard looks ahead.
-use Rattle.std.specs.Prelude.{◌≡◌, ◌≢◌, ℕ, ◌+◌, ◌⊎◌, List, [], ◌∷◌, ◌++◌, length, Bool, true, false, ◌||◌, ◌==◌, nat_eq, IsTrue, Option, Some, MatchBool, encode_utf8}
+use Rattle.std.specs.Prelude.{◌≡◌, ◌≢◌, ℕ, ◌+◌, ◌⊎◌, List, [], ◌∷◌, ◌++◌, length, false, ◌||◌, ◌==◌, nat_eq, IsTrue, Some, MatchBool, encode_utf8}
 use Rattle.std.specs.List.{list_all, starts_with}
 use Rattle.std.specs.Char.{IsScalar, is_ascii_digit}
 use Rattle.hq_gql_lexer.specs.declared.token.Punct.{Punct}
@@ -8,7 +8,7 @@ use Rattle.hq_gql_lexer.specs.declared.token.Punct.TheVariants as punct
 use Rattle.hq_gql_lexer.specs.declared.token.Token.{Token}
 use Rattle.hq_gql_lexer.specs.declared.token.TokenKind.{TokenKind}
 use Rattle.hq_gql_lexer.specs.declared.token.TokenKind.TheVariants as kind
-use Rattle.hq_gql_lexer.specs.Characters.{next_is, is_line_end, is_white_space, is_name_start, is_name_continue, is_source}
+use Rattle.hq_gql_lexer.specs.Characters.{next_is, is_line_end, is_name_start, is_name_continue, is_source}
 use Rattle.hq_gql_lexer.specs.Escapes.{escape_at}
 use Rattle.hq_gql_lexer.specs.Strings.{quotes}
 use Rattle.hq_gql_lexer.specs.BlockStrings.{block_value}

@@ -1,5 +1,5 @@
 -- Tokens, and what is ignored between them (GraphQL October 2021, section 2.1).
-use Rattle.std.specs.Prelude.{ℕ, ◌+◌, List, [], ◌∷◌, take, drop, length, Bool, false, not, ◌&&◌, ◌||◌, ◌==◌, nat_eq, nat_lt, Option, Some, None, Result, Ok, Err, if◌then◌else◌}
+use Rattle.std.specs.Prelude.{ℕ, ◌+◌, List, [], ◌∷◌, take, drop, Bool, false, not, ◌&&◌, ◌||◌, ◌==◌, nat_eq, nat_lt, Option, Some, None, Result, Ok, Err, if◌then◌else◌}
 use Rattle.std.specs.List.{starts_with, prefix_len}
 use Rattle.std.specs.Char.{is_ascii_digit}
 use Rattle.std.specs.Option.{ok_or}
@@ -60,11 +60,12 @@ punct_of b =
     else (if b == 124 then Some punct.Pipe
     else (if b == 125 then Some punct.CloseBrace else None))))))))))))
 
--- the punctuator at the front, and how many bytes it takes
+-- a punctuator of one byte
 abbrev pub one_byte : Option Punct → Option (Punct × ℕ)
 one_byte None = None
 one_byte (Some p) = Some (p, 1)
 
+-- the punctuator at the front, and how many bytes it takes: the longest
 unfoldable pub punct_at : List ℕ → Option (Punct × ℕ)
 punct_at [] = None
 punct_at (b ∷ bytes) =
@@ -86,10 +87,11 @@ starts_number bytes = next_is is_ascii_digit bytes || next_is (λ b. b == 45) by
 abbrev pub goes_on : ℕ → Bool
 goes_on b = is_ascii_digit b || b == 46 || is_name_start b
 
--- the longest number, which is whole where it has no fraction and no exponent
+-- a number is whole where it has no fraction and no exponent
 abbrev pub number_kind : (whole : Bool) → List ℕ → TokenKind
 number_kind whole text = if whole then kind.Int text else kind.Float text
 
+-- the number at the front, refused where something stands behind it that may not follow
 unfoldable pub number_at : Reader
 number_at at bytes =
     let n = number_len bytes in
@@ -109,6 +111,7 @@ block_at at bytes =
     characters Block (at + 3) (take n (drop 3 bytes)) >>= λ raw.
     Ok (kind.Str (block_value raw), n + 6)
 
+-- a string: in three quotes where three are next
 unfoldable pub string_at : Reader
 string_at at bytes = if starts_with nat_eq bytes quotes then block_at at bytes else plain_at at bytes
 
@@ -126,11 +129,12 @@ token_at at bytes =
     else (if next_is is_name_start bytes then name_at bytes
     else Err (BadByte at))))
 
--- what stands at the front: None where it is ignored
+-- what is ignored, or else the token
 abbrev pub ignored_or : Option ℕ → Result (TokenKind × ℕ) LexRefusal → Result (Option TokenKind × ℕ) LexRefusal
 ignored_or (Some n) other = Ok (None, n)
 ignored_or None other = other >>= λ t. Ok (Some t.0, t.1)
 
+-- what stands at the front, None where it is ignored, and how many bytes it takes
 unfoldable pub lexeme_at : Step (Option TokenKind)
 lexeme_at at bytes = ignored_at at bytes >>= λ n. ignored_or n (token_at at bytes)
 
@@ -139,6 +143,7 @@ abbrev pub tokens_in : ℕ → Option TokenKind → ℕ → List Token
 tokens_in at None n = []
 tokens_in at (Some k) n = record { from = at; to = at + n; kind = k } ∷ []
 
+-- the token at the front, if it is one, and how many bytes are taken
 abbrev pub tokens_at : Step (List Token)
 tokens_at at bytes = lexeme_at at bytes >>= λ l. Ok (tokens_in at l.0 l.1, l.1)
 

@@ -1,8 +1,8 @@
 -- Numbers (GraphQL October 2021, 2.9.1 and 2.9.2).
-use Rattle.std.specs.Prelude.{ℕ, ◌+◌, List, [], ◌∷◌, Bool, ◌||◌, ◌&&◌, ◌==◌, nat_lt, drop, if◌then◌else◌}
+use Rattle.std.specs.Prelude.{ℕ, ◌+◌, List, ◌||◌, ◌&&◌, ◌==◌, nat_lt, drop, if◌then◌else◌}
 use Rattle.std.specs.List.{prefix_len}
 use Rattle.std.specs.Char.{is_ascii_digit}
-use Rattle.hq_gql_lexer.specs.Characters.{next_is, is_name_start}
+use Rattle.hq_gql_lexer.specs.Characters.{next_is}
 
 -- how many digits stand at the front
 abbrev pub digits_len : List ℕ → ℕ

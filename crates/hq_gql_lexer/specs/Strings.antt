@@ -1,5 +1,5 @@
 -- Strings (GraphQL October 2021, 2.9.4).
-use Rattle.std.specs.Prelude.{ℕ, zero, suc, ◌+◌, ◌-◌, List, [], ◌∷◌, take, drop, length, Bool, true, false, not, ◌&&◌, ◌==◌, nat_eq, nat_lt, Option, Some, None, Result, Ok, Err, if◌then◌else◌, option_map, encode_utf8}
+use Rattle.std.specs.Prelude.{ℕ, zero, suc, ◌+◌, ◌-◌, List, [], ◌∷◌, take, length, Bool, not, ◌&&◌, ◌==◌, nat_eq, nat_lt, Option, Some, None, Result, Ok, Err, if◌then◌else◌, option_map, encode_utf8}
 use Rattle.std.specs.List.{starts_with}
 use Rattle.std.specs.Str.Lossy.{utf8_valid_len}
 use Rattle.hq_gql_lexer.specs.declared.characters.Form.{Form}

@@ -107,7 +107,7 @@ fn tokens(rt: HostRuntime) -> Result<(), Fail> {
 
 #[test]
 fn block_strings(rt: HostRuntime) -> Result<(), Fail> {
-    let table: [(&[u8], &str); 12] = [
+    let table: [(&[u8], &str); 20] = [
         (b"\"\"\"\"\"\"", "Str  0..6;"),
         (b"\"\"\"a\"\"\"", "Str a 0..7;"),
         (
@@ -126,6 +126,49 @@ fn block_strings(rt: HostRuntime) -> Result<(), Fail> {
         (b"\"\"\"a\x02\"\"\"", "BadByte { at: 4 }"),
         (b"\"\"\"a\n\xe2\x82\"\"\"", "NotUtf8 { at: 5 }"),
         (b"\"\"\"\xf0\x9f\x98\x80\"\"\"", "Str \u{1f600} 0..10;"),
+        (b"\"\"\"    a\"\"\"", "Str     a 0..11;"),
+        (b"\"\"\" \t \"\"\"", "Str  0..9;"),
+        (b"\"\"\"\n\n  a\n \n    b\n\n\"\"\"", "Str a\n\n  b 0..21;"),
+        (b"\"\"\"\n\ta\n  b\"\"\"", "Str a\n b 0..13;"),
+        (b"\"\"\"\"a\"\"\"", "Str \"a 0..8;"),
+        (b"\"\"\"\"\"\"\"\"", "Str  0..6;Str  6..8;"),
+        (b"\"\"\"a\"\"\"\"", "OpenString { at: 7 }"),
+        (b"\"\"\"a\\\\\"\"\"", "OpenString { at: 0 }"),
+    ];
+    for (text, want) in table {
+        let got = shown(rt.alloc(), text)?;
+        assert_eq!(rt; got.as_str(), want);
+    }
+    Ok(())
+}
+
+#[test]
+fn edges(rt: HostRuntime) -> Result<(), Fail> {
+    let table: [(&[u8], &str); 24] = [
+        (b"a#b\rc", "Name a 0..1;Name c 4..5;"),
+        (b"a #\xf0\x9f\x98\x80", "Name a 0..1;"),
+        (b"a\xef\xbb\xbfb", "Name a 0..1;Name b 4..5;"),
+        (b"\xef\xbb", "BadByte { at: 0 }"),
+        (b"\x00", "BadByte { at: 0 }"),
+        (b"....", "BadByte { at: 3 }"),
+        (b"-a", "BadByte { at: 0 }"),
+        (b"1-2", "Int 1 0..1;Int -2 1..3;"),
+        (b"1...", "BadNumber { at: 0 }"),
+        (b"1.5e3x", "BadNumber { at: 0 }"),
+        (b"\"\t\x7f\"", "Str \t\u{7f} 0..4;"),
+        (b"\"\xed\xa0\x80\"", "NotUtf8 { at: 1 }"),
+        (b"\"\xc0\x80\"", "NotUtf8 { at: 1 }"),
+        (b"\"\xf0\x9f\x98\"", "NotUtf8 { at: 1 }"),
+        (b"\"a\rb\"", "OpenString { at: 0 }"),
+        (b"\"a\\", "OpenString { at: 0 }"),
+        (b"\"\"a\"\"", "Str  0..2;Name a 2..3;Str  3..5;"),
+        (b"\"\\uD83D\\uD83D\"", "BadEscape { at: 1 }"),
+        (b"\"\\uDE00\\uD83D\"", "BadEscape { at: 1 }"),
+        (b"\"\\u004\"", "BadEscape { at: 1 }"),
+        (b"\"\\U0041\"", "BadEscape { at: 1 }"),
+        (b"\"\\uFFFF\\ue000\"", "Str \u{ffff}\u{e000} 0..14;"),
+        (b"\"\\u0000\" \"", "BadEscape { at: 1 }"),
+        (b"a \"b\" 01 \"\\x\"", "BadNumber { at: 6 }"),
     ];
     for (text, want) in table {
         let got = shown(rt.alloc(), text)?;

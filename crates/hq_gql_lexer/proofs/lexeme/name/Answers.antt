@@ -2,7 +2,6 @@ use Rattle.std.proofs.Common.{take, subst, sym}
 use Rattle.hq_gql_lexer.proofs.TextLemmas.{IsText, text_of-IsText}
 use Rattle.hq_gql_lexer.proofs.NumberLemmas.{name_in_front}
 use Rattle.hq_gql_lexer.proofs.ProductionLemmas.{name-IsText}
-use Rattle.hq_gql_lexer.proofs.CharacterLemmas.{encode-IsText}
 use Rattle.hq_gql_lexer.proofs.lexeme.name.Goals as goal
 
 pub text-requires : goal.text-requires

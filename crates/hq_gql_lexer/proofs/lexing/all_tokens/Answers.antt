@@ -1,4 +1,4 @@
-use Rattle.std.proofs.Common.{◌≡◌, Ok, ◌∙◌, ap, zero-add}
+use Rattle.std.proofs.Common.{Ok, ◌∙◌, ap, zero-add}
 use Rattle.std.specs.Prelude.{length, slice_range}
 use Rattle.hq_gql_lexer.specs.Steps.{◌>>=◌}
 use Rattle.hq_gql_lexer.specs.Lexemes.{tokens_in, tokens_at}
