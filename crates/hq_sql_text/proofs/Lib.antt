@@ -2,8 +2,8 @@ pub mod Below
 pub mod Views
 pub mod Joined
 pub mod Fits
-pub mod Clauses
-pub mod Conditions
+pub mod ClausesTaken
+pub mod ConditionsTaken
 pub mod Takes
 pub mod ClausesAgain
 pub mod ConditionsAgain

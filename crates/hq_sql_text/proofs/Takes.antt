@@ -18,8 +18,8 @@ use Rattle.hq_sql_expr.proofs.Literals.{IsText, quoted_takes}
 use Rattle.hq_sql_expr.proofs.Exprs.{GoodOrder, GoodOut, outs_take}
 use Rattle.hq_sql_text.specs.Reading.{EndTree, clause_with, distinct_at, table_at, one_at, aliased_with, from_with, join_with, fold_of, shaped, end_with, select_with, select_at, inside_with, pred_with, pred_at}
 use Rattle.hq_sql_text.proofs.Fits.{FitsDistinct, FitsSelect, FitsFrom, FitsJoins, FitsPred}
-use Rattle.hq_sql_text.proofs.Clauses.{clause_spelled, clause_takes, distinct_takes}
-use Rattle.hq_sql_text.proofs.Conditions.{OnePred, end_text, GoodEnd, end_takes, inside_takes, pred_with_takes}
+use Rattle.hq_sql_text.proofs.ClausesTaken.{clause_spelled, clause_takes, distinct_takes}
+use Rattle.hq_sql_text.proofs.ConditionsTaken.{OnePred, end_text, GoodEnd, end_takes, inside_takes, pred_with_takes}
 
 -- ---- what a select takes its rows from
 

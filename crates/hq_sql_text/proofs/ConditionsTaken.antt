@@ -19,7 +19,7 @@ use Rattle.hq_sql_expr.proofs.Exprs.{GoodOrder, expr_takes, orders_take, closed_
 use Rattle.hq_sql_expr.proofs.Closed.{FitsClosed, closed_list_text, closed_expr_takes, closed_exprs_take}
 use Rattle.hq_sql_text.specs.Reading.{EndTree, clause_with, count_at, op_or, op_at, test_with, tested_at, member_next, others_with, joined_with, negated_with, inside_with, exists_with, pred_with, filter_with, counts_with, end_with}
 use Rattle.hq_sql_text.proofs.Fits.{AtLeastTwo, FitsFilter, FitsPred, FitsPreds}
-use Rattle.hq_sql_text.proofs.Clauses.{clause_spelled, clause_takes, count_takes}
+use Rattle.hq_sql_text.proofs.ClausesTaken.{clause_spelled, clause_takes, count_takes}
 
 -- the front is the spelling of a condition that fits
 abbrev pub OnePred : ℕ → List ℕ → PredTree → Type 0
