@@ -125,7 +125,7 @@ module _ (d : ℕ) (condition : Reader PredTree) (condition_takes : Sound condit
 
   members_of : (w : Word) (first : PredTree) (ps : List PredTree) → FitsPred first d → AllGood (λ p. FitsPred p d) ps → Members w first (separated w (map pred_text ps) ++ word_text word.Close) (first ∷ ps)
   members_of w first [] fits good = absurd good
-  members_of w first (p ∷ ps) fits good = (simp append_assoc, tt, (fits, good.0, fits_preds d ps good.1))
+  members_of w first (p ∷ ps) fits good = (simp append_assoc, tt, (fits, (good.0, fits_preds d ps good.1)))
 
   others_take : (w : Word) (first : PredTree) → FitsPred first d → Sound (others_with condition w first) (Members w first)
   unfolding others_with
@@ -135,10 +135,10 @@ module _ (d : ℕ) (condition : Reader PredTree) (condition_takes : Sound condit
       (λ ps good. sound_end word.Close (first ∷ ps) (λ b x. Members w first (separated w (map pred_text ps) ++ b) x) (members_of w first ps fits good))
 
   all_made : (first : PredTree) (b : List ℕ) (ps : List PredTree) → Members word.And first b ps → Inside d (pred_text first ++ (word_text word.And ++ b)) (tree.all_of (preds_of ps))
-  all_made first b ps r = (ap (λ t. word_text word.Open ++ t) (r.0 ∙ ap (λ ts. separated word.And ts ++ word_text word.Close) (sym (pred_texts_of ps))), r.1)
+  all_made first b ps r = (ap (λ t. word_text word.Open ++ t) (r.0 ∙ ap (λ ts. separated word.And ts ++ word_text word.Close) (sym (pred_texts_of ps))), (r.1, r.2))
 
   any_made : (first : PredTree) (b : List ℕ) (ps : List PredTree) → Members word.Or first b ps → Inside d (pred_text first ++ (word_text word.Or ++ b)) (tree.any_of (preds_of ps))
-  any_made first b ps r = (ap (λ t. word_text word.Open ++ t) (r.0 ∙ ap (λ ts. separated word.Or ts ++ word_text word.Close) (sym (pred_texts_of ps))), r.1)
+  any_made first b ps r = (ap (λ t. word_text word.Open ++ t) (r.0 ∙ ap (λ ts. separated word.Or ts ++ word_text word.Close) (sym (pred_texts_of ps))), (r.1, r.2))
 
   joined_takes : Sound (joined_with condition) (Inside d)
   unfolding joined_with

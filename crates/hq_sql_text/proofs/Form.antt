@@ -1,5 +1,5 @@
 -- The relation Fits says what the form, the depth and the values of a select say.
-use Rattle.std.proofs.Common.{◌≡◌, ℕ, zero, suc, ◌≤◌, Bool, true, false, ◌&&◌, not, List, [], ◌∷◌, map, length, refl, arith}
+use Rattle.std.proofs.Common.{◌≡◌, ℕ, zero, suc, ◌+◌, ◌≤◌, Bool, true, false, ◌&&◌, not, List, [], ◌∷◌, map, length, refl, arith}
 use Rattle.std.specs.List.{AllByRecursion, list_all}
 use Rattle.std.specs.Prelude.{nat_le}
 use Rattle.std.proofs.lemmas.Bool.{leb-true, le-leb}
@@ -224,7 +224,7 @@ mutual
       let k = expr_told e d h.0 in
       let m = closed_told d es h.1 in
       let le : expr_depth e ≤ d = k.1 in
-      let more : suc (greatest (map expr_depth es)) ≤ d = m.2 in
+      let more : 1 + greatest (map expr_depth es) ≤ d = m.2 in
       (both_and (is_expr e && nat_le 1 (length es)) (list_all is_expr es) (both_and (is_expr e) (nat_le 1 (length es)) k.0 m.0) m.1, omega arith, both_and (expr_fits e) (list_all expr_fits es) k.2 m.3)
   pred_told (tree.is_null e) zero h = absurd h
   pred_told (tree.is_null e) (suc d) h = let k = expr_told e d h in let le : expr_depth e ≤ d = k.1 in (k.0, omega arith, k.2)
