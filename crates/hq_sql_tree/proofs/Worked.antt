@@ -1,5 +1,5 @@
--- The worked statement: what it means over the worked tables, and that it is well-formed for them, by computing the definitions.
-use Rattle.std.specs.Prelude.{◌≡◌, ℕ, pos, List, [], ◌∷◌, Some, None, true, false, codes}
+-- The worked statement: what it means over the worked tables, and that it is well-typed for them, by computing the definitions.
+use Rattle.std.specs.Prelude.{◌≡◌, ◌&&◌, ℕ, pos, List, [], ◌∷◌, None, true, false, codes}
 use Rattle.std.proofs.Common.{refl}
 use Rattle.hq_base.specs.Json as json
 use Rattle.hq_base.specs.Json.{JsonTree}
@@ -12,7 +12,7 @@ use Rattle.hq_terms.specs.declared.table.Table.{Table}
 use Rattle.hq_sql_tree.specs.Tree as tree
 use Rattle.hq_sql_tree.specs.Tree.{ExprTree, SelectTree}
 use Rattle.hq_sql_tree.specs.Meaning.{World, meaning}
-use Rattle.hq_sql_tree.specs.WellFormed.{is_statement}
+use Rattle.hq_sql_tree.specs.WellFormed.{is_statement_form, is_well_typed}
 
 -- the table of authors
 abbrev author : Table
@@ -67,13 +67,13 @@ answer =
 pub worked_meaning : meaning statement world ≡ answer
 worked_meaning = refl
 
-pub worked_statement : is_statement statement (author ∷ []) ≡ true
+pub worked_statement : (is_statement_form statement && is_well_typed statement (author ∷ [])) ≡ true
 worked_statement = refl
 
 -- an alias that is not in scope
-pub unknown_alias : is_statement (tree.rows [] (record { value = tree.object (tree.pair (codes "author") (tree.column (codes "j2") (codes "v") false) tree.no_pair); name = codes "v" } ∷ []) (tree.one (codes "t0")) tree.no_join tree.no_filter [] None None) (author ∷ []) ≡ false
+pub unknown_alias : is_well_typed (tree.rows [] (record { value = tree.object (tree.pair (codes "author") (tree.column (codes "j2") (codes "v") false) tree.no_pair); name = codes "v" } ∷ []) (tree.one (codes "t0")) tree.no_join tree.no_filter [] None None) (author ∷ []) ≡ false
 unknown_alias = refl
 
 -- a table that the catalog lacks
-pub unknown_table : is_statement statement [] ≡ false
+pub unknown_table : is_well_typed statement [] ≡ false
 unknown_table = refl

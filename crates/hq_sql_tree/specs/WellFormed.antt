@@ -282,10 +282,13 @@ abbrev mutual
 
 -- ---- statements
 
--- A select that is well-formed for the catalog: a tree of the grammar that opens at most 2,000 parentheses at once,
--- whose aliases all differ, and whose parts have their types in scope.
+-- a tree of the grammar that opens at most 2,000 parentheses at once, whose aliases all differ, and whose parts have their types in scope
+abbrev pub is_well_typed : SelectTree → List Table → Bool
+is_well_typed s tables = is_select s && nat_le (select_depth s) 2000 && all_differ bytes_eq (aliases_in s []) && is_typed s tables []
+
+-- a select that is well-formed for the catalog: so, and its texts and numbers are ones that a tree can hold
 abbrev pub is_well_formed : SelectTree → List Table → Bool
-is_well_formed s tables = is_select s && nat_le (select_depth s) 2000 && select_fits s && all_differ bytes_eq (aliases_in s []) && is_typed s tables []
+is_well_formed s tables = is_well_typed s tables && select_fits s
 
 abbrev pub is_object : ExprTree → Bool
 is_object (tree.object ps) = true
