@@ -22,7 +22,7 @@ author =
       name = codes "author";
       columns = record { name = codes "id"; ty = ty.Integer; nullable = false } ∷ record { name = codes "name"; ty = ty.Text; nullable = false } ∷ record { name = codes "email"; ty = ty.Text; nullable = true } ∷ [];
       key = 0 ∷ [];
-      foreign = []
+      foreign = [];
     }
 
 -- its rows, in file order
