@@ -4,7 +4,7 @@ use super::fixture::{catalog, entries, store, text_of};
 use crate::ListDb;
 use hq_base::{Bytes, Json};
 use hq_link::{Database, DbRefusal};
-use hq_tables::{FlakyTables, MemTables, Tables};
+use hq_tables::{FlakyTables, Tables};
 use std::alloc::Global;
 use std::test::Fail;
 
@@ -43,22 +43,19 @@ const REFUSED: &[(&[u8], DbRefusal)] = &[
     ),
 ];
 
-// How a text is refused.
-fn refusal(alloc: Global, db: &mut ListDb<MemTables>, text: &[u8]) -> Option<DbRefusal> {
-    db.run(alloc, text).err()
-}
-
 #[test]
 fn other_texts_are_refused(rt: HostRuntime) -> Result<(), Fail> {
     let alloc = rt.alloc();
     let mut db = ListDb::new(store(alloc)?);
-    for (text, want) in REFUSED {
-        assert_eq!(rt; refusal(alloc, &mut db, text), Some(*want));
+    for (text, refusal) in REFUSED {
+        assert_eq!(rt; db.run(alloc, text).err(), Some(*refusal));
     }
     let mut longer = text_of(alloc, &catalog(alloc)?, &entries(alloc)?)?;
     longer.push(b' ')?;
-    let refused = refusal(alloc, &mut db, longer.as_slice());
-    assert_eq!(rt; refused, Some(DbRefusal::NotSql));
+    assert_eq!(rt;
+        db.run(alloc, longer.as_slice()).err(),
+        Some(DbRefusal::NotSql)
+    );
     Ok(())
 }
 
