@@ -1,10 +1,12 @@
 //! The text of a select: writing it, and reading it back exactly.
 #![tactic(auto)]
 
+mod clauses;
 mod printing;
 mod reading;
 mod shape;
 mod statement;
+mod tested;
 
 pub use hq_sql_expr::ReadRefusal;
 pub use printing::print;

@@ -1,10 +1,13 @@
 use super::*;
-use std::alloc::Global;
+use std::alloc::{AllocError, Global};
 use std::test::Fail;
 
-// The statement of a list of two columns.
+// The statement of a list of two columns, with a condition.
 const LIST: &[u8] =
-    b"SELECT json_build_object('author'::text, \"j1\".\"v\") AS \"v\" FROM (SELECT TRUE AS \"u\") AS \"t0\" LEFT JOIN LATERAL (SELECT COALESCE(json_agg(\"s1\".\"v\" ORDER BY \"s1\".\"o0\" ASC NULLS LAST), '[]'::json) AS \"v\" FROM (SELECT json_build_object('id'::text, \"t1\".\"id\", 'name'::text, \"t1\".\"name\") AS \"v\", \"t1\".\"id\" AS \"o0\" FROM \"public\".\"author\" AS \"t1\" ORDER BY \"t1\".\"id\" ASC NULLS LAST) AS \"s1\") AS \"j1\" ON TRUE";
+    b"SELECT json_build_object('author'::text, \"j1\".\"v\") AS \"v\" FROM (SELECT TRUE AS \"u\") AS \"t0\" LEFT JOIN LATERAL (SELECT COALESCE(json_agg(\"s1\".\"v\" ORDER BY \"s1\".\"o0\" ASC NULLS LAST), '[]'::json) AS \"v\" FROM (SELECT json_build_object('id'::text, \"t1\".\"id\", 'name'::text, \"t1\".\"name\") AS \"v\", \"t1\".\"id\" AS \"o0\" FROM \"public\".\"author\" AS \"t1\" WHERE (\"t1\".\"name\" COLLATE \"C\" = 'O''Hara'::text) ORDER BY \"t1\".\"id\" ASC NULLS LAST) AS \"s1\") AS \"j1\" ON TRUE";
+
+// Rows of a table, to which a test adds a clause.
+const ROWS: &[u8] = b"SELECT TRUE AS \"u\" FROM \"s\".\"t\" AS \"e\"";
 
 // Reads the text, and writes what was read.
 fn again(alloc: Global, text: &[u8]) -> Result<bool, Fail> {
@@ -13,17 +16,55 @@ fn again(alloc: Global, text: &[u8]) -> Result<bool, Fail> {
     Ok(written.as_slice() == text)
 }
 
+// Rows with the clause behind them.
+fn rows_with(alloc: Global, clause: &[u8]) -> Result<Vec<u8>, AllocError> {
+    let mut text = Vec::new(alloc);
+    text.extend_from_slice(ROWS)?;
+    text.extend_from_slice(clause)?;
+    Ok(text)
+}
+
 #[test]
 fn texts_are_read_and_written_back(rt: HostRuntime) -> Result<(), Fail> {
-    let texts: [&[u8]; 5] = [
+    let texts: [&[u8]; 7] = [
         LIST,
+        ROWS,
         b"SELECT TRUE AS \"u\" FROM \"s\".\"t\"\"u\" AS \"e\"",
         b"SELECT json_build_object() AS \"v\" FROM (SELECT TRUE AS \"u\") AS \"t0\"",
         b"SELECT '-9223372036854775808'::bigint AS \"a\", '5'::text AS \"b\", 'O''Hara'::text AS \"c\" FROM \"s\".\"t\" AS \"e\"",
         b"SELECT count(*) AS \"a\" FROM (SELECT \"e\".\"n\" COLLATE \"C\" AS \"c0\" FROM \"s\".\"t\" AS \"e\") AS \"s\"",
+        b"SELECT DISTINCT ON (\"e\".\"n\", \"e\".\"m\") TRUE AS \"u\" FROM \"s\".\"t\" AS \"e\" ORDER BY \"e\".\"m\" ASC NULLS LAST, \"e\".\"n\" DESC NULLS FIRST LIMIT 3 OFFSET 18446744073709551615",
     ];
     for text in texts {
         assert!(rt; again(rt.alloc(), text)?);
+    }
+    Ok(())
+}
+
+#[test]
+fn clauses_are_read_and_written_back(rt: HostRuntime) -> Result<(), Fail> {
+    let clauses: [&[u8]; 17] = [
+        b" LIMIT 0",
+        b" OFFSET 10",
+        b" WHERE TRUE",
+        b" WHERE FALSE LIMIT 1",
+        b" WHERE (TRUE = FALSE)",
+        b" WHERE (\"e\".\"n\" <> '1'::bigint)",
+        b" WHERE (\"e\".\"n\" < '-1'::bigint)",
+        b" WHERE (\"e\".\"n\" LIKE 'a%'::text) ORDER BY \"e\".\"n\" ASC NULLS FIRST",
+        b" WHERE (\"e\".\"n\" COLLATE \"C\" ILIKE 'a%'::text)",
+        b" WHERE (\"e\".\"n\" IN ('1'::bigint, '2'::bigint))",
+        b" WHERE (\"e\".\"n\" IS NULL)",
+        b" WHERE (NOT (\"e\".\"n\" IS NULL))",
+        b" WHERE (TRUE AND FALSE)",
+        b" WHERE (FALSE OR TRUE OR (TRUE AND (TRUE IS NULL)))",
+        b" WHERE (EXISTS (SELECT TRUE AS \"u\" FROM \"s\".\"t\" AS \"f\") AND (\"e\".\"n\" >= \"e\".\"m\"))",
+        b" WHERE EXISTS (SELECT TRUE AS \"u\" FROM \"s\".\"t\" AS \"f\" WHERE (\"f\".\"n\" = \"e\".\"n\"))",
+        b" WHERE (NOT TRUE) LIMIT 7 OFFSET 8",
+    ];
+    for clause in clauses {
+        let text = rows_with(rt.alloc(), clause)?;
+        assert!(rt; again(rt.alloc(), text.as_slice())?);
     }
     Ok(())
 }
@@ -34,7 +75,7 @@ fn is_refused(alloc: Global, text: &[u8]) -> bool {
 
 #[test]
 fn near_misses_are_refused(rt: HostRuntime) {
-    let texts: [&[u8]; 12] = [
+    let texts: [&[u8]; 13] = [
         b"",
         b"SELECT 1",
         b"SELECT TRUE AS \"u\" FROM \"s\".\"t\" AS \"e\" ",
@@ -46,9 +87,62 @@ fn near_misses_are_refused(rt: HostRuntime) {
         b"SELECT '9223372036854775808'::bigint AS \"u\" FROM \"s\".\"t\" AS \"e\"",
         b"SELECT 'O'Hara'::text AS \"u\" FROM \"s\".\"t\" AS \"e\"",
         b"SELECT TRUE AS \"u\" FROM (SELECT TRUE AS \"x\") AS \"t0\"",
+        b"SELECT TRUE AS \"u\" FROM (SELECT FALSE AS \"u\") AS \"t0\"",
         b"SELECT (TRUE) AS \"u\" FROM \"s\".\"t\" AS \"e\"",
     ];
     for text in texts {
         assert!(rt; is_refused(rt.alloc(), text));
     }
+}
+
+#[test]
+fn near_misses_of_clauses_are_refused(rt: HostRuntime) -> Result<(), Fail> {
+    let clauses: [&[u8]; 19] = [
+        b" LIMIT 01",
+        b" LIMIT -1",
+        b" LIMIT ",
+        b" LIMIT 18446744073709551616",
+        b" OFFSET 1 LIMIT 1",
+        b" LIMIT 1 WHERE TRUE",
+        b" WHERE (TRUE)",
+        b" WHERE ((TRUE AND FALSE))",
+        b" WHERE (TRUE AND)",
+        b" WHERE (TRUE AND FALSE OR TRUE)",
+        b" WHERE TRUE AND FALSE",
+        b" WHERE (\"e\".\"n\" = '1'::bigint AND TRUE)",
+        b" WHERE \"e\".\"n\" = '1'::bigint",
+        b" WHERE (\"e\".\"n\" IN ())",
+        b" WHERE (\"e\".\"n\" is NULL)",
+        b" WHERE (\"e\".\"n\" IS NOT NULL)",
+        b" WHERE NOT TRUE",
+        b" WHERE EXISTS (SELECT count(*) AS \"a\" FROM (SELECT TRUE AS \"u\" FROM \"s\".\"t\" AS \"f\") AS \"s\")",
+        b" WHERE (\"e\".\"n\"  = '1'::bigint)",
+    ];
+    for clause in clauses {
+        let text = rows_with(rt.alloc(), clause)?;
+        assert!(rt; is_refused(rt.alloc(), text.as_slice()));
+    }
+    Ok(())
+}
+
+// Rows whose condition is a TRUE that is negated so many times.
+fn negations(alloc: Global, count: usize) -> Result<Vec<u8>, AllocError> {
+    let mut text = rows_with(alloc, b" WHERE ")?;
+    for _ in 0..count {
+        text.extend_from_slice(b"(NOT ")?;
+    }
+    text.extend_from_slice(b"TRUE")?;
+    for _ in 0..count {
+        text.push(b')')?;
+    }
+    Ok(text)
+}
+
+#[test]
+fn two_thousand_parentheses_are_read(rt: HostRuntime) -> Result<(), Fail> {
+    let text = negations(rt.alloc(), 2000)?;
+    assert!(rt; again(rt.alloc(), text.as_slice())?);
+    let deeper = negations(rt.alloc(), 2001)?;
+    assert!(rt; is_refused(rt.alloc(), deeper.as_slice()));
+    Ok(())
 }
