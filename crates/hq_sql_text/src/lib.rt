@@ -10,7 +10,7 @@ mod tested;
 
 pub use hq_sql_expr::ReadRefusal;
 pub use printing::print;
-pub use statement::{one_tree, read};
+pub use statement::{one_spelling, one_tree, read};
 
 #[cfg(test)]
 mod tests;

@@ -26,9 +26,11 @@ fn rows_with(alloc: Global, clause: &[u8]) -> Result<Vec<u8>, AllocError> {
 
 #[test]
 fn texts_are_read_and_written_back(rt: HostRuntime) -> Result<(), Fail> {
-    let texts: [&[u8]; 7] = [
+    let texts: [&[u8]; 9] = [
         LIST,
         ROWS,
+        b"SELECT \"s\".\"u\" AS \"v\" FROM (SELECT TRUE AS \"u\" FROM \"s\".\"t\" AS \"e\") AS \"s\"",
+        b"SELECT TRUE AS \"u\" FROM \"s\".\"t\" AS \"e\" LEFT JOIN LATERAL (SELECT FALSE AS \"v\" FROM \"s\".\"t\" AS \"f\" LIMIT 1) AS \"j1\" ON TRUE LEFT JOIN LATERAL (SELECT count(*) AS \"v\" FROM (SELECT TRUE AS \"u\" FROM \"s\".\"t\" AS \"g\") AS \"h\") AS \"j2\" ON TRUE WHERE TRUE",
         b"SELECT TRUE AS \"u\" FROM \"s\".\"t\"\"u\" AS \"e\"",
         b"SELECT json_build_object() AS \"v\" FROM (SELECT TRUE AS \"u\") AS \"t0\"",
         b"SELECT '-9223372036854775808'::bigint AS \"a\", '5'::text AS \"b\", 'O''Hara'::text AS \"c\" FROM \"s\".\"t\" AS \"e\"",
@@ -41,9 +43,39 @@ fn texts_are_read_and_written_back(rt: HostRuntime) -> Result<(), Fail> {
     Ok(())
 }
 
+// A fold with this output.
+fn fold_of(alloc: Global, output: &[u8]) -> Result<Vec<u8>, AllocError> {
+    let mut text = Vec::new(alloc);
+    text.extend_from_slice(b"SELECT ")?;
+    text.extend_from_slice(output)?;
+    text.extend_from_slice(b" AS \"v\" FROM (")?;
+    text.extend_from_slice(ROWS)?;
+    text.extend_from_slice(b") AS \"s\"")?;
+    Ok(text)
+}
+
+#[test]
+fn aggregates_are_read_and_written_back(rt: HostRuntime) -> Result<(), Fail> {
+    let outputs: [&[u8]; 8] = [
+        b"count(*)",
+        b"count(\"s\".\"u\")",
+        b"count(DISTINCT \"s\".\"u\" COLLATE \"C\")",
+        b"sum(\"s\".\"u\")",
+        b"min(\"s\".\"u\")",
+        b"max(\"s\".\"u\")",
+        b"COALESCE(json_agg(\"s\".\"u\" ORDER BY \"s\".\"u\" DESC NULLS LAST, TRUE ASC NULLS FIRST), '[]'::json)",
+        b"json_build_object('n'::text, count(*), 'o'::text, json_build_object('m'::text, max(\"s\".\"u\")))",
+    ];
+    for output in outputs {
+        let text = fold_of(rt.alloc(), output)?;
+        assert!(rt; again(rt.alloc(), text.as_slice())?);
+    }
+    Ok(())
+}
+
 #[test]
 fn clauses_are_read_and_written_back(rt: HostRuntime) -> Result<(), Fail> {
-    let clauses: [&[u8]; 17] = [
+    let clauses: [&[u8]; 20] = [
         b" LIMIT 0",
         b" OFFSET 10",
         b" WHERE TRUE",
@@ -51,6 +83,9 @@ fn clauses_are_read_and_written_back(rt: HostRuntime) -> Result<(), Fail> {
         b" WHERE (TRUE = FALSE)",
         b" WHERE (\"e\".\"n\" <> '1'::bigint)",
         b" WHERE (\"e\".\"n\" < '-1'::bigint)",
+        b" WHERE (\"e\".\"n\" <= '0'::bigint)",
+        b" WHERE (\"e\".\"n\" > '9223372036854775807'::bigint)",
+        b" ORDER BY \"e\".\"n\" DESC NULLS LAST",
         b" WHERE (\"e\".\"n\" LIKE 'a%'::text) ORDER BY \"e\".\"n\" ASC NULLS FIRST",
         b" WHERE (\"e\".\"n\" COLLATE \"C\" ILIKE 'a%'::text)",
         b" WHERE (\"e\".\"n\" IN ('1'::bigint, '2'::bigint))",
