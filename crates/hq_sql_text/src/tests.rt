@@ -160,24 +160,81 @@ fn near_misses_of_clauses_are_refused(rt: HostRuntime) -> Result<(), Fail> {
     Ok(())
 }
 
-// Rows whose condition is a TRUE that is negated so many times.
-fn negations(alloc: Global, count: usize) -> Result<Vec<u8>, AllocError> {
-    let mut text = rows_with(alloc, b" WHERE ")?;
+// A text that opens a parenthesis so many times, around the middle.
+#[derive(Clone, Copy)]
+struct Nested {
+    front: &'static [u8],
+    opened: &'static [u8],
+    middle: &'static [u8],
+    closed: &'static [u8],
+    back: &'static [u8],
+}
+
+fn nested(alloc: Global, form: &Nested, count: usize) -> Result<Vec<u8>, AllocError> {
+    let mut text = Vec::new(alloc);
+    text.extend_from_slice(form.front)?;
     for _ in 0..count {
-        text.extend_from_slice(b"(NOT ")?;
+        text.extend_from_slice(form.opened)?;
     }
-    text.extend_from_slice(b"TRUE")?;
+    text.extend_from_slice(form.middle)?;
     for _ in 0..count {
-        text.push(b')')?;
+        text.extend_from_slice(form.closed)?;
     }
+    text.extend_from_slice(form.back)?;
     Ok(text)
 }
 
 #[test]
 fn two_thousand_parentheses_are_read(rt: HostRuntime) -> Result<(), Fail> {
-    let text = negations(rt.alloc(), 2000)?;
-    assert!(rt; again(rt.alloc(), text.as_slice())?);
-    let deeper = negations(rt.alloc(), 2001)?;
-    assert!(rt; is_refused(rt.alloc(), deeper.as_slice()));
+    let forms = [
+        Nested {
+            front: b"SELECT TRUE AS \"u\" FROM \"s\".\"t\" AS \"e\" WHERE ",
+            opened: b"(NOT ",
+            middle: b"TRUE",
+            closed: b")",
+            back: b" LIMIT 1",
+        },
+        Nested {
+            front: b"SELECT TRUE AS \"u\" FROM \"s\".\"t\" AS \"e\" WHERE ",
+            opened: b"(FALSE OR ",
+            middle: b"TRUE",
+            closed: b")",
+            back: b"",
+        },
+        Nested {
+            front: b"SELECT TRUE AS \"u\" FROM \"s\".\"t\" AS \"e\"",
+            opened: b" WHERE EXISTS (SELECT TRUE AS \"u\" FROM \"s\".\"t\" AS \"e\"",
+            middle: b"",
+            closed: b")",
+            back: b"",
+        },
+        Nested {
+            front: b"SELECT TRUE AS \"u\" FROM ",
+            opened: b"(SELECT TRUE AS \"u\" FROM ",
+            middle: b"\"s\".\"t\" AS \"e\"",
+            closed: b") AS \"e\"",
+            back: b"",
+        },
+        Nested {
+            front: b"SELECT TRUE AS \"u\" FROM \"s\".\"t\" AS \"e\"",
+            opened: b" LEFT JOIN LATERAL (SELECT TRUE AS \"u\" FROM \"s\".\"t\" AS \"e\"",
+            middle: b"",
+            closed: b") AS \"j\" ON TRUE",
+            back: b"",
+        },
+        Nested {
+            front: b"SELECT ",
+            opened: b"json_build_object('a'::text, ",
+            middle: b"TRUE",
+            closed: b")",
+            back: b" AS \"v\" FROM \"s\".\"t\" AS \"e\"",
+        },
+    ];
+    for form in &forms {
+        let text = nested(rt.alloc(), form, 2000)?;
+        assert!(rt; again(rt.alloc(), text.as_slice())?);
+        let deeper = nested(rt.alloc(), form, 2001)?;
+        assert!(rt; is_refused(rt.alloc(), deeper.as_slice()));
+    }
     Ok(())
 }
