@@ -1,0 +1,8 @@
+use Rattle.hq_gql_lexer.proofs.LexLemmas.{given_lexes, given_spans}
+use Rattle.hq_gql_lexer.proofs.lexing.lex.Goals as goal
+
+pub returns-clause-lexes : goal.returns-clause-lexes
+returns-clause-lexes c = given_lexes _ _ c.all_tokens.ensures
+
+pub returns-clause-spans : goal.returns-clause-spans
+returns-clause-spans c = given_spans _ _ c.all_tokens.ensures
