@@ -12,7 +12,7 @@ use Rattle.std.proofs.lemmas.List.Sums.{prefix_len-le-length}
 use Rattle.std.proofs.lemmas.Str.{encode_ascii}
 use Rattle.hq_gql_lexer.specs.declared.refusal.LexRefusal.{LexRefusal}
 use Rattle.hq_gql_lexer.specs.Characters.{next_is, is_line_end, is_source}
-use Rattle.hq_gql_lexer.specs.Steps.{◌>>=◌}
+use Rattle.hq_base.specs.Due.{◌>>=◌}
 use Rattle.hq_gql_lexer.specs.Lexemes.{comment_at, byte_order_mark, is_ignored, ignored_at}
 use Rattle.hq_gql_lexer.specs.Grammar.{IsCommentRest, nothing, character, IsComment, IsIgnored}
 use Rattle.hq_gql_lexer.proofs.TextLemmas.{and_parts}

@@ -7,7 +7,8 @@ use Rattle.hq_gql_lexer.specs.declared.refusal.LexRefusal.{LexRefusal}
 use Rattle.std.specs.List.{list_all}
 use Rattle.hq_gql_lexer.proofs.CharacterLemmas.{is_high}
 use Rattle.hq_gql_lexer.proofs.TextLemmas.{and_parts}
-use Rattle.hq_gql_lexer.specs.Steps.{◌>>=◌, Step, steps}
+use Rattle.hq_base.specs.Due.{◌>>=◌}
+use Rattle.hq_gql_lexer.specs.Steps.{Step, steps}
 
 -- what is there already, and what is still to come
 abbrev pub with_front : {X : Type 0} → List X → Result (List X) LexRefusal → Result (List X) LexRefusal

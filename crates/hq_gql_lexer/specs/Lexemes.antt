@@ -16,7 +16,8 @@ use Rattle.hq_gql_lexer.specs.Characters.{next_is, is_line_end, is_white_space, 
 use Rattle.hq_gql_lexer.specs.Numbers.{integer_len, number_len}
 use Rattle.hq_gql_lexer.specs.Strings.{quotes, plain_len, block_len, characters}
 use Rattle.hq_gql_lexer.specs.BlockStrings.{block_value}
-use Rattle.hq_gql_lexer.specs.Steps.{◌>>=◌, Step, steps}
+use Rattle.hq_base.specs.Due.{◌>>=◌}
+use Rattle.hq_gql_lexer.specs.Steps.{Step, steps}
 
 -- How many bytes a comment takes behind its `#`, up to its line's end (2.1.4). It is refused at the first character
 -- that it cannot hold, or where its bytes are not UTF-8.

@@ -1,12 +1,7 @@
 -- A text from left to right, step by step.
-use Rattle.std.specs.Prelude.{ℕ, zero, suc, ◌+◌, ◌-◌, List, [], ◌∷◌, ◌++◌, Result, Ok, Err}
+use Rattle.std.specs.Prelude.{ℕ, zero, suc, ◌+◌, ◌-◌, List, [], ◌∷◌, ◌++◌, Result, Ok}
+use Rattle.hq_base.specs.Due.{◌>>=◌}
 use Rattle.hq_gql_lexer.specs.declared.refusal.LexRefusal.{LexRefusal}
-
--- the next step, where this one gave a value
-infixl 10 ◌>>=◌
-abbrev pub ◌>>=◌ : {A B : Type 0} → Result A LexRefusal → (A → Result B LexRefusal) → Result B LexRefusal
-(Ok x) >>= f = f x
-(Err e) >>= f = Err e
 
 -- what a step makes of the bytes at a place, and how many of them it takes
 abbrev pub Step : Type 0 → Type 0

@@ -8,7 +8,8 @@ use Rattle.hq_gql_lexer.specs.declared.refusal.LexRefusal.{LexRefusal}
 use Rattle.hq_gql_lexer.specs.declared.refusal.LexRefusal.TheVariants.{BadByte, BadEscape, NotUtf8}
 use Rattle.hq_gql_lexer.specs.Characters.{next_is, is_source, is_line_end}
 use Rattle.hq_gql_lexer.specs.Escapes.{escape_at}
-use Rattle.hq_gql_lexer.specs.Steps.{◌>>=◌, Step, steps}
+use Rattle.hq_base.specs.Due.{◌>>=◌}
+use Rattle.hq_gql_lexer.specs.Steps.{Step, steps}
 
 -- three quotes
 abbrev pub quotes : List ℕ

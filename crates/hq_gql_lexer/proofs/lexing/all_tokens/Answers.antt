@@ -1,6 +1,6 @@
 use Rattle.std.proofs.Common.{Ok, ◌∙◌, ap, zero-add}
 use Rattle.std.specs.Prelude.{length, slice_range}
-use Rattle.hq_gql_lexer.specs.Steps.{◌>>=◌}
+use Rattle.hq_base.specs.Due.{◌>>=◌}
 use Rattle.hq_gql_lexer.specs.Lexemes.{tokens_in, tokens_at}
 use Rattle.hq_gql_lexer.proofs.StepsLemmas.{made_more}
 use Rattle.hq_gql_lexer.proofs.lexing.all_tokens.Goals as goal
