@@ -118,14 +118,14 @@ unit_shape (x ∷ y ∷ a ∷ b ∷ c ∷ d ∷ rest) unit h =
       alone = λ other. subst (λ n. unit_at (92 ∷ n ∷ a ∷ b ∷ c ∷ d ∷ other) ≡ Some unit) ey (subst (λ n. unit_at (n ∷ y ∷ a ∷ b ∷ c ∷ d ∷ other) ≡ Some unit) ex h);
     }
 
--- What stands behind the `\` of an escape: its bytes, which alone decide it, and what follows. A string's end is not
+-- What stands behind the `\` of an escape: its bytes, which decide it whatever follows, and what follows. A string's end is not
 -- among them, and its character is one but the zero one.
 pub record IsEscape (more : List ℕ) (c n : ℕ) : Type 0 where
   pub behind : List ℕ
   pub rest : List ℕ
   pub split : more ≡ behind ++ rest
   pub count : n ≡ suc (length behind)
-  pub alone : escape_at (92 ∷ behind) ≡ Some (c, suc (length behind))
+  pub anywhere : (other : List ℕ) → escape_at (92 ∷ (behind ++ other)) ≡ Some (c, suc (length behind))
   pub passes : (tail : List ℕ) → plain_len true (behind ++ tail) ≡ option_map (λ k. length behind + k) (plain_len false tail)
   pub is_ascii : IsAscii behind
   pub is_scalar : IsScalar c
@@ -180,14 +180,13 @@ one_unit : (more : List ℕ) (unit : ℕ) → IsUnit (92 ∷ more) unit → is_h
 unfolding escape_at
 one_unit more unit u high low =
     let is = lone_character unit u.small high low in
-    let here : unit_at (92 ∷ 117 ∷ u.digits) ≡ Some unit = subst (λ ds. unit_at (92 ∷ 117 ∷ ds) ≡ Some unit) (append-nil u.digits) (u.alone []) in
     let six : 6 ≡ suc (suc (length u.digits)) = omega (arith, u.four) in
     record {
       behind = 117 ∷ u.digits;
       rest = u.rest;
       split = cc;
       count = six;
-      alone = some_unit unit 6 (92 ∷ 117 ∷ u.digits) _ here (rw high (rw low refl)) ∙ ap (λ n. Some (unit, n)) six;
+      anywhere = λ other. some_unit unit 6 (92 ∷ 117 ∷ (u.digits ++ other)) _ (u.alone other) (rw high (rw low refl)) ∙ ap (λ n. Some (unit, n)) six;
       passes = λ tail. ap (option_map (λ n. 1 + n)) (plain_len_over is_hex hex_inner u.digits tail u.hex)
           ∙ option_map-add 1 (length u.digits) (suc (length u.digits)) (plain_len false tail) (omega arith);
       is_ascii = IsAscii-cons 117 u.digits (lit< tt) (hex_IsAscii u.digits u.hex);
@@ -225,15 +224,17 @@ two_units more high low u v is_high is_low =
     let is = pair_character high low is_high is_low in
     let second = 92 ∷ 117 ∷ v.digits in
     let c = surrogate_pair_char high low in
-    let here : unit_at second ≡ Some low = subst (λ ds. unit_at (92 ∷ 117 ∷ ds) ≡ Some low) (append-nil v.digits) (v.alone []) in
-    let next : unit_at (drop 4 (u.digits ++ second)) ≡ Some low = ap unit_at (drop_at u.digits second 4 u.four) ∙ here in
+    let first : (other : List ℕ) → unit_at (92 ∷ 117 ∷ ((u.digits ++ second) ++ other)) ≡ Some high
+    = λ other. ap (λ ds. unit_at (92 ∷ 117 ∷ ds)) (append_assoc u.digits second other) ∙ u.alone (second ++ other) in
+    let next : (other : List ℕ) → unit_at (drop 4 ((u.digits ++ second) ++ other)) ≡ Some low
+    = λ other. ap (λ ds. unit_at (drop 4 ds)) (append_assoc u.digits second other) ∙ ap unit_at (drop_at u.digits (second ++ other) 4 u.four) ∙ v.alone other in
     let twelve : 12 ≡ suc (suc (length (u.digits ++ second))) = omega (arith, u.four, v.four, length-append u.digits second) in
     record {
       behind = 117 ∷ (u.digits ++ second);
       rest = v.rest;
       split = split_in_two more u.digits u.rest v.digits v.rest u.split v.split;
       count = twelve;
-      alone = some_unit high 12 (92 ∷ 117 ∷ (u.digits ++ second)) _ (u.alone second) (rw is_high (rw next (rw is_low refl))) ∙ ap (λ n. Some (c, n)) twelve;
+      anywhere = λ other. some_unit high 12 (92 ∷ 117 ∷ ((u.digits ++ second) ++ other)) _ (first other) (rw is_high (rw (next other) (rw is_low refl))) ∙ ap (λ n. Some (c, n)) twelve;
       passes = λ tail. passes_two u.digits v.digits tail u.hex v.hex;
       is_ascii = IsAscii-cons 117 (u.digits ++ second) (lit< tt) (IsAscii-append u.digits second (hex_IsAscii u.digits u.hex)
           (IsAscii-cons 92 (117 ∷ v.digits) (lit< tt) (IsAscii-cons 117 v.digits (lit< tt) (hex_IsAscii v.digits v.hex))));
@@ -294,7 +295,7 @@ simple_is_escape e rest c h =
       rest = rest;
       split = refl;
       count = refl;
-      alone = rw h refl;
+      anywhere = λ other. rw h refl;
       passes = λ tail. plain_len_taken e tail is.no_end;
       is_ascii = IsAscii-cons e [] is.is_ascii IsAscii-nil;
       is_scalar = low_scalar c (omega (arith, is.small));

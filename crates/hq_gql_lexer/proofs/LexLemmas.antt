@@ -82,7 +82,7 @@ integer_some [] h = absurd h
 integer_some (b ∷ text) h = omega arith
 
 -- no token is empty
-token_some : (text next : List ℕ) (k : TokenKind) → IsToken text next k → 0 < length text
+pub token_some : (text next : List ℕ) (k : TokenKind) → IsToken text next k → 0 < length text
 token_some text next (kind.Punct p) is = subst (λ t. 0 < length t) (sym is) (punct_some p)
 token_some text next (kind.Name name) is = name_some text is.1
 token_some text next (kind.Int number) is = integer_some text is.1

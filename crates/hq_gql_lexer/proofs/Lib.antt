@@ -17,3 +17,7 @@ pub mod StringSoundLemmas
 pub mod IgnoredLemmas
 pub mod SoundLemmas
 pub mod LexLemmas
+pub mod NumberTakenLemmas
+pub mod IgnoredTakenLemmas
+pub mod StringTakenLemmas
+pub mod TakenLemmas

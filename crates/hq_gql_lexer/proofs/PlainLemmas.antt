@@ -6,7 +6,7 @@ use Rattle.std.specs.Str.{IsUtf8}
 use lib.Utf8.{encode, low_scalar}
 use Rattle.std.proofs.lemmas.Bool.{cases_Bool, cond-true, cond-false, false≢true, eqb-true, eqb-false}
 use Rattle.std.proofs.lemmas.Bool.Decides.{nat_tests}
-use Rattle.std.proofs.lemmas.List.{length-append, drop_at, take_at}
+use Rattle.std.proofs.lemmas.List.{append-nil, length-append, drop_at, take_at}
 use Rattle.std.proofs.lemmas.Str.{encode_ascii, IsUtf8-drop, IsCharBoundary-from_take, IsUtf8-from_ascii}
 use Rattle.hq_gql_lexer.specs.declared.refusal.LexRefusal.{LexRefusal}
 use Rattle.hq_gql_lexer.specs.declared.characters.Form.TheVariants.{Plain}
@@ -34,7 +34,7 @@ pub copies_source : (b : ℕ) → is_high b ≡ true → (at : ℕ) (bytes : Lis
 copies_source b h at bytes = cond-true (is_source b) _ _ (high_source b h)
 
 -- so it does in a plain string
-copies_plain : Copies (character_at Plain)
+pub copies_plain : Copies (character_at Plain)
 unfolding character_at
 copies_plain at b bytes h = cond-false (b == 92) _ _ (high_inner b h).no_slash ∙ copies_source b h at bytes
 
@@ -53,7 +53,7 @@ three_ways false false None n h = cc
 three_ways false false (Some k) n h = let e : 1 + k ≡ suc n = cc in (refl, refl, ap Some (omega arith))
 
 -- the first byte before the closing quote
-inside_first : (b n : ℕ) (behind : List ℕ) → plain_len false (b ∷ behind) ≡ Some (suc n) → IsInside b behind n
+pub inside_first : (b n : ℕ) (behind : List ℕ) → plain_len false (b ∷ behind) ≡ Some (suc n) → IsInside b behind n
 inside_first b n behind h =
     let found = three_ways (is_line_end b) (b == 34) (plain_len (b == 92) behind) n h in
     record { no_end = found.0; no_quote = found.1; more = found.2 }
@@ -159,7 +159,9 @@ plain_parts (suc m) at inside after value h is (ascii b rest one utf8) =
     let next = behind_escape at rest after step.others esc.c step.n shape (subst (λ t. plain_len t (rest ++ 34 ∷ after) ≡ Some (length rest)) slash first.more) utf8 step.behind in
     let shorter : length shape.rest < m = omega (arith, ap length shape.split, length-append shape.behind shape.rest) in
     let inner = plain_parts m _ shape.rest after step.others shorter next (text_parts shape.rest next.utf8) in
-    let built : IsPlainRest (92 ∷ (shape.behind ++ (shape.rest ++ 34 ∷ []))) (encode esc.c ++ step.others) = escape esc.c shape.behind (shape.rest ++ 34 ∷ []) step.others shape.alone inner in
+    let alone : escape_at (92 ∷ shape.behind) ≡ Some (esc.c, length (92 ∷ shape.behind))
+    = ap (λ bytes. escape_at (92 ∷ bytes)) (sym (append-nil shape.behind)) ∙ shape.anywhere [] in
+    let built : IsPlainRest (92 ∷ (shape.behind ++ (shape.rest ++ 34 ∷ []))) (encode esc.c ++ step.others) = escape esc.c shape.behind (shape.rest ++ 34 ∷ []) step.others alone inner in
     let text : 92 ∷ (shape.behind ++ (shape.rest ++ 34 ∷ [])) ≡ b ∷ (rest ++ 34 ∷ [])
     = ap (λ bytes. 92 ∷ bytes) (sym (append_assoc shape.behind shape.rest (34 ∷ [])) ∙ ap (λ bytes. bytes ++ 34 ∷ []) (sym shape.split)) ∙ ap (λ k. k ∷ (rest ++ 34 ∷ [])) (sym same) in
     subst (λ t. IsPlainRest t value) text (subst (IsPlainRest _) (ap (λ front. front ++ step.others) esc.is ∙ step.whole) built))

@@ -31,7 +31,7 @@ begins needle bytes h =
     sym (take-append-drop (length needle) bytes) ∙ ap (λ xs. xs ++ drop (length needle) bytes) (sym front)
 
 -- whether a text begins with some bytes is seen in as many of its own
-starts_local : (needle xs ys : List ℕ) → length needle ≤ length xs → starts_with nat_eq (xs ++ ys) needle ≡ starts_with nat_eq xs needle
+pub starts_local : (needle xs ys : List ℕ) → length needle ≤ length xs → starts_with nat_eq (xs ++ ys) needle ≡ starts_with nat_eq xs needle
 starts_local needle xs ys h = ap (pointwise nat_eq needle) (take-append-le (length needle) xs ys h)
 
 -- a `\"""` begins with itself
@@ -51,7 +51,7 @@ differs_slash : (b : ℕ) → is_high b ≡ true → 92 ≡ b → ⊥
 differs_slash b h e = grind (arith, nat_tests)
 
 -- quotes are ASCII
-quotes_ascii : IsAscii quotes
+pub quotes_ascii : IsAscii quotes
 quotes_ascii = IsAscii-cons 34 (34 ∷ 34 ∷ []) (lit< tt) (IsAscii-cons 34 (34 ∷ []) (lit< tt) (IsAscii-cons 34 [] (lit< tt) IsAscii-nil))
 
 -- a byte of a wide character begins neither
@@ -63,7 +63,7 @@ high_slash : (b : ℕ) (bytes : List ℕ) → is_high b ≡ true → starts_with
 high_slash b bytes h = rw (not_it 92 b (differs_slash b h)) refl
 
 -- a byte of 128 and more stands for itself in a block string
-copies_block : Copies (character_at Block)
+pub copies_block : Copies (character_at Block)
 unfolding character_at
 copies_block at b bytes h = cond-false (starts_with nat_eq (b ∷ bytes) (92 ∷ quotes)) _ _ (high_slash b bytes h) ∙ copies_source b h at bytes
 
@@ -74,7 +74,7 @@ block_len_high b bytes h =
     ∙ ap (λ k. option_map (λ n. 1 + n) (block_len (k - 1) bytes)) (cond-false (starts_with nat_eq (b ∷ bytes) (92 ∷ quotes)) 4 1 (high_slash b bytes h))
 
 -- nor does a front of such bytes
-block_len_over : (front bytes : List ℕ) → list_all is_high front ≡ true → block_len 0 (front ++ bytes) ≡ option_map (λ n. length front + n) (block_len 0 bytes)
+pub block_len_over : (front bytes : List ℕ) → list_all is_high front ≡ true → block_len 0 (front ++ bytes) ≡ option_map (λ n. length front + n) (block_len 0 bytes)
 block_len_over [] bytes h = option_map-zero (block_len 0 bytes)
 block_len_over (b ∷ front) bytes h =
     let ok = and_parts (is_high b) (list_all is_high front) h in
@@ -155,7 +155,7 @@ unfolding character_at
 block_source at b rest piece n other h = source_first at b rest piece n (sym (cond-false _ _ (source_at at (b ∷ rest)) other) ∙ h)
 
 -- what does not begin in a longer text does not in its front
-not_in_front : (needle front more : List ℕ) → starts_with nat_eq (front ++ more) needle ≡ false → starts_with nat_eq front needle ≡ false
+pub not_in_front : (needle front more : List ℕ) → starts_with nat_eq (front ++ more) needle ≡ false → starts_with nat_eq front needle ≡ false
 not_in_front needle front more h = false_from_ne_true _ (λ there.
     let long : length needle ≤ length front = omega (arith, ap length (begins needle front there), length-append needle (drop (length needle) front)) in
     false≢true (sym h ∙ starts_local needle front more long ∙ there))

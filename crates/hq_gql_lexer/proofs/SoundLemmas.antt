@@ -36,7 +36,7 @@ by_test b n x p rest text h else' = ⊎_elim
     (cases_Bool (b == n))
 
 -- the punctuator of a byte has that byte as its text
-punct_of_text : (b : ℕ) (p : Punct) → punct_of b ≡ Some p → punct_text p ≡ b ∷ []
+pub punct_of_text : (b : ℕ) (p : Punct) → punct_of b ≡ Some p → punct_text p ≡ b ∷ []
 unfolding punct_of
 punct_of_text b p h =
     by_test b 33 punct.Bang p _ refl h (λ h.

@@ -33,7 +33,7 @@ steps_from step (suc n) at b bytes some h =
     ap (λ k. steps step k (at + 1) bytes) (omega arith) ∙ steps_skip step n (at + 1) bytes (omega arith) ∙ ap (λ k. steps step 0 k (drop n bytes)) (omega arith)
 
 -- one step: its piece stands before what comes
-steps_one : {X : Type 0} (step : Step (List X)) (at : ℕ) (bytes : List ℕ) (piece : List X) (n : ℕ)
+pub steps_one : {X : Type 0} (step : Step (List X)) (at : ℕ) (bytes : List ℕ) (piece : List X) (n : ℕ)
     → step at bytes ≡ Ok (piece, n) → 0 < n → n ≤ length bytes
     → steps step 0 at bytes ≡ with_front piece (steps step 0 (at + n) (drop n bytes))
 steps_one step at [] piece n e some h = absurd (omega arith)

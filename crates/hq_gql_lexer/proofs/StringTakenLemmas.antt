@@ -1,5 +1,5 @@
 -- Each string of the productions is taken whole.
-use Rattle.std.proofs.Common.{◌≡◌, ℕ, suc, ◌+◌, ◌<◌, ◌≤◌, Bool, true, false, cond, List, [], ◌∷◌, ◌++◌, length, take, drop, Option, Some, None, Result, Ok, Err, refl, sym, ap, ◌∙◌, subst, inl, inr, ⊎_elim, arith, ◌⊎◌, append_assoc, lit<}
+use Rattle.std.proofs.Common.{◌≡◌, ℕ, suc, ◌+◌, ◌-◌, ◌<◌, ◌≤◌, Bool, true, false, cond, List, [], ◌∷◌, ◌++◌, length, take, drop, Option, Some, None, Result, Ok, Err, refl, sym, ap, ◌∙◌, subst, inl, inr, ⊎_elim, arith, ◌⊎◌, append_assoc, lit<}
 use Rattle.std.specs.Prelude.{◌≢◌, ◌==◌, nat_eq, nat_lt}
 use Rattle.std.specs.List.{starts_with}
 use Rattle.std.specs.Option.{option_map, ok_or}
@@ -24,8 +24,7 @@ use Rattle.hq_gql_lexer.specs.Steps.{Step, steps}
 use Rattle.hq_gql_lexer.specs.Strings.{quotes, plain_len, block_step, block_len, source_at, escaped, character_at, characters}
 use Rattle.hq_gql_lexer.specs.BlockStrings.{block_value}
 use Rattle.hq_gql_lexer.specs.Lexemes.{plain_at, block_at, string_at}
-use Rattle.hq_gql_lexer.specs.Grammar.{IsCharacter, IsPlainRest, IsBlockRest, IsPlainString, IsBlockString}
-use Rattle.hq_gql_lexer.specs.Grammar as grammar
+use Rattle.hq_gql_lexer.specs.Grammar.{IsPlainRest, IsBlockRest, closed, character, escape, IsPlainString, IsBlockString}
 use Rattle.hq_gql_lexer.proofs.CharacterLemmas.{is_high, encode-is_high, length-encode_some}
 use Rattle.hq_gql_lexer.proofs.StepsLemmas.{with_front, steps_one, Copies, copy_all}
 use Rattle.hq_gql_lexer.proofs.OptionLemmas.{option_map-add}
@@ -92,8 +91,8 @@ plain_escaped at c n bytes h = ap (escaped at) h
 
 -- each plain string of the production has such an inner part
 plain_inner : (text value : List ℕ) → IsPlainRest text value → IsPlainInner text value
-plain_inner text value grammar.closed = record { inner = []; split = refl; ends = λ after. refl; utf8 = IsUtf8-nil; read = λ at. refl }
-plain_inner text value (grammar.character c behind others ok no_quote no_slash no_end more) =
+plain_inner text value closed = record { inner = []; split = refl; ends = λ after. refl; utf8 = IsUtf8-nil; read = λ at. refl }
+plain_inner text value (character c behind others ok no_quote no_slash no_end more) =
     let is = plain_inner behind others more in
     record {
       inner = encode c ++ is.inner;
@@ -103,7 +102,7 @@ plain_inner text value (grammar.character c behind others ok no_quote no_slash n
       utf8 = IsUtf8-append (encode c) is.inner (IsUtf8-encode c ok.0) is.utf8;
       read = λ at. character_copied Plain copies_plain at c is.inner others (λ one. plain_self at c is.inner no_slash ok.1) is.read;
     }
-plain_inner text value (grammar.escape c behind rest others alone more) =
+plain_inner text value (escape c behind rest others alone more) =
     let is = plain_inner rest others more in
     let n = length (92 ∷ behind) in
     let shape = escape_shape behind c n alone in
@@ -209,8 +208,8 @@ slash_read at bytes = refl
 
 -- each block string of the production has such an inner part
 block_inner : (text raw : List ℕ) → IsBlockRest text raw → IsBlockInner text raw
-block_inner text raw grammar.IsBlockRest.closed = record { inner = []; split = refl; ends = λ after. refl; utf8 = IsUtf8-nil; read = λ at. refl }
-block_inner text raw (grammar.IsBlockRest.character c behind others ok no_quotes no_slash more) =
+block_inner text raw closed = record { inner = []; split = refl; ends = λ after. refl; utf8 = IsUtf8-nil; read = λ at. refl }
+block_inner text raw (character c behind others ok no_quotes no_slash more) =
     let is = block_inner behind others more in
     let quotes_none = subst (λ t. starts_with nat_eq (encode c ++ t) quotes ≡ false) is.split no_quotes in
     let slash_none = subst (λ t. starts_with nat_eq (encode c ++ t) (92 ∷ quotes) ≡ false) is.split no_slash in
@@ -226,7 +225,7 @@ block_inner text raw (grammar.IsBlockRest.character c behind others ok no_quotes
     slash_alone : (c : ℕ) (inner : List ℕ) → c < 128 → starts_with nat_eq (encode c ++ (inner ++ quotes)) (92 ∷ quotes) ≡ false → starts_with nat_eq (c ∷ inner) (92 ∷ quotes) ≡ false
     slash_alone c inner one h = not_in_front (92 ∷ quotes) (c ∷ inner) quotes
         (subst (λ front. starts_with nat_eq (front ++ (inner ++ quotes)) (92 ∷ quotes) ≡ false) (encode_ascii c one) h)
-block_inner text raw (grammar.IsBlockRest.escape rest others more) =
+block_inner text raw (escape rest others more) =
     let is = block_inner rest others more in
     record {
       inner = 92 ∷ (quotes ++ is.inner);

@@ -1,9 +1,10 @@
 //! A text from left to right.
-ghost use Rattle.std.specs.Prelude.{◌≡◌, ◌+◌, ◌<◌, ◌^◌, ◌++◌, length, IfOk, OnOk};
+ghost use Rattle.std.specs.Prelude.{◌≡◌, ◌+◌, ◌<◌, ◌^◌, ◌++◌, List, length, IfOk, OnOk};
 ghost use Rattle.hq_base.specs.Due.{Gives};
 ghost use Rattle.hq_gql_lexer.specs.Grammar.{Lexes};
 ghost use Rattle.hq_gql_lexer.specs.Lexemes.{tokens_in, tokens_of};
 ghost use Rattle.hq_gql_lexer.specs.Spans.{AreInOrder};
+ghost use Rattle.hq_gql_lexer.specs.declared.token.Token.{Token};
 
 use crate::lexeme::lexeme;
 use crate::{LexRefusal, Token, TokenKind, Tokens};
@@ -52,6 +53,8 @@ pub fn lex(alloc: Global, text: &[u8]) -> Result<Tokens, LexRefusal>
     ensures exact { Gives (λ tokens. tokens) LexRefusal.Memory (tokens_of text.now) result }
     // The tokens, and what is ignored between them, are those of the standard's productions.
     ensures lexes { IfOk result (λ tokens. Lexes 0 text.now tokens) }
+    // Each text that the productions allow is given so, with the tokens that they allow.
+    ensures complete { (tokens : List Token) → Lexes 0 text.now tokens → Gives (λ given. given) LexRefusal.Memory (Ok tokens) result }
     ensures spans { IfOk result (λ tokens. AreInOrder 0 (length text.now) tokens) }
 {
     all_tokens(alloc, text)
