@@ -176,3 +176,50 @@ fn edges(rt: HostRuntime) -> Result<(), Fail> {
     }
     Ok(())
 }
+
+#[test]
+fn escapes_and_ends(rt: HostRuntime) -> Result<(), Fail> {
+    let table: [(&[u8], &str); 24] = [
+        (
+            b"\"\\uD800\\uDC00\\uDBFF\\uDFFF\"",
+            "Str \u{10000}\u{10ffff} 0..26;",
+        ),
+        (b"\"\\uD7FF\\uE000\"", "Str \u{d7ff}\u{e000} 0..14;"),
+        (b"\"\\\xc3\xa9\"", "BadEscape { at: 1 }"),
+        (b"\"\\\xff\"", "BadEscape { at: 1 }"),
+        (b"\"\\u00\xff\"", "BadEscape { at: 1 }"),
+        (b"\"\\x\xff\"", "BadEscape { at: 1 }"),
+        (b"\"a\\\"", "OpenString { at: 0 }"),
+        (b"\"\\\\\\\"\" \"\"", "Str \\\" 0..6;Str  7..9;"),
+        (b"\"\xef\xbb\xbf\"", "Str \u{feff} 0..5;"),
+        (b"1..2", "BadNumber { at: 0 }"),
+        (b"1.e5", "BadNumber { at: 0 }"),
+        (b"-0.0e0,-1.", "BadNumber { at: 7 }"),
+        (b"a1 1a", "BadNumber { at: 3 }"),
+        (b".", "BadByte { at: 0 }"),
+        (b"\x7f", "BadByte { at: 0 }"),
+        (b"\xff\"\\x\"", "BadByte { at: 0 }"),
+        (b"#\tc\x7f\r\n#", ""),
+        (b"#\xff\x01", "NotUtf8 { at: 1 }"),
+        (
+            b"#\xf4\x8f\xbf\xbf\r\"\xf4\x8f\xbf\xbf\"",
+            "Str \u{10ffff} 6..12;",
+        ),
+        (b"\"\"\"\"\"\"\"\"\"\"", "OpenString { at: 6 }"),
+        (b"\"\"\"\\\"\"\"\"\"\"", "Str \"\"\" 0..10;"),
+        (
+            b"\"\"\"\r\n\t\ta\r \r\t\t\tb\n\t c\"\"\"",
+            "Str a\n\n\tb\nc 0..22;",
+        ),
+        (b"\"\"\"  \n  a\n\"\"\" ", "Str a 0..13;"),
+        (
+            b"\"\"\"a\\u0000\\ud800\"\"\"",
+            "Str a\\u0000\\ud800 0..19;",
+        ),
+    ];
+    for (text, want) in table {
+        let got = shown(rt.alloc(), text)?;
+        assert_eq!(rt; got.as_str(), want);
+    }
+    Ok(())
+}
