@@ -21,3 +21,5 @@ pub mod NumberTakenLemmas
 pub mod IgnoredTakenLemmas
 pub mod StringTakenLemmas
 pub mod TakenLemmas
+pub mod PlaceLemmas
+pub mod RefusedLemmas

@@ -149,7 +149,7 @@ quoted_lexeme at text next value is =
     (string_lexeme at (found.0 ++ next) _ _ (subst (λ bytes. string_at at bytes ≡ Ok (kind.Str value, length text)) begins found.2))
 
 -- each token of the productions is a lexeme
-token_taken : (at : ℕ) (text next : List ℕ) (k : TokenKind) → IsToken text next k → lexeme_at at (text ++ next) ≡ Ok (Some k, length text)
+pub token_taken : (at : ℕ) (text next : List ℕ) (k : TokenKind) → IsToken text next k → lexeme_at at (text ++ next) ≡ Ok (Some k, length text)
 token_taken at text next (kind.Punct p) is =
     subst (λ t. lexeme_at at (t ++ next) ≡ Ok (Some (kind.Punct p), length t)) (sym is) (punct_lexeme at p next)
 token_taken at text next (kind.Name name) is =
@@ -166,6 +166,10 @@ token_taken at text next (kind.Float number) is =
         (integer_starts is.whole ((is.fraction ++ is.exponent) ++ next) is.is_whole)
 token_taken at text next (kind.Str value) is = quoted_lexeme at text next value is
 
+-- so is what is ignored
+pub ignored_lexeme : (at : ℕ) (text next : List ℕ) → IsIgnored text next → lexeme_at at (text ++ next) ≡ Ok (None, length text)
+ignored_lexeme at text next is = lexeme_ignored at (text ++ next) (length text) (ignored_taken at text next is)
+
 -- one lexeme, and what comes after it
 step_taken : (at : ℕ) (text next : List ℕ) (o : Option TokenKind) (others : List Token) → 0 < length text → lexeme_at at (text ++ next) ≡ Ok (o, length text)
     → steps tokens_at 0 (at + length text) next ≡ Ok others → steps tokens_at 0 at (text ++ next) ≡ Ok (tokens_in at o (length text) ++ others)
@@ -179,7 +183,7 @@ step_taken at text next o others some found behind =
 taken_from : (at : ℕ) (bytes : List ℕ) (tokens : List Token) → Lexes at bytes tokens → steps tokens_at 0 at bytes ≡ Ok tokens
 taken_from at bytes tokens (nothing at') = refl
 taken_from at bytes tokens (ignored at' text next ts is more) =
-    step_taken at' text next None ts (ignored_some text next is) (lexeme_ignored at' (text ++ next) (length text) (ignored_taken at' text next is))
+    step_taken at' text next None ts (ignored_some text next is) (ignored_lexeme at' text next is)
     (taken_from (at' + length text) next ts more)
 taken_from at bytes tokens (token at' k text next ts is more) =
     step_taken at' text next (Some k) ts (token_some text next k is) (token_taken at' text next k is) (taken_from (at' + length text) next ts more)
