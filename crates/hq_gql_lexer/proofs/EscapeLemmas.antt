@@ -15,7 +15,7 @@ use Rattle.hq_gql_lexer.specs.Strings.{plain_len}
 use lib.Utf8.{low_scalar}
 use Rattle.std.proofs.lemmas.Str.Ascii.{IsAscii-cons, IsAscii-nil}
 use Rattle.std.proofs.lemmas.Str.{IsAscii-append}
-use Rattle.std.proofs.lemmas.List.{append-nil, drop_at, length-append}
+use Rattle.std.proofs.lemmas.List.{drop_at, length-append}
 use Rattle.hq_gql_lexer.proofs.TextLemmas.{and_parts, both}
 use Rattle.hq_gql_lexer.proofs.OptionLemmas.{option_map-add, option_map-zero}
 

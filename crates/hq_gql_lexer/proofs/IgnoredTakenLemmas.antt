@@ -1,12 +1,12 @@
 -- What the productions allow to be ignored is passed over whole.
-use Rattle.std.proofs.Common.{◌≡◌, ℕ, suc, ◌+◌, ◌<◌, ◌≤◌, Bool, true, false, cond, List, [], ◌∷◌, ◌++◌, length, take, Option, Some, None, Result, Ok, Err, refl, sym, ap, ◌∙◌, subst, inl, inr, ⊎_elim, arith, ◌⊎◌}
+use Rattle.std.proofs.Common.{◌≡◌, ℕ, suc, ◌+◌, ◌<◌, ◌≤◌, Bool, true, false, cond, List, [], ◌∷◌, ◌++◌, length, take, Some, Result, Ok, Err, refl, sym, ap, ◌∙◌, subst, inl, inr, ⊎_elim, arith, ◌⊎◌}
 use Rattle.std.specs.Prelude.{IsTrue, ◌==◌, nat_eq, nat_lt}
 use Rattle.std.specs.List.{list_all, prefix_len, starts_with}
 use Rattle.std.specs.Str.{IsUtf8}
 use Rattle.std.specs.Str.Lossy.{utf8_valid_len}
 use lib.Utf8.{encode}
 use Rattle.std.proofs.lemmas.Bool.{cond-true, cond-false, eqb-false, ne_eqb, le-ltb, cases_lt, and_from, and_left, not_from_true, not_from_false}
-use Rattle.std.proofs.lemmas.List.{append-nil, length-append, take_at, take_all}
+use Rattle.std.proofs.lemmas.List.{append-nil, take_at, take_all}
 use Rattle.std.proofs.lemmas.List.Folds.{list_all-append}
 use Rattle.std.proofs.lemmas.Str.{encode_ascii, IsUtf8-nil, IsUtf8-append, IsUtf8-encode, utf8_valid_len-IsUtf8}
 use Rattle.hq_base.specs.Due.{◌>>=◌}
@@ -14,7 +14,7 @@ use Rattle.hq_gql_lexer.specs.declared.refusal.LexRefusal.{LexRefusal}
 use Rattle.hq_gql_lexer.specs.declared.refusal.LexRefusal.TheVariants.{BadByte, NotUtf8}
 use Rattle.hq_gql_lexer.specs.Characters.{next_is, is_line_end, is_source}
 use Rattle.hq_gql_lexer.specs.Lexemes.{comment_at, byte_order_mark, is_ignored, ignored_at}
-use Rattle.hq_gql_lexer.specs.Grammar.{IsCommentRest, nothing, character, IsComment, IsIgnored}
+use Rattle.hq_gql_lexer.specs.Grammar.{IsCommentRest, nothing, character, IsIgnored}
 use Rattle.hq_gql_lexer.proofs.TextLemmas.{and_parts}
 use Rattle.hq_gql_lexer.proofs.CharacterLemmas.{is_high, encode-is_high}
 use Rattle.hq_gql_lexer.proofs.LinesLemmas.{not_end}

@@ -1,5 +1,5 @@
 -- The place of a refusal is within the bytes of its lexeme.
-use Rattle.std.proofs.Common.{◌≡◌, ℕ, zero, suc, ◌+◌, ◌-◌, ◌<◌, ◌≤◌, Bool, true, false, cond, List, [], ◌∷◌, ◌++◌, length, take, drop, Option, Some, None, Result, Ok, Err, refl, sym, ap, ◌∙◌, subst, inl, inr, ⊎_elim, arith, ◌⊎◌}
+use Rattle.std.proofs.Common.{◌≡◌, ℕ, zero, suc, ◌+◌, ◌-◌, ◌<◌, ◌≤◌, Bool, true, false, cond, List, [], ◌∷◌, ◌++◌, length, take, drop, Option, Some, None, Result, Ok, Err, refl, sym, ap, subst, inl, inr, ⊎_elim, arith, ◌⊎◌}
 use Rattle.std.specs.Prelude.{◌==◌, nat_eq, nat_lt}
 use Rattle.std.specs.List.{starts_with, prefix_len}
 use Rattle.std.specs.Option.{ok_or}
@@ -130,11 +130,11 @@ plain_placed at bytes e some h = ⊎_elim
     (λ (open' : ok_or (plain_len false (drop 1 bytes)) (OpenString at) ≡ Err e).
     at_place at (length bytes) (OpenString at) e refl some (not_found _ (OpenString at) e open'))
     (λ (closed' : (n : ℕ) × (ok_or (plain_len false (drop 1 bytes)) (OpenString at) ≡ Ok n)
-        × ((characters Plain (at + 1) (take n (drop 1 bytes)) >>= λ value. Ok (kind.Str value, n + 2)) ≡ Err e)).
+    × ((characters Plain (at + 1) (take n (drop 1 bytes)) >>= λ value. Ok (kind.Str value, n + 2)) ≡ Err e)).
     ⊎_elim
     (λ (inner : characters Plain (at + 1) (take closed'.0 (drop 1 bytes)) ≡ Err e). quoted_placed Plain at 1 closed'.0 bytes e inner)
     (λ (none : (value : List ℕ) × (characters Plain (at + 1) (take closed'.0 (drop 1 bytes)) ≡ Ok value)
-        × (◌≡◌ {A = Result (TokenKind × ℕ) LexRefusal} (Ok (kind.Str value, closed'.0 + 2)) (Err e))). let no' = none.2 in cc)
+    × (◌≡◌ {A = Result (TokenKind × ℕ) LexRefusal} (Ok (kind.Str value, closed'.0 + 2)) (Err e))). let no' = none.2 in cc)
     (bind_err (characters Plain (at + 1) (take closed'.0 (drop 1 bytes))) _ e closed'.2))
     (bind_err (ok_or (plain_len false (drop 1 bytes)) (OpenString at)) _ e h)
 
@@ -145,11 +145,11 @@ block_placed at bytes e some h = ⊎_elim
     (λ (open' : ok_or (block_len 0 (drop 3 bytes)) (OpenString at) ≡ Err e).
     at_place at (length bytes) (OpenString at) e refl some (not_found _ (OpenString at) e open'))
     (λ (closed' : (n : ℕ) × (ok_or (block_len 0 (drop 3 bytes)) (OpenString at) ≡ Ok n)
-        × ((characters Block (at + 3) (take n (drop 3 bytes)) >>= λ raw. Ok (kind.Str (block_value raw), n + 6)) ≡ Err e)).
+    × ((characters Block (at + 3) (take n (drop 3 bytes)) >>= λ raw. Ok (kind.Str (block_value raw), n + 6)) ≡ Err e)).
     ⊎_elim
     (λ (inner : characters Block (at + 3) (take closed'.0 (drop 3 bytes)) ≡ Err e). quoted_placed Block at 3 closed'.0 bytes e inner)
     (λ (none : (raw : List ℕ) × (characters Block (at + 3) (take closed'.0 (drop 3 bytes)) ≡ Ok raw)
-        × (◌≡◌ {A = Result (TokenKind × ℕ) LexRefusal} (Ok (kind.Str (block_value raw), closed'.0 + 6)) (Err e))). let no' = none.2 in cc)
+    × (◌≡◌ {A = Result (TokenKind × ℕ) LexRefusal} (Ok (kind.Str (block_value raw), closed'.0 + 6)) (Err e))). let no' = none.2 in cc)
     (bind_err (characters Block (at + 3) (take closed'.0 (drop 3 bytes))) _ e closed'.2))
     (bind_err (ok_or (block_len 0 (drop 3 bytes)) (OpenString at)) _ e h)
 

@@ -1,5 +1,5 @@
 -- A text is refused where the productions are stuck.
-use Rattle.std.proofs.Common.{◌≡◌, ℕ, zero, suc, ◌+◌, ◌-◌, ◌<◌, ◌≤◌, List, [], ◌∷◌, ◌++◌, length, take, drop, Option, Some, None, Result, Ok, Err, refl, sym, ap, ◌∙◌, subst, inl, inr, ⊎_elim, arith, ◌⊎◌}
+use Rattle.std.proofs.Common.{◌≡◌, ℕ, zero, suc, ◌+◌, ◌-◌, ◌<◌, List, [], ◌∷◌, ◌++◌, length, take, drop, Option, Some, None, Result, Ok, Err, refl, sym, ap, ◌∙◌, subst, inl, inr, ⊎_elim, arith, ◌⊎◌}
 use Rattle.std.specs.Prelude.{IfErr}
 use Rattle.std.proofs.lemmas.List.{length-drop, length-take-le, take-append-drop}
 use Rattle.hq_base.specs.Due.{◌>>=◌, Gives}
@@ -9,11 +9,11 @@ use Rattle.hq_gql_lexer.specs.declared.token.Token.{Token}
 use Rattle.hq_gql_lexer.specs.declared.token.TokenKind.{TokenKind}
 use Rattle.hq_gql_lexer.specs.Steps.{steps}
 use Rattle.hq_gql_lexer.specs.Lexemes.{lexeme_at, tokens_in, tokens_at, tokens_of}
-use Rattle.hq_gql_lexer.specs.Refused.{place_of, IsStuck, Stops, stuck, ignored, token, IsRefused}
+use Rattle.hq_gql_lexer.specs.Refused.{IsStuck, Stops, stuck, ignored, token, IsRefused}
 use Rattle.hq_gql_lexer.proofs.StepsLemmas.{steps_from}
 use Rattle.hq_gql_lexer.proofs.SoundLemmas.{IsLexeme, lexeme_sound}
 use Rattle.hq_gql_lexer.proofs.TakenLemmas.{token_taken, ignored_lexeme}
-use Rattle.hq_gql_lexer.proofs.PlaceLemmas.{bind_err, IsPlaced, lexeme_placed}
+use Rattle.hq_gql_lexer.proofs.PlaceLemmas.{bind_err, lexeme_placed}
 
 -- what is refused is no answer
 never : {A : Type 0} (x : A) (e : LexRefusal) → Ok x ≡ Err e → ⊥
@@ -55,7 +55,7 @@ refused_from (suc m) at (b ∷ bytes) e h r = ⊎_elim
     let placed = lexeme_placed at (b ∷ bytes) e (omega arith) here in
     record { last = at; stops = stuck at (b ∷ bytes) (refused_stuck at (b ∷ bytes) e (omega arith) here); behind = placed.behind; within = placed.within })
     (λ (found : (l : Option TokenKind × ℕ) × (lexeme_at at (b ∷ bytes) ≡ Ok l)
-        × ((steps tokens_at (l.1 - 1) (at + 1) bytes >>= λ ts. Ok (tokens_in at l.0 l.1 ++ ts)) ≡ Err e)).
+    × ((steps tokens_at (l.1 - 1) (at + 1) bytes >>= λ ts. Ok (tokens_in at l.0 l.1 ++ ts)) ≡ Err e)).
     let o = found.0.0 in
     let n = found.0.1 in
     let is = lexeme_sound at (b ∷ bytes) o n found.1 in

@@ -1,11 +1,9 @@
 -- Each string of the productions is taken whole.
-use Rattle.std.proofs.Common.{◌≡◌, ℕ, suc, ◌+◌, ◌-◌, ◌<◌, ◌≤◌, Bool, true, false, cond, List, [], ◌∷◌, ◌++◌, length, take, drop, Option, Some, None, Result, Ok, Err, refl, sym, ap, ◌∙◌, subst, inl, inr, ⊎_elim, arith, ◌⊎◌, append_assoc, lit<}
+use Rattle.std.proofs.Common.{◌≡◌, ℕ, ◌+◌, ◌-◌, ◌<◌, ◌≤◌, true, false, cond, List, [], ◌∷◌, ◌++◌, length, take, Option, Some, None, Result, Ok, Err, refl, sym, ap, ◌∙◌, subst, inl, inr, ⊎_elim, arith, ◌⊎◌, append_assoc, lit<}
 use Rattle.std.specs.Prelude.{◌≢◌, ◌==◌, nat_eq, nat_lt}
 use Rattle.std.specs.List.{starts_with}
 use Rattle.std.specs.Option.{option_map, ok_or}
-use Rattle.std.specs.Char.{IsScalar}
 use Rattle.std.specs.Str.{IsUtf8}
-use Rattle.std.specs.Str.Lossy.{utf8_valid_len}
 use lib.Utf8.{encode}
 use Rattle.std.proofs.lemmas.Bool.{cond-true, cond-false, le-ltb, ne_eqb, eqb-false, cases_lt, and_left}
 use Rattle.std.proofs.lemmas.List.{append-nil, length-append, take_at, drop_at, take_all}
@@ -16,19 +14,17 @@ use Rattle.hq_gql_lexer.specs.declared.characters.Form.{Form}
 use Rattle.hq_gql_lexer.specs.declared.characters.Form.TheVariants.{Plain, Block}
 use Rattle.hq_gql_lexer.specs.declared.refusal.LexRefusal.{LexRefusal}
 use Rattle.hq_gql_lexer.specs.declared.refusal.LexRefusal.TheVariants.{OpenString, NotUtf8}
-use Rattle.hq_gql_lexer.specs.declared.token.TokenKind.{TokenKind}
 use Rattle.hq_gql_lexer.specs.declared.token.TokenKind.TheVariants as kind
 use Rattle.hq_gql_lexer.specs.Characters.{next_is, is_line_end, is_source}
 use Rattle.hq_gql_lexer.specs.Escapes.{escape_at}
-use Rattle.hq_gql_lexer.specs.Steps.{Step, steps}
-use Rattle.hq_gql_lexer.specs.Strings.{quotes, plain_len, block_step, block_len, source_at, escaped, character_at, characters}
+use Rattle.hq_gql_lexer.specs.Steps.{steps}
+use Rattle.hq_gql_lexer.specs.Strings.{quotes, plain_len, block_len, escaped, character_at, characters}
 use Rattle.hq_gql_lexer.specs.BlockStrings.{block_value}
 use Rattle.hq_gql_lexer.specs.Lexemes.{plain_at, block_at, string_at}
 use Rattle.hq_gql_lexer.specs.Grammar.{IsPlainRest, IsBlockRest, closed, character, escape, IsPlainString, IsBlockString}
-use Rattle.hq_gql_lexer.proofs.CharacterLemmas.{is_high, encode-is_high, length-encode_some}
+use Rattle.hq_gql_lexer.proofs.CharacterLemmas.{is_high, encode-is_high}
 use Rattle.hq_gql_lexer.proofs.StepsLemmas.{with_front, steps_one, Copies, copy_all}
-use Rattle.hq_gql_lexer.proofs.OptionLemmas.{option_map-add}
-use Rattle.hq_gql_lexer.proofs.EscapeLemmas.{IsInner, plain_len_inner, plain_len_over, IsEscape, escape_shape}
+use Rattle.hq_gql_lexer.proofs.EscapeLemmas.{IsInner, plain_len_inner, plain_len_over, escape_shape}
 use Rattle.hq_gql_lexer.proofs.PlainLemmas.{high_inner, copies_plain, inside_first}
 use Rattle.hq_gql_lexer.proofs.QuotesLemmas.{starts_local, not_in_front, quotes_ascii, copies_block, block_len_over}
 
@@ -187,7 +183,7 @@ block_over c inner after no_quotes no_slash = ⊎_elim
     let slash : starts_with nat_eq text (92 ∷ quotes) ≡ false = subst (λ front. starts_with nat_eq (front ++ (inner ++ quotes)) (92 ∷ quotes) ≡ false) same no_slash in
     let longer : text ++ after ≡ c ∷ (inner ++ (quotes ++ after)) = ap (λ t. c ∷ t) (append_assoc inner quotes after) in
     let on = λ (needle : List ℕ) (within : length needle ≤ length text) (h : starts_with nat_eq text needle ≡ false).
-        ap (λ t. starts_with nat_eq t needle) (sym longer) ∙ starts_local needle text after within ∙ h in
+    ap (λ t. starts_with nat_eq t needle) (sym longer) ∙ starts_local needle text after within ∙ h in
     subst (λ front. block_len 0 (front ++ (inner ++ (quotes ++ after))) ≡ option_map (λ n. length front + n) (block_len 0 (inner ++ (quotes ++ after)))) (sym same)
     (block_passed c (inner ++ (quotes ++ after)) (on quotes (omega (arith, length-append inner quotes)) here) (on (92 ∷ quotes) (omega (arith, length-append inner quotes)) slash)))
     (λ (more : 128 ≤ c). block_len_over (encode c) (inner ++ (quotes ++ after)) (encode-is_high c more))
@@ -275,9 +271,15 @@ block_string_taken at rest next raw is_rest =
 -- a string of the productions begins with a quote, and is taken whole
 pub string_taken : (at : ℕ) (text next value : List ℕ) → IsPlainString text next value ⊎ IsBlockString text value
     → (rest : List ℕ) × (text ≡ 34 ∷ rest) × (string_at at (text ++ next) ≡ Ok (kind.Str value, length text))
-string_taken at text next value (inl is) =
-    (is.rest, is.opened, subst (λ t. string_at at (t ++ next) ≡ Ok (kind.Str value, length t)) (sym is.opened)
-    (plain_string_taken at is.rest next value is.is_rest is.not_block))
-string_taken at text next value (inr is) =
-    (34 ∷ 34 ∷ is.rest, is.opened, subst (λ t. string_at at (t ++ next) ≡ Ok (kind.Str value, length t)) (sym is.opened)
-    (block_string_taken at is.rest next is.raw is.is_rest ∙ ap (λ v. Ok (kind.Str v, length (quotes ++ is.rest))) (sym is.laid_out)))
+string_taken at text next value (inl is) = (
+  is.rest,
+  is.opened,
+  subst (λ t. string_at at (t ++ next) ≡ Ok (kind.Str value, length t)) (sym is.opened)
+      (plain_string_taken at is.rest next value is.is_rest is.not_block),
+)
+string_taken at text next value (inr is) = (
+  34 ∷ 34 ∷ is.rest,
+  is.opened,
+  subst (λ t. string_at at (t ++ next) ≡ Ok (kind.Str value, length t)) (sym is.opened)
+      (block_string_taken at is.rest next is.raw is.is_rest ∙ ap (λ v. Ok (kind.Str v, length (quotes ++ is.rest))) (sym is.laid_out)),
+)

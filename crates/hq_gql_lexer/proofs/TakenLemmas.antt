@@ -1,9 +1,8 @@
 -- A text of the productions has their tokens: each lexeme is taken whole.
-use Rattle.std.proofs.Common.{◌≡◌, ℕ, suc, ◌+◌, ◌<◌, ◌≤◌, Bool, true, false, cond, List, [], ◌∷◌, ◌++◌, length, drop, Option, Some, None, Result, Ok, Err, refl, sym, ap, ◌∙◌, subst, inl, inr, ⊎_elim, arith, ◌⊎◌, append_assoc}
-use Rattle.std.specs.Prelude.{◌||◌, ◌&&◌, ◌==◌, nat_eq}
-use Rattle.std.specs.List.{starts_with}
+use Rattle.std.proofs.Common.{◌≡◌, ℕ, ◌+◌, ◌<◌, Bool, true, false, List, [], ◌∷◌, ◌++◌, length, Option, Some, None, Result, Ok, refl, sym, ap, ◌∙◌, subst, arith, ◌⊎◌, append_assoc}
+use Rattle.std.specs.Prelude.{◌||◌, ◌&&◌, ◌==◌}
 use Rattle.std.specs.Char.{is_ascii_digit}
-use Rattle.std.proofs.lemmas.Bool.{cond-true, cond-false, false≢true, false_from_ne_true, or_from, or_left, or_right}
+use Rattle.std.proofs.lemmas.Bool.{cond-true, cond-false, false≢true, or_from, or_left}
 use Rattle.std.proofs.lemmas.Bool.Decides.{nat_tests}
 use Rattle.std.proofs.lemmas.List.{length-append, drop_at}
 use Rattle.hq_base.specs.Due.{◌>>=◌, Gives}
@@ -16,8 +15,8 @@ use Rattle.hq_gql_lexer.specs.declared.token.TokenKind.{TokenKind}
 use Rattle.hq_gql_lexer.specs.declared.token.TokenKind.TheVariants as kind
 use Rattle.hq_gql_lexer.specs.Characters.{next_is, is_name_start, is_name_continue}
 use Rattle.hq_gql_lexer.specs.Steps.{steps}
-use Rattle.hq_gql_lexer.specs.Lexemes.{is_ignored, ignored_at, punct_of, one_byte, punct_at, name_at, starts_number, goes_on, number_at, string_at, punct_or, token_at, ignored_or, lexeme_at, tokens_in, tokens_at, tokens_of}
-use Rattle.hq_gql_lexer.specs.Grammar.{punct_text, IsName, IsInteger, IsFloat, IsPlainString, IsBlockString, IsToken, IsIgnored, Lexes, nothing, ignored, token}
+use Rattle.hq_gql_lexer.specs.Lexemes.{is_ignored, ignored_at, punct_of, one_byte, punct_at, starts_number, number_at, string_at, punct_or, token_at, ignored_or, lexeme_at, tokens_in, tokens_at, tokens_of}
+use Rattle.hq_gql_lexer.specs.Grammar.{punct_text, IsName, IsFloat, IsPlainString, IsBlockString, IsToken, IsIgnored, Lexes, nothing, ignored, token}
 use Rattle.hq_gql_lexer.proofs.StepsLemmas.{with_front, steps_one}
 use Rattle.hq_gql_lexer.proofs.SoundLemmas.{punct_of_text}
 use Rattle.hq_gql_lexer.proofs.LexLemmas.{token_some}

@@ -212,10 +212,7 @@ fn escapes_and_ends(rt: HostRuntime) -> Result<(), Fail> {
             "Str a\n\n\tb\nc 0..22;",
         ),
         (b"\"\"\"  \n  a\n\"\"\" ", "Str a 0..13;"),
-        (
-            b"\"\"\"a\\u0000\\ud800\"\"\"",
-            "Str a\\u0000\\ud800 0..19;",
-        ),
+        (b"\"\"\"a\\u0000\\ud800\"\"\"", "Str a\\u0000\\ud800 0..19;"),
     ];
     for (text, want) in table {
         let got = shown(rt.alloc(), text)?;
