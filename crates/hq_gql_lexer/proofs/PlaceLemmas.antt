@@ -1,10 +1,10 @@
 -- The place of a refusal is within the bytes of its lexeme.
-use Rattle.std.proofs.Common.{◌≡◌, ℕ, zero, suc, ◌+◌, ◌-◌, ◌<◌, ◌≤◌, Bool, true, false, cond, List, [], ◌∷◌, ◌++◌, length, take, drop, Option, Some, None, Result, Ok, Err, refl, sym, ap, subst, inl, inr, ⊎_elim, arith, ◌⊎◌}
-use Rattle.std.specs.Prelude.{◌==◌, nat_eq, nat_lt}
+use Rattle.std.proofs.Common.{◌≡◌, ℕ, zero, suc, ◌+◌, ◌-◌, ◌<◌, ◌≤◌, Bool, true, false, cond, List, [], ◌∷◌, ◌++◌, length, take, drop, Option, Some, None, Result, Ok, Err, refl, sym, ap, ◌∙◌, subst, inl, inr, ⊎_elim, arith, ◌⊎◌}
+use Rattle.std.specs.Prelude.{◌||◌, ◌==◌, nat_eq, nat_lt}
 use Rattle.std.specs.List.{starts_with, prefix_len}
 use Rattle.std.specs.Option.{ok_or}
 use Rattle.std.specs.Str.Lossy.{utf8_valid_len}
-use Rattle.std.proofs.lemmas.Bool.{ltb-true}
+use Rattle.std.proofs.lemmas.Bool.{ltb-true, cond-false, or_parts}
 use Rattle.std.proofs.lemmas.List.{length-take, length-drop}
 use Rattle.std.proofs.lemmas.List.Sums.{prefix_len-le-length}
 use Rattle.std.proofs.lemmas.Str.{utf8_valid_len_le}
@@ -250,3 +250,52 @@ lexeme_placed at bytes e some h = ⊎_elim
     (λ (first : ignored_at at bytes ≡ Err e). ignored_placed at bytes e first)
     (λ (more : (o : Option ℕ) × (ignored_at at bytes ≡ Ok o) × (ignored_or o (token_at at bytes) ≡ Err e)). ignored_or_err at bytes more.0 e some more.2)
     (bind_err (ignored_at at bytes) _ e h)
+
+-- where neither a string nor a comment begins, no quote is next and no `#`
+neither_next : (bytes : List ℕ) → next_is (λ b. b == 34 || b == 35) bytes ≡ false
+    → (next_is (λ b. b == 34) bytes ≡ false) × (next_is (λ b. b == 35) bytes ≡ false)
+neither_next [] h = (refl, refl)
+neither_next (b ∷ bytes) h = or_parts (b == 34) (b == 35) h
+
+-- a token but a string is refused at its place
+token_at_once : (at : ℕ) (bytes : List ℕ) (e : LexRefusal) → next_is (λ b. b == 34) bytes ≡ false → token_at at bytes ≡ Err e → place_of e ≡ at
+unfolding token_at number_at name_at
+token_at_once at bytes e no_quote h = ⊎_elim
+    (λ (number : (starts_number bytes ≡ true) × (number_at at bytes ≡ Err e)).
+    let n = number_len bytes in
+    ap place_of (sym (refused_by (next_is goes_on (drop n bytes)) (BadNumber at) e (number_kind (n == integer_len bytes) (take n bytes), n) number.1).1))
+    (λ (rest : (starts_number bytes ≡ false) × (cond (next_is (λ b. b == 34) bytes) (string_at at bytes) (cond (next_is is_name_start bytes) (name_at bytes) (Err (BadByte at))) ≡ Err e)).
+    ⊎_elim
+    (λ (name : (next_is is_name_start bytes ≡ true) × (name_at bytes ≡ Err e)). let no' = name.1 in cc)
+    (λ (bad : (next_is is_name_start bytes ≡ false) × (◌≡◌ {A = Result (TokenKind × ℕ) LexRefusal} (Err (BadByte at)) (Err e))).
+    let same : BadByte at ≡ e = let h = bad.1 in cc in ap place_of (sym same))
+    (tested (next_is is_name_start bytes) _ _ _ (sym (cond-false _ _ _ no_quote) ∙ rest.1)))
+    (tested (starts_number bytes) _ _ _ (punct_or_err (punct_at bytes) _ e h))
+
+-- what is ignored is refused in a comment alone
+ignored_not_refused : (at : ℕ) (bytes : List ℕ) (e : LexRefusal) → next_is (λ b. b == 35) bytes ≡ false → ignored_at at bytes ≡ Err e → place_of e ≡ at
+unfolding ignored_at
+ignored_not_refused at bytes e no_hash h =
+    no_comment (starts_with nat_eq bytes byte_order_mark) (next_is is_ignored bytes) (sym (cond-false _ _ _ no_hash) ∙ h)
+  where
+    no_comment : (mark one : Bool) → ◌≡◌ {A = Result (Option ℕ) LexRefusal} (cond mark (Ok (Some 3)) (cond one (Ok (Some 1)) (Ok None))) (Err e) → place_of e ≡ at
+    no_comment true one h = cc
+    no_comment false true h = cc
+    no_comment false false h = cc
+
+-- where neither a string nor a comment begins, a lexeme is refused at its place
+pub lexeme_at_once : (at : ℕ) (bytes : List ℕ) (e : LexRefusal) → lexeme_at at bytes ≡ Err e → next_is (λ b. b == 34 || b == 35) bytes ≡ false → place_of e ≡ at
+unfolding lexeme_at
+lexeme_at_once at bytes e h apart =
+    let no = neither_next bytes apart in
+    ⊎_elim
+    (λ (first : ignored_at at bytes ≡ Err e). ignored_not_refused at bytes e no.1 first)
+    (λ (more : (o : Option ℕ) × (ignored_at at bytes ≡ Ok o) × (ignored_or o (token_at at bytes) ≡ Err e)). by_token more.0 no.0 more.2)
+    (bind_err (ignored_at at bytes) _ e h)
+  where
+    by_token : (o : Option ℕ) → next_is (λ b. b == 34) bytes ≡ false → ignored_or o (token_at at bytes) ≡ Err e → place_of e ≡ at
+    by_token (Some n) no_quote h = cc
+    by_token None no_quote h = ⊎_elim
+        (λ (token : token_at at bytes ≡ Err e). token_at_once at bytes e no_quote token)
+        (λ (none : (t : TokenKind × ℕ) × (token_at at bytes ≡ Ok t) × (◌≡◌ {A = Result (Option TokenKind × ℕ) LexRefusal} (Ok (Some t.0, t.1)) (Err e))). let no' = none.2 in cc)
+        (bind_err (token_at at bytes) _ e h)

@@ -3,7 +3,7 @@ ghost use Rattle.std.specs.Prelude.{◌≡◌, ◌+◌, ◌<◌, ◌^◌, ◌++�
 ghost use Rattle.hq_base.specs.Due.{Gives};
 ghost use Rattle.hq_gql_lexer.specs.Grammar.{Lexes};
 ghost use Rattle.hq_gql_lexer.specs.Lexemes.{tokens_in, tokens_of};
-ghost use Rattle.hq_gql_lexer.specs.Refused.{IsRefused};
+ghost use Rattle.hq_gql_lexer.specs.Refused.{Refuses};
 ghost use Rattle.hq_gql_lexer.specs.Spans.{AreInOrder};
 ghost use Rattle.hq_gql_lexer.specs.declared.token.Token.{Token};
 
@@ -56,8 +56,8 @@ pub fn lex(alloc: Global, text: &[u8]) -> Result<Tokens, LexRefusal>
     ensures lexes { IfOk result (λ tokens. Lexes 0 text.now tokens) }
     // Each text that the productions allow is given so, with the tokens that they allow.
     ensures complete { (tokens : List Token) → Lexes 0 text.now tokens → Gives (λ given. given) LexRefusal.Memory (Ok tokens) result }
-    // A refusal stands where the productions take nothing, or in the string or comment that begins there.
-    ensures refused { IfErr result (λ e. (e ≡ LexRefusal.Memory) ⊎ IsRefused 0 text.now e) }
+    // A refusal stands where the productions are stuck; where a string or a comment begins there, perhaps further behind.
+    ensures refused { IfErr result (λ e. (e ≡ LexRefusal.Memory) ⊎ Refuses 0 text.now e) }
     ensures spans { IfOk result (λ tokens. AreInOrder 0 (length text.now) tokens) }
 {
     all_tokens(alloc, text)
