@@ -1,0 +1,11 @@
+pub mod Characters
+pub mod Numbers
+pub mod Steps
+pub mod Escapes
+pub mod Strings
+pub mod BlockStrings
+pub mod Lexemes
+pub mod Pieces
+pub mod Grammar
+pub mod Refused
+pub mod Spans
