@@ -1,0 +1,3 @@
+mod Results
+mod Nested
+mod LowerCase
