@@ -155,6 +155,7 @@ fn conditions(
 
 /// The conditions on a column that its member of a filter writes: an object of operators, or a value that it is to
 /// equal.
+#[tactic(auto, using(crate::proofs::Columns::of_object, crate::proofs::Columns::of_other))]
 pub fn column(
     alloc: Global,
     col: ColId,
@@ -164,14 +165,8 @@ pub fn column(
 ) -> Result<Bexp, FilterRefusal>
     ensures { Gives bexp_view FilterRefusal.Memory (column_due col ty path.now (json_view json.now)) result }
 {
-    match json {
-        Json::Obj(members) => Ok(conjunction(conditions(
-            alloc,
-            col,
-            ty,
-            path,
-            members.as_slice(),
-        )?)),
-        _ => comparison(alloc, col, ty, Op::Eq, path, json),
+    match json.as_object() {
+        Some(members) => Ok(conjunction(conditions(alloc, col, ty, path, members)?)),
+        None => comparison(alloc, col, ty, Op::Eq, path, json),
     }
 }
