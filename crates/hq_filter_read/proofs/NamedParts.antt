@@ -47,6 +47,6 @@ pub named_there : (t : SchemaTable) (name : List ℕ) → IsThere t (named t nam
 unfolding named connective_named column_named rel_named
 named_there t name =
     either_there t (connective_named name) _ (connective_there t (bytes_eq name (codes "_and")) (bytes_eq name (codes "_or")) (bytes_eq name (codes "_not")))
-      (either_there t (option_map Column (column_named t name)) (option_map Relationship (rel_named t name))
-        (column_there t (column_named t name) (found (λ c. bytes_eq c.name name) t.columns))
-        (rel_there t (rel_named t name) (found (λ r. bytes_eq r.name name) t.rels)))
+    (either_there t (option_map Column (column_named t name)) (option_map Relationship (rel_named t name))
+    (column_there t (column_named t name) (found (λ c. bytes_eq c.name name) t.columns))
+    (rel_there t (rel_named t name) (found (λ r. bytes_eq r.name name) t.rels)))

@@ -42,18 +42,18 @@ mutual
   elements_nest (item d ds) =
       let n : ℕ = items_depth (item d ds) in
       ok_and_then (λ j. mapped (λ js. j ∷ js) (elements_in ds)) (Values n) (Value (depth d))
-        (λ j h. ok_mapped (λ js. j ∷ js) (Values n) (Values (items_depth ds)) (λ js k. omega arith) (elements_in ds) (elements_nest ds))
-        (value_of d) (value_nests d)
+      (λ j h. ok_mapped (λ js. j ∷ js) (Values n) (Values (items_depth ds)) (λ js k. omega arith) (elements_in ds) (elements_nest ds))
+      (value_of d) (value_nests d)
 
   members_nest : (ms : Members) → IfOk (members_in ms) (Named (members_depth ms))
   members_nest no_members = omega arith
   members_nest (member k d ms) =
       let n : ℕ = members_depth (member k d ms) in
       ok_and_then (λ name. and_then (λ j. mapped (λ js. (name, j) ∷ js) (members_in ms)) (value_of d)) (Named n) (λ _. ⊤)
-        (λ name _. ok_and_then (λ j. mapped (λ js. (name, j) ∷ js) (members_in ms)) (Named n) (Value (depth d))
-          (λ j h. ok_mapped (λ js. (name, j) ∷ js) (Named n) (Named (members_depth ms)) (λ js k. omega arith) (members_in ms) (members_nest ms))
-          (value_of d) (value_nests d))
-        (clean k) (ok_always (clean k))
+      (λ name _. ok_and_then (λ j. mapped (λ js. (name, j) ∷ js) (members_in ms)) (Named n) (Value (depth d))
+      (λ j h. ok_mapped (λ js. (name, j) ∷ js) (Named n) (Named (members_depth ms)) (λ js k. omega arith) (members_in ms) (members_nest ms))
+      (value_of d) (value_nests d))
+      (clean k) (ok_always (clean k))
 
 -- what a body reads as nests at most 127 deep
 if_read : (o : Option Data) → ((d : Data) → o ≡ Some d → depth d ≤ max_depth) → IfOk (value_if o) (λ j. nesting j ≤ 127)

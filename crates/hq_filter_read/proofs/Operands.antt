@@ -102,5 +102,5 @@ pub operands_fit : (ty : Ty) (path : List ℕ) (place : ℕ) (js : List JsonTree
 operands_fit ty path place [] = refl
 operands_fit ty path place (j ∷ js) =
     ok_and_then (λ o. mapped (λ os. o ∷ os) (each_element (operand_at ty) path (place + 1) js)) _ (λ o. operand_fits ty o ≡ true)
-      (λ o h. ok_mapped (λ os. o ∷ os) _ (λ os. list_all (operand_fits ty) os ≡ true) (λ os k. rw (h, k) refl) (each_element (operand_at ty) path (place + 1) js) (operands_fit ty path (place + 1) js))
-      (operand_at ty (item_path path place) j) (operand_at_fits ty (item_path path place) j)
+    (λ o h. ok_mapped (λ os. o ∷ os) _ (λ os. list_all (operand_fits ty) os ≡ true) (λ os k. rw (h, k) refl) (each_element (operand_at ty) path (place + 1) js) (operands_fit ty path (place + 1) js))
+    (operand_at ty (item_path path place) j) (operand_at_fits ty (item_path path place) j)

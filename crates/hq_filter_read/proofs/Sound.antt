@@ -73,17 +73,17 @@ comparison_good : (s : Schema) (t c : ℕ) (ty : Ty) → column_ty s t c ≡ Som
 unfolding comparison_due
 comparison_good s t c ty here op path j =
     ok_mapped (comparison c op) (Good 1 s t) (λ o. operand_fits ty o ≡ true)
-      (λ o h. record { is = tested (λ x. operand_fits x o) s t c ty here h; shallow = omega arith })
-      (operand_at ty path j) (operand_at_fits ty path j)
+    (λ o h. record { is = tested (λ x. operand_fits x o) s t c ty here h; shallow = omega arith })
+    (operand_at ty path j) (operand_at_fits ty path j)
 
 within_good : (s : Schema) (t c : ℕ) (ty : Ty) → column_ty s t c ≡ Some ty → (negated : Bool) (path : List ℕ) (j : JsonTree) → IfOk (within_due c ty path negated j) (Good 1 s t)
 unfolding within_due
 within_good s t c ty here negated path j =
     ok_and_then (λ list. and_then (λ os. Ok (within c os negated)) (each_element (operand_at ty) path 0 list)) (Good 1 s t) (λ _. ⊤)
-      (λ list _. ok_and_then (λ os. Ok (within c os negated)) (Good 1 s t) (λ os. list_all (operand_fits ty) os ≡ true)
-        (λ os h. record { is = tested (λ x. list_all (operand_fits x) os) s t c ty here h; shallow = omega arith })
-        (each_element (operand_at ty) path 0 list) (operands_fit ty path 0 list))
-      (operand_read path (array_in j)) (ok_always (operand_read path (array_in j)))
+    (λ list _. ok_and_then (λ os. Ok (within c os negated)) (Good 1 s t) (λ os. list_all (operand_fits ty) os ≡ true)
+    (λ os h. record { is = tested (λ x. list_all (operand_fits x) os) s t c ty here h; shallow = omega arith })
+    (each_element (operand_at ty) path 0 list) (operands_fit ty path 0 list))
+    (operand_read path (array_in j)) (ok_always (operand_read path (array_in j)))
 
 like_good : (s : Schema) (t c : ℕ) (ty : Ty) → column_ty s t c ≡ Some ty → (fold negated : Bool) (path : List ℕ) (j : JsonTree) → IfOk (like_due c ty path fold negated j) (Good 1 s t)
 unfolding like_due
@@ -93,13 +93,13 @@ like_good s t c ty here fold negated path j = by (is_text ty) refl
     by false e = tt
     by true e =
         ok_mapped (like c fold negated) (Good 1 s t) (λ o. pattern_fits o ≡ true)
-          (λ o h. record { is = both _ _ (tested is_text s t c ty here e) h; shallow = omega arith })
-          (operand_read path (pattern_in j)) (pattern_at_fits path j)
+        (λ o h. record { is = both _ _ (tested is_text s t c ty here e) h; shallow = omega arith })
+        (operand_read path (pattern_in j)) (pattern_at_fits path j)
 
 null_good : (s : Schema) (t c : ℕ) (ty : Ty) → column_ty s t c ≡ Some ty → (path : List ℕ) (j : JsonTree) → IfOk (mapped (is_null c) (operand_read path (truth_in j))) (Good 1 s t)
 null_good s t c ty here path j =
     ok_mapped (is_null c) (Good 1 s t) (λ _. ⊤) (λ b _. record { is = ap is_some here; shallow = omega arith })
-      (operand_read path (truth_in j)) (ok_always (operand_read path (truth_in j)))
+    (operand_read path (truth_in j)) (ok_always (operand_read path (truth_in j)))
 
 -- a condition of a column that is there
 condition_good : (s : Schema) (t c : ℕ) (ty : Ty) → column_ty s t c ≡ Some ty → (path : List ℕ) (operator : Option Operator) (j : JsonTree) → IfOk (condition_due c ty path operator j) (Good 1 s t)
@@ -114,16 +114,16 @@ each_good : (s : Schema) (t : ℕ) (read : List ℕ → List ℕ → JsonTree �
 each_good s t read good path [] = none_good 1 s t
 each_good s t read good path (m ∷ ms) =
     ok_and_then (λ b. mapped (λ bs. b ∷ bs) (each_member read path ms)) (AllGood 1 s t) (Good 1 s t)
-      (λ b h. ok_mapped (λ bs. b ∷ bs) (AllGood 1 s t) (AllGood 1 s t) (λ bs hs. good_first 1 1 1 s t b bs (omega arith) (omega arith) h hs) (each_member read path ms) (each_good s t read good path ms))
-      (read m.0 (member_path path m.0) m.1) (good m.0 (member_path path m.0) m.1)
+    (λ b h. ok_mapped (λ bs. b ∷ bs) (AllGood 1 s t) (AllGood 1 s t) (λ bs hs. good_first 1 1 1 s t b bs (omega arith) (omega arith) h hs) (each_member read path ms) (each_good s t read good path ms))
+    (read m.0 (member_path path m.0) m.1) (good m.0 (member_path path m.0) m.1)
 
 -- the conditions on a column that is there
 column_good : (s : Schema) (t c : ℕ) (ty : Ty) → column_ty s t c ≡ Some ty → (path : List ℕ) (j : JsonTree) → IfOk (column_due c ty path j) (Good (suc (2 * nesting j)) s t)
 column_good s t c ty here path (obj ms) =
     ok_mapped conjunction (Good (suc (2 * nesting (obj ms))) s t) (AllGood 1 s t)
-      (λ bs h. good_more 2 (suc (2 * nesting (obj ms))) s t (conjunction bs) (omega arith) (conjunction_good 1 s t bs h))
-      (each_member (λ name p. condition_due c ty p (operator_named name)) path (member_list ms))
-      (each_good s t (λ name p. condition_due c ty p (operator_named name)) (λ name p. condition_good s t c ty here p (operator_named name)) path (member_list ms))
+    (λ bs h. good_more 2 (suc (2 * nesting (obj ms))) s t (conjunction bs) (omega arith) (conjunction_good 1 s t bs h))
+    (each_member (λ name p. condition_due c ty p (operator_named name)) path (member_list ms))
+    (each_good s t (λ name p. condition_due c ty p (operator_named name)) (λ name p. condition_good s t c ty here p (operator_named name)) path (member_list ms))
 column_good s t c ty here path null = comparison_good s t c ty here Eq path null
 column_good s t c ty here path (bool b) = comparison_good s t c ty here Eq path (bool b)
 column_good s t c ty here path (int n) = comparison_good s t c ty here Eq path (int n)
@@ -164,8 +164,8 @@ mutual
   filter_good (obj ms) s t path =
       let n : ℕ = suc (2 * nesting_of_members ms) in
       ok_mapped conjunction (Good (2 * nesting (obj ms)) s t) (AllGood n s t)
-        (λ bs h. good_more (suc n) (2 * nesting (obj ms)) s t (conjunction bs) (omega arith) (conjunction_good n s t bs h))
-        (members_due ms s t path) (members_good ms s t path)
+      (λ bs h. good_more (suc n) (2 * nesting (obj ms)) s t (conjunction bs) (omega arith) (conjunction_good n s t bs h))
+      (members_due ms s t path) (members_good ms s t path)
 
   filters_good : (j : JsonTree) (s : Schema) (t : ℕ) (path : List ℕ) → IfOk (filters_due j s t path) (AllGood (2 * nesting j) s t)
   filters_good null s t path = tt
@@ -174,8 +174,8 @@ mutual
   filters_good (str x) s t path = tt
   filters_good (arr js) s t path =
       ok_weaker (elements_due js s t path 0) (AllGood (2 * nesting_of_elements js) s t) (AllGood (2 * nesting (arr js)) s t)
-        (λ bs h. record { are = h.are; shallow = omega (arith, h.shallow) })
-        (elements_good js s t path 0)
+      (λ bs h. record { are = h.are; shallow = omega (arith, h.shallow) })
+      (elements_good js s t path 0)
   filters_good (obj ms) s t path = tt
 
   elements_good : (js : ElementTrees) (s : Schema) (t : ℕ) (path : List ℕ) (place : ℕ) → IfOk (elements_due js s t path place) (AllGood (2 * nesting_of_elements js) s t)
@@ -183,10 +183,10 @@ mutual
   elements_good (element j js) s t path place =
       let n : ℕ = 2 * nesting_of_elements (element j js) in
       ok_and_then (λ b. mapped (λ bs. b ∷ bs) (elements_due js s t path (place + 1))) (AllGood n s t) (Good (2 * nesting j) s t)
-        (λ b h. ok_mapped (λ bs. b ∷ bs) (AllGood n s t) (AllGood (2 * nesting_of_elements js) s t)
-          (λ bs hs. good_first (2 * nesting j) (2 * nesting_of_elements js) n s t b bs (omega arith) (omega arith) h hs)
-          (elements_due js s t path (place + 1)) (elements_good js s t path (place + 1)))
-        (filter_due j s t (item_path path place)) (filter_good j s t (item_path path place))
+      (λ b h. ok_mapped (λ bs. b ∷ bs) (AllGood n s t) (AllGood (2 * nesting_of_elements js) s t)
+      (λ bs hs. good_first (2 * nesting j) (2 * nesting_of_elements js) n s t b bs (omega arith) (omega arith) h hs)
+      (elements_due js s t path (place + 1)) (elements_good js s t path (place + 1)))
+      (filter_due j s t (item_path path place)) (filter_good j s t (item_path path place))
 
   members_good : (ms : MemberTrees) (s : Schema) (t : ℕ) (path : List ℕ) → IfOk (members_due ms s t path) (AllGood (suc (2 * nesting_of_members ms)) s t)
   members_good no_member s t path = none_good 1 s t
@@ -194,8 +194,8 @@ mutual
       let n : ℕ = suc (2 * nesting_of_members (member name j ms)) in
       let here : List ℕ = member_path path name in
       ok_and_then (λ b. mapped (λ bs. b ∷ bs) (members_due ms s t path)) (AllGood n s t) (Good (suc (2 * nesting j)) s t)
-        (λ b h. ok_mapped (λ bs. b ∷ bs) (AllGood n s t) (AllGood (suc (2 * nesting_of_members ms)) s t)
-          (λ bs hs. good_first (suc (2 * nesting j)) (suc (2 * nesting_of_members ms)) n s t b bs (omega arith) (omega arith) h hs)
-          (members_due ms s t path) (members_good ms s t path))
-        (member_due (λ remote. filter_due j s remote here) (filters_due j s t here) j s t here (named (table s t) name))
-        (member_good (λ remote. filter_due j s remote here) (filters_due j s t here) j s t here (λ u. filter_good j s u here) (filters_good j s t here) (named (table s t) name) (named_there (table s t) name))
+      (λ b h. ok_mapped (λ bs. b ∷ bs) (AllGood n s t) (AllGood (suc (2 * nesting_of_members ms)) s t)
+      (λ bs hs. good_first (suc (2 * nesting j)) (suc (2 * nesting_of_members ms)) n s t b bs (omega arith) (omega arith) h hs)
+      (members_due ms s t path) (members_good ms s t path))
+      (member_due (λ remote. filter_due j s remote here) (filters_due j s t here) j s t here (named (table s t) name))
+      (member_good (λ remote. filter_due j s remote here) (filters_due j s t here) j s t here (λ u. filter_good j s u here) (filters_good j s t here) (named (table s t) name) (named_there (table s t) name))

@@ -46,4 +46,4 @@ abbrev mutual
   members_due (member name j ms) s t path =
       let here = member_path path name in
       and_then (λ b. mapped (λ bs. b ∷ bs) (members_due ms s t path))
-        (member_due (λ remote. filter_due j s remote here) (filters_due j s t here) j s t here (named (table s t) name))
+      (member_due (λ remote. filter_due j s remote here) (filters_due j s t here) j s t here (named (table s t) name))

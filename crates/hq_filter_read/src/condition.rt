@@ -45,12 +45,7 @@ fn comparison(
 }
 
 // The operands of the list at a path.
-fn operands(
-    alloc: Global,
-    ty: Ty,
-    path: &Txt,
-    list: &[Json],
-) -> Result<Operands, FilterRefusal>
+fn operands(alloc: Global, ty: Ty, path: &Txt, list: &[Json]) -> Result<Operands, FilterRefusal>
     ensures { Gives (λ os. os) FilterRefusal.Memory (each_element (operand_at ty) path.now 0 (map json_view list.now)) result }
 {
     let mut operands = List::new(alloc);

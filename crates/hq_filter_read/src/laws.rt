@@ -9,5 +9,4 @@ pub fn nesting_is_bounded()
     ensures body { (bytes : List ℕ) (j : JsonTree) → body_of bytes ≡ Ok j → nesting j ≤ 127 }
     ensures member { (j value : JsonTree) (name : List ℕ) → member_in j name ≡ Some value → nesting value ≤ nesting j }
     ensures element { (j value : JsonTree) (elements : List JsonTree) (place : ℕ) → array_in j ≡ Some elements → slice_get elements place ≡ Some value → nesting value ≤ nesting j }
-{
-}
+{}

@@ -135,12 +135,7 @@ fn truth_in(json: &Json) -> Option<bool>
 }
 
 /// The operand at a path, for a column of a type.
-pub fn operand_at(
-    alloc: Global,
-    ty: Ty,
-    path: &Txt,
-    json: &Json,
-) -> Result<Operand, FilterRefusal>
+pub fn operand_at(alloc: Global, ty: Ty, path: &Txt, json: &Json) -> Result<Operand, FilterRefusal>
     ensures { Gives (λ o. o) FilterRefusal.Memory (operand_at ty path.now (json_view json.now)) result }
 {
     match operand_of(alloc, ty, json)? {

@@ -8,16 +8,11 @@ use hq_terms::Op;
 pub enum Operator {
     Compare(Op),
     /// `_in`, or `_nin` where negated.
-    Within {
-        negated: bool,
-    },
+    Within { negated: bool },
     /// `_is_null`.
     NullTest,
     /// `_like`; without regard to the case of A to Z where `fold`, and the opposite where negated.
-    Like {
-        fold: bool,
-        negated: bool,
-    },
+    Like { fold: bool, negated: bool },
 }
 
 #[tactic(auto, unfolding(crate::specs::Operator::comparison_named))]
