@@ -1,5 +1,5 @@
 -- The conditions that a value writes on a column, by whether it is an object.
-use Rattle.std.proofs.Common.{◌≡◌, refl, sym, ap, ℕ, List, Some, None}
+use Rattle.std.proofs.Common.{◌≡◌, refl, ℕ, List, Some, None}
 use Rattle.hq_base.specs.Due.{mapped}
 use Rattle.hq_base.specs.Json.{JsonTree, null, bool, int, str, arr, obj}
 use Rattle.hq_base.specs.Look.{object_in}

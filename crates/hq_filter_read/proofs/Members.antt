@@ -1,5 +1,5 @@
 -- The members of a filter's object, read in order.
-use Rattle.std.proofs.Common.{◌≡◌, ◌∙◌, refl, sym, ap, subst, ℕ, ◌+◌, ◌<◌, List, [], ◌∷◌, ◌++◌, map, length, drop, get_or, Result, Ok, Err, Option, append_assoc}
+use Rattle.std.proofs.Common.{◌≡◌, ◌∙◌, refl, sym, ap, ℕ, ◌+◌, ◌<◌, List, [], ◌∷◌, ◌++◌, map, length, drop, get_or, Result, Ok, Err, append_assoc}
 use Rattle.std.proofs.lemmas.List.{drop_more}
 use Rattle.hq_base.specs.Due.{and_then, mapped}
 use Rattle.hq_base.specs.Json.{JsonTree, json_view, member_view, members_of, member}

@@ -1,5 +1,5 @@
 -- What a member names is there.
-use Rattle.std.proofs.Common.{◌≡◌, refl, ℕ, Bool, true, false, cond, List, [], ◌∷◌, length, Option, Some, None}
+use Rattle.std.proofs.Common.{◌≡◌, refl, ℕ, Bool, true, false, cond, List, [], ◌∷◌, Option, Some, None}
 use Rattle.std.specs.Prelude.{⊤, slice_get, position, option_map, is_some, bytes_eq, codes}
 use Rattle.std.specs.Option.{option_or}
 use Rattle.std.proofs.lemmas.List.Quantifiers.{position-Some}

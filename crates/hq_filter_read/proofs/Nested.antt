@@ -1,6 +1,6 @@
 -- How deep JSON of a body nests, and what stands in a value.
-use Rattle.std.proofs.Common.{◌≡◌, refl, sym, subst, ℕ, zero, suc, max, ◌≤◌, Bool, true, false, cond, List, [], ◌∷◌, Option, Some, None, Result, Ok, Err, arith}
-use Rattle.std.specs.Prelude.{IfOk, IfSome, ⊤, slice_get, bytes_eq, option_map, ok_or, option_and_then}
+use Rattle.std.proofs.Common.{◌≡◌, refl, sym, subst, ℕ, zero, suc, ◌≤◌, Bool, true, false, cond, List, ◌∷◌, Option, Some, None, Ok, Err, arith}
+use Rattle.std.specs.Prelude.{IfOk, ⊤, slice_get, bytes_eq, ok_or}
 use Rattle.std.specs.Map.{lookup}
 use Rattle.std.specs.Str.{is_utf8}
 use Rattle.serde_json.specs.Data.{Data, Items, no_items, item, Members, no_members, member, depth, items_depth, members_depth}
@@ -13,7 +13,7 @@ use Rattle.hq_base.specs.Due.{and_then, mapped}
 use Rattle.hq_base.specs.declared.body.JsonRefusal.TheVariants.{NotJson, Fraction}
 use Rattle.hq_base.specs.Json.{JsonTree, elements_of, members_of, ElementTrees, MemberTrees}
 use Rattle.hq_base.specs.Json as tree
-use Rattle.hq_base.specs.Look.{element_list, member_list, array_in, object_in, member_in}
+use Rattle.hq_base.specs.Look.{element_list, member_list, array_in, member_in}
 use Rattle.hq_filter_read.specs.Nesting.{nesting, nesting_of_elements, nesting_of_members}
 use Rattle.hq_filter_read.proofs.Results.{ok_mapped, ok_and_then, ok_always, ok_weaker}
 

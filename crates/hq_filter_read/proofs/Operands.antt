@@ -1,11 +1,11 @@
 -- An operand that is read is one for the column's type.
-use Rattle.std.proofs.Common.{◌≡◌, refl, ℕ, ℤ, ◌+◌, Bool, true, false, cond, List, [], ◌∷◌, Option, Some, None, Result, Ok, Err}
-use Rattle.std.specs.Prelude.{⊤, IfOk, IfSome, ok_or, option_map, is_ok, ◌&&◌}
+use Rattle.std.proofs.Common.{◌≡◌, refl, ℕ, ℤ, ◌+◌, Bool, true, false, cond, List, [], ◌∷◌, Option, Some, None, Ok, Err}
+use Rattle.std.specs.Prelude.{IfOk, IfSome, ok_or, option_map, is_ok, ◌&&◌}
 use Rattle.std.specs.List.{list_all}
 use Rattle.std.specs.Option.{option_or}
 use Rattle.std.specs.Result.{result_ok}
 use Rattle.std.specs.Str.Parse.{signed_digits_value}
-use Rattle.hq_base.specs.Due.{and_then, mapped}
+use Rattle.hq_base.specs.Due.{mapped}
 use Rattle.hq_base.specs.Json.{JsonTree, null, bool, int, str, arr, obj}
 use Rattle.hq_base.specs.Path.{item_path}
 use Rattle.hq_base.specs.Patterns.{pattern_of}
@@ -13,14 +13,13 @@ use Rattle.hq_base.specs.declared.value.Ty.{Ty}
 use Rattle.hq_base.specs.declared.value.Ty.TheVariants.{Integer, Bigint, Text, Boolean}
 use Rattle.hq_base.specs.declared.value.Val.{Val}
 use Rattle.hq_base.specs.declared.value.Val.TheVariants as val
-use Rattle.hq_terms.specs.Database.{int_fits, is_text, is_boolean}
+use Rattle.hq_terms.specs.Database.{int_fits, is_boolean}
 use Rattle.hq_terms.specs.Filters.{constant_fits, operand_fits, is_pattern, pattern_fits}
-use Rattle.hq_terms.specs.Reading.{is_whole_number, whole_number, truth_value, read_as, read_pattern}
+use Rattle.hq_terms.specs.Reading.{is_whole_number, truth_value, read_as, read_pattern}
 use Rattle.hq_terms.specs.declared.bexp.Operand.{Operand}
 use Rattle.hq_terms.specs.declared.bexp.Operand.TheVariants.{Const, Session}
 use Rattle.hq_terms.specs.declared.want.Want.{Want}
 use Rattle.hq_terms.specs.declared.want.Want.TheVariants as want
-use Rattle.hq_filter_read.specs.declared.refusal.FilterRefusal.{FilterRefusal}
 use Rattle.hq_filter_read.specs.declared.refusal.FilterRefusal.TheVariants.{BadOperand}
 use Rattle.hq_filter_read.specs.Each.{each_element}
 use Rattle.hq_filter_read.specs.Operand.{text_operand, operand_of, pattern_in, operand_at, operand_read}

@@ -1,5 +1,5 @@
 -- What holds of the value of a step, where there is one.
-use Rattle.std.proofs.Common.{◌≡◌, subst, Option, Some, None, Result, Ok, Err}
+use Rattle.std.proofs.Common.{subst, Option, Some, None, Result, Ok, Err}
 use Rattle.std.specs.Prelude.{IfOk, IfSome, ok_or, ⊤}
 use Rattle.hq_base.specs.Due.{and_then, mapped, Gives}
 

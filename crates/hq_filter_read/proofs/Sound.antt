@@ -1,6 +1,6 @@
 -- The expression of a filter is one over its table, and nests at most twice as deep as its JSON.
-use Rattle.std.proofs.Common.{◌≡◌, ◌∙◌, refl, sym, ap, subst, ℕ, suc, max, ◌+◌, ◌*◌, ◌≤◌, Bool, true, false, cond, List, [], ◌∷◌, Option, Some, None, Result, Ok, Err, arith}
-use Rattle.std.specs.Prelude.{⊤, IfOk, IfSome, ok_or, is_some, slice_get, option_map, ◌&&◌}
+use Rattle.std.proofs.Common.{◌≡◌, ◌∙◌, refl, sym, ap, ℕ, suc, ◌+◌, ◌*◌, ◌≤◌, Bool, true, false, cond, List, [], ◌∷◌, Option, Some, None, Result, Ok, Err, arith}
+use Rattle.std.specs.Prelude.{⊤, IfOk, is_some, slice_get, option_map, ◌&&◌}
 use Rattle.std.specs.List.{list_all}
 use Rattle.std.proofs.lemmas.Option.{get_or_from_slice_get}
 use Rattle.hq_base.specs.Due.{and_then, mapped}
@@ -8,7 +8,7 @@ use Rattle.hq_base.specs.Json.{JsonTree, null, bool, int, str, arr, obj, Element
 use Rattle.hq_base.specs.Look.{array_in, member_list}
 use Rattle.hq_base.specs.Path.{member_path, item_path}
 use Rattle.hq_base.specs.declared.value.Ty.{Ty}
-use Rattle.hq_terms.specs.Bexp.{BexpTree, always, and_of, or_of, not_of, comparison, within, is_null, like, through, bexp, no_bexp, bexps_of, depth, depth_of_all}
+use Rattle.hq_terms.specs.Bexp.{BexpTree, and_of, or_of, not_of, comparison, within, is_null, like, through, bexps_of, depth, depth_of_all}
 use Rattle.hq_terms.specs.Database.{is_text}
 use Rattle.hq_terms.specs.Filters.{column_ty, is_filter, are_filters, operand_fits, pattern_fits, of_type}
 use Rattle.hq_terms.specs.Schema.{Schema, table, column, rel, no_column}

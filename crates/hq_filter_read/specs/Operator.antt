@@ -1,5 +1,5 @@
 -- The operators of a column (Hasura, Authorization: operators in permission rules).
-use Rattle.std.specs.Prelude.{ℕ, List, Bool, true, false, ◌||◌, Option, Some, None, if◌then◌else◌, bytes_eq, codes}
+use Rattle.std.specs.Prelude.{ℕ, List, true, false, ◌||◌, Option, Some, None, if◌then◌else◌, bytes_eq, codes}
 use Rattle.std.specs.Option.{option_or}
 use Rattle.hq_terms.specs.declared.op.Op.TheVariants.{Eq, Ne, Lt, Le, Gt, Ge}
 use Rattle.hq_filter_read.specs.declared.operator.Operator.{Operator}

@@ -1,8 +1,7 @@
-use Rattle.std.proofs.Common.{◌≡◌, ◌∙◌, ap, map, Err, [], ◌∷◌, inl, inr, rules}
+use Rattle.std.proofs.Common.{◌≡◌, ◌∙◌, ap, map, Err, inl, inr, rules}
 use Rattle.std.specs.Prelude.{◌⊎◌}
-use Rattle.std.proofs.lemmas.Grind.{common_steps}
 use Rattle.std.proofs.lemmas.List.{map-append}
-use Rattle.hq_base.specs.Json.{json_view, member_view, members_of}
+use Rattle.hq_base.specs.Json.{member_view, members_of}
 use Rattle.hq_base.specs.Path.{member_path}
 use Rattle.hq_terms.specs.Bexp.{bexp_view}
 use Rattle.hq_terms.specs.Scope.{scope_schema}
