@@ -1,13 +1,23 @@
-// A library with one function.
+//! The GraphQL schema of a role: what it may see of the tables of a catalog, as types, fields and arguments (Hasura v2,
+//! GraphQL API reference).
 #![tactic(auto)]
 
-ghost use Rattle.std.specs.Prelude.{◌≡◌};
-ghost use Rattle.hq_role_schema.specs.Echo.{echo_of};
+mod aggregate;
+mod derive;
+mod fixed;
+mod fixed_types;
+mod input;
+mod introspection;
+mod member;
+mod names;
+mod object;
+mod place;
+mod reference;
+mod root;
+mod see;
+mod shown;
+#[cfg(test)]
+mod tests;
+mod text;
 
-// The `ensures` clause is the contract: what `echo` returns is `echo_of` of its argument, a definition
-// in `specs/Echo.antt`, which a caller's clause can cite too.
-pub fn echo(x: usize) -> usize
-    ensures { result ≡ echo_of x }
-{
-    x
-}
+pub use derive::derive;
