@@ -9,13 +9,13 @@ use Rattle.hq_role_schema.specs.declared.shown.ShownColumn.{ShownColumn}
 use Rattle.hq_role_schema.specs.declared.shown.TablePlaces.{TablePlaces}
 
 -- the aggregates over a list of rows, and the rows themselves
-abbrev pub aggregate_type : (name : List ℕ) → TablePlaces → TypeTree
+unfoldable pub aggregate_type : (name : List ℕ) → TablePlaces → TypeTree
 aggregate_type name at =
     object_type (name ++ codes "_aggregate")
     (plain_field (codes "aggregate") (named at.aggregate_fields) ∷ plain_field (codes "nodes") (all_items (named at.object)) ∷ [])
 
 -- how many rows, or how many values of a column, there are
-abbrev pub count_field : TablePlaces → FieldTree
+unfoldable pub count_field : TablePlaces → FieldTree
 count_field at = record {
   name = codes "count";
   args = arg (codes "columns") (items (named at.select_column)) ∷ arg (codes "distinct") (fixed Boolean) ∷ [];
@@ -32,7 +32,7 @@ abbrev pub sum_fields : TablePlaces → List ShownColumn → List FieldTree
 sum_fields at cs = cond (list_any has_sum cs) (plain_field (codes "sum") (named at.sum_fields) ∷ []) []
 
 -- the type of the aggregates themselves
-abbrev pub aggregate_fields_type : (name : List ℕ) → TablePlaces → List ShownColumn → TypeTree
+unfoldable pub aggregate_fields_type : (name : List ℕ) → TablePlaces → List ShownColumn → TypeTree
 aggregate_fields_type name at cs = object_type (name ++ codes "_aggregate_fields") (count_field at ∷ greatest_fields at cs ++ sum_fields at cs)
 
 -- the greatest or the least value of a column, null where there is none
@@ -44,17 +44,20 @@ abbrev pub sum_field : ShownColumn → FieldTree
 sum_field c = plain_field c.name (fixed Bigint)
 
 -- a type of the greatest or the least values
-abbrev pub greatest_type : (name : List ℕ) → List ShownColumn → TypeTree
+unfoldable pub greatest_type : (name : List ℕ) → List ShownColumn → TypeTree
 greatest_type name cs = object_type name (map greatest_field (filter has_greatest cs))
 
 -- the type of the sums
-abbrev pub sum_type : (name : List ℕ) → List ShownColumn → TypeTree
+unfoldable pub sum_type : (name : List ℕ) → List ShownColumn → TypeTree
 sum_type name cs = object_type name (map sum_field (filter has_sum cs))
 
--- the types of the greatest and the least values, where they have a field
+-- the types of the greatest and the least values
+abbrev pub both_types : (name : List ℕ) → List ShownColumn → List TypeTree
+both_types name cs = greatest_type (name ++ codes "_max_fields") cs ∷ greatest_type (name ++ codes "_min_fields") cs ∷ []
+
+-- the same, where they have a field
 abbrev pub greatest_types : (name : List ℕ) → List ShownColumn → List TypeTree
-greatest_types name cs =
-    cond (list_any has_greatest cs) (greatest_type (name ++ codes "_max_fields") cs ∷ greatest_type (name ++ codes "_min_fields") cs ∷ []) []
+greatest_types name cs = cond (list_any has_greatest cs) (both_types name cs) []
 
 -- the type of the sums, where it has a field
 abbrev pub sum_types : (name : List ℕ) → List ShownColumn → List TypeTree

@@ -22,7 +22,7 @@ abbrev pub link_filter : Link → ArgTree
 link_filter l = arg l.name (named l.remote.bool_exp)
 
 -- the type of a table's filters
-abbrev pub filter_type : (name : List ℕ) → TablePlaces → List ShownColumn → List Link → TypeTree
+unfoldable pub filter_type : (name : List ℕ) → TablePlaces → List ShownColumn → List Link → TypeTree
 filter_type name at cs ls = input_type (name ++ codes "_bool_exp") (connectives at ++ map column_filter cs ++ map link_filter ls)
 
 -- the direction of a sort by a column
@@ -34,9 +34,9 @@ abbrev pub link_sort : Link → ArgTree
 link_sort l = arg l.name (named l.remote.order_by)
 
 -- the type of a table's sorts
-abbrev pub sort_type : (name : List ℕ) → List ShownColumn → List Link → TypeTree
+unfoldable pub sort_type : (name : List ℕ) → List ShownColumn → List Link → TypeTree
 sort_type name cs ls = input_type (name ++ codes "_order_by") (map column_sort cs ++ map link_sort (filter (λ l. not l.many) ls))
 
 -- the type of the names of a table's columns
-abbrev pub select_column_type : (name : List ℕ) → List ShownColumn → TypeTree
+unfoldable pub select_column_type : (name : List ℕ) → List ShownColumn → TypeTree
 select_column_type name cs = enum_type (name ++ codes "_select_column") (map (λ c. c.name) cs)

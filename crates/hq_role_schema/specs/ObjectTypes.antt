@@ -17,7 +17,7 @@ abbrev pub column_field : ShownColumn → FieldTree
 column_field c = plain_field c.name (column_type c)
 
 -- the arguments of a list of a table's rows
-abbrev pub list_args : TablePlaces → List ArgTree
+unfoldable pub list_args : TablePlaces → List ArgTree
 list_args at =
     arg (codes "distinct_on") (items (named at.select_column)) ∷ arg (codes "limit") (fixed Int) ∷ arg (codes "offset") (fixed Int)
     ∷ arg (codes "order_by") (items (named at.order_by)) ∷ arg (codes "where") (named at.bool_exp) ∷ []
@@ -42,5 +42,5 @@ abbrev pub link_fields : Link → List FieldTree
 link_fields l = cond l.many (array_fields l) (plain_field l.name (named l.remote.object) ∷ [])
 
 -- the type of a table's rows
-abbrev pub row_type : (name : List ℕ) → List ShownColumn → List Link → TypeTree
+unfoldable pub row_type : (name : List ℕ) → List ShownColumn → List Link → TypeTree
 row_type name cs ls = object_type name (map column_field cs ++ flat_map link_fields ls)

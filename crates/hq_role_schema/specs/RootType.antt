@@ -34,5 +34,5 @@ abbrev pub query_fields : List PlacedTable → List FieldTree
 query_fields [] = no_queries ∷ []
 query_fields (p ∷ ps) = flat_map root_fields (p ∷ ps)
 
-abbrev pub query_type : List PlacedTable → TypeTree
+unfoldable pub query_type : List PlacedTable → TypeTree
 query_type ps = object_type (fixed_name QueryRoot) (query_fields ps)

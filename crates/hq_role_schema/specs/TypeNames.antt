@@ -19,9 +19,13 @@ has_greatest c = not (is_boolean c.ty)
 abbrev pub has_sum : ShownColumn → Bool
 has_sum c = is_whole c.ty
 
--- the types of the greatest and the least values, where they have a field
+-- the types of the greatest and the least values of the table of a name
+abbrev pub both_names : (name : List ℕ) → List (List ℕ)
+both_names name = (name ++ codes "_max_fields") ∷ (name ++ codes "_min_fields") ∷ []
+
+-- the same, where they have a field
 abbrev pub greatest_names : ShownTable → List (List ℕ)
-greatest_names t = cond (list_any has_greatest t.columns) ((t.name ++ codes "_max_fields") ∷ (t.name ++ codes "_min_fields") ∷ []) []
+greatest_names t = cond (list_any has_greatest t.columns) (both_names t.name) []
 
 -- the type of the sums, where it has a field
 abbrev pub sum_names : ShownTable → List (List ℕ)
@@ -68,6 +72,10 @@ abbrev pub link_to : Rel → Option PlacedTable → Option Link
 link_to r None = None
 link_to r (Some p) = Some (record { name = r.name; many = r.many; aggregates = p.shown.aggregates; remote = p.places })
 
+-- the same, among the tables that the role may see
+abbrev pub link_among : List PlacedTable → Rel → Option Link
+link_among ps r = link_to r (find (λ p. p.shown.table == r.remote) ps)
+
 -- the relationships of a table to those that the role may see
 abbrev pub links : List PlacedTable → List Rel → List Link
-links ps rs = filter_map (λ r. link_to r (find (λ p. p.shown.table == r.remote) ps)) rs
+links ps rs = filter_map (link_among ps) rs

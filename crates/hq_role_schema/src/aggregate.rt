@@ -2,10 +2,10 @@ ghost use Rattle.std.specs.Prelude.{◌≡◌, ◌++◌, IfOk, OnOk, map, filter
 ghost use Rattle.std.specs.List.{list_any};
 ghost use Rattle.hq_schema.specs.Schema.{arg_view, field_view, type_view};
 ghost use Rattle.hq_role_schema.specs.TypeNames.{has_greatest, has_sum};
-ghost use Rattle.hq_role_schema.specs.AggregateTypes.{aggregate_type, count_field, greatest_fields, sum_fields, aggregate_fields_type, greatest_field, sum_field, greatest_type, sum_type, greatest_types, sum_types, aggregate_types};
+ghost use Rattle.hq_role_schema.specs.AggregateTypes.{aggregate_type, count_field, greatest_fields, sum_fields, aggregate_fields_type, greatest_field, sum_field, greatest_type, sum_type, both_types, greatest_types, sum_types, aggregate_types};
 
 use crate::fixed::Fixed;
-use crate::member::{arg, object_type, plain_field, plain_field_of};
+use crate::member::{arg, object_type, plain_field, plain_field_of, push_type};
 use crate::reference::{all_items, fixed, items, named, non_null};
 use crate::shown::{ShownColumn, ShownColumnList, TablePlaces};
 use crate::text::{suffixed, text};
@@ -39,6 +39,7 @@ pub fn some_sum(columns: &ShownColumnList) -> bool
     columns.as_slice().iter().any(has_sum)
 }
 
+#[tactic(auto, unfolding(crate::specs::AggregateTypes::aggregate_type))]
 fn aggregate_type(alloc: Global, name: &Txt, at: TablePlaces) -> Result<TypeDef, Memory>
     ensures { IfOk result (λ t. type_view t ≡ aggregate_type name.now at) }
 {
@@ -53,6 +54,7 @@ fn aggregate_type(alloc: Global, name: &Txt, at: TablePlaces) -> Result<TypeDef,
     ))
 }
 
+#[tactic(auto, unfolding(crate::specs::AggregateTypes::count_field))]
 fn count_field(alloc: Global, at: TablePlaces) -> Result<FieldDef, Memory>
     ensures { IfOk result (λ f. field_view f ≡ count_field at) }
 {
@@ -98,6 +100,7 @@ fn push_sum(
     fields.push(plain_field(alloc, "sum", named(at.sum_fields))?)
 }
 
+#[tactic(auto, unfolding(crate::specs::AggregateTypes::aggregate_fields_type))]
 fn aggregate_fields_type(
     alloc: Global,
     name: &Txt,
@@ -138,19 +141,37 @@ fn sums_of_columns(alloc: Global, columns: &ShownColumnList) -> Result<FieldDefL
     Ok(fields)
 }
 
+#[tactic(auto, unfolding(crate::specs::AggregateTypes::greatest_type))]
 fn greatest_type(alloc: Global, name: Txt, columns: &ShownColumnList) -> Result<TypeDef, Memory>
     ensures { IfOk result (λ t. type_view t ≡ greatest_type name columns.now) }
 {
     Ok(object_type(alloc, name, greatest_of_columns(alloc, columns)?))
 }
 
+#[tactic(auto, unfolding(crate::specs::AggregateTypes::sum_type))]
 fn sum_type(alloc: Global, name: Txt, columns: &ShownColumnList) -> Result<TypeDef, Memory>
     ensures { IfOk result (λ t. type_view t ≡ sum_type name columns.now) }
 {
     Ok(object_type(alloc, name, sums_of_columns(alloc, columns)?))
 }
 
-// Adds the types of the greatest and the least values, where they have a field.
+// Adds the types of the greatest and the least values.
+fn push_both_types(
+    alloc: Global,
+    types: &mut TypeDefList,
+    name: &Txt,
+    columns: &ShownColumnList,
+) -> Result<(), Memory>
+    ensures { OnOk result (map type_view types.new ≡ map type_view types.old ++ both_types name.now columns.now) }
+{
+    let greatest = suffixed(alloc, name, "_max_fields")?;
+    push_type(types, greatest_type(alloc, greatest, columns)?)?;
+    let least = suffixed(alloc, name, "_min_fields")?;
+    push_type(types, greatest_type(alloc, least, columns)?)?;
+    Ok(())
+}
+
+// The same, where they have a field.
 fn push_greatest_types(
     alloc: Global,
     types: &mut TypeDefList,
@@ -162,10 +183,7 @@ fn push_greatest_types(
     if !some_greatest(columns) {
         return Ok(());
     }
-    let greatest = suffixed(alloc, name, "_max_fields")?;
-    types.push(greatest_type(alloc, greatest, columns)?)?;
-    let least = suffixed(alloc, name, "_min_fields")?;
-    types.push(greatest_type(alloc, least, columns)?)
+    push_both_types(alloc, types, name, columns)
 }
 
 // Adds the type of the sums, where it has a field.
@@ -194,8 +212,9 @@ pub fn push_aggregate_types(
 ) -> Result<(), Memory>
     ensures { OnOk result (map type_view types.new ≡ map type_view types.old ++ aggregate_types name.now at columns.now) }
 {
-    types.push(aggregate_type(alloc, name, at)?)?;
-    types.push(aggregate_fields_type(alloc, name, at, columns)?)?;
+    push_type(types, aggregate_type(alloc, name, at)?)?;
+    push_type(types, aggregate_fields_type(alloc, name, at, columns)?)?;
     push_greatest_types(alloc, types, name, columns)?;
-    push_sum_types(alloc, types, name, columns)
+    push_sum_types(alloc, types, name, columns)?;
+    Ok(())
 }

@@ -52,6 +52,7 @@ fn push_link_filters(alloc: Global, inputs: &mut ArgDefList, links: &LinkList) -
 }
 
 /// The type of a table's filters.
+#[tactic(auto, unfolding(crate::specs::InputTypes::filter_type))]
 pub fn filter_type(
     alloc: Global,
     name: &Txt,
@@ -90,6 +91,7 @@ fn push_link_sorts(alloc: Global, inputs: &mut ArgDefList, links: &LinkList) -> 
 }
 
 /// The type of a table's sorts.
+#[tactic(auto, unfolding(crate::specs::InputTypes::sort_type))]
 pub fn sort_type(
     alloc: Global,
     name: &Txt,
@@ -114,6 +116,7 @@ fn column_names(alloc: Global, columns: &ShownColumnList) -> Result<TxtList, Mem
 }
 
 /// The type of the names of a table's columns.
+#[tactic(auto, unfolding(crate::specs::InputTypes::select_column_type))]
 pub fn select_column_type(
     alloc: Global,
     name: &Txt,

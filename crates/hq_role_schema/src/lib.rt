@@ -3,21 +3,24 @@
 #![tactic(auto)]
 
 mod aggregate;
-mod derive;
 mod fixed;
 mod fixed_types;
 mod input;
 mod introspection;
+mod laws;
 mod member;
 mod names;
 mod object;
 mod place;
 mod reference;
+mod role_schema;
 mod root;
+mod rows;
 mod see;
 mod shown;
 #[cfg(test)]
 mod tests;
 mod text;
 
-pub use derive::derive;
+pub use laws::places_are_of_names;
+pub use role_schema::derive;

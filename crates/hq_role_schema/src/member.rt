@@ -1,11 +1,13 @@
-ghost use Rattle.std.specs.Prelude.{◌≡◌, IfOk, false, [], map};
+ghost use Rattle.std.specs.Prelude.{◌≡◌, ◌++◌, ◌∷◌, [], IfOk, OnOk, false, map};
 ghost use Rattle.hq_base.specs.Text.{has_zero};
 ghost use Rattle.hq_schema.specs.Schema.{type_ref_view, arg_view, field_view, type_view};
 ghost use Rattle.hq_role_schema.specs.References.{arg, plain_field, object_type, input_type, enum_type, scalar_type};
 
 use crate::text::text;
 use hq_base::{List, Memory, Txt};
-use hq_schema::{ArgDef, ArgDefList, FieldDef, FieldDefList, Kind, TxtList, TypeDef, TypeRef};
+use hq_schema::{
+    ArgDef, ArgDefList, FieldDef, FieldDefList, Kind, TxtList, TypeDef, TypeDefList, TypeRef,
+};
 use std::alloc::Global;
 
 /// An argument or an input field without a default.
@@ -104,4 +106,11 @@ pub fn enum_type(alloc: Global, name: Txt, values: TxtList) -> TypeDef
         inputs: List::new(alloc),
         values,
     }
+}
+
+/// Adds a type.
+pub fn push_type(types: &mut TypeDefList, t: TypeDef) -> Result<(), Memory>
+    ensures { OnOk result (map type_view types.new ≡ map type_view types.old ++ type_view t ∷ []) }
+{
+    types.push(t)
 }

@@ -2,7 +2,8 @@ ghost use Rattle.std.specs.Prelude.{◌≡◌, ◌++◌, ◌∷◌, [], IfOk, On
 ghost use Rattle.std.specs.List.{list_any};
 ghost use Rattle.hq_base.specs.Text.{has_zero};
 ghost use Rattle.hq_terms.specs.SchemaNames.{fixed_types};
-ghost use Rattle.hq_role_schema.specs.TypeNames.{has_greatest, has_sum, greatest_names, sum_names, aggregate_names, table_names, type_names};
+ghost use Rattle.hq_role_schema.specs.References.{fixed_name};
+ghost use Rattle.hq_role_schema.specs.TypeNames.{has_greatest, has_sum, both_names, greatest_names, sum_names, aggregate_names, table_names, type_names};
 
 use crate::aggregate::{some_greatest, some_sum};
 use crate::fixed::Fixed;
@@ -12,30 +13,41 @@ use hq_base::{List, Memory, Txt};
 use hq_schema::TxtList;
 use std::alloc::Global;
 
+fn names_of(alloc: Global, all: &[Fixed]) -> Result<TxtList, Memory>
+    ensures { IfOk result (λ names. names ≡ map fixed_name all.now) }
+{
+    let mut names = List::new(alloc);
+    for fixed in all {
+        names.push(text(alloc, fixed.name())?)?;
+    }
+    Ok(names)
+}
+
 // The names of the types that each schema has.
 fn fixed_names(alloc: Global) -> Result<TxtList, Memory>
     ensures { IfOk result (λ names. names ≡ fixed_types) }
 {
-    Ok(List::from_vec(vec![in alloc;
-        text(alloc, Fixed::Boolean.name())?,
-        text(alloc, Fixed::Int.name())?,
-        text(alloc, Fixed::String.name())?,
-        text(alloc, Fixed::Bigint.name())?,
-        text(alloc, Fixed::OrderBy.name())?,
-        text(alloc, Fixed::BooleanComparison.name())?,
-        text(alloc, Fixed::IntComparison.name())?,
-        text(alloc, Fixed::StringComparison.name())?,
-        text(alloc, Fixed::BigintComparison.name())?,
-        text(alloc, Fixed::Schema.name())?,
-        text(alloc, Fixed::Type.name())?,
-        text(alloc, Fixed::Field.name())?,
-        text(alloc, Fixed::InputValue.name())?,
-        text(alloc, Fixed::EnumValue.name())?,
-        text(alloc, Fixed::Directive.name())?,
-        text(alloc, Fixed::TypeKind.name())?,
-        text(alloc, Fixed::DirectiveLocation.name())?,
-        text(alloc, Fixed::QueryRoot.name())?,
-    ]?))
+    let all = [
+        Fixed::Boolean,
+        Fixed::Int,
+        Fixed::String,
+        Fixed::Bigint,
+        Fixed::OrderBy,
+        Fixed::BooleanComparison,
+        Fixed::IntComparison,
+        Fixed::StringComparison,
+        Fixed::BigintComparison,
+        Fixed::Schema,
+        Fixed::Type,
+        Fixed::Field,
+        Fixed::InputValue,
+        Fixed::EnumValue,
+        Fixed::Directive,
+        Fixed::TypeKind,
+        Fixed::DirectiveLocation,
+        Fixed::QueryRoot,
+    ];
+    names_of(alloc, &all)
 }
 
 // Adds a name with a suffix.
@@ -47,14 +59,22 @@ fn push_suffixed(alloc: Global, names: &mut TxtList, name: &Txt, suffix: &str) -
 }
 
 // Adds the names of the types of the greatest and the least values.
+fn push_both_names(alloc: Global, names: &mut TxtList, name: &Txt) -> Result<(), Memory>
+    ensures { OnOk result (names.new ≡ names.old ++ both_names name.now) }
+{
+    push_suffixed(alloc, names, name, "_max_fields")?;
+    push_suffixed(alloc, names, name, "_min_fields")?;
+    Ok(())
+}
+
+// The same, where they have a field.
 fn push_greatest_names(alloc: Global, names: &mut TxtList, table: &ShownTable) -> Result<(), Memory>
     ensures { OnOk result (names.new ≡ names.old ++ greatest_names table.now) }
 {
     if !some_greatest(&table.columns) {
         return Ok(());
     }
-    push_suffixed(alloc, names, &table.name, "_max_fields")?;
-    push_suffixed(alloc, names, &table.name, "_min_fields")
+    push_both_names(alloc, names, &table.name)
 }
 
 // Adds the name of the type of the sums.
@@ -78,7 +98,8 @@ fn push_aggregate_names(
     push_suffixed(alloc, names, &table.name, "_aggregate")?;
     push_suffixed(alloc, names, &table.name, "_aggregate_fields")?;
     push_greatest_names(alloc, names, table)?;
-    push_sum_names(alloc, names, table)
+    push_sum_names(alloc, names, table)?;
+    Ok(())
 }
 
 // Adds the names of a table's types.

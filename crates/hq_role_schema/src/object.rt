@@ -29,6 +29,7 @@ fn column_field(alloc: Global, column: &ShownColumn) -> Result<FieldDef, Memory>
 }
 
 /// The arguments of a list of a table's rows.
+#[tactic(auto, unfolding(crate::specs::ObjectTypes::list_args))]
 pub fn list_args(alloc: Global, at: TablePlaces) -> Result<ArgDefList, Memory>
     ensures { IfOk result (λ args. map arg_view args ≡ list_args at) }
 {
@@ -114,6 +115,7 @@ fn column_fields(alloc: Global, columns: &ShownColumnList) -> Result<FieldDefLis
 }
 
 /// The type of a table's rows.
+#[tactic(auto, unfolding(crate::specs::ObjectTypes::row_type))]
 pub fn row_type(
     alloc: Global,
     name: &Txt,

@@ -1,6 +1,6 @@
-ghost use Rattle.std.specs.Prelude.{◌≡◌, ◌++◌, ◌==◌, IfOk, find, option_copied, false};
+ghost use Rattle.std.specs.Prelude.{◌≡◌, ◌++◌, ◌==◌, IfOk, find, position, bytes_eq, option_copied, false};
 ghost use Rattle.hq_base.specs.Text.{has_zero};
-ghost use Rattle.hq_role_schema.specs.TypeNames.{place_in, table_places, placed_in, link_to, links};
+ghost use Rattle.hq_role_schema.specs.TypeNames.{place_in, table_places, placed_in, link_to, link_among, links};
 
 use crate::shown::{Link, LinkList, PlacedTable, PlacedTableList, ShownTableList, TablePlaces};
 use crate::text::suffixed;
@@ -9,13 +9,18 @@ use hq_schema::{TxtList, TypeId};
 use hq_terms::{Rel, RelList, TableId};
 use std::alloc::Global;
 
+// The place of the first of these names.
+fn found_at(names: &TxtList, name: &Txt) -> Option<usize>
+    ensures { result ≡ position (λ n. bytes_eq n name.now) names.now }
+{
+    names.as_slice().iter().position(|n| *n == *name)
+}
+
 // The place of the first type of this name.
-#[tactic(auto, unfolding(crate::specs::TypeNames::place_in))]
 fn place_of(names: &TxtList, name: &Txt) -> TypeId
     ensures { result ≡ place_in names.now name.now }
 {
-    let place = names.as_slice().iter().position(|n| *n == *name);
-    TypeId::new(place.unwrap_or(names.len()))
+    TypeId::new(found_at(names, name).unwrap_or(names.len()))
 }
 
 // The place of the type of a table's name with a suffix.
@@ -83,13 +88,20 @@ fn link_to(alloc: Global, rel: &Rel, remote: Option<&PlacedTable>) -> Result<Opt
     }))
 }
 
+// The same, among the tables that the role may see.
+fn link_among(alloc: Global, tables: &PlacedTableList, rel: &Rel) -> Result<Option<Link>, Memory>
+    ensures { IfOk result (λ link. link ≡ link_among tables.now rel.now) }
+{
+    link_to(alloc, rel, placed_at(tables, rel.remote))
+}
+
 /// The relationships of a table to those that the role may see.
 pub fn links(alloc: Global, tables: &PlacedTableList, rels: &RelList) -> Result<LinkList, Memory>
-    ensures { IfOk result (λ links. links ≡ links tables.now rels.now) }
+    ensures { IfOk result (λ found. found ≡ links tables.now rels.now) }
 {
     let mut links = List::new(alloc);
     for rel in rels.as_slice() {
-        if let Some(link) = link_to(alloc, rel, placed_at(tables, rel.remote))? {
+        if let Some(link) = link_among(alloc, tables, rel)? {
             links.push(link)?;
         }
     }

@@ -95,6 +95,7 @@ fn query_fields(alloc: Global, tables: &PlacedTableList) -> Result<FieldDefList,
 }
 
 /// The root type of a query.
+#[tactic(auto, unfolding(crate::specs::RootType::query_type))]
 pub fn query_type(alloc: Global, tables: &PlacedTableList) -> Result<TypeDef, Memory>
     ensures { IfOk result (λ t. type_view t ≡ query_type tables.now) }
 {

@@ -8,6 +8,7 @@ use crate::fixed::Fixed;
 use crate::fixed_types::plain_fixed_types;
 use crate::input::{filter_type, select_column_type, sort_type};
 use crate::introspection::push_introspection_types;
+use crate::member::push_type;
 use crate::names::type_names;
 use crate::object::row_type;
 use crate::place::{links, placed_in};
@@ -31,10 +32,16 @@ fn push_types_with(
 ) -> Result<(), Memory>
     ensures { OnOk result (map type_view types.new ≡ map type_view types.old ++ types_with table.now at links.now) }
 {
-    types.push(row_type(alloc, &table.name, &table.columns, links)?)?;
-    types.push(filter_type(alloc, &table.name, at, &table.columns, links)?)?;
-    types.push(sort_type(alloc, &table.name, &table.columns, links)?)?;
-    types.push(select_column_type(alloc, &table.name, &table.columns)?)?;
+    push_type(types, row_type(alloc, &table.name, &table.columns, links)?)?;
+    push_type(
+        types,
+        filter_type(alloc, &table.name, at, &table.columns, links)?,
+    )?;
+    push_type(types, sort_type(alloc, &table.name, &table.columns, links)?)?;
+    push_type(
+        types,
+        select_column_type(alloc, &table.name, &table.columns)?,
+    )?;
     if !table.aggregates {
         return Ok(());
     }
@@ -74,7 +81,7 @@ fn all_types(alloc: Global, tables: &PlacedTableList) -> Result<TypeDefList, Mem
 {
     let mut types = plain_fixed_types(alloc)?;
     push_introspection_types(alloc, &mut types)?;
-    types.push(query_type(alloc, tables)?)?;
+    push_type(&mut types, query_type(alloc, tables)?)?;
     push_tables_types(alloc, &mut types, tables)?;
     Ok(types)
 }
