@@ -1,0 +1,43 @@
+-- What a role may see of the tracked tables (Hasura, Authorization: select permissions).
+use Rattle.std.specs.Prelude.{ℕ, List, Bool, cond, ◌==◌, Option, Some, None, option_map, option_and_then, slice_get}
+use Rattle.std.specs.List.{filter_map, list_all, list_any}
+use Rattle.hq_terms.specs.Meta.{TrackedTree, MetaTree}
+use Rattle.hq_terms.specs.Permission.{Permission, permission}
+use Rattle.hq_terms.specs.declared.role.Role.{Role}
+use Rattle.hq_terms.specs.declared.table.Column.{Column}
+use Rattle.hq_terms.specs.declared.table.Table.{Table}
+use Rattle.hq_role_schema.specs.declared.shown.ShownColumn.{ShownColumn}
+use Rattle.hq_role_schema.specs.declared.shown.ShownTable.{ShownTable}
+
+-- a column of the catalog under its GraphQL name
+abbrev pub under_name : Option Column → Option (List ℕ) → Option ShownColumn
+under_name (Some c) (Some name) = Some (record { name = name; ty = c.ty; nullable = c.nullable })
+under_name _ _ = None
+
+-- columns of a table, by their places
+abbrev pub shown_columns : Table → TrackedTree → List ℕ → List ShownColumn
+shown_columns t k cs = filter_map (λ c. under_name (slice_get t.columns c) (slice_get k.column_names c)) cs
+
+-- the columns of the primary key, in its order, where they are all permitted
+abbrev pub shown_key : Table → TrackedTree → (permitted : List ℕ) → Option (List ShownColumn)
+shown_key t k cs = cond (list_all (λ c. list_any (λ d. d == c) cs) t.key) (Some (shown_columns t k t.key)) None
+
+-- a table of the catalog, with its entry in the metadata and a permission on it
+abbrev pub shown_table : TrackedTree → Table → Permission → ShownTable
+shown_table k t p = record {
+  table = k.table;
+  name = k.name;
+  roots = k.roots;
+  columns = shown_columns t k p.columns;
+  key = shown_key t k p.columns;
+  aggregates = p.aggregations;
+  rels = k.rels;
+}
+
+-- the table of an entry, where the role has a permission on it
+abbrev pub shown_entry : List Table → MetaTree → Role → TrackedTree → Option ShownTable
+shown_entry tables m role k = option_and_then (λ t. option_map (shown_table k t) (permission role m k.table)) (slice_get tables k.table)
+
+-- the tables that a role may see, in the order of the metadata
+abbrev pub shown_tables : List Table → MetaTree → Role → List ShownTable
+shown_tables tables m role = filter_map (shown_entry tables m role) m.tracked

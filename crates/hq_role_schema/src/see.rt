@@ -1,0 +1,132 @@
+ghost use Rattle.std.specs.Prelude.{◌≡◌, ◌==◌, IfOk, option_copied};
+ghost use Rattle.std.specs.List.{list_all, list_any};
+ghost use Rattle.hq_terms.specs.Meta.{tracked_view, meta_view};
+ghost use Rattle.hq_terms.specs.PermView.{permission_view};
+ghost use Rattle.hq_role_schema.specs.Shown.{under_name, shown_columns, shown_key, shown_table, shown_entry, shown_tables};
+
+use crate::shown::{ShownColumn, ShownColumnList, ShownTable, ShownTableList};
+use hq_base::{List, Memory, Txt};
+use hq_terms::{
+    Catalog, ColId, ColList, Column, Meta, PermView, Role, Table, Tracked, TryCopy, copy_list,
+};
+use std::alloc::Global;
+
+// A column under its GraphQL name, where it has both.
+fn under_name(
+    alloc: Global,
+    column: Option<&Column>,
+    name: Option<&Txt>,
+) -> Result<Option<ShownColumn>, Memory>
+    ensures { IfOk result (λ shown. shown ≡ under_name (option_copied column.entry) (option_copied name.entry)) }
+{
+    match (column, name) {
+        (Some(column), Some(name)) => Ok(Some(ShownColumn {
+            name: name.copy(alloc)?,
+            ty: column.ty,
+            nullable: column.nullable,
+        })),
+        _ => Ok(None),
+    }
+}
+
+// Columns of a table, by their places.
+fn shown_columns(
+    alloc: Global,
+    table: &Table,
+    tracked: &Tracked,
+    cols: &ColList,
+) -> Result<ShownColumnList, Memory>
+    ensures { IfOk result (λ columns. columns ≡ shown_columns table.now (tracked_view tracked.now) cols.now) }
+{
+    let mut columns = List::new(alloc);
+    for col in cols.as_slice() {
+        let name = tracked.column_names.get(col.at());
+        if let Some(column) = under_name(alloc, table.column(*col), name)? {
+            columns.push(column)?;
+        }
+    }
+    Ok(columns)
+}
+
+fn has_column(cols: &ColList, col: ColId) -> bool
+    ensures { result ≡ list_any (λ d. d == col) cols.now }
+{
+    cols.as_slice().iter().any(|c| c.at() == col.at())
+}
+
+// Whether all columns of the key are permitted.
+fn has_key(key: &ColList, cols: &ColList) -> bool
+    ensures { result ≡ list_all (λ c. list_any (λ d. d == c) cols.now) key.now }
+{
+    key.as_slice().iter().all(|c| has_column(cols, *c))
+}
+
+fn shown_key(
+    alloc: Global,
+    table: &Table,
+    tracked: &Tracked,
+    cols: &ColList,
+) -> Result<Option<ShownColumnList>, Memory>
+    ensures { IfOk result (λ key. key ≡ shown_key table.now (tracked_view tracked.now) cols.now) }
+{
+    if !has_key(&table.key, cols) {
+        return Ok(None);
+    }
+    Ok(Some(shown_columns(alloc, table, tracked, &table.key)?))
+}
+
+fn shown_table(
+    alloc: Global,
+    table: &Table,
+    tracked: &Tracked,
+    view: &PermView,
+) -> Result<ShownTable, Memory>
+    ensures { IfOk result (λ shown. shown ≡ shown_table (tracked_view tracked.now) table.now (permission_view view.now)) }
+{
+    Ok(ShownTable {
+        table: tracked.table,
+        name: tracked.name.copy(alloc)?,
+        roots: tracked.roots.try_copy(alloc)?,
+        columns: shown_columns(alloc, table, tracked, &view.cols)?,
+        key: shown_key(alloc, table, tracked, &view.cols)?,
+        aggregates: view.aggregations,
+        rels: copy_list(alloc, &tracked.rels)?,
+    })
+}
+
+// The table of an entry, where the role has a permission on it.
+fn shown_entry(
+    alloc: Global,
+    catalog: &Catalog,
+    meta: &Meta,
+    role: &Role,
+    tracked: &Tracked,
+) -> Result<Option<ShownTable>, Memory>
+    ensures { IfOk result (λ shown. shown ≡ shown_entry catalog.now.tables (meta_view meta.now) role.now (tracked_view tracked.now)) }
+{
+    let Some(table) = catalog.table(tracked.table) else {
+        return Ok(None);
+    };
+    match meta.perm(alloc, role, tracked.table)? {
+        Some(view) => Ok(Some(shown_table(alloc, table, tracked, &view)?)),
+        None => Ok(None),
+    }
+}
+
+/// The tables that a role may see, in the metadata's order.
+pub fn shown_tables(
+    alloc: Global,
+    catalog: &Catalog,
+    meta: &Meta,
+    role: &Role,
+) -> Result<ShownTableList, Memory>
+    ensures { IfOk result (λ shown. shown ≡ shown_tables catalog.now.tables (meta_view meta.now) role.now) }
+{
+    let mut shown = List::new(alloc);
+    for tracked in meta.tracked.as_slice() {
+        if let Some(table) = shown_entry(alloc, catalog, meta, role, tracked)? {
+            shown.push(table)?;
+        }
+    }
+    Ok(shown)
+}

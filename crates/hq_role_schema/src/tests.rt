@@ -1,0 +1,4 @@
+mod fixed_types;
+mod fixture;
+mod roles;
+mod written;

@@ -1,0 +1,25 @@
+ghost use Rattle.std.specs.Prelude.{◌≡◌, ◌++◌, IfOk, false};
+ghost use Rattle.hq_base.specs.Text.{has_zero};
+
+use hq_base::{Memory, Txt};
+use std::alloc::Global;
+
+/// The text of these bytes.
+pub fn text(alloc: Global, piece: &str) -> Result<Txt, Memory>
+    requires { has_zero piece.now ≡ false }
+    ensures { IfOk result (λ text. text ≡ piece.now) }
+{
+    let mut text = Txt::new(alloc);
+    text.push_str(piece)?;
+    Ok(text)
+}
+
+/// A name with a suffix.
+pub fn suffixed(alloc: Global, name: &Txt, suffix: &str) -> Result<Txt, Memory>
+    requires { has_zero suffix.now ≡ false }
+    ensures { IfOk result (λ text. text ≡ name.now ++ suffix.now) }
+{
+    let mut text = name.copy(alloc)?;
+    text.push_str(suffix)?;
+    Ok(text)
+}

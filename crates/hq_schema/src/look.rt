@@ -1,0 +1,94 @@
+ghost use Rattle.std.specs.Prelude.{◌≡◌, find, map, position, option_copied, option_map, slice_get, bytes_eq};
+ghost use Rattle.hq_schema.specs.Schema.{arg_view, field_view, type_view, schema_view};
+ghost use Rattle.hq_schema.specs.Look.{type_named, type_at, arg_in, field_of, input_field_of, enum_value_of};
+
+use crate::{
+    ArgDef, ArgDefList, FieldDef, FieldDefList, Schema, TxtList, TypeDef, TypeDefList, TypeId,
+};
+use hq_base::Txt;
+
+// The place of the first type of this name.
+fn place_of_type(types: &TypeDefList, name: &Txt) -> Option<usize>
+    ensures { result ≡ position (λ t. bytes_eq t.name name.now) types.now }
+{
+    types.as_slice().iter().position(|t| t.name == *name)
+}
+
+// The place of the first value of this name.
+fn place_of_value(values: &TxtList, name: &Txt) -> Option<usize>
+    ensures { result ≡ position (λ v. bytes_eq v name.now) values.now }
+{
+    values.as_slice().iter().position(|value| *value == *name)
+}
+
+// The first field of this name.
+fn field_named<'a>(fields: &'a FieldDefList, name: &Txt) -> Option<&'a FieldDef>
+    ensures { option_copied result ≡ find (λ f. bytes_eq f.name name.now) fields.now }
+{
+    fields.as_slice().iter().find(|field| field.name == *name)
+}
+
+// The first argument or input field of this name.
+fn arg_named<'a>(args: &'a ArgDefList, name: &Txt) -> Option<&'a ArgDef>
+    ensures { option_copied result ≡ find (λ a. bytes_eq a.name name.now) args.now }
+{
+    args.as_slice().iter().find(|arg| arg.name == *name)
+}
+
+impl Schema {
+    /// The type of this name.
+    pub fn type_named(&self, name: &Txt) -> Option<TypeId>
+        ensures { result ≡ type_named (schema_view self.now) name.now }
+    {
+        match place_of_type(&self.types, name) {
+            Some(at) => Some(TypeId::new(at)),
+            None => None,
+        }
+    }
+
+    /// The type at a place, None beyond the last.
+    pub fn type_at(&self, t: TypeId) -> Option<&TypeDef>
+        ensures { option_map (λ d. type_view d.now) result ≡ type_at (schema_view self.now) t }
+    {
+        self.types.get(t.at())
+    }
+
+    /// The field of this name of a type, None where the type has none of that name. An object type alone has fields.
+    pub fn field(&self, t: TypeId, name: &Txt) -> Option<&FieldDef>
+        ensures { option_map (λ f. field_view f.now) result ≡ field_of (schema_view self.now) t name.now }
+    {
+        match self.type_at(t) {
+            Some(def) => field_named(&def.fields, name),
+            None => None,
+        }
+    }
+
+    /// The argument of this name of a field.
+    pub fn arg<'a>(&self, field: &'a FieldDef, name: &Txt) -> Option<&'a ArgDef>
+        ensures { option_map (λ a. arg_view a.now) result ≡ arg_in (field_view field.now).args name.now }
+    {
+        arg_named(&field.args, name)
+    }
+
+    /// The input field of this name of a type, None where the type has none of that name. An input object alone has input
+    /// fields.
+    pub fn input_field(&self, t: TypeId, name: &Txt) -> Option<&ArgDef>
+        ensures { option_map (λ a. arg_view a.now) result ≡ input_field_of (schema_view self.now) t name.now }
+    {
+        match self.type_at(t) {
+            Some(def) => arg_named(&def.inputs, name),
+            None => None,
+        }
+    }
+
+    /// The place of the value of this name among those of a type, None where the type has none of that name. An enum alone
+    /// has values.
+    pub fn enum_value(&self, t: TypeId, name: &Txt) -> Option<usize>
+        ensures { result ≡ enum_value_of (schema_view self.now) t name.now }
+    {
+        match self.type_at(t) {
+            Some(def) => place_of_value(&def.values, name),
+            None => None,
+        }
+    }
+}
