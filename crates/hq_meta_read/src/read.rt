@@ -1,0 +1,96 @@
+ghost use Rattle.std.specs.Prelude.{◌≡◌, true, map, IfOk};
+ghost use Rattle.hq_base.specs.Body.{body_of};
+ghost use Rattle.hq_base.specs.Due.{Gives};
+ghost use Rattle.hq_base.specs.Json.{json_view};
+ghost use Rattle.hq_terms.specs.Fits.{fits};
+ghost use Rattle.hq_terms.specs.Meta.{meta_view};
+ghost use Rattle.hq_terms.specs.Schema.{schema_of};
+ghost use Rattle.hq_meta_names.specs.Repeats.{names_due};
+ghost use Rattle.hq_meta_read.specs.Reading.{json_in, names_in, named, tracked_of, meta_of, meta_due};
+ghost use Rattle.hq_meta_read.specs.Top.{tables_path};
+
+use crate::MetaRefusal;
+use crate::permissions::permitted;
+use crate::relationships::related;
+use crate::top::{table_entries, tables_path, unwrapped};
+use crate::tracking::all_tracked;
+use hq_base::{Json, JsonRefusal, Txt};
+use hq_meta_names::check_names;
+use hq_terms::{Catalog, Meta};
+use std::alloc::Global;
+
+/// Reads the bytes of a `metadata.json`, an export of Hasura v2's metadata of version 3, over a catalog. The tests come in
+/// this order, each over the whole file before the next, lists in order and members in the order of the form: NotJson,
+/// Version, Shape of the top, Sources, Shape of the source, tables and their names, relationships, permissions, and names
+/// that stand twice. The first refusal is the answer.
+#[tactic(auto, unfolding(crate::specs::Reading::meta_due))]
+pub fn read_meta(alloc: Global, bytes: &[u8], catalog: &Catalog) -> Result<Meta, MetaRefusal>
+    ensures due { Gives meta_view MetaRefusal.Memory (meta_due catalog.now.tables bytes.now) result }
+
+    // The metadata fits the catalog.
+    ensures fits { IfOk result (λ meta. fits catalog.now.tables (meta_view meta) ≡ true) }
+{
+    let json = json_of(alloc, bytes)?;
+    meta_of(alloc, catalog, &json)
+}
+
+// The JSON of the bytes.
+fn json_of(alloc: Global, bytes: &[u8]) -> Result<Json, MetaRefusal>
+    ensures { Gives json_view MetaRefusal.Memory (json_in (body_of bytes.now)) result }
+{
+    match Json::from_body(alloc, bytes) {
+        Ok(json) => Ok(json),
+        Err(JsonRefusal::Memory) => Err(MetaRefusal::Memory),
+        Err(_) => Err(MetaRefusal::NotJson),
+    }
+}
+
+// The metadata of a JSON value.
+#[tactic(auto, unfolding(crate::specs::Reading::meta_of))]
+fn meta_of(alloc: Global, catalog: &Catalog, json: &Json) -> Result<Meta, MetaRefusal>
+    ensures { Gives meta_view MetaRefusal.Memory (meta_of catalog.now.tables (json_view json.now)) result }
+{
+    let entries = table_entries(alloc, unwrapped(json))?;
+    tracked_of(alloc, catalog, entries)
+}
+
+// The tables that the entries track, with their names.
+#[tactic(auto, unfolding(crate::specs::Reading::named))]
+fn named(
+    alloc: Global,
+    catalog: &Catalog,
+    path: &Txt,
+    entries: &[Json],
+) -> Result<Meta, MetaRefusal>
+    requires { path.now ≡ tables_path }
+    ensures { Gives meta_view MetaRefusal.Memory (named catalog.now.tables (map json_view entries.now)) result }
+{
+    let tracked = all_tracked(alloc, catalog, path, entries)?;
+    Ok(Meta { tracked })
+}
+
+// Names that stand twice are refused.
+fn check_all_names(
+    alloc: Global,
+    catalog: &Catalog,
+    meta: &Meta,
+    path: &Txt,
+) -> Result<(), MetaRefusal>
+    ensures { Gives (λ done. done) MetaRefusal.Memory (names_in (names_due (schema_of catalog.now.tables (meta_view meta.now)) (meta_view meta.now) path.now)) result }
+{
+    check_names(alloc, catalog, meta, path)?;
+    Ok(())
+}
+
+// The metadata that the entries give.
+#[tactic(auto, unfolding(crate::specs::Reading::tracked_of))]
+fn tracked_of(alloc: Global, catalog: &Catalog, entries: &[Json]) -> Result<Meta, MetaRefusal>
+    ensures { Gives meta_view MetaRefusal.Memory (tracked_of catalog.now.tables (map json_view entries.now)) result }
+{
+    let path = tables_path(alloc)?;
+    let meta = named(alloc, catalog, &path, entries)?;
+    let meta = related(alloc, catalog, &path, entries, meta)?;
+    let meta = permitted(alloc, catalog, &path, entries, meta)?;
+    check_all_names(alloc, catalog, &meta, &path)?;
+    Ok(meta)
+}
