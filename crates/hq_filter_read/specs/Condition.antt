@@ -1,5 +1,5 @@
 -- The conditions that a filter puts on a column (Hasura, Authorization: operators in permission rules).
-use Rattle.std.specs.Prelude.{ℕ, List, [], ◌∷◌, Option, Some, None, Result, Ok, Err, if◌then◌else◌}
+use Rattle.std.specs.Prelude.{ℕ, Bool, List, [], ◌∷◌, Option, Some, None, Result, Ok, Err, if◌then◌else◌}
 use Rattle.hq_base.specs.Due.{mapped, ◌>>=◌}
 use Rattle.hq_base.specs.Json.{JsonTree, obj}
 use Rattle.hq_base.specs.Look.{array_in, member_list}

@@ -1,0 +1,5 @@
+mod Results
+mod Nested
+mod LowerCase
+mod Columns
+mod Members
