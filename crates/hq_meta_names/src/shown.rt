@@ -103,10 +103,10 @@ fn all_among(key: &[ColId], columns: &[ColId]) -> bool
 }
 
 /// Whether all columns of a table's key are among these.
-pub fn has_key(scope: &Scope, table: TableId, columns: &[ColId]) -> bool
-    ensures { result ≡ list_all (λ c. list_any (λ d. d == c) columns.now) (table (scope_schema scope.now) table).key }
+pub fn has_key(scope: &Scope, t: TableId, columns: &[ColId]) -> bool
+    ensures { result ≡ list_all (λ c. list_any (λ d. d == c) columns.now) (table (scope_schema scope.now) t).key }
 {
-    match scope.catalog.table(table) {
+    match scope.catalog.table(t) {
         Some(table) => all_among(table.key.as_slice(), columns),
         None => true,
     }

@@ -1,5 +1,4 @@
-ghost use Rattle.std.specs.Prelude.{◌≡◌, ◌++◌, ◌∷◌, [], map, not, true, false, IfOk};
-ghost use Rattle.std.specs.List.{list_all};
+ghost use Rattle.std.specs.Prelude.{◌≡◌, ◌++◌, ◌∷◌, [], false, IfOk};
 ghost use Rattle.hq_base.specs.Text.{has_zero};
 
 use hq_base::{Memory, Txt};
@@ -45,5 +44,16 @@ pub fn push_name(alloc: Global, names: TxtList, name: &Txt) -> Result<TxtList, M
 {
     let mut all = names;
     all.push(name.copy(alloc)?)?;
+    Ok(all)
+}
+
+/// Names, and behind them copies of others.
+pub fn joined(alloc: Global, names: TxtList, others: &TxtList) -> Result<TxtList, Memory>
+    ensures { IfOk result (λ all. all ≡ names ++ others.now) }
+{
+    let mut all = names;
+    for other in others.as_slice() {
+        all.push(other.copy(alloc)?)?;
+    }
     Ok(all)
 }

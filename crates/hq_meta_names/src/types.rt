@@ -2,7 +2,7 @@ ghost use Rattle.std.specs.Prelude.{◌≡◌, ◌++◌, ◌∷◌, [], cond, co
 ghost use Rattle.hq_meta_names.specs.Types.{types_by, roots_by};
 ghost use Rattle.hq_terms.specs.SchemaNames.{rel_fields};
 
-use crate::texts::{push_end, push_name};
+use crate::texts::{joined, push_end, push_name};
 use hq_base::{List, Memory, Txt};
 use hq_terms::{Rel, RootNames, TxtList};
 use std::alloc::Global;
@@ -20,30 +20,25 @@ fn table_types(alloc: Global, name: &Txt) -> Result<TxtList, Memory>
     push_end(alloc, names, name, "_aggregate_fields")
 }
 
-// Behind these names the types of a table that has columns with an order.
-fn with_ordered(
-    alloc: Global,
-    names: TxtList,
-    name: &Txt,
-    ordered: bool,
-) -> Result<TxtList, Memory>
-    ensures { IfOk result (λ all. all ≡ names ++ cond ordered ((name.now ++ codes "_max_fields") ∷ (name.now ++ codes "_min_fields") ∷ []) []) }
+// The types of a table that has columns with an order.
+fn ordered_types(alloc: Global, name: &Txt, ordered: bool) -> Result<TxtList, Memory>
+    ensures { IfOk result (λ names. names ≡ cond ordered ((name.now ++ codes "_max_fields") ∷ (name.now ++ codes "_min_fields") ∷ []) []) }
 {
     if !ordered {
-        return Ok(names);
+        return Ok(List::new(alloc));
     }
-    let names = push_end(alloc, names, name, "_max_fields")?;
+    let names = push_end(alloc, List::new(alloc), name, "_max_fields")?;
     push_end(alloc, names, name, "_min_fields")
 }
 
-// Behind these names the type of a table that has columns of whole numbers.
-fn with_whole(alloc: Global, names: TxtList, name: &Txt, whole: bool) -> Result<TxtList, Memory>
-    ensures { IfOk result (λ all. all ≡ names ++ cond whole ((name.now ++ codes "_sum_fields") ∷ []) []) }
+// The type of a table that has columns of whole numbers.
+fn whole_types(alloc: Global, name: &Txt, whole: bool) -> Result<TxtList, Memory>
+    ensures { IfOk result (λ names. names ≡ cond whole ((name.now ++ codes "_sum_fields") ∷ []) []) }
 {
     if !whole {
-        return Ok(names);
+        return Ok(List::new(alloc));
     }
-    push_end(alloc, names, name, "_sum_fields")
+    push_end(alloc, List::new(alloc), name, "_sum_fields")
 }
 
 /// The types of a table that is shown, of whose columns some are ordered or whole numbers.
@@ -60,8 +55,8 @@ pub fn types_by(
         return Ok(List::new(alloc));
     }
     let names = table_types(alloc, name)?;
-    let names = with_ordered(alloc, names, name, ordered)?;
-    with_whole(alloc, names, name, whole)
+    let names = joined(alloc, names, &ordered_types(alloc, name, ordered)?)?;
+    joined(alloc, names, &whole_types(alloc, name, whole)?)
 }
 
 /// The root fields of a table that is shown: the look-up by key where the key's columns are.

@@ -364,13 +364,13 @@ pub fn link_at(
     table: TableId,
     many: bool,
     path: &Txt,
-    using: &Json,
+    json: &Json,
 ) -> Result<Link, MetaRefusal>
-    ensures { Gives (λ link. link) MetaRefusal.Memory (link_at scope.now.catalog.now.tables (meta_view scope.now.meta.now) table many path.now (json_view using.now)) result }
+    ensures { Gives (λ link. link) MetaRefusal.Memory (link_at scope.now.catalog.now.tables (meta_view scope.now.meta.now) table many path.now (json_view json.now)) result }
 {
     match (
-        using.member(Field::ForeignKeyConstraintOn.name()),
-        using.member(Field::ManualConfiguration.name()),
+        json.member(Field::ForeignKeyConstraintOn.name()),
+        json.member(Field::ManualConfiguration.name()),
     ) {
         (Some(key), None) => {
             let path = at(alloc, path, Field::ForeignKeyConstraintOn)?;
