@@ -3,3 +3,6 @@ mod Nested
 mod LowerCase
 mod Columns
 mod Members
+mod NamedParts
+mod Operands
+mod Sound
