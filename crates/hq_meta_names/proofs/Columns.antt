@@ -12,11 +12,11 @@ use Rattle.hq_terms.specs.declared.table.Table.{Table}
 -- some column is named where some name is free
 pub some_named : (k : ℕ) (names : List (List ℕ)) → list_any (λ c. true) (named_from k names) ≡ list_any is_free_name names
 some_named k [] = refl
-some_named k (n ∷ ns) = by (is_free_name n)
+some_named k (n ∷ ns) = by (is_free_name n) (some_named (suc k) ns)
   where
-    by : (b : Bool) → list_any (λ c. true) (cond b (k ∷ named_from (suc k) ns) (named_from (suc k) ns)) ≡ (b || list_any is_free_name ns)
-    by true = refl
-    by false = some_named (suc k) ns
+    by : (b : Bool) → list_any (λ c. true) (named_from (suc k) ns) ≡ list_any is_free_name ns → list_any (λ c. true) (cond b (k ∷ named_from (suc k) ns) (named_from (suc k) ns)) ≡ (b || list_any is_free_name ns)
+    by true rest = refl
+    by false rest = rest
 
 -- an item under its number
 numbered-get : {A B : Type 0} (f : ℕ → A → B) (k : ℕ) (xs : List A) (i : ℕ) → slice_get (numbered f k xs) i ≡ option_map (f (k + i)) (slice_get xs i)

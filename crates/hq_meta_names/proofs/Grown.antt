@@ -17,14 +17,14 @@ use Rattle.hq_meta_names.specs.declared.known.Shared.{Shared}
 use Rattle.hq_meta_names.specs.declared.known.Own.{Own}
 use Rattle.hq_meta_names.specs.declared.refusal.NameRefusal.{NameRefusal}
 use Rattle.hq_meta_names.specs.Added.{added}
-use Rattle.hq_meta_names.specs.Repeats.{with_rel, with_shown_rel, with_rels, object_count, with_columns, own_names, with_table, with_tables, names_due}
+use Rattle.hq_meta_names.specs.Repeats.{with_rel, with_shown_rel, with_rels, object_count, objects_of, arrays_of, with_all_rels, with_columns, own_names, with_table, with_tables, names_due}
 use Rattle.hq_meta_names.proofs.Results.{ok_mapped, ok_and_then}
 use Rattle.hq_meta_names.proofs.Differ.{Adds, added-Adds}
 
 -- what came of adding fields and inputs
-pub record Grown (own : Own) (fields inputs : List (List ℕ)) (all : Own) : Type 0 where
-  pub fields : Adds own.fields fields all.fields
-  pub inputs : Adds own.inputs inputs all.inputs
+pub record Grown (own : Own) (fs is : List (List ℕ)) (all : Own) : Type 0 where
+  pub fields : Adds own.fields fs all.fields
+  pub inputs : Adds own.inputs is all.inputs
 
 adds_none : (known : List (List ℕ)) → Adds known [] known
 adds_none known = record { are = sym (append-nil known); differ = λ d. d }
@@ -121,24 +121,28 @@ own_differ m k all h =
     (ap all_names_differ (sym h.fields.are) ∙ h.fields.differ refl)
     (ap all_names_differ (sym h.inputs.are) ∙ h.inputs.differ refl)
 
+with_all_rels-Grown : (m : MetaTree) (path : List ℕ) (own : Own) (rs : List Rel) → IfOk (with_all_rels m path own rs) (Grown own (fields_for m rs) (inputs_for m rs))
+unfolding with_all_rels
+with_all_rels-Grown m path own rs =
+    let first = objects_of rs in
+    let last = arrays_of rs in
+    let op = member_path path (codes "object_relationships") in
+    let ap_ = member_path path (codes "array_relationships") in
+    ok_and_then (λ more. with_rels m ap_ 0 more last) (Grown own (fields_for m first) (inputs_for m first)) (Grown own (fields_for m rs) (inputs_for m rs))
+    (λ more g. if_ok-weaker (Grown more (fields_for m last) (inputs_for m last)) (Grown own (fields_for m rs) (inputs_for m rs))
+    (λ all h. same_lists own all (fields_for m (first ++ last)) (fields_for m rs) (inputs_for m (first ++ last)) (inputs_for m rs)
+    (ap (fields_for m) (take-append-drop (object_count rs) rs)) (ap (inputs_for m) (take-append-drop (object_count rs) rs)) (grown_row m own more all first last g h))
+    (with_rels m ap_ 0 more last) (with_rels-Grown m ap_ 0 more last))
+    (with_rels m op 0 own first) (with_rels-Grown m op 0 own first)
+
 own_names-differ : (m : MetaTree) (path : List ℕ) (k : TrackedTree) → IfOk (own_names m path k) (λ all. OwnDiffer m k)
 unfolding own_names
 own_names-differ m path k =
-    let n = object_count k.rels in
     let names = column_names_of k in
-    let objects = take n k.rels in
-    let arrays = drop n k.rels in
-    let op = member_path path (codes "object_relationships") in
-    let ap_ = member_path path (codes "array_relationships") in
-    ok_and_then (λ own. and_then (λ more. with_rels m ap_ 0 more arrays) (with_rels m op 0 own objects)) (Grown no_names names names) (λ all. OwnDiffer m k)
-    (λ own f. ok_and_then (λ more. with_rels m ap_ 0 more arrays) (Grown own (fields_for m objects) (inputs_for m objects)) (λ all. OwnDiffer m k)
-    (λ more g. if_ok-weaker (Grown more (fields_for m arrays) (inputs_for m arrays)) (λ all. OwnDiffer m k)
-    (λ all h. own_differ m k all
-    (same_lists no_names all (names ++ fields_for m (objects ++ arrays)) (names ++ fields_for m k.rels) (names ++ inputs_for m (objects ++ arrays)) (names ++ inputs_for m k.rels)
-    (ap (λ rs. names ++ fields_for m rs) (take-append-drop n k.rels)) (ap (λ rs. names ++ inputs_for m rs) (take-append-drop n k.rels))
-    (grown_both no_names own all names (fields_for m (objects ++ arrays)) names (inputs_for m (objects ++ arrays)) f (grown_row m own more all objects arrays g h))))
-    (with_rels m ap_ 0 more arrays) (with_rels-Grown m ap_ 0 more arrays))
-    (with_rels m op 0 own objects) (with_rels-Grown m op 0 own objects))
+    ok_and_then (λ own. with_all_rels m path own k.rels) (Grown no_names names names) (λ all. OwnDiffer m k)
+    (λ own f. if_ok-weaker (Grown own (fields_for m k.rels) (inputs_for m k.rels)) (λ all. OwnDiffer m k)
+    (λ all h. own_differ m k all (grown_both no_names own all names (fields_for m k.rels) names (inputs_for m k.rels) f h))
+    (with_all_rels m path own k.rels) (with_all_rels-Grown m path own k.rels))
     (with_columns path names) (with_columns-Grown path names)
 
 -- what came of tables: their types and root fields are added, and the names of each of them differ

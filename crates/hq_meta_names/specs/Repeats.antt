@@ -35,6 +35,18 @@ with_rels m path place own (r ∷ rs) =
 unfoldable pub object_count : List Rel → ℕ
 object_count rels = length (filter (λ r. not r.many) rels)
 
+abbrev pub objects_of : List Rel → List Rel
+objects_of rels = take (object_count rels) rels
+
+abbrev pub arrays_of : List Rel → List Rel
+arrays_of rels = drop (object_count rels) rels
+
+-- all relationships of a table whose entry stands at a path
+unfoldable pub with_all_rels : MetaTree → (path : List ℕ) → Own → List Rel → Result Own NameRefusal
+with_all_rels m path own rels = do
+  objects ← with_rels m (member_path path (codes "object_relationships")) 0 own (objects_of rels)
+  with_rels m (member_path path (codes "array_relationships")) 0 objects (arrays_of rels)
+
 -- the columns of a table whose entry stands at a path
 unfoldable pub with_columns : (path : List ℕ) → (names : List (List ℕ)) → Result Own NameRefusal
 with_columns path names = do
@@ -46,8 +58,7 @@ with_columns path names = do
 unfoldable pub own_names : MetaTree → (path : List ℕ) → TrackedTree → Result Own NameRefusal
 own_names m path k = do
   own ← with_columns path (column_names_of k)
-  objects ← with_rels m (member_path path (codes "object_relationships")) 0 own (take (object_count k.rels) k.rels)
-  with_rels m (member_path path (codes "array_relationships")) 0 objects (drop (object_count k.rels) k.rels)
+  with_all_rels m path own k.rels
 
 -- the names of a table whose entry stands at a path
 unfoldable pub with_table : Schema → MetaTree → (path : List ℕ) → Shared → TrackedTree → Result Shared NameRefusal

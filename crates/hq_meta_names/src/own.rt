@@ -1,13 +1,12 @@
-ghost use Rattle.std.specs.Prelude.{◌≡◌, ◌<◌, ◌≤◌, [], length, map};
+ghost use Rattle.std.specs.Prelude.{◌≡◌, ◌≤◌, length};
 ghost use Rattle.hq_base.specs.Due.{Gives};
 ghost use Rattle.hq_terms.specs.Meta.{meta_view, tracked_view};
-ghost use Rattle.hq_terms.specs.SchemaNames.{column_names_of};
-ghost use Rattle.hq_meta_names.specs.Repeats.{with_rel, with_shown_rel, with_rels, object_count, with_columns, own_names};
+ghost use Rattle.hq_meta_names.specs.Repeats.{with_rel, with_shown_rel, with_rels, object_count, objects_of, arrays_of, with_all_rels, with_columns, own_names};
 
 use crate::NameRefusal;
 use crate::fixed::fixed_inputs;
 use crate::known::{Own, added};
-use crate::shown::{is_in_schema, named_columns, names_of};
+use crate::shown::{column_names_of, is_in_schema};
 use crate::texts::push_name;
 use crate::types::rel_fields;
 use hq_base::{List, Txt, item_path, member_path};
@@ -71,6 +70,37 @@ fn object_count(rels: &[Rel]) -> usize
     rels.iter().filter(|rel| !rel.many).count()
 }
 
+// The object relationships, which come first.
+fn objects_of(rels: &[Rel]) -> &[Rel]
+    ensures { result.now ≡ objects_of rels.now }
+{
+    &rels[..object_count(rels)]
+}
+
+// The array relationships, which come last.
+fn arrays_of(rels: &[Rel]) -> &[Rel]
+    ensures { result.now ≡ arrays_of rels.now }
+{
+    &rels[object_count(rels)..]
+}
+
+// All relationships of a table whose entry stands at a path.
+#[tactic(auto, unfolding(crate::specs::Repeats::with_all_rels))]
+fn with_all_rels(
+    alloc: Global,
+    meta: &Meta,
+    path: &Txt,
+    own: Own,
+    rels: &[Rel],
+) -> Result<Own, NameRefusal>
+    ensures { Gives (λ own. own) NameRefusal.Memory (with_all_rels (meta_view meta.now) path.now own rels.now) result }
+{
+    let objects = member_path(alloc, path, "object_relationships")?;
+    let own = with_rels(alloc, meta, &objects, own, objects_of(rels))?;
+    let arrays = member_path(alloc, path, "array_relationships")?;
+    with_rels(alloc, meta, &arrays, own, arrays_of(rels))
+}
+
 // The columns of a table whose entry stands at a path.
 #[tactic(auto, unfolding(crate::specs::Repeats::with_columns))]
 fn with_columns(alloc: Global, path: &Txt, names: &[Txt]) -> Result<Own, NameRefusal>
@@ -91,13 +121,7 @@ pub fn own_names(
 ) -> Result<Own, NameRefusal>
     ensures { Gives (λ own. own) NameRefusal.Memory (own_names (meta_view meta.now) path.now (tracked_view tracked.now)) result }
 {
-    let columns = named_columns(alloc, tracked)?;
-    let names = names_of(alloc, tracked, columns.as_slice())?;
+    let names = column_names_of(alloc, tracked)?;
     let own = with_columns(alloc, path, names.as_slice())?;
-    let rels = tracked.rels.as_slice();
-    let count = object_count(rels);
-    let objects = member_path(alloc, path, "object_relationships")?;
-    let own = with_rels(alloc, meta, &objects, own, &rels[..count])?;
-    let arrays = member_path(alloc, path, "array_relationships")?;
-    with_rels(alloc, meta, &arrays, own, &rels[count..])
+    with_all_rels(alloc, meta, path, own, tracked.rels.as_slice())
 }

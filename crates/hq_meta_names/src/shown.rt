@@ -122,8 +122,8 @@ fn name_at(alloc: Global, names: &TxtList, column: ColId) -> Result<Txt, Memory>
     }
 }
 
-/// The GraphQL names of these columns of a table.
-pub fn names_of(
+// The GraphQL names of these columns of a table.
+fn names_of(
     alloc: Global,
     tracked: &Tracked,
     columns: &[ColId],
@@ -135,4 +135,12 @@ pub fn names_of(
         names.push(name_at(alloc, &tracked.column_names, *column)?)?;
     }
     Ok(names)
+}
+
+/// The GraphQL names of the columns of a table that may stand in a schema.
+pub fn column_names_of(alloc: Global, tracked: &Tracked) -> Result<TxtList, Memory>
+    ensures { IfOk result (λ names. names ≡ column_names_of (tracked_view tracked.now)) }
+{
+    let columns = named_columns(alloc, tracked)?;
+    names_of(alloc, tracked, columns.as_slice())
 }
