@@ -20,7 +20,6 @@ use Rattle.hq_meta_read.specs.declared.refusal.MetaRefusal.TheVariants.{Shape, N
 use Rattle.hq_meta_read.specs.Each.{each}
 use Rattle.hq_meta_read.specs.Found.{columns_of, column_named, column_at, remote_at, tracked_due}
 use Rattle.hq_meta_read.specs.Node.{required, checked, at, value_of, object_at, text_at, list_at, member_at, object_member}
-use Rattle.hq_meta_read.specs.Top.{is_empty}
 
 -- two lists have the same columns, in any order
 abbrev pub is_among : (c : ℕ) → List ℕ → Bool
@@ -109,11 +108,16 @@ pair_at own remote name path j = do
   d ← column_named remote path text
   pair_due own remote path (record { own = c; remote = d })
 
--- the pairs of the mapping at a path, of which there is at least one
+-- at least one pair is mapped
+abbrev pub some_pair : {A : Type 0} → (path : List ℕ) → List A → Result (Unit {0}) MetaRefusal
+some_pair path [] = Err (BadMapping path)
+some_pair path (x ∷ xs) = Ok tt
+
+-- the pairs of the mapping at a path
 unfoldable pub pairs_at : (own remote : List Column) → (path : List ℕ) → JsonTree → Result (List Pair) MetaRefusal
 pairs_at own remote path j = do
   members ← required path (object_in j)
-  _ ← (if is_empty members then Err (BadMapping path) else Ok tt)
+  _ ← some_pair path members
   each_member (pair_at own remote) path members
 
 -- by hand: a remote table and a mapping of columns

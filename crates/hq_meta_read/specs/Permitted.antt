@@ -1,9 +1,8 @@
 -- The select permissions of the tracked tables (Hasura v2, metadata format: SelectPermissionEntry).
-use Rattle.std.specs.Prelude.{ℕ, ◌^◌, ℤ, pos, List, [], ◌∷◌, length, map, zip, Bool, false, not, nat_lt, is_some, Option, Some, None, Result, Ok, Err, if◌then◌else◌, bytes_eq, codes, nat_eq}
+use Rattle.std.specs.Prelude.{ℕ, ◌^◌, ℤ, pos, List, [], ◌∷◌, filter, Bool, false, not, nat_lt, is_some, Option, Some, None, Result, Ok, Err, if◌then◌else◌, bytes_eq, codes}
 use Rattle.std.specs.List.{list_any}
 use Rattle.hq_base.specs.Due.{◌>>=◌, mapped}
 use Rattle.hq_base.specs.Json.{JsonTree, null, int, str, arr}
-use Rattle.hq_base.specs.Lists.{firsts}
 use Rattle.hq_base.specs.Look.{bool_in, element_list}
 use Rattle.hq_filter_read.specs.Filter.{filter_due}
 use Rattle.hq_filter_read.specs.declared.refusal.FilterRefusal.{FilterRefusal}
@@ -21,7 +20,7 @@ use Rattle.hq_meta_read.specs.declared.refusal.MetaRefusal.TheVariants as refusa
 use Rattle.hq_meta_read.specs.Each.{each, each_after}
 use Rattle.hq_meta_read.specs.Found.{columns_of, column_at}
 use Rattle.hq_meta_read.specs.Node.{required, checked, at, value_of, object_at, text_at, member_at, text_member, object_member, entries_member}
-use Rattle.hq_meta_read.specs.Related.{entries_of}
+use Rattle.hq_meta_read.specs.Linked.{is_among}
 
 -- the role of a permission is not admin's, and none before it has it
 unfoldable pub role_due : (before : List PermTree) → (path : List ℕ) → JsonTree → Result (List ℕ) MetaRefusal
@@ -34,10 +33,14 @@ role_due before path object = do
 abbrev pub all_columns : List Column → List ℕ
 all_columns columns = numbered (λ place c. place) 0 columns
 
+-- those of the columns that are among these, in the catalog's order
+abbrev pub chosen : (listed : List ℕ) → List Column → List ℕ
+chosen listed columns = filter (λ c. is_among c listed) (all_columns columns)
+
 -- the columns at a path: the text `*` is all of them, and a list names some, where one that stands twice counts once
 abbrev pub columns_at : List Column → (path : List ℕ) → JsonTree → Result (List ℕ) MetaRefusal
 columns_at columns path (str s) = if bytes_eq s (codes "*") then Ok (all_columns columns) else Err (refusal.Shape path)
-columns_at columns path (arr js) = mapped (firsts nat_eq) (each (column_at columns) path (element_list js))
+columns_at columns path (arr js) = mapped (λ listed. chosen listed columns) (each (column_at columns) path (element_list js))
 columns_at columns path _ = Err (refusal.Shape path)
 
 -- the filter at a path over table t, refused under the same names
@@ -99,11 +102,15 @@ perms_at tables m path entry = do
   each_after (perm_at tables m entry.0) (at path field.SelectPermissions) 0 [] list
 
 -- tracked tables beside their permissions
-abbrev pub with_perms : MetaTree → List (List PermTree) → MetaTree
-with_perms m perms = record { tracked = map (λ p. record p.0 { perms = p.1 }) (zip m.tracked perms) }
+abbrev pub perms_beside : List TrackedTree → List (List PermTree) → List TrackedTree
+perms_beside (k ∷ ks) (perms ∷ more) = record k { perms = perms } ∷ perms_beside ks more
+perms_beside _ _ = []
 
--- the tables of the list at a path with their permissions
-unfoldable pub permitted : List Table → (path : List ℕ) → List JsonTree → MetaTree → Result MetaTree MetaRefusal
-permitted tables path js m = do
-  perms ← each (perms_at tables m) path (entries_of m js)
+abbrev pub with_perms : MetaTree → List (List PermTree) → MetaTree
+with_perms m perms = record { tracked = perms_beside m.tracked perms }
+
+-- the tables, whose entries stand in the list at a path, with their permissions
+unfoldable pub permitted : List Table → (path : List ℕ) → (entries : List (ℕ × JsonTree)) → MetaTree → Result MetaTree MetaRefusal
+permitted tables path entries m = do
+  perms ← each (perms_at tables m) path entries
   Ok (with_perms m perms)

@@ -1,5 +1,5 @@
 -- The relationships of the tracked tables (Hasura v2, metadata format: ObjectRelationship, ArrayRelationship).
-use Rattle.std.specs.Prelude.{ℕ, List, [], map, zip, Bool, true, false, Result, Ok}
+use Rattle.std.specs.Prelude.{ℕ, List, [], ◌∷◌, map, zip, Bool, true, false, Result, Ok}
 use Rattle.hq_base.specs.Due.{◌>>=◌}
 use Rattle.hq_base.specs.Json.{JsonTree}
 use Rattle.hq_terms.specs.Meta.{TrackedTree, MetaTree}
@@ -30,15 +30,19 @@ rels_at tables m path entry = do
   each_after (λ before. rel_at tables m entry.0 true) (at path field.ArrayRelationships) 0 rels arrays
 
 -- tracked tables beside what their entries give
+abbrev pub rels_beside : List TrackedTree → List (List Rel) → List TrackedTree
+rels_beside (k ∷ ks) (rels ∷ more) = record k { rels = rels } ∷ rels_beside ks more
+rels_beside _ _ = []
+
 abbrev pub with_rels : MetaTree → List (List Rel) → MetaTree
-with_rels m rels = record { tracked = map (λ p. record p.0 { rels = p.1 }) (zip m.tracked rels) }
+with_rels m rels = record { tracked = rels_beside m.tracked rels }
 
 -- the entries, each with the place of its table
 abbrev pub entries_of : MetaTree → List JsonTree → List (ℕ × JsonTree)
 entries_of m js = zip (map (λ k. k.table) m.tracked) js
 
--- the tables of the list at a path with their relationships
-unfoldable pub related : List Table → (path : List ℕ) → List JsonTree → MetaTree → Result MetaTree MetaRefusal
-related tables path js m = do
-  rels ← each (rels_at tables m) path (entries_of m js)
+-- the tables, whose entries stand in the list at a path, with their relationships
+unfoldable pub related : List Table → (path : List ℕ) → (entries : List (ℕ × JsonTree)) → MetaTree → Result MetaTree MetaRefusal
+related tables path entries m = do
+  rels ← each (rels_at tables m) path entries
   Ok (with_rels m rels)

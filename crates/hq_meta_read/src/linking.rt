@@ -42,11 +42,13 @@ fn pairs_of(alloc: Global, own: &[ColId], remote: &[ColId]) -> Result<PairList, 
     ensures { IfOk result (λ pairs. pairs ≡ pairs_of own.now remote.now) }
 {
     let mut pairs = List::new(alloc);
-    for (own, remote) in own.iter().zip(remote) {
-        pairs.push(Pair {
-            own: *own,
-            remote: *remote,
-        })?;
+    for (place, own) in own.iter().enumerate() {
+        if let Some(remote) = remote.get(place) {
+            pairs.push(Pair {
+                own: *own,
+                remote: *remote,
+            })?;
+        }
     }
     Ok(pairs)
 }
@@ -155,7 +157,7 @@ fn key_columns(
     column: Option<&Json>,
     columns: Option<&Json>,
 ) -> Result<ColList, MetaRefusal>
-    ensures { Gives (λ columns. columns) MetaRefusal.Memory (key_columns remote.now path.now (option_map (λ j. json_view j.now) column) (option_map (λ j. json_view j.now) columns)) result }
+    ensures { Gives (λ columns. columns) MetaRefusal.Memory (key_columns remote.now path.now (option_map (λ j. json_view j.now) column.entry) (option_map (λ j. json_view j.now) columns.entry)) result }
 {
     if let Some(json) = column {
         let path = at(alloc, path, Field::Column)?;
@@ -170,7 +172,7 @@ fn key_columns(
 
 // Whether exactly one of two is there.
 fn just_one(a: Option<&Json>, b: Option<&Json>) -> bool
-    ensures { result ≡ just_one (option_map (λ j. json_view j.now) a) (option_map (λ j. json_view j.now) b) }
+    ensures { result ≡ just_one (option_map (λ j. json_view j.now) a.entry) (option_map (λ j. json_view j.now) b.entry) }
 {
     a.is_some() != b.is_some()
 }

@@ -44,7 +44,7 @@ pub fn check_own_name(
     custom: Option<&Json>,
     table: &Table,
 ) -> Result<(), MetaRefusal>
-    ensures { Gives (λ done. done) MetaRefusal.Memory (own_name_due path.now (option_map (λ j. json_view j.now) custom) table.now) result }
+    ensures { Gives (λ done. done) MetaRefusal.Memory (own_name_due path.now (option_map (λ j. json_view j.now) custom.entry) table.now) result }
 {
     if custom.is_none() && !is_table_name(&own_name(alloc, table)?) {
         return Err(MetaRefusal::Shape {
@@ -75,7 +75,7 @@ pub fn table_name(
     custom: Option<&Json>,
     table: &Table,
 ) -> Result<Txt, MetaRefusal>
-    ensures { Gives (λ name. name) MetaRefusal.Memory (table_name_due path.now (option_map (λ j. json_view j.now) custom) table.now) result }
+    ensures { Gives (λ name. name) MetaRefusal.Memory (table_name_due path.now (option_map (λ j. json_view j.now) custom.entry) table.now) result }
 {
     match custom {
         Some(json) => Ok(table_name_at(alloc, path, json)?.copy(alloc)?),
@@ -85,7 +85,7 @@ pub fn table_name(
 
 // A text that may be absent.
 fn check_given_text(alloc: Global, path: &Txt, given: Option<&Json>) -> Result<(), MetaRefusal>
-    ensures { Gives (λ done. done) MetaRefusal.Memory (given_text_due path.now (option_map (λ j. json_view j.now) given)) result }
+    ensures { Gives (λ done. done) MetaRefusal.Memory (given_text_due path.now (option_map (λ j. json_view j.now) given.entry)) result }
 {
     if let Some(json) = given {
         text_at(alloc, path, json)?;
@@ -153,7 +153,7 @@ fn check_config(
     path: &Txt,
     given: Option<&Json>,
 ) -> Result<(), MetaRefusal>
-    ensures { Gives (λ done. done) MetaRefusal.Memory (members_due (column_config_at columns.now) path.now (option_map (λ j. json_view j.now) given)) result }
+    ensures { Gives (λ done. done) MetaRefusal.Memory (members_due (column_config_at columns.now) path.now (option_map (λ j. json_view j.now) given.entry)) result }
 {
     let Some(json) = given else {
         return Ok(());
@@ -222,7 +222,7 @@ fn check_texts(
     path: &Txt,
     given: Option<&Json>,
 ) -> Result<(), MetaRefusal>
-    ensures { Gives (λ done. done) MetaRefusal.Memory (members_due (column_text_at columns.now) path.now (option_map (λ j. json_view j.now) given)) result }
+    ensures { Gives (λ done. done) MetaRefusal.Memory (members_due (column_text_at columns.now) path.now (option_map (λ j. json_view j.now) given.entry)) result }
 {
     let Some(json) = given else {
         return Ok(());
@@ -237,7 +237,7 @@ fn check_texts(
 
 // A text that is given, else the other one.
 fn text_or<'a>(given: Option<&'a Json>, other: &'a Txt) -> &'a Txt
-    ensures { result.now ≡ text_or (option_map (λ j. json_view j.now) given) other.now }
+    ensures { result.now ≡ text_or (option_map (λ j. json_view j.now) given.entry) other.now }
 {
     match given {
         Some(json) => match json.as_txt() {
@@ -255,7 +255,7 @@ fn column_name<'a>(
     texts: Option<&'a Json>,
     column: &'a Column,
 ) -> &'a Txt
-    ensures { result.now ≡ column_name_of (option_map (λ j. json_view j.now) config) (option_map (λ j. json_view j.now) texts) column.now }
+    ensures { result.now ≡ column_name_of (option_map (λ j. json_view j.now) config.entry) (option_map (λ j. json_view j.now) texts.entry) column.now }
 {
     let own = &column.name;
     match named_value(config, own.as_str()) {
@@ -271,7 +271,7 @@ fn listed_names(
     texts: Option<&Json>,
     columns: &[Column],
 ) -> Result<TxtList, Memory>
-    ensures { IfOk result (λ names. names ≡ map (column_name_of (option_map (λ j. json_view j.now) config) (option_map (λ j. json_view j.now) texts)) columns.now) }
+    ensures { IfOk result (λ names. names ≡ map (column_name_of (option_map (λ j. json_view j.now) config.entry) (option_map (λ j. json_view j.now) texts.entry)) columns.now) }
 {
     let mut names = List::new(alloc);
     for column in columns {
@@ -288,7 +288,7 @@ pub fn column_names(
     path: &Txt,
     given: Option<&Json>,
 ) -> Result<TxtList, MetaRefusal>
-    ensures { Gives (λ names. names) MetaRefusal.Memory (column_names_due columns.now path.now (option_map (λ j. json_view j.now) given)) result }
+    ensures { Gives (λ names. names) MetaRefusal.Memory (column_names_due columns.now path.now (option_map (λ j. json_view j.now) given.entry)) result }
 {
     let config = given_value(given, Field::ColumnConfig);
     let texts = given_value(given, Field::CustomColumnNames);
@@ -313,7 +313,7 @@ fn root_text<'a>(
     path: &Txt,
     given: Option<&'a Json>,
 ) -> Result<Option<&'a Txt>, MetaRefusal>
-    ensures { Gives option_copied MetaRefusal.Memory (root_text_due path.now (option_map (λ j. json_view j.now) given)) result }
+    ensures { Gives option_copied MetaRefusal.Memory (root_text_due path.now (option_map (λ j. json_view j.now) given.entry)) result }
 {
     match given {
         Some(json) => Ok(Some(free_name_at(alloc, path, json)?)),
@@ -327,7 +327,7 @@ fn root_in<'a>(
     path: &Txt,
     given: Option<&'a Json>,
 ) -> Result<Option<&'a Txt>, MetaRefusal>
-    ensures { Gives option_copied MetaRefusal.Memory (root_in path.now (option_map (λ j. json_view j.now) given)) result }
+    ensures { Gives option_copied MetaRefusal.Memory (root_in path.now (option_map (λ j. json_view j.now) given.entry)) result }
 {
     let Some(json) = given else {
         return Ok(None);
@@ -354,7 +354,7 @@ fn root(
     end: &str,
 ) -> Result<Txt, MetaRefusal>
     requires { has_zero end.now ≡ false }
-    ensures { Gives (λ name. name) MetaRefusal.Memory (root_due path.now (option_map (λ j. json_view j.now) custom) which name.now end.now) result }
+    ensures { Gives (λ name. name) MetaRefusal.Memory (root_due path.now (option_map (λ j. json_view j.now) custom.entry) which name.now end.now) result }
 {
     match root_in(
         alloc,
@@ -378,7 +378,7 @@ pub fn roots(
     name: &Txt,
     given: Option<&Json>,
 ) -> Result<RootNames, MetaRefusal>
-    ensures { Gives (λ names. names) MetaRefusal.Memory (roots_due path.now name.now (option_map (λ j. json_view j.now) given)) result }
+    ensures { Gives (λ names. names) MetaRefusal.Memory (roots_due path.now name.now (option_map (λ j. json_view j.now) given.entry)) result }
 {
     let custom = given_object(alloc, path, given)?;
     let select = root(alloc, path, custom, Field::Select, name, "")?;

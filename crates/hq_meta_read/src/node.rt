@@ -168,7 +168,7 @@ pub fn unless_null(json: &Json) -> Option<&Json>
 /// The value of a name in an object that is given, where null counts as absent.
 #[tactic(auto, unfolding(crate::specs::Node::named_value))]
 pub fn named_value<'a>(given: Option<&'a Json>, name: &str) -> Option<&'a Json>
-    ensures { option_map (λ j. json_view j.now) result ≡ named_value (option_map (λ j. json_view j.now) given) name.now }
+    ensures { option_map (λ j. json_view j.now) result ≡ named_value (option_map (λ j. json_view j.now) given.entry) name.now }
 {
     match given {
         Some(object) => match object.member(name) {
@@ -181,7 +181,7 @@ pub fn named_value<'a>(given: Option<&'a Json>, name: &str) -> Option<&'a Json>
 
 /// The value of a member of an object that is given, where null counts as absent.
 pub fn given_value<'a>(given: Option<&'a Json>, field: Field) -> Option<&'a Json>
-    ensures { option_map (λ j. json_view j.now) result ≡ given_value (option_map (λ j. json_view j.now) given) field }
+    ensures { option_map (λ j. json_view j.now) result ≡ given_value (option_map (λ j. json_view j.now) given.entry) field }
 {
     named_value(given, field.name())
 }
@@ -192,7 +192,7 @@ pub fn given_object<'a>(
     path: &Txt,
     given: Option<&'a Json>,
 ) -> Result<Option<&'a Json>, MetaRefusal>
-    ensures { Gives (option_map (λ j. json_view j.now)) MetaRefusal.Memory (given_object path.now (option_map (λ j. json_view j.now) given)) result }
+    ensures { Gives (option_map (λ j. json_view j.now)) MetaRefusal.Memory (given_object path.now (option_map (λ j. json_view j.now) given.entry)) result }
 {
     match given {
         Some(json) => Ok(Some(object_at(alloc, path, json)?)),

@@ -1,18 +1,19 @@
-ghost use Rattle.std.specs.Prelude.{◌≡◌, [], map, option_map, bytes_eq, nat_eq, IfOk};
+ghost use Rattle.std.specs.Prelude.{◌≡◌, [], map, option_map, bytes_eq, IfOk};
 ghost use Rattle.std.specs.List.{list_any};
 ghost use Rattle.hq_base.specs.Due.{Gives};
 ghost use Rattle.hq_base.specs.Json.{json_view};
-ghost use Rattle.hq_base.specs.Lists.{firsts};
 ghost use Rattle.hq_filter_read.specs.Filter.{filter_due};
 ghost use Rattle.hq_terms.specs.Bexp.{bexp_view};
 ghost use Rattle.hq_terms.specs.Meta.{meta_view, perm_view};
 ghost use Rattle.hq_terms.specs.Names.{is_admin_name};
 ghost use Rattle.hq_terms.specs.Schema.{schema_of};
 ghost use Rattle.hq_meta_read.specs.Each.{each, each_after};
-ghost use Rattle.hq_meta_read.specs.Permitted.{role_due, all_columns, columns_at, filter_in, whole_limit, limit_due, aggregations_due, absent, permission_at, perm_at, perms_at, with_perms, permitted};
-ghost use Rattle.hq_meta_read.specs.Related.{entries_of};
+ghost use Rattle.hq_meta_read.specs.Permitted.{role_due, all_columns, chosen, columns_at, filter_in, whole_limit, limit_due, aggregations_due, absent, permission_at, perm_at, perms_at, with_perms, permitted};
+ghost use Rattle.hq_meta_read.specs.Entry.{entry_view};
+ghost use Rattle.hq_meta_read.specs.Linked.{is_among};
 
 use crate::MetaRefusal;
+use crate::entry::Entry;
 use crate::field::Field;
 use crate::found::{columns_of, listed_columns};
 use crate::node::{at, entries_member, member_at, object_at, object_member, text_member};
@@ -63,30 +64,31 @@ fn all_columns(alloc: Global, columns: &[Column]) -> Result<ColList, Memory>
     ensures { IfOk result (λ all. all ≡ all_columns columns.now) }
 {
     let mut all = List::new(alloc);
-    for place in 0..columns.len() {
+    for (place, _) in columns.iter().enumerate() {
         all.push(ColId::new(place))?;
     }
     Ok(all)
 }
 
 // Whether a column is among these.
-fn is_among(columns: &[ColId], column: ColId) -> bool
-    ensures { result ≡ list_any (λ c. nat_eq c column) columns.now }
+fn is_among(column: ColId, columns: &[ColId]) -> bool
+    ensures { result ≡ is_among column columns.now }
 {
     columns.iter().any(|other| other.at() == column.at())
 }
 
-// Each column once, in the order of their first places.
-fn firsts(alloc: Global, columns: &[ColId]) -> Result<ColList, Memory>
-    ensures { IfOk result (λ once. once ≡ firsts nat_eq columns.now) }
+// Those of the columns that are among these, in the catalog's order.
+fn chosen(alloc: Global, listed: &[ColId], columns: &[Column]) -> Result<ColList, Memory>
+    ensures { IfOk result (λ cols. cols ≡ chosen listed.now columns.now) }
 {
-    let mut once = List::new(alloc);
-    for column in columns {
-        if !is_among(once.as_slice(), *column) {
-            once.push(*column)?;
+    let mut cols = List::new(alloc);
+    for (place, _) in columns.iter().enumerate() {
+        let column = ColId::new(place);
+        if is_among(column, listed) {
+            cols.push(column)?;
         }
     }
-    Ok(once)
+    Ok(cols)
 }
 
 // The columns at a path: the text `*` is all of them, and a list names some.
@@ -102,7 +104,7 @@ fn columns_at(
         Json::Str(text) if text.as_str() == "*" => Ok(all_columns(alloc, columns)?),
         Json::Arr(list) => {
             let listed = listed_columns(alloc, columns, path, list.as_slice())?;
-            Ok(firsts(alloc, listed.as_slice())?)
+            Ok(chosen(alloc, listed.as_slice(), columns)?)
         }
         _ => Err(MetaRefusal::Shape {
             path: path.copy(alloc)?,
@@ -132,7 +134,7 @@ fn filter_at(
 
 // A limit: a whole number from 0 on, below 2^63; it may be absent or null.
 fn limit(alloc: Global, path: &Txt, json: Option<&Json>) -> Result<Option<u64>, MetaRefusal>
-    ensures { Gives (λ limit. limit) MetaRefusal.Memory (limit_due path.now (option_map (λ j. json_view j.now) json)) result }
+    ensures { Gives (λ limit. limit) MetaRefusal.Memory (limit_due path.now (option_map (λ j. json_view j.now) json.entry)) result }
 {
     match json {
         None => Ok(None),
@@ -146,7 +148,7 @@ fn limit(alloc: Global, path: &Txt, json: Option<&Json>) -> Result<Option<u64>, 
 
 // Whether aggregates are allowed: they are not where the file does not say.
 fn aggregations(alloc: Global, path: &Txt, json: Option<&Json>) -> Result<bool, MetaRefusal>
-    ensures { Gives (λ allowed. allowed) MetaRefusal.Memory (aggregations_due path.now (option_map (λ j. json_view j.now) json)) result }
+    ensures { Gives (λ allowed. allowed) MetaRefusal.Memory (aggregations_due path.now (option_map (λ j. json_view j.now) json.entry)) result }
 {
     let Some(json) = json else {
         return Ok(false);
@@ -274,14 +276,13 @@ fn perms_at(
     alloc: Global,
     scope: &Scope,
     path: &Txt,
-    table: TableId,
-    entry: &Json,
+    entry: &Entry,
 ) -> Result<PermList, MetaRefusal>
-    ensures { Gives (map perm_view) MetaRefusal.Memory (perms_at scope.now.catalog.now.tables (meta_view scope.now.meta.now) path.now (table, json_view entry.now)) result }
+    ensures { Gives (map perm_view) MetaRefusal.Memory (perms_at scope.now.catalog.now.tables (meta_view scope.now.meta.now) path.now (entry_view entry.now)) result }
 {
-    let list = entries_member(alloc, path, entry, Field::SelectPermissions)?;
+    let list = entries_member(alloc, path, entry.json, Field::SelectPermissions)?;
     let path = at(alloc, path, Field::SelectPermissions)?;
-    listed_perms(alloc, scope, table, &path, list)
+    listed_perms(alloc, scope, entry.table, &path, list)
 }
 
 // The permissions of the entries of the list at a path.
@@ -289,15 +290,14 @@ fn all_perms(
     alloc: Global,
     scope: &Scope,
     path: &Txt,
-    list: &[Json],
+    entries: &[Entry],
 ) -> Result<List<PermList>, MetaRefusal>
-    ensures { Gives (map (map perm_view)) MetaRefusal.Memory (each (perms_at scope.now.catalog.now.tables (meta_view scope.now.meta.now)) path.now (entries_of (meta_view scope.now.meta.now) (map json_view list.now))) result }
+    ensures { Gives (map (map perm_view)) MetaRefusal.Memory (each (perms_at scope.now.catalog.now.tables (meta_view scope.now.meta.now)) path.now (map entry_view entries.now)) result }
 {
-    let tracked = scope.meta.tracked.as_slice();
     let mut all = List::new(alloc);
-    for (place, (tracked, json)) in tracked.iter().zip(list).enumerate() {
-        let path = item_path(alloc, path, place)?;
-        all.push(perms_at(alloc, scope, &path, tracked.table, json)?)?;
+    for (place, entry) in entries.iter().enumerate() {
+        let perms = perms_at(alloc, scope, &item_path(alloc, path, place)?, entry)?;
+        all.push(perms)?;
     }
     Ok(all)
 }
@@ -319,21 +319,21 @@ fn with_perms(alloc: Global, meta: Meta, perms: List<PermList>) -> Result<Meta, 
     Ok(Meta { tracked })
 }
 
-/// The tables of the list at a path with their select permissions.
+/// The tables, whose entries stand in the list at a path, with their select permissions.
 #[tactic(auto, unfolding(crate::specs::Permitted::permitted))]
 pub fn permitted(
     alloc: Global,
     catalog: &Catalog,
     path: &Txt,
-    list: &[Json],
+    entries: &[Entry],
     meta: Meta,
 ) -> Result<Meta, MetaRefusal>
-    ensures { Gives meta_view MetaRefusal.Memory (permitted catalog.now.tables path.now (map json_view list.now) (meta_view meta)) result }
+    ensures { Gives meta_view MetaRefusal.Memory (permitted catalog.now.tables path.now (map entry_view entries.now) (meta_view meta)) result }
 {
     let scope = Scope {
         catalog,
         meta: &meta,
     };
-    let perms = all_perms(alloc, &scope, path, list)?;
+    let perms = all_perms(alloc, &scope, path, entries)?;
     Ok(with_perms(alloc, meta, perms)?)
 }

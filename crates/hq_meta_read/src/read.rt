@@ -10,6 +10,7 @@ ghost use Rattle.hq_meta_read.specs.Reading.{json_in, names_in, named, tracked_o
 ghost use Rattle.hq_meta_read.specs.Top.{tables_path};
 
 use crate::MetaRefusal;
+use crate::entry::entries_of;
 use crate::permissions::permitted;
 use crate::relationships::related;
 use crate::top::{table_entries, tables_path, unwrapped};
@@ -84,13 +85,14 @@ fn check_all_names(
 
 // The metadata that the entries give.
 #[tactic(auto, unfolding(crate::specs::Reading::tracked_of))]
-fn tracked_of(alloc: Global, catalog: &Catalog, entries: &[Json]) -> Result<Meta, MetaRefusal>
-    ensures { Gives meta_view MetaRefusal.Memory (tracked_of catalog.now.tables (map json_view entries.now)) result }
+fn tracked_of(alloc: Global, catalog: &Catalog, list: &[Json]) -> Result<Meta, MetaRefusal>
+    ensures { Gives meta_view MetaRefusal.Memory (tracked_of catalog.now.tables (map json_view list.now)) result }
 {
     let path = tables_path(alloc)?;
-    let meta = named(alloc, catalog, &path, entries)?;
-    let meta = related(alloc, catalog, &path, entries, meta)?;
-    let meta = permitted(alloc, catalog, &path, entries, meta)?;
+    let meta = named(alloc, catalog, &path, list)?;
+    let entries = entries_of(alloc, &meta, list)?;
+    let meta = related(alloc, catalog, &path, &entries, meta)?;
+    let meta = permitted(alloc, catalog, &path, &entries, meta)?;
     check_all_names(alloc, catalog, &meta, &path)?;
     Ok(meta)
 }

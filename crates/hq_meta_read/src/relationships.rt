@@ -3,9 +3,11 @@ ghost use Rattle.hq_base.specs.Due.{Gives};
 ghost use Rattle.hq_base.specs.Json.{json_view};
 ghost use Rattle.hq_terms.specs.Meta.{meta_view};
 ghost use Rattle.hq_meta_read.specs.Each.{each, each_after};
-ghost use Rattle.hq_meta_read.specs.Related.{rel_at, rels_at, with_rels, entries_of, related};
+ghost use Rattle.hq_meta_read.specs.Entry.{entry_view};
+ghost use Rattle.hq_meta_read.specs.Related.{rel_at, rels_at, with_rels, related};
 
 use crate::MetaRefusal;
+use crate::entry::Entry;
 use crate::field::Field;
 use crate::linking::link_at;
 use crate::node::{at, entries_member, free_name_at, member_at, object_at, object_member};
@@ -72,18 +74,18 @@ fn listed_rels(
     Ok(rels)
 }
 
-// The relationships of an entry at a path, of a table: object ones first.
+// The relationships of an entry at a path: object ones first.
 #[tactic(auto, unfolding(crate::specs::Related::rels_at))]
 fn rels_at(
     alloc: Global,
     scope: &Scope,
     path: &Txt,
-    table: TableId,
-    entry: &Json,
+    entry: &Entry,
 ) -> Result<RelList, MetaRefusal>
-    ensures { Gives (λ rels. rels) MetaRefusal.Memory (rels_at scope.now.catalog.now.tables (meta_view scope.now.meta.now) path.now (table, json_view entry.now)) result }
+    ensures { Gives (λ rels. rels) MetaRefusal.Memory (rels_at scope.now.catalog.now.tables (meta_view scope.now.meta.now) path.now (entry_view entry.now)) result }
 {
-    let objects = entries_member(alloc, path, entry, Field::ObjectRelationships)?;
+    let table = entry.table;
+    let objects = entries_member(alloc, path, entry.json, Field::ObjectRelationships)?;
     let objects_path = at(alloc, path, Field::ObjectRelationships)?;
     let rels = listed_rels(
         alloc,
@@ -94,7 +96,7 @@ fn rels_at(
         List::new(alloc),
         objects,
     )?;
-    let arrays = entries_member(alloc, path, entry, Field::ArrayRelationships)?;
+    let arrays = entries_member(alloc, path, entry.json, Field::ArrayRelationships)?;
     let arrays_path = at(alloc, path, Field::ArrayRelationships)?;
     listed_rels(alloc, scope, table, true, &arrays_path, rels, arrays)
 }
@@ -104,15 +106,14 @@ fn all_rels(
     alloc: Global,
     scope: &Scope,
     path: &Txt,
-    list: &[Json],
+    entries: &[Entry],
 ) -> Result<List<RelList>, MetaRefusal>
-    ensures { Gives (λ all. all) MetaRefusal.Memory (each (rels_at scope.now.catalog.now.tables (meta_view scope.now.meta.now)) path.now (entries_of (meta_view scope.now.meta.now) (map json_view list.now))) result }
+    ensures { Gives (λ all. all) MetaRefusal.Memory (each (rels_at scope.now.catalog.now.tables (meta_view scope.now.meta.now)) path.now (map entry_view entries.now)) result }
 {
-    let tracked = scope.meta.tracked.as_slice();
     let mut all = List::new(alloc);
-    for (place, (tracked, json)) in tracked.iter().zip(list).enumerate() {
-        let path = item_path(alloc, path, place)?;
-        all.push(rels_at(alloc, scope, &path, tracked.table, json)?)?;
+    for (place, entry) in entries.iter().enumerate() {
+        let rels = rels_at(alloc, scope, &item_path(alloc, path, place)?, entry)?;
+        all.push(rels)?;
     }
     Ok(all)
 }
@@ -134,21 +135,21 @@ fn with_rels(alloc: Global, meta: Meta, rels: List<RelList>) -> Result<Meta, Mem
     Ok(Meta { tracked })
 }
 
-/// The tables of the list at a path with their relationships.
+/// The tables, whose entries stand in the list at a path, with their relationships.
 #[tactic(auto, unfolding(crate::specs::Related::related))]
 pub fn related(
     alloc: Global,
     catalog: &Catalog,
     path: &Txt,
-    list: &[Json],
+    entries: &[Entry],
     meta: Meta,
 ) -> Result<Meta, MetaRefusal>
-    ensures { Gives meta_view MetaRefusal.Memory (related catalog.now.tables path.now (map json_view list.now) (meta_view meta)) result }
+    ensures { Gives meta_view MetaRefusal.Memory (related catalog.now.tables path.now (map entry_view entries.now) (meta_view meta)) result }
 {
     let scope = Scope {
         catalog,
         meta: &meta,
     };
-    let rels = all_rels(alloc, &scope, path, list)?;
+    let rels = all_rels(alloc, &scope, path, entries)?;
     Ok(with_rels(alloc, meta, rels)?)
 }

@@ -56,7 +56,7 @@ fn is_three(number: Option<i128>) -> bool
 
 // The version must be 3.
 fn check_version(alloc: Global, version: Option<&Json>) -> Result<(), MetaRefusal>
-    ensures { Gives (λ done. done) MetaRefusal.Memory (version_due (option_map (λ j. json_view j.now) version)) result }
+    ensures { Gives (λ done. done) MetaRefusal.Memory (version_due (option_map (λ j. json_view j.now) version.entry)) result }
 {
     match version {
         Some(version) if is_three(version.as_int()) => Ok(()),
@@ -134,7 +134,7 @@ fn check_plain(
     path: &Txt,
     customization: Option<&Json>,
 ) -> Result<(), MetaRefusal>
-    ensures { Gives (λ done. done) MetaRefusal.Memory (plain_in path.now (option_map (λ j. json_view j.now) customization)) result }
+    ensures { Gives (λ done. done) MetaRefusal.Memory (plain_in path.now (option_map (λ j. json_view j.now) customization.entry)) result }
 {
     let Some(json) = customization else {
         return Ok(());

@@ -66,7 +66,7 @@ fn entry_table<'a>(
     object: &Json,
     custom: Option<&Json>,
 ) -> Result<(TableId, &'a Table), MetaRefusal>
-    ensures { Gives (λ found. (found.0, found.1.now)) MetaRefusal.Memory (entry_table catalog.now.tables (map tracked_view before.now) path.now (json_view object.now) (option_map (λ j. json_view j.now) custom)) result }
+    ensures { Gives (λ found. (found.0, found.1.now)) MetaRefusal.Memory (entry_table catalog.now.tables (map tracked_view before.now) path.now (json_view object.now) (option_map (λ j. json_view j.now) custom.entry)) result }
 {
     let json = member_at(alloc, path, object, Field::Table)?;
     let path = at(alloc, path, Field::Table)?;
@@ -86,7 +86,7 @@ fn configured(
     place: TableId,
     table: &Table,
 ) -> Result<Tracked, MetaRefusal>
-    ensures { Gives tracked_view MetaRefusal.Memory (configured path.now (option_map (λ j. json_view j.now) given) place table.now) result }
+    ensures { Gives tracked_view MetaRefusal.Memory (configured path.now (option_map (λ j. json_view j.now) given.entry) place table.now) result }
 {
     let configuration = given_object(alloc, path, given)?;
     let name = table_name(

@@ -127,7 +127,7 @@ fn permissions_of_an_export_are_read(rt: HostRuntime) -> Result<(), Fail> {
     }
     assert_eq!(rt;
         text.as_str(),
-        "user 1 0 True Some(10) true;editor 0 1 2 Cmp { col: ColId { at: 0 }, op: Eq, operand: Session(Txt { text: \"x-hasura-user-id\" }) } None false;user Or([Cmp { col: ColId { at: 1 }, op: Lt, operand: Const(Int(3)) }, Through { rel: RelId { at: 0 }, inner: True }]) None false;"
+        "user 0 1 True Some(10) true;editor 0 1 2 Cmp { col: ColId { at: 0 }, op: Eq, operand: Session(Txt { text: \"x-hasura-user-id\" }) } None false;user Or([Cmp { col: ColId { at: 1 }, op: Lt, operand: Const(Int(3)) }, Through { rel: RelId { at: 0 }, inner: True }]) None false;"
     );
     Ok(())
 }
