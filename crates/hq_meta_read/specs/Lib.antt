@@ -8,5 +8,4 @@ pub mod Tracked
 pub mod Linked
 pub mod Related
 pub mod Permitted
-pub mod Entry
 pub mod Reading

@@ -1,5 +1,5 @@
 -- The select permissions of the tracked tables (Hasura v2, metadata format: SelectPermissionEntry).
-use Rattle.std.specs.Prelude.{ℕ, ◌^◌, ℤ, pos, List, [], ◌∷◌, filter, Bool, false, not, nat_lt, is_some, Option, Some, None, Result, Ok, Err, if◌then◌else◌, bytes_eq, codes}
+use Rattle.std.specs.Prelude.{ℕ, ◌^◌, ℤ, pos, List, [], ◌∷◌, filter, zip, Bool, false, not, nat_lt, is_some, Option, Some, None, Result, Ok, Err, if◌then◌else◌, bytes_eq, codes}
 use Rattle.std.specs.List.{list_any}
 use Rattle.hq_base.specs.Due.{◌>>=◌, mapped}
 use Rattle.hq_base.specs.Json.{JsonTree, null, int, str, arr}
@@ -21,6 +21,7 @@ use Rattle.hq_meta_read.specs.Each.{each, each_after}
 use Rattle.hq_meta_read.specs.Found.{columns_of, column_at}
 use Rattle.hq_meta_read.specs.Node.{required, checked, at, value_of, object_at, text_at, member_at, text_member, object_member, entries_member}
 use Rattle.hq_meta_read.specs.Linked.{is_among}
+use Rattle.hq_meta_read.specs.Related.{tables_of}
 
 -- the role of a permission is not admin's, and none before it has it
 unfoldable pub role_due : (before : List PermTree) → (path : List ℕ) → JsonTree → Result (List ℕ) MetaRefusal
@@ -110,7 +111,7 @@ abbrev pub with_perms : MetaTree → List (List PermTree) → MetaTree
 with_perms m perms = record { tracked = perms_beside m.tracked perms }
 
 -- the tables, whose entries stand in the list at a path, with their permissions
-unfoldable pub permitted : List Table → (path : List ℕ) → (entries : List (ℕ × JsonTree)) → MetaTree → Result MetaTree MetaRefusal
-permitted tables path entries m = do
-  perms ← each (perms_at tables m) path entries
+unfoldable pub permitted : List Table → (path : List ℕ) → List JsonTree → MetaTree → Result MetaTree MetaRefusal
+permitted tables path js m = do
+  perms ← each (perms_at tables m) path (zip (tables_of m) js)
   Ok (with_perms m perms)

@@ -16,7 +16,7 @@ use Rattle.hq_meta_read.specs.declared.refusal.MetaRefusal.{MetaRefusal}
 use Rattle.hq_meta_read.specs.declared.refusal.MetaRefusal.TheVariants.{NotJson, RepeatedName, Memory}
 use Rattle.hq_meta_read.specs.Each.{each_after}
 use Rattle.hq_meta_read.specs.Permitted.{permitted}
-use Rattle.hq_meta_read.specs.Related.{entries_of, related}
+use Rattle.hq_meta_read.specs.Related.{related}
 use Rattle.hq_meta_read.specs.Top.{unwrapped, table_entries, tables_path}
 use Rattle.hq_meta_read.specs.Tracked.{tracked_at}
 
@@ -39,8 +39,8 @@ names_in (Err e) = Err (name_refusal e)
 unfoldable pub tracked_of : List Table → List JsonTree → Result MetaTree MetaRefusal
 tracked_of tables js = do
   names ← named tables js
-  rels ← related tables tables_path (entries_of names js) names
-  m ← permitted tables tables_path (entries_of names js) rels
+  rels ← related tables tables_path js names
+  m ← permitted tables tables_path js rels
   _ ← names_in (names_due (schema_of tables m) m tables_path)
   Ok m
 

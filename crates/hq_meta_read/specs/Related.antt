@@ -37,12 +37,12 @@ rels_beside _ _ = []
 abbrev pub with_rels : MetaTree → List (List Rel) → MetaTree
 with_rels m rels = record { tracked = rels_beside m.tracked rels }
 
--- the entries, each with the place of its table
-abbrev pub entries_of : MetaTree → List JsonTree → List (ℕ × JsonTree)
-entries_of m js = zip (map (λ k. k.table) m.tracked) js
+-- the places of the tracked tables
+abbrev pub tables_of : MetaTree → List ℕ
+tables_of m = map (λ k. k.table) m.tracked
 
 -- the tables, whose entries stand in the list at a path, with their relationships
-unfoldable pub related : List Table → (path : List ℕ) → (entries : List (ℕ × JsonTree)) → MetaTree → Result MetaTree MetaRefusal
-related tables path entries m = do
-  rels ← each (rels_at tables m) path entries
+unfoldable pub related : List Table → (path : List ℕ) → List JsonTree → MetaTree → Result MetaTree MetaRefusal
+related tables path js m = do
+  rels ← each (rels_at tables m) path (zip (tables_of m) js)
   Ok (with_rels m rels)

@@ -3,7 +3,6 @@
 //! names nor what a role may see are passed over; those that would are refused.
 #![tactic(auto)]
 
-mod entry;
 mod field;
 mod found;
 mod link;

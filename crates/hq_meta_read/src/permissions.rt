@@ -1,4 +1,4 @@
-ghost use Rattle.std.specs.Prelude.{◌≡◌, [], map, option_map, bytes_eq, IfOk};
+ghost use Rattle.std.specs.Prelude.{◌≡◌, [], map, zip, option_map, bytes_eq, IfOk};
 ghost use Rattle.std.specs.List.{list_any};
 ghost use Rattle.hq_base.specs.Due.{Gives};
 ghost use Rattle.hq_base.specs.Json.{json_view};
@@ -9,14 +9,13 @@ ghost use Rattle.hq_terms.specs.Names.{is_admin_name};
 ghost use Rattle.hq_terms.specs.Schema.{schema_of};
 ghost use Rattle.hq_meta_read.specs.Each.{each, each_after};
 ghost use Rattle.hq_meta_read.specs.Permitted.{role_due, all_columns, chosen, columns_at, filter_in, whole_limit, limit_due, aggregations_due, absent, permission_at, perm_at, perms_at, with_perms, permitted};
-ghost use Rattle.hq_meta_read.specs.Entry.{entry_view};
 ghost use Rattle.hq_meta_read.specs.Linked.{is_among};
 
 use crate::MetaRefusal;
-use crate::entry::Entry;
 use crate::field::Field;
 use crate::found::{columns_of, listed_columns};
 use crate::node::{at, entries_member, member_at, object_at, object_member, text_member};
+use crate::tracking::tables_of;
 use hq_base::{Json, List, Memory, Txt, item_path};
 use hq_filter_read::read_filter;
 use hq_terms::{
@@ -270,34 +269,38 @@ fn listed_perms(
     Ok(perms)
 }
 
-// The permissions of an entry at a path, on its table.
+// The permissions on a table, whose entry stands at a path.
 #[tactic(auto, unfolding(crate::specs::Permitted::perms_at))]
 fn perms_at(
     alloc: Global,
     scope: &Scope,
     path: &Txt,
-    entry: &Entry,
+    table: TableId,
+    entry: &Json,
 ) -> Result<PermList, MetaRefusal>
-    ensures { Gives (map perm_view) MetaRefusal.Memory (perms_at scope.now.catalog.now.tables (meta_view scope.now.meta.now) path.now (entry_view entry.now)) result }
+    ensures { Gives (map perm_view) MetaRefusal.Memory (perms_at scope.now.catalog.now.tables (meta_view scope.now.meta.now) path.now (table, json_view entry.now)) result }
 {
-    let list = entries_member(alloc, path, entry.json, Field::SelectPermissions)?;
+    let list = entries_member(alloc, path, entry, Field::SelectPermissions)?;
     let path = at(alloc, path, Field::SelectPermissions)?;
-    listed_perms(alloc, scope, entry.table, &path, list)
+    listed_perms(alloc, scope, table, &path, list)
 }
 
-// The permissions of the entries of the list at a path.
+// The permissions of tables, whose entries stand in the list at a path.
 fn all_perms(
     alloc: Global,
     scope: &Scope,
     path: &Txt,
-    entries: &[Entry],
+    tables: &[TableId],
+    list: &[Json],
 ) -> Result<List<PermList>, MetaRefusal>
-    ensures { Gives (map (map perm_view)) MetaRefusal.Memory (each (perms_at scope.now.catalog.now.tables (meta_view scope.now.meta.now)) path.now (map entry_view entries.now)) result }
+    ensures { Gives (map (map perm_view)) MetaRefusal.Memory (each (perms_at scope.now.catalog.now.tables (meta_view scope.now.meta.now)) path.now (zip tables.now (map json_view list.now))) result }
 {
     let mut all = List::new(alloc);
-    for (place, entry) in entries.iter().enumerate() {
-        let perms = perms_at(alloc, scope, &item_path(alloc, path, place)?, entry)?;
-        all.push(perms)?;
+    for (place, table) in tables.iter().enumerate() {
+        if let Some(entry) = list.get(place) {
+            let path = item_path(alloc, path, place)?;
+            all.push(perms_at(alloc, scope, &path, *table, entry)?)?;
+        }
     }
     Ok(all)
 }
@@ -325,15 +328,16 @@ pub fn permitted(
     alloc: Global,
     catalog: &Catalog,
     path: &Txt,
-    entries: &[Entry],
+    list: &[Json],
     meta: Meta,
 ) -> Result<Meta, MetaRefusal>
-    ensures { Gives meta_view MetaRefusal.Memory (permitted catalog.now.tables path.now (map entry_view entries.now) (meta_view meta)) result }
+    ensures { Gives meta_view MetaRefusal.Memory (permitted catalog.now.tables path.now (map json_view list.now) (meta_view meta)) result }
 {
     let scope = Scope {
         catalog,
         meta: &meta,
     };
-    let perms = all_perms(alloc, &scope, path, entries)?;
+    let tables = tables_of(alloc, &meta)?;
+    let perms = all_perms(alloc, &scope, path, tables.as_slice(), list)?;
     Ok(with_perms(alloc, meta, perms)?)
 }

@@ -10,7 +10,6 @@ ghost use Rattle.hq_meta_read.specs.Reading.{json_in, names_in, named, tracked_o
 ghost use Rattle.hq_meta_read.specs.Top.{tables_path};
 
 use crate::MetaRefusal;
-use crate::entry::entries_of;
 use crate::permissions::permitted;
 use crate::relationships::related;
 use crate::top::{table_entries, tables_path, unwrapped};
@@ -90,9 +89,8 @@ fn tracked_of(alloc: Global, catalog: &Catalog, list: &[Json]) -> Result<Meta, M
 {
     let path = tables_path(alloc)?;
     let meta = named(alloc, catalog, &path, list)?;
-    let entries = entries_of(alloc, &meta, list)?;
-    let meta = related(alloc, catalog, &path, &entries, meta)?;
-    let meta = permitted(alloc, catalog, &path, &entries, meta)?;
+    let meta = related(alloc, catalog, &path, list, meta)?;
+    let meta = permitted(alloc, catalog, &path, list, meta)?;
     check_all_names(alloc, catalog, &meta, &path)?;
     Ok(meta)
 }

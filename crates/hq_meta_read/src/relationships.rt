@@ -1,16 +1,15 @@
-ghost use Rattle.std.specs.Prelude.{◌≡◌, [], map, IfOk};
+ghost use Rattle.std.specs.Prelude.{◌≡◌, [], map, zip, IfOk};
 ghost use Rattle.hq_base.specs.Due.{Gives};
 ghost use Rattle.hq_base.specs.Json.{json_view};
 ghost use Rattle.hq_terms.specs.Meta.{meta_view};
 ghost use Rattle.hq_meta_read.specs.Each.{each, each_after};
-ghost use Rattle.hq_meta_read.specs.Entry.{entry_view};
 ghost use Rattle.hq_meta_read.specs.Related.{rel_at, rels_at, with_rels, related};
 
 use crate::MetaRefusal;
-use crate::entry::Entry;
 use crate::field::Field;
 use crate::linking::link_at;
 use crate::node::{at, entries_member, free_name_at, member_at, object_at, object_member};
+use crate::tracking::tables_of;
 use hq_base::{Json, List, Memory, Txt, item_path};
 use hq_terms::{Catalog, Meta, Rel, RelList, Scope, TableId, Tracked};
 use std::alloc::Global;
@@ -74,18 +73,18 @@ fn listed_rels(
     Ok(rels)
 }
 
-// The relationships of an entry at a path: object ones first.
+// The relationships of a table, whose entry stands at a path: object ones first.
 #[tactic(auto, unfolding(crate::specs::Related::rels_at))]
 fn rels_at(
     alloc: Global,
     scope: &Scope,
     path: &Txt,
-    entry: &Entry,
+    table: TableId,
+    entry: &Json,
 ) -> Result<RelList, MetaRefusal>
-    ensures { Gives (λ rels. rels) MetaRefusal.Memory (rels_at scope.now.catalog.now.tables (meta_view scope.now.meta.now) path.now (entry_view entry.now)) result }
+    ensures { Gives (λ rels. rels) MetaRefusal.Memory (rels_at scope.now.catalog.now.tables (meta_view scope.now.meta.now) path.now (table, json_view entry.now)) result }
 {
-    let table = entry.table;
-    let objects = entries_member(alloc, path, entry.json, Field::ObjectRelationships)?;
+    let objects = entries_member(alloc, path, entry, Field::ObjectRelationships)?;
     let objects_path = at(alloc, path, Field::ObjectRelationships)?;
     let rels = listed_rels(
         alloc,
@@ -96,24 +95,27 @@ fn rels_at(
         List::new(alloc),
         objects,
     )?;
-    let arrays = entries_member(alloc, path, entry.json, Field::ArrayRelationships)?;
+    let arrays = entries_member(alloc, path, entry, Field::ArrayRelationships)?;
     let arrays_path = at(alloc, path, Field::ArrayRelationships)?;
     listed_rels(alloc, scope, table, true, &arrays_path, rels, arrays)
 }
 
-// The relationships of the entries of the list at a path.
+// The relationships of tables, whose entries stand in the list at a path.
 fn all_rels(
     alloc: Global,
     scope: &Scope,
     path: &Txt,
-    entries: &[Entry],
+    tables: &[TableId],
+    list: &[Json],
 ) -> Result<List<RelList>, MetaRefusal>
-    ensures { Gives (λ all. all) MetaRefusal.Memory (each (rels_at scope.now.catalog.now.tables (meta_view scope.now.meta.now)) path.now (map entry_view entries.now)) result }
+    ensures { Gives (λ all. all) MetaRefusal.Memory (each (rels_at scope.now.catalog.now.tables (meta_view scope.now.meta.now)) path.now (zip tables.now (map json_view list.now))) result }
 {
     let mut all = List::new(alloc);
-    for (place, entry) in entries.iter().enumerate() {
-        let rels = rels_at(alloc, scope, &item_path(alloc, path, place)?, entry)?;
-        all.push(rels)?;
+    for (place, table) in tables.iter().enumerate() {
+        if let Some(entry) = list.get(place) {
+            let path = item_path(alloc, path, place)?;
+            all.push(rels_at(alloc, scope, &path, *table, entry)?)?;
+        }
     }
     Ok(all)
 }
@@ -141,15 +143,16 @@ pub fn related(
     alloc: Global,
     catalog: &Catalog,
     path: &Txt,
-    entries: &[Entry],
+    list: &[Json],
     meta: Meta,
 ) -> Result<Meta, MetaRefusal>
-    ensures { Gives meta_view MetaRefusal.Memory (related catalog.now.tables path.now (map entry_view entries.now) (meta_view meta)) result }
+    ensures { Gives meta_view MetaRefusal.Memory (related catalog.now.tables path.now (map json_view list.now) (meta_view meta)) result }
 {
     let scope = Scope {
         catalog,
         meta: &meta,
     };
-    let rels = all_rels(alloc, &scope, path, entries)?;
+    let tables = tables_of(alloc, &meta)?;
+    let rels = all_rels(alloc, &scope, path, tables.as_slice(), list)?;
     Ok(with_rels(alloc, meta, rels)?)
 }

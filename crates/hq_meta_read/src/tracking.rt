@@ -1,9 +1,10 @@
-ghost use Rattle.std.specs.Prelude.{◌≡◌, ◌==◌, [], map, option_map, option_copied};
+ghost use Rattle.std.specs.Prelude.{◌≡◌, ◌==◌, [], map, option_map, option_copied, IfOk};
 ghost use Rattle.std.specs.List.{list_any};
 ghost use Rattle.hq_base.specs.Due.{Gives};
 ghost use Rattle.hq_base.specs.Json.{json_view};
-ghost use Rattle.hq_terms.specs.Meta.{tracked_view};
+ghost use Rattle.hq_terms.specs.Meta.{tracked_view, meta_view};
 ghost use Rattle.hq_meta_read.specs.Each.{each_after};
+ghost use Rattle.hq_meta_read.specs.Related.{tables_of};
 ghost use Rattle.hq_meta_read.specs.Tracked.{new_table, table_of, entry_table, configured, tracked_at};
 
 use crate::MetaRefusal;
@@ -11,8 +12,8 @@ use crate::field::Field;
 use crate::found::table_at;
 use crate::names::{check_own_name, column_names, roots, table_name};
 use crate::node::{at, given_object, given_value, member_at, object_at};
-use hq_base::{Json, List, Txt, item_path};
-use hq_terms::{Catalog, Table, TableId, Tracked, TrackedList};
+use hq_base::{Json, List, Memory, Txt, item_path};
+use hq_terms::{Catalog, Meta, Table, TableId, Tracked, TrackedList};
 use std::alloc::Global;
 
 // Whether one of these is of the table.
@@ -152,4 +153,15 @@ pub fn all_tracked(
         all.push(tracked)?;
     }
     Ok(all)
+}
+
+/// The places of the tracked tables.
+pub fn tables_of(alloc: Global, meta: &Meta) -> Result<List<TableId>, Memory>
+    ensures { IfOk result (λ tables. tables ≡ tables_of (meta_view meta.now)) }
+{
+    let mut tables = List::new(alloc);
+    for tracked in meta.tracked.as_slice() {
+        tables.push(tracked.table)?;
+    }
+    Ok(tables)
 }
