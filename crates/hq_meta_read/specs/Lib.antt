@@ -8,4 +8,5 @@ pub mod Tracked
 pub mod Linked
 pub mod Related
 pub mod Permitted
+pub mod Sound
 pub mod Reading
