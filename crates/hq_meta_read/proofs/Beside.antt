@@ -11,9 +11,9 @@ use Rattle.hq_terms.specs.declared.table.Table.{Table}
 use Rattle.hq_meta_read.specs.Permitted.{perms_beside, with_perms}
 use Rattle.hq_meta_read.specs.Related.{rels_beside, with_rels, tables_of}
 
--- the places of tables
-abbrev places : List TrackedTree → List ℕ
-places ks = map (λ k. k.table) ks
+-- lists that are as long are as long behind their first items
+shorter : {A B : Type 0} (x : A) (xs : List A) (y : B) (ys : List B) → length (x ∷ xs) ≡ length (y ∷ ys) → length xs ≡ length ys
+shorter x xs y ys long = cc
 
 -- relationships for each table, read with its entry
 pub record WithRels (H : TrackedTree → Type 0) (R : ℕ → List Rel → Type 0) (ks new : List TrackedTree) : Type 0 where
@@ -25,7 +25,7 @@ put_rels H R keep [] js rels long hs beside = record { same = refl; each = tt }
 put_rels H R keep (k ∷ ks) [] rels long hs beside = cc
 put_rels H R keep (k ∷ ks) (j ∷ js) [] long hs beside = absurd beside
 put_rels H R keep (k ∷ ks) (j ∷ js) (rs ∷ rels) long hs beside =
-    let rest = put_rels H R keep ks js rels cc hs.1 beside.1 in
+    let rest = put_rels H R keep ks js rels (shorter j js k ks long) hs.1 beside.1 in
     record { same = ap (λ ts. k.table ∷ ts) rest.same; each = ((keep k rs hs.0, beside.0), rest.each) }
 
 -- permissions for each table, read with its entry
@@ -38,7 +38,7 @@ put_perms H R keep [] js perms long hs beside = record { same = refl; each = tt 
 put_perms H R keep (k ∷ ks) [] perms long hs beside = cc
 put_perms H R keep (k ∷ ks) (j ∷ js) [] long hs beside = absurd beside
 put_perms H R keep (k ∷ ks) (j ∷ js) (ps ∷ perms) long hs beside =
-    let rest = put_perms H R keep ks js perms cc hs.1 beside.1 in
+    let rest = put_perms H R keep ks js perms (shorter j js k ks long) hs.1 beside.1 in
     record { same = ap (λ ts. k.table ∷ ts) rest.same; each = ((keep k ps hs.0, beside.0), rest.each) }
 
 -- what each permission list has stands in the tables
@@ -64,7 +64,7 @@ same_tracked m n t same = tracked_by_place m.tracked t ∙ ap (λ ts. is_some (f
 rels_kept : (ks : List TrackedTree) (perms : List (List PermTree)) (t : ℕ) → length perms ≡ length ks → option_map (λ k. k.rels) (find (λ k. k.table == t) (perms_beside ks perms)) ≡ option_map (λ k. k.rels) (find (λ k. k.table == t) ks)
 rels_kept [] perms t long = refl
 rels_kept (k ∷ ks) [] t long = cc
-rels_kept (k ∷ ks) (ps ∷ perms) t long = by (k.table == t) (rels_kept ks perms t cc)
+rels_kept (k ∷ ks) (ps ∷ perms) t long = by (k.table == t) (rels_kept ks perms t (shorter ps perms k ks long))
   where
     new : TrackedTree
     new = record k { perms = ps }
@@ -85,4 +85,4 @@ same_schema tables m perms long =
 pub long_zip : (ts : List ℕ) (js : List JsonTree) → length js ≡ length ts → length (zip ts js) ≡ length ts
 long_zip [] js long = refl
 long_zip (t ∷ ts) [] long = cc
-long_zip (t ∷ ts) (j ∷ js) long = ap suc (long_zip ts js cc)
+long_zip (t ∷ ts) (j ∷ js) long = ap suc (long_zip ts js (shorter j js t ts long))

@@ -15,7 +15,7 @@ use Rattle.hq_terms.specs.declared.table.Table.{Table}
 use Rattle.hq_meta_read.specs.declared.refusal.MetaRefusal.TheVariants.{NoForeignKey}
 use Rattle.hq_meta_read.specs.Found.{columns_of}
 use Rattle.hq_meta_read.specs.Linked.{same_columns, pairs_of, foreign_of, own_key, remote_key}
-use Rattle.hq_meta_read.proofs.Lists.{list_all-map, found_passes, passes_at}
+use Rattle.hq_meta_read.proofs.Lists.{list_all-map, positive, found_passes, passes_at}
 use Rattle.hq_meta_read.proofs.Steps.{ok_found}
 
 -- two columns of tables can be compared
@@ -56,7 +56,7 @@ zipped : (own remote : List Column) (cs ds : List ℕ) → length cs ≡ length 
 zipped own remote [] ds long some all = cc
 zipped own remote (c ∷ cs) [] long some all = cc
 zipped own remote (c ∷ cs) (d ∷ ds) long some all =
-    record { some = refl; join = list_all-map (λ p. joins own remote p.own p.remote) (λ p. record { own = p.0; remote = p.1 }) (zip (c ∷ cs) (d ∷ ds)) ∙ all }
+    record { some = positive (length (pairs_of cs ds)); join = list_all-map (λ (p : Pair). joins own remote p.own p.remote) (λ (p : ℕ × ℕ). let q : Pair = record { own = p.0; remote = p.1 } in q) (zip (c ∷ cs) (d ∷ ds)) ∙ all }
 
 turned : (own remote : List Column) (cs ds : List ℕ) → list_all (λ p. joins own remote p.0 p.1) (zip cs ds) ≡ list_all (λ p. joins remote own p.0 p.1) (zip ds cs)
 turned own remote [] [] = refl

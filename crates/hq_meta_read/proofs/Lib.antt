@@ -8,3 +8,4 @@ mod Perms
 mod Beside
 mod Fitting
 mod Loops
+mod Nesting

@@ -27,7 +27,7 @@ use Rattle.hq_meta_read.specs.Node.{required, checked, at, value_of, object_at, 
 use Rattle.hq_meta_read.specs.Related.{rel_at, rels_at}
 use Rattle.hq_meta_read.proofs.Heads.{free_name_at-free}
 use Rattle.hq_meta_read.proofs.Keys.{joins, Pairs, Key, own_pairs, remote_pairs, own_key-Key, remote_key-Key}
-use Rattle.hq_meta_read.proofs.Lists.{push_all, list_all-push, list_all-from, beside_all, objects-only, objects-push}
+use Rattle.hq_meta_read.proofs.Lists.{positive, push_all, list_all-push, list_all-from, beside_all, objects-only, objects-push}
 use Rattle.hq_meta_read.proofs.Steps.{ok_always, ok_weaker, ok_both, ok_mapped, ok_and_then, ok_next, ok_tested, each_after-keeps, each_member-beside}
 
 -- to a tracked table, by pairs that can be compared
@@ -104,7 +104,7 @@ pair_at-joins own remote name path j =
 
 some_beside : {A B : Type 0} (R : A → B → Type 0) (x : A) (xs : List A) (ys : List B) → AllZip R (x ∷ xs) ys → nat_lt 0 (length ys) ≡ true
 some_beside R x xs [] beside = absurd beside
-some_beside R x xs (y ∷ ys) beside = refl
+some_beside R x xs (y ∷ ys) beside = positive (length ys)
 
 pairs_at-Pairs : (own remote : List Column) (path : List ℕ) (j : JsonTree) → IfOk (pairs_at own remote path j) (Pairs own remote)
 unfolding pairs_at

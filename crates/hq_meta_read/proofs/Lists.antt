@@ -2,7 +2,7 @@
 use Rattle.std.proofs.Common.{◌≡◌, ◌∙◌, ℕ, zero, suc, ◌+◌, List, [], ◌∷◌, ◌++◌, length, map, filter, find, Bool, true, false, cond, not, ◌&&◌, ◌||◌, Option, Some, None, slice_get, refl, sym, ap, subst, append_assoc, arith, append-nil}
 use Rattle.std.specs.List.{AllByRecursion, AllZip, list_all, list_any, zip}
 use Rattle.std.specs.Prelude.{nat_lt, is_some}
-use Rattle.std.proofs.lemmas.Bool.{and_parts, and_from, or_parts, or_from, not_from_false, not-true}
+use Rattle.std.proofs.lemmas.Bool.{and_parts, and_from, or_parts, or_from, not_from_false, not-true, lt-ltb}
 use Rattle.std.proofs.lemmas.List.Folds.{list_any-append}
 use Rattle.hq_base.specs.Lists.{all_differ}
 use Rattle.hq_terms.specs.Schema.{numbered}
@@ -112,3 +112,7 @@ objects-push (q ∷ rs) r first many = by q.many first (λ h. objects-push rs r 
     by : (b : Bool) → cond b (list_all (λ q. q.many) rs) (objects_first rs) ≡ true → (objects_first rs ≡ true → objects_first (rs ++ r ∷ []) ≡ true) → cond b (list_all (λ q. q.many) (rs ++ r ∷ [])) (objects_first (rs ++ r ∷ [])) ≡ true
     by true h rest = list_all-push (λ q. q.many) rs r h many
     by false h rest = rest h
+
+-- a list that has an item is not empty
+pub positive : (n : ℕ) → nat_lt 0 (suc n) ≡ true
+positive n = lt-ltb 0 (suc n) (omega arith)

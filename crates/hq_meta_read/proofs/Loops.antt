@@ -1,42 +1,60 @@
 -- Lists beside one another, from a place on.
-use Rattle.std.proofs.Common.{◌≡◌, ◌∙◌, ℕ, zero, suc, ◌+◌, ◌<◌, List, [], ◌∷◌, ◌++◌, length, map, take, drop, get_or, Option, Some, None, slice_get, refl, sym, ap, arith, append-nil, append_assoc}
+use Rattle.std.proofs.Common.{◌≡◌, ◌∙◌, ℕ, zero, suc, ◌+◌, ◌<◌, ◌≤◌, List, [], ◌∷◌, ◌++◌, length, take, drop, get_or, Option, Some, None, slice_get, refl, sym, ap, arith}
 use Rattle.std.specs.List.{zip}
-use Rattle.hq_terms.specs.Meta.{PermTree, TrackedTree}
-use Rattle.hq_terms.specs.declared.meta.Rel.{Rel}
-use Rattle.hq_meta_read.specs.Permitted.{perms_beside}
-use Rattle.hq_meta_read.specs.Related.{rels_beside}
+use Rattle.std.proofs.lemmas.List.{drop_more}
+use Rattle.std.proofs.lemmas.Option.{slice_get_within, get_or_from_slice_get}
 
 -- the items at a place, and those behind it
 pub zip_here : {A B : Type 0} (xs : List A) (ys : List B) (i : ℕ) (x : A) (y : B) → i < length xs → x ≡ get_or xs i x → slice_get ys i ≡ Some y → zip (drop i xs) (drop i ys) ≡ (x, y) ∷ zip (drop (i + 1) xs) (drop (i + 1) ys)
-zip_here [] ys i x y below is there = absurd below
-zip_here (v ∷ vs) [] i x y below is there = cc
-zip_here (v ∷ vs) (w ∷ ws) zero x y below is there = cc
-zip_here (v ∷ vs) (w ∷ ws) (suc i) x y below is there = zip_here vs ws i x y (omega (arith, below)) is there
+zip_here xs ys i x y below is there =
+    let left : drop i xs ≡ x ∷ drop (i + 1) xs = drop_more xs i x below ∙ ap (λ v. v ∷ drop (i + 1) xs) (sym is) in
+    let right : drop i ys ≡ y ∷ drop (i + 1) ys = drop_more ys i y (slice_get_within ys i y there) ∙ ap (λ w. w ∷ drop (i + 1) ys) (get_or_from_slice_get ys i y y there) in
+    ap (λ vs. zip vs (drop i ys)) left ∙ ap (λ ws. zip (x ∷ drop (i + 1) xs) ws) right
+
+zip_nil : {A B : Type 0} (xs : List A) (ys : List B) → ys ≡ [] → zip xs ys ≡ []
+zip_nil [] ys none = refl
+zip_nil (x ∷ xs) [] none = refl
+zip_nil (x ∷ xs) (y ∷ ys) none = cc
+
+-- behind its end a list has nothing
+drop_past : {A : Type 0} (xs : List A) (i : ℕ) → slice_get xs i ≡ None → (drop i xs ≡ []) × (drop (suc i) xs ≡ [])
+drop_past [] zero none = (refl, refl)
+drop_past [] (suc i) none = (refl, refl)
+drop_past (x ∷ xs) zero none = cc
+drop_past (x ∷ xs) (suc i) none = drop_past xs i none
 
 -- nothing stands beside the items from a place on
 pub zip_past : {A B : Type 0} (xs : List A) (ys : List B) (i : ℕ) → slice_get ys i ≡ None → zip (drop i xs) (drop i ys) ≡ zip (drop (i + 1) xs) (drop (i + 1) ys)
-zip_past [] [] i none = refl
-zip_past [] (w ∷ ws) zero none = cc
-zip_past [] (w ∷ ws) (suc i) none = zip_past [] ws i none
-zip_past (v ∷ vs) [] i none = zip_nil (drop i (v ∷ vs)) ∙ sym (zip_nil (drop (i + 1) (v ∷ vs)))
-  where
-    zip_nil : {A B : Type 0} (xs : List A) → zip {A} {B} xs [] ≡ []
-    zip_nil [] = refl
-    zip_nil (x ∷ xs) = refl
-zip_past (v ∷ vs) (w ∷ ws) zero none = cc
-zip_past (v ∷ vs) (w ∷ ws) (suc i) none = zip_past vs ws i none
+zip_past xs ys i none =
+    let past = drop_past ys i none in
+    let next : i + 1 ≡ suc i = omega arith in
+    zip_nil (drop i xs) (drop i ys) past.0 ∙ sym (zip_nil (drop (i + 1) xs) (drop (i + 1) ys) (ap (λ n. drop n ys) next ∙ past.1))
+
+more : {A B : Type 0} (xs : List A) (ys : List B) (i : ℕ) (x : A) (y : B) → i < length xs → x ≡ get_or xs i x → slice_get ys i ≡ Some y → zip (take (suc i) xs) ys ≡ zip (take i xs) ys ++ (x, y) ∷ []
+more [] ys i x y below is there = absurd (omega (arith, below))
+more (v ∷ vs) [] i x y below is there = cc
+more (v ∷ vs) (w ∷ ws) zero x y below is there = cc
+more (v ∷ vs) (w ∷ ws) (suc i) x y below is there = ap (λ ps. (v, w) ∷ ps) (more vs ws i x y (omega (arith, below)) is there)
 
 -- one item more, beside its own
 pub zip_more : {A B : Type 0} (xs : List A) (ys : List B) (i : ℕ) (x : A) (y : B) → i < length xs → x ≡ get_or xs i x → slice_get ys i ≡ Some y → zip (take (i + 1) xs) ys ≡ zip (take i xs) ys ++ (x, y) ∷ []
-zip_more [] ys i x y below is there = absurd below
-zip_more (v ∷ vs) [] i x y below is there = cc
-zip_more (v ∷ vs) (w ∷ ws) zero x y below is there = cc
-zip_more (v ∷ vs) (w ∷ ws) (suc i) x y below is there = ap (λ ps. (v, w) ∷ ps) (zip_more vs ws i x y (omega (arith, below)) is there)
+zip_more xs ys i x y below is there =
+    let next : i + 1 ≡ suc i = omega arith in
+    ap (λ n. zip (take n xs) ys) next ∙ more xs ys i x y below is there
+
+take_none : {A : Type 0} (n : ℕ) (xs : List A) → xs ≡ [] → take n xs ≡ []
+take_none zero xs none = refl
+take_none (suc n) [] none = refl
+take_none (suc n) (x ∷ xs) none = cc
+
+same : {A B : Type 0} (xs : List A) (ys : List B) (i : ℕ) → slice_get ys i ≡ None → zip (take (suc i) xs) ys ≡ zip (take i xs) ys
+same [] ys i none = ap (λ vs. zip vs ys) (sym (take_none i [] refl))
+same (v ∷ vs) [] i none = zip_nil (take (suc i) (v ∷ vs)) [] refl ∙ sym (zip_nil (take i (v ∷ vs)) [] refl)
+same (v ∷ vs) (w ∷ ws) zero none = cc
+same (v ∷ vs) (w ∷ ws) (suc i) none = ap (λ ps. (v, w) ∷ ps) (same vs ws i none)
 
 -- one item more, beside which there is none
 pub zip_same : {A B : Type 0} (xs : List A) (ys : List B) (i : ℕ) → slice_get ys i ≡ None → zip (take (i + 1) xs) ys ≡ zip (take i xs) ys
-zip_same [] ys i none = refl
-zip_same (v ∷ vs) [] zero none = refl
-zip_same (v ∷ vs) [] (suc i) none = refl
-zip_same (v ∷ vs) (w ∷ ws) zero none = cc
-zip_same (v ∷ vs) (w ∷ ws) (suc i) none = ap (λ ps. (v, w) ∷ ps) (zip_same vs ws i none)
+zip_same xs ys i none =
+    let next : i + 1 ≡ suc i = omega arith in
+    ap (λ n. zip (take n xs) ys) next ∙ same xs ys i none

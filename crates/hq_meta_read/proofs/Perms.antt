@@ -5,7 +5,7 @@ use Rattle.std.specs.List.{AllByRecursion, list_all, list_any}
 use Rattle.hq_base.specs.Due.{and_then, mapped}
 use Rattle.hq_base.specs.Json.{JsonTree, null, bool, int, str, arr, obj}
 use Rattle.hq_base.specs.Lists.{all_differ}
-use Rattle.hq_base.specs.Look.{element_list}
+use Rattle.hq_base.specs.Look.{str_in, array_in}
 use Rattle.hq_filter_read.specs.Filter.{filter_due}
 use Rattle.hq_terms.specs.Bexp.{BexpTree}
 use Rattle.hq_terms.specs.Catalog.{type_of}
@@ -21,7 +21,7 @@ use Rattle.hq_meta_read.specs.Each.{each, each_after}
 use Rattle.hq_meta_read.specs.Found.{columns_of, column_at}
 use Rattle.hq_meta_read.specs.Linked.{is_among}
 use Rattle.hq_meta_read.specs.Node.{checked, at, value_of, object_at, member_at, text_member, object_member, entries_member}
-use Rattle.hq_meta_read.specs.Permitted.{role_due, all_columns, chosen, columns_at, filter_in, whole_limit, limit_due, aggregations_due, absent, permission_at, perm_at, perms_at}
+use Rattle.hq_meta_read.specs.Permitted.{role_due, all_columns, chosen, columns_by, columns_at, filter_in, whole_limit, limit_due, aggregations_due, absent, permission_at, perm_at, perms_at}
 use Rattle.hq_meta_read.proofs.Lists.{push_differ, push_all, all_filtered, places_within}
 use Rattle.hq_meta_read.proofs.Steps.{ok_always, ok_weaker, ok_mapped, ok_and_then, ok_next, ok_tested, ok_unless, ok_checked, each_after-keeps}
 
@@ -29,16 +29,16 @@ use Rattle.hq_meta_read.proofs.Steps.{ok_always, ok_weaker, ok_mapped, ok_and_th
 abbrev Within : List Column → List ℕ → Type 0
 Within columns cols = list_all (λ c. is_some (slice_get columns c)) cols ≡ true
 
-columns_at-Within : (columns : List Column) (path : List ℕ) (j : JsonTree) → IfOk (columns_at columns path j) (Within columns)
-columns_at-Within columns path null = tt
-columns_at-Within columns path (bool b) = tt
-columns_at-Within columns path (int n) = tt
-columns_at-Within columns path (str s) = ok_tested (bytes_eq s (codes "*")) (all_columns columns) (refusal.Shape path) (Within columns) (λ h. places_within columns)
-columns_at-Within columns path (arr js) =
+columns_by-Within : (columns : List Column) (path : List ℕ) (text : Option (List ℕ)) (list : Option (List JsonTree)) → IfOk (columns_by columns path text list) (Within columns)
+columns_by-Within columns path (Some text) list = ok_tested (bytes_eq text (codes "*")) (all_columns columns) (refusal.Shape path) (Within columns) (λ h. places_within columns)
+columns_by-Within columns path None (Some js) =
     ok_mapped (λ listed. chosen listed columns) (λ listed. ⊤) (Within columns)
     (λ listed h. all_filtered (λ c. is_among c listed) (λ c. is_some (slice_get columns c)) (all_columns columns) (places_within columns))
-    (each (column_at columns) path (element_list js)) (ok_always (each (column_at columns) path (element_list js)))
-columns_at-Within columns path (obj ms) = tt
+    (each (column_at columns) path js) (ok_always (each (column_at columns) path js))
+columns_by-Within columns path None None = tt
+
+columns_at-Within : (columns : List Column) (path : List ℕ) (j : JsonTree) → IfOk (columns_at columns path j) (Within columns)
+columns_at-Within columns path j = columns_by-Within columns path (str_in j) (array_in j)
 
 whole_limit-fits : (path : List ℕ) (n : ℤ) → IfOk (whole_limit path n) (λ l. limit_fits l ≡ true)
 whole_limit-fits path (pos n) = ok_tested (nat_lt n (2 ^ 63)) (Some n) (refusal.Shape path) (λ l. limit_fits l ≡ true) (λ h. h)

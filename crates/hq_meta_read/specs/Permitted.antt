@@ -2,8 +2,8 @@
 use Rattle.std.specs.Prelude.{ℕ, ◌^◌, ℤ, pos, List, [], ◌∷◌, filter, zip, Bool, false, not, nat_lt, is_some, Option, Some, None, Result, Ok, Err, if◌then◌else◌, bytes_eq, codes}
 use Rattle.std.specs.List.{list_any}
 use Rattle.hq_base.specs.Due.{◌>>=◌, mapped}
-use Rattle.hq_base.specs.Json.{JsonTree, null, int, str, arr}
-use Rattle.hq_base.specs.Look.{bool_in, element_list}
+use Rattle.hq_base.specs.Json.{JsonTree, null, int}
+use Rattle.hq_base.specs.Look.{bool_in, str_in, array_in}
 use Rattle.hq_filter_read.specs.Filter.{filter_due}
 use Rattle.hq_filter_read.specs.declared.refusal.FilterRefusal.{FilterRefusal}
 use Rattle.hq_filter_read.specs.declared.refusal.FilterRefusal.TheVariants as filter
@@ -38,11 +38,18 @@ all_columns columns = numbered (λ place c. place) 0 columns
 abbrev pub chosen : (listed : List ℕ) → List Column → List ℕ
 chosen listed columns = filter (λ c. is_among c listed) (all_columns columns)
 
+-- all columns, where a text is `*`
+abbrev pub star : List Column → (path text : List ℕ) → Result (List ℕ) MetaRefusal
+star columns path text = if bytes_eq text (codes "*") then Ok (all_columns columns) else Err (refusal.Shape path)
+
 -- the columns at a path: the text `*` is all of them, and a list names some, where one that stands twice counts once
+abbrev pub columns_by : List Column → (path : List ℕ) → (text : Option (List ℕ)) → (list : Option (List JsonTree)) → Result (List ℕ) MetaRefusal
+columns_by columns path (Some text) list = star columns path text
+columns_by columns path None (Some js) = mapped (λ listed. chosen listed columns) (each (column_at columns) path js)
+columns_by columns path None None = Err (refusal.Shape path)
+
 abbrev pub columns_at : List Column → (path : List ℕ) → JsonTree → Result (List ℕ) MetaRefusal
-columns_at columns path (str s) = if bytes_eq s (codes "*") then Ok (all_columns columns) else Err (refusal.Shape path)
-columns_at columns path (arr js) = mapped (λ listed. chosen listed columns) (each (column_at columns) path (element_list js))
-columns_at columns path _ = Err (refusal.Shape path)
+columns_at columns path j = columns_by columns path (str_in j) (array_in j)
 
 -- the filter at a path over table t, refused under the same names
 abbrev pub filter_refusal : FilterRefusal → MetaRefusal

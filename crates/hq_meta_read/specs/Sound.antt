@@ -1,5 +1,5 @@
 -- What the reader of filters says of a permission's filter.
-use Rattle.std.specs.Prelude.{◌≡◌, ◌≤◌, ℕ, true}
+use Rattle.std.specs.Prelude.{◌≡◌, ◌≤◌, ℕ, List, true}
 use Rattle.std.specs.List.{AllByRecursion}
 use Rattle.hq_base.specs.Json.{JsonTree}
 use Rattle.hq_filter_read.specs.Nesting.{nesting}

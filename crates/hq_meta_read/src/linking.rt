@@ -43,12 +43,13 @@ fn pairs_of(alloc: Global, own: &[ColId], remote: &[ColId]) -> Result<PairList, 
 {
     let mut pairs = List::new(alloc);
     for (place, own) in own.iter().enumerate() {
-        if let Some(remote) = remote.get(place) {
-            pairs.push(Pair {
-                own: *own,
-                remote: *remote,
-            })?;
-        }
+        let Some(remote) = remote.get(place) else {
+            continue;
+        };
+        pairs.push(Pair {
+            own: *own,
+            remote: *remote,
+        })?;
     }
     Ok(pairs)
 }

@@ -1,14 +1,17 @@
-ghost use Rattle.std.specs.Prelude.{◌≡◌, [], map, zip, option_map, bytes_eq, IfOk};
-ghost use Rattle.std.specs.List.{list_any};
+ghost use Rattle.std.specs.Prelude.{◌≡◌, ◌≤◌, ◌*◌, [], true, map, zip, option_map, bytes_eq, IfOk};
+ghost use Rattle.std.specs.List.{AllByRecursion, AllZip, list_any};
 ghost use Rattle.hq_base.specs.Due.{Gives};
 ghost use Rattle.hq_base.specs.Json.{json_view};
 ghost use Rattle.hq_filter_read.specs.Filter.{filter_due};
-ghost use Rattle.hq_terms.specs.Bexp.{bexp_view};
+ghost use Rattle.hq_filter_read.specs.Nesting.{nesting};
+ghost use Rattle.hq_terms.specs.Bexp.{bexp_view, depth};
+ghost use Rattle.hq_terms.specs.Filters.{is_filter};
 ghost use Rattle.hq_terms.specs.Meta.{meta_view, perm_view};
 ghost use Rattle.hq_terms.specs.Names.{is_admin_name};
 ghost use Rattle.hq_terms.specs.Schema.{schema_of};
 ghost use Rattle.hq_meta_read.specs.Each.{each, each_after};
-ghost use Rattle.hq_meta_read.specs.Permitted.{role_due, all_columns, chosen, columns_at, filter_in, whole_limit, limit_due, aggregations_due, absent, permission_at, perm_at, perms_at, with_perms, permitted};
+ghost use Rattle.hq_meta_read.specs.Sound.{Shallow, Sound, AllSound, TablesSound};
+ghost use Rattle.hq_meta_read.specs.Permitted.{role_due, all_columns, chosen, star, columns_at, filter_in, whole_limit, limit_due, aggregations_due, absent, permission_at, perm_at, perms_at, with_perms, permitted};
 ghost use Rattle.hq_meta_read.specs.Linked.{is_among};
 
 use crate::MetaRefusal;
@@ -90,6 +93,23 @@ fn chosen(alloc: Global, listed: &[ColId], columns: &[Column]) -> Result<ColList
     Ok(cols)
 }
 
+// All columns, where the text at a path is `*`.
+fn star(
+    alloc: Global,
+    columns: &[Column],
+    path: &Txt,
+    text: &Txt,
+) -> Result<ColList, MetaRefusal>
+    ensures { Gives (λ cols. cols) MetaRefusal.Memory (star columns.now path.now text.now) result }
+{
+    if text.as_str() != "*" {
+        return Err(MetaRefusal::Shape {
+            path: path.copy(alloc)?,
+        });
+    }
+    Ok(all_columns(alloc, columns)?)
+}
+
 // The columns at a path: the text `*` is all of them, and a list names some.
 fn columns_at(
     alloc: Global,
@@ -99,13 +119,15 @@ fn columns_at(
 ) -> Result<ColList, MetaRefusal>
     ensures { Gives (λ cols. cols) MetaRefusal.Memory (columns_at columns.now path.now (json_view json.now)) result }
 {
-    match json {
-        Json::Str(text) if text.as_str() == "*" => Ok(all_columns(alloc, columns)?),
-        Json::Arr(list) => {
-            let listed = listed_columns(alloc, columns, path, list.as_slice())?;
+    if let Some(text) = json.as_txt() {
+        return star(alloc, columns, path, text);
+    }
+    match json.as_array() {
+        Some(list) => {
+            let listed = listed_columns(alloc, columns, path, list)?;
             Ok(chosen(alloc, listed.as_slice(), columns)?)
         }
-        _ => Err(MetaRefusal::Shape {
+        None => Err(MetaRefusal::Shape {
             path: path.copy(alloc)?,
         }),
     }
@@ -119,7 +141,9 @@ fn filter_at(
     path: &Txt,
     json: &Json,
 ) -> Result<Bexp, MetaRefusal>
-    ensures { Gives bexp_view MetaRefusal.Memory (filter_in (filter_due (json_view json.now) (schema_of scope.now.catalog.now.tables (meta_view scope.now.meta.now)) table path.now)) result }
+    ensures due { Gives bexp_view MetaRefusal.Memory (filter_in (filter_due (json_view json.now) (schema_of scope.now.catalog.now.tables (meta_view scope.now.meta.now)) table path.now)) result }
+    ensures is { IfOk result (λ b. is_filter (bexp_view b) (schema_of scope.now.catalog.now.tables (meta_view scope.now.meta.now)) table ≡ true) }
+    ensures shallow { IfOk result (λ b. depth (bexp_view b) ≤ 2 * nesting (json_view json.now)) }
 {
     Ok(read_filter(
         alloc,
@@ -187,7 +211,9 @@ fn permission_at(
     path: &Txt,
     object: &Json,
 ) -> Result<Perm, MetaRefusal>
-    ensures { Gives perm_view MetaRefusal.Memory (permission_at scope.now.catalog.now.tables (meta_view scope.now.meta.now) table role.now path.now (json_view object.now)) result }
+    requires { Shallow (json_view object.now) }
+    ensures due { Gives perm_view MetaRefusal.Memory (permission_at scope.now.catalog.now.tables (meta_view scope.now.meta.now) table role.now path.now (json_view object.now)) result }
+    ensures sound { IfOk result (λ p. Sound (schema_of scope.now.catalog.now.tables (meta_view scope.now.meta.now)) table (perm_view p)) }
 {
     let columns = member_at(alloc, path, object, Field::Columns)?;
     let cols = columns_at(
@@ -235,7 +261,9 @@ fn perm_at(
     path: &Txt,
     json: &Json,
 ) -> Result<Perm, MetaRefusal>
-    ensures { Gives perm_view MetaRefusal.Memory (perm_at scope.now.catalog.now.tables (meta_view scope.now.meta.now) table (map perm_view before.now) path.now (json_view json.now)) result }
+    requires { Shallow (json_view json.now) }
+    ensures due { Gives perm_view MetaRefusal.Memory (perm_at scope.now.catalog.now.tables (meta_view scope.now.meta.now) table (map perm_view before.now) path.now (json_view json.now)) result }
+    ensures sound { IfOk result (λ p. Sound (schema_of scope.now.catalog.now.tables (meta_view scope.now.meta.now)) table (perm_view p)) }
 {
     let object = object_at(alloc, path, json)?;
     let role = role(alloc, before, path, object)?;
@@ -258,7 +286,9 @@ fn listed_perms(
     path: &Txt,
     list: &[Json],
 ) -> Result<PermList, MetaRefusal>
-    ensures { Gives (map perm_view) MetaRefusal.Memory (each_after (perm_at scope.now.catalog.now.tables (meta_view scope.now.meta.now) table) path.now 0 [] (map json_view list.now)) result }
+    requires { AllByRecursion (λ j. Shallow (json_view j)) list.now }
+    ensures due { Gives (map perm_view) MetaRefusal.Memory (each_after (perm_at scope.now.catalog.now.tables (meta_view scope.now.meta.now) table) path.now 0 [] (map json_view list.now)) result }
+    ensures sound { IfOk result (λ perms. AllSound (schema_of scope.now.catalog.now.tables (meta_view scope.now.meta.now)) table (map perm_view perms)) }
 {
     let mut perms = List::new(alloc);
     for (place, json) in list.iter().enumerate() {
@@ -278,7 +308,9 @@ fn perms_at(
     table: TableId,
     entry: &Json,
 ) -> Result<PermList, MetaRefusal>
-    ensures { Gives (map perm_view) MetaRefusal.Memory (perms_at scope.now.catalog.now.tables (meta_view scope.now.meta.now) path.now (table, json_view entry.now)) result }
+    requires { Shallow (json_view entry.now) }
+    ensures due { Gives (map perm_view) MetaRefusal.Memory (perms_at scope.now.catalog.now.tables (meta_view scope.now.meta.now) path.now (table, json_view entry.now)) result }
+    ensures sound { IfOk result (λ perms. AllSound (schema_of scope.now.catalog.now.tables (meta_view scope.now.meta.now)) table (map perm_view perms)) }
 {
     let list = entries_member(alloc, path, entry, Field::SelectPermissions)?;
     let path = at(alloc, path, Field::SelectPermissions)?;
@@ -293,14 +325,17 @@ fn all_perms(
     tables: &[TableId],
     list: &[Json],
 ) -> Result<List<PermList>, MetaRefusal>
-    ensures { Gives (map (map perm_view)) MetaRefusal.Memory (each (perms_at scope.now.catalog.now.tables (meta_view scope.now.meta.now)) path.now (zip tables.now (map json_view list.now))) result }
+    requires { AllByRecursion (λ j. Shallow (json_view j)) list.now }
+    ensures due { Gives (map (map perm_view)) MetaRefusal.Memory (each (perms_at scope.now.catalog.now.tables (meta_view scope.now.meta.now)) path.now (zip tables.now (map json_view list.now))) result }
+    ensures sound { IfOk result (λ all. AllZip (λ e ps. AllSound (schema_of scope.now.catalog.now.tables (meta_view scope.now.meta.now)) e.0 ps) (zip tables.now (map json_view list.now)) (map (map perm_view) all)) }
 {
     let mut all = List::new(alloc);
     for (place, table) in tables.iter().enumerate() {
-        if let Some(entry) = list.get(place) {
-            let path = item_path(alloc, path, place)?;
-            all.push(perms_at(alloc, scope, &path, *table, entry)?)?;
-        }
+        let Some(entry) = list.get(place) else {
+            continue;
+        };
+        let path = item_path(alloc, path, place)?;
+        all.push(perms_at(alloc, scope, &path, *table, entry)?)?;
     }
     Ok(all)
 }
@@ -331,7 +366,9 @@ pub fn permitted(
     list: &[Json],
     meta: Meta,
 ) -> Result<Meta, MetaRefusal>
-    ensures { Gives meta_view MetaRefusal.Memory (permitted catalog.now.tables path.now (map json_view list.now) (meta_view meta)) result }
+    requires { AllByRecursion (λ j. Shallow (json_view j)) list.now }
+    ensures due { Gives meta_view MetaRefusal.Memory (permitted catalog.now.tables path.now (map json_view list.now) (meta_view meta)) result }
+    ensures sound { IfOk result (λ joined. TablesSound (schema_of catalog.now.tables (meta_view meta)) (meta_view joined).tracked) }
 {
     let scope = Scope {
         catalog,

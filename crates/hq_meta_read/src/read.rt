@@ -1,12 +1,15 @@
-ghost use Rattle.std.specs.Prelude.{◌≡◌, true, map, IfOk};
+ghost use Rattle.std.specs.Prelude.{◌≡◌, true, map, IfOk, OnOk};
+ghost use Rattle.std.specs.List.{AllByRecursion};
 ghost use Rattle.hq_base.specs.Body.{body_of};
 ghost use Rattle.hq_base.specs.Due.{Gives};
 ghost use Rattle.hq_base.specs.Json.{json_view};
 ghost use Rattle.hq_terms.specs.Fits.{fits};
 ghost use Rattle.hq_terms.specs.Meta.{meta_view};
 ghost use Rattle.hq_terms.specs.Schema.{schema_of};
+ghost use Rattle.hq_terms.specs.SchemaNames.{names_differ};
 ghost use Rattle.hq_meta_names.specs.Repeats.{names_due};
 ghost use Rattle.hq_meta_read.specs.Reading.{json_in, names_in, named, tracked_of, meta_of, meta_due};
+ghost use Rattle.hq_meta_read.specs.Sound.{Shallow, TablesSound};
 ghost use Rattle.hq_meta_read.specs.Top.{tables_path};
 
 use crate::MetaRefusal;
@@ -15,6 +18,7 @@ use crate::relationships::related;
 use crate::top::{table_entries, tables_path, unwrapped};
 use crate::tracking::all_tracked;
 use hq_base::{Json, JsonRefusal, Txt};
+use hq_filter_read::nesting_is_bounded;
 use hq_meta_names::check_names;
 use hq_terms::{Catalog, Meta};
 use std::alloc::Global;
@@ -30,6 +34,7 @@ pub fn read_meta(alloc: Global, bytes: &[u8], catalog: &Catalog) -> Result<Meta,
     // The metadata fits the catalog.
     ensures fits { IfOk result (λ meta. fits catalog.now.tables (meta_view meta) ≡ true) }
 {
+    nesting_is_bounded();
     let json = json_of(alloc, bytes)?;
     meta_of(alloc, catalog, &json)
 }
@@ -48,7 +53,10 @@ fn json_of(alloc: Global, bytes: &[u8]) -> Result<Json, MetaRefusal>
 // The metadata of a JSON value.
 #[tactic(auto, unfolding(crate::specs::Reading::meta_of))]
 fn meta_of(alloc: Global, catalog: &Catalog, json: &Json) -> Result<Meta, MetaRefusal>
-    ensures { Gives meta_view MetaRefusal.Memory (meta_of catalog.now.tables (json_view json.now)) result }
+    requires { Shallow (json_view json.now) }
+    ensures due { Gives meta_view MetaRefusal.Memory (meta_of catalog.now.tables (json_view json.now)) result }
+    ensures sound { IfOk result (λ meta. TablesSound (schema_of catalog.now.tables (meta_view meta)) (meta_view meta).tracked) }
+    ensures names { IfOk result (λ meta. names_differ (schema_of catalog.now.tables (meta_view meta)) (meta_view meta) ≡ true) }
 {
     let entries = table_entries(alloc, unwrapped(json))?;
     tracked_of(alloc, catalog, entries)
@@ -76,7 +84,8 @@ fn check_all_names(
     meta: &Meta,
     path: &Txt,
 ) -> Result<(), MetaRefusal>
-    ensures { Gives (λ done. done) MetaRefusal.Memory (names_in (names_due (schema_of catalog.now.tables (meta_view meta.now)) (meta_view meta.now) path.now)) result }
+    ensures due { Gives (λ done. done) MetaRefusal.Memory (names_in (names_due (schema_of catalog.now.tables (meta_view meta.now)) (meta_view meta.now) path.now)) result }
+    ensures differ { OnOk result (names_differ (schema_of catalog.now.tables (meta_view meta.now)) (meta_view meta.now) ≡ true) }
 {
     check_names(alloc, catalog, meta, path)?;
     Ok(())
@@ -85,7 +94,10 @@ fn check_all_names(
 // The metadata that the entries give.
 #[tactic(auto, unfolding(crate::specs::Reading::tracked_of))]
 fn tracked_of(alloc: Global, catalog: &Catalog, list: &[Json]) -> Result<Meta, MetaRefusal>
-    ensures { Gives meta_view MetaRefusal.Memory (tracked_of catalog.now.tables (map json_view list.now)) result }
+    requires { AllByRecursion (λ j. Shallow (json_view j)) list.now }
+    ensures due { Gives meta_view MetaRefusal.Memory (tracked_of catalog.now.tables (map json_view list.now)) result }
+    ensures sound { IfOk result (λ meta. TablesSound (schema_of catalog.now.tables (meta_view meta)) (meta_view meta).tracked) }
+    ensures names { IfOk result (λ meta. names_differ (schema_of catalog.now.tables (meta_view meta)) (meta_view meta) ≡ true) }
 {
     let path = tables_path(alloc)?;
     let meta = named(alloc, catalog, &path, list)?;

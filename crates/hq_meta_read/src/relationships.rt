@@ -112,10 +112,11 @@ fn all_rels(
 {
     let mut all = List::new(alloc);
     for (place, table) in tables.iter().enumerate() {
-        if let Some(entry) = list.get(place) {
-            let path = item_path(alloc, path, place)?;
-            all.push(rels_at(alloc, scope, &path, *table, entry)?)?;
-        }
+        let Some(entry) = list.get(place) else {
+            continue;
+        };
+        let path = item_path(alloc, path, place)?;
+        all.push(rels_at(alloc, scope, &path, *table, entry)?)?;
     }
     Ok(all)
 }
