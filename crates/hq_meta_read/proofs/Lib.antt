@@ -9,3 +9,4 @@ mod Beside
 mod Fitting
 mod Loops
 mod Nesting
+mod Sounds

@@ -1,7 +1,8 @@
 -- What holds of the value of a step, where there is one, and of what the elements of a list give.
-use Rattle.std.proofs.Common.{◌≡◌, ◌∙◌, ℕ, ◌+◌, List, [], ◌∷◌, ◌++◌, Bool, true, false, cond, Option, Some, None, Result, Ok, Err, refl, sym, ap, append_assoc, append-nil}
+use Rattle.std.proofs.Common.{◌≡◌, ◌∙◌, ℕ, ◌+◌, ◌<◌, List, [], ◌∷◌, ◌++◌, length, map, drop, get_or, Bool, true, false, cond, Option, Some, None, Result, Ok, Err, refl, sym, ap, append_assoc, append-nil}
 use Rattle.std.specs.Prelude.{IfOk, IfSome, ok_or, ⊤}
 use Rattle.std.specs.List.{AllZip}
+use Rattle.std.proofs.lemmas.List.{drop_more}
 use Rattle.hq_base.specs.Due.{and_then, mapped}
 use Rattle.hq_base.specs.Path.{item_path, member_path}
 use Rattle.hq_filter_read.specs.Each.{each_member}
@@ -83,3 +84,12 @@ each_member-beside P read step path (m ∷ ms) =
     ok_and_then (λ y. mapped (λ ys. y ∷ ys) (each_member read path ms)) P (AllZip (λ m y. P y) (m ∷ ms))
     (λ y h. ok_mapped (λ ys. y ∷ ys) (AllZip (λ m y. P y) ms) (AllZip (λ m y. P y) (m ∷ ms)) (λ ys g. (h, g)) (each_member read path ms) (each_member-beside P read step path ms))
     (read m.0 (member_path path m.0) m.1) (step m.0 (member_path path m.0) m.1)
+
+-- one element more is read, behind those before it
+pub each_after-more : {A B C E : Type 0} (read : List B → List ℕ → C → Result B E) (f : A → C) (path p : List ℕ) (place : ℕ) (before new : List B) (xs : List A) (x : A) (y : B) → place < length xs → x ≡ get_or xs place x → p ≡ item_path path place → read before p (f x) ≡ Ok y → new ≡ before ++ y ∷ [] → each_after read path (place + 1) new (map f (drop (place + 1) xs)) ≡ each_after read path place before (map f (drop place xs))
+each_after-more read f path p place before new xs x y below is at given grows =
+    let rest = λ (v : B). each_after read path (place + 1) (before ++ v ∷ []) (map f (drop (place + 1) xs)) in
+    sym
+    (ap (λ vs. each_after read path place before (map f vs)) (drop_more xs place x below)
+    ∙ ap (and_then rest) (ap (λ z. read before (item_path path place) (f z)) (sym is) ∙ ap (λ q. read before q (f x)) (sym at) ∙ given)
+    ∙ ap (λ all. each_after read path (place + 1) all (map f (drop (place + 1) xs))) (sym grows))
