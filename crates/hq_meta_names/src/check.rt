@@ -24,13 +24,7 @@ fn types_of(alloc: Global, scope: &Scope, tracked: &Tracked) -> Result<TxtList, 
     let columns = columns.as_slice();
     let ordered = some_ordered(scope, tracked.table, columns);
     let whole = some_whole(scope, tracked.table, columns);
-    types_by(
-        alloc,
-        has_columns(tracked),
-        ordered,
-        whole,
-        &tracked.name,
-    )
+    types_by(alloc, has_columns(tracked), ordered, whole, &tracked.name)
 }
 
 // The root fields of a table, none where it stands in no schema.

@@ -123,11 +123,7 @@ fn name_at(alloc: Global, names: &TxtList, column: ColId) -> Result<Txt, Memory>
 }
 
 // The GraphQL names of these columns of a table.
-fn names_of(
-    alloc: Global,
-    tracked: &Tracked,
-    columns: &[ColId],
-) -> Result<TxtList, Memory>
+fn names_of(alloc: Global, tracked: &Tracked, columns: &[ColId]) -> Result<TxtList, Memory>
     ensures { IfOk result (λ names. names ≡ map (λ c. slice_index_or tracked.now.column_names c []) columns.now) }
 {
     let mut names = List::new(alloc);

@@ -16,12 +16,7 @@ pub fn with_end(alloc: Global, name: &Txt, end: &str) -> Result<Txt, Memory>
 }
 
 /// Names, and behind them a name with an end.
-pub fn push_end(
-    alloc: Global,
-    names: TxtList,
-    name: &Txt,
-    end: &str,
-) -> Result<TxtList, Memory>
+pub fn push_end(alloc: Global, names: TxtList, name: &Txt, end: &str) -> Result<TxtList, Memory>
     requires { has_zero end.now ≡ false }
     ensures { IfOk result (λ all. all ≡ names ++ (name.now ++ end.now) ∷ []) }
 {

@@ -5,6 +5,7 @@ use Rattle.std.specs.List.{AllByRecursion, AllZip, list_all, list_any, zip}
 use Rattle.std.proofs.lemmas.Bool.{and_parts, and_from, lt-ltb, le-leb, eq-eqb}
 use Rattle.std.proofs.lemmas.List.{length-map}
 use Rattle.std.proofs.lemmas.Option.{unwrap_or-slice_get, slice_get_within}
+use Rattle.std.proofs.lemmas.Result.{IfOk-at_ok}
 use Rattle.std.proofs.lemmas.Slice.Zip.{AllZip-long}
 use Rattle.hq_base.specs.Due.{and_then}
 use Rattle.hq_base.specs.Json.{JsonTree}
@@ -228,3 +229,15 @@ tracked_of-FitsIf tables js catalog =
     (permitted tables tables_path js n) (permitted-is tables js m n f.each (h.1 ∙ long_as n.tracked m.tracked f.same)))
     (related tables tables_path js m) (related-is tables js m catalog h.0.heads h.1))
     (named tables js) (named-is tables js)
+
+pub meta_of-FitsIf : (tables : List Table) (j : JsonTree) → is_catalog tables ≡ true → IfOk (meta_of tables j) (FitsIf tables)
+unfolding meta_of
+meta_of-FitsIf tables j catalog =
+    ok_next (λ entries. tracked_of tables entries) (FitsIf tables) (λ entries. tracked_of-FitsIf tables entries catalog) (table_entries (unwrapped j))
+
+-- the schema of what the passes gave is that before permissions
+pub tracked_of-schema : (tables : List Table) (js : List JsonTree) (m n q : MetaTree) → is_catalog tables ≡ true → named tables js ≡ Ok m → related tables tables_path js m ≡ Ok n → permitted tables tables_path js n ≡ Ok q → schema_of tables q ≡ schema_of tables n
+tracked_of-schema tables js m n q catalog is_m is_n is_q =
+    let h = IfOk-at_ok (λ m. Tracked tables m.tracked × (length js ≡ length m.tracked)) is_m (named-is tables js) in
+    let f = IfOk-at_ok (λ n. WithRels (Head tables) (Rels tables m) m.tracked n.tracked) is_n (related-is tables js m catalog h.0.heads h.1) in
+    IfOk-at_ok (λ q. schema_of tables q ≡ schema_of tables n) is_q (permitted-schema tables tables_path js n (h.1 ∙ long_as n.tracked m.tracked f.same))

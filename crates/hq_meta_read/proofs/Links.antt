@@ -24,7 +24,7 @@ use Rattle.hq_meta_read.specs.Each.{each, each_after}
 use Rattle.hq_meta_read.specs.Found.{columns_of, column_named, column_at, table_at, remote_at, tracked_due}
 use Rattle.hq_meta_read.specs.Linked.{just_one, pairs_of, own_key, remote_key, by_own_key, key_columns, by_remote_key, by_key_of, by_key, pair_due, pair_at, some_pair, pairs_at, by_hand, link_by, link_at}
 use Rattle.hq_meta_read.specs.Node.{required, checked, at, value_of, object_at, text_at, member_at, free_name_at, object_member, entries_member}
-use Rattle.hq_meta_read.specs.Related.{rel_at, rels_at}
+use Rattle.hq_meta_read.specs.Related.{rel_at, objects_at, rels_at}
 use Rattle.hq_meta_read.proofs.Heads.{free_name_at-free}
 use Rattle.hq_meta_read.proofs.Keys.{joins, Pairs, Key, own_pairs, remote_pairs, own_key-Key, remote_key-Key}
 use Rattle.hq_meta_read.proofs.Lists.{positive, push_all, list_all-push, list_all-from, beside_all, objects-only, objects-push}
@@ -204,16 +204,19 @@ arrays-Rels tables m t path before js catalog i =
     (rel_at-Related tables m t true p j catalog))
     path 0 before js i
 
+objects_at-Objects : (tables : List Table) (m : MetaTree) (path : List ℕ) (entry : ℕ × JsonTree) → is_catalog tables ≡ true → IfOk (objects_at tables m path entry) (Objects tables m entry.0)
+unfolding objects_at
+objects_at-Objects tables m path entry catalog =
+    let op = at path field.ObjectRelationships in
+    ok_next (λ list. each (rel_at tables m entry.0 false) op list) (Objects tables m entry.0) (λ list. objects-Objects tables m entry.0 op list catalog) (entries_member path entry.1 field.ObjectRelationships)
+
 pub rels_at-Rels : (tables : List Table) (m : MetaTree) (path : List ℕ) (entry : ℕ × JsonTree) → is_catalog tables ≡ true → IfOk (rels_at tables m path entry) (Rels tables m entry.0)
 unfolding rels_at
 rels_at-Rels tables m path entry catalog =
     let t = entry.0 in
-    let op = at path field.ObjectRelationships in
     let rp = at path field.ArrayRelationships in
-    ok_next (λ objects. and_then (λ rels. and_then (λ arrays. each_after (λ before. rel_at tables m t true) rp 0 rels arrays) (entries_member path entry.1 field.ArrayRelationships)) (each (rel_at tables m t false) op objects)) (Rels tables m t)
-    (λ objects. ok_and_then (λ rels. and_then (λ arrays. each_after (λ before. rel_at tables m t true) rp 0 rels arrays) (entries_member path entry.1 field.ArrayRelationships)) (Objects tables m t) (Rels tables m t)
-    (λ rels h. ok_next (λ arrays. each_after (λ before. rel_at tables m t true) rp 0 rels arrays) (Rels tables m t)
-    (λ arrays. arrays-Rels tables m t rp rels arrays catalog (record { each = h.each; first = objects-only rels h.only }))
+    ok_and_then (λ objects. and_then (λ list. each_after (λ before. rel_at tables m t true) rp 0 objects list) (entries_member path entry.1 field.ArrayRelationships)) (Objects tables m t) (Rels tables m t)
+    (λ objects h. ok_next (λ list. each_after (λ before. rel_at tables m t true) rp 0 objects list) (Rels tables m t)
+    (λ list. arrays-Rels tables m t rp objects list catalog (record { each = h.each; first = objects-only objects h.only }))
     (entries_member path entry.1 field.ArrayRelationships))
-    (each (rel_at tables m t false) op objects) (objects-Objects tables m t op objects catalog))
-    (entries_member path entry.1 field.ObjectRelationships)
+    (objects_at tables m path entry) (objects_at-Objects tables m path entry catalog)

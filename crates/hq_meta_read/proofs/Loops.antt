@@ -1,8 +1,18 @@
 -- Lists beside one another, from a place on.
-use Rattle.std.proofs.Common.{◌≡◌, ◌∙◌, ℕ, zero, suc, ◌+◌, ◌<◌, ◌≤◌, List, [], ◌∷◌, ◌++◌, length, take, drop, get_or, Option, Some, None, slice_get, refl, sym, ap, arith}
+use Rattle.std.proofs.Common.{◌≡◌, ◌∙◌, ℕ, zero, suc, ◌+◌, ◌<◌, ◌≤◌, List, [], ◌∷◌, ◌++◌, length, take, drop, get_or, map, Option, Some, None, Result, Ok, Err, slice_get, refl, sym, ap, arith, inl, inr}
+use Rattle.std.specs.Prelude.{◌⊎◌}
 use Rattle.std.specs.List.{zip}
-use Rattle.std.proofs.lemmas.List.{drop_more}
+use Rattle.std.proofs.lemmas.List.{drop_more, map-append}
 use Rattle.std.proofs.lemmas.Option.{slice_get_within, get_or_from_slice_get}
+use Rattle.hq_base.specs.Due.{and_then}
+use Rattle.hq_base.specs.Path.{item_path}
+use Rattle.hq_terms.specs.declared.meta.Pair.{Pair}
+use Rattle.hq_meta_read.specs.Each.{each_after}
+use Rattle.hq_meta_read.specs.Linked.{pairs_of}
+
+-- a pair of columns
+abbrev pub pair : ℕ → ℕ → Pair
+pair c d = record { own = c; remote = d }
 
 -- the items at a place, and those behind it
 pub zip_here : {A B : Type 0} (xs : List A) (ys : List B) (i : ℕ) (x : A) (y : B) → i < length xs → x ≡ get_or xs i x → slice_get ys i ≡ Some y → zip (drop i xs) (drop i ys) ≡ (x, y) ∷ zip (drop (i + 1) xs) (drop (i + 1) ys)
@@ -58,3 +68,41 @@ pub zip_same : {A B : Type 0} (xs : List A) (ys : List B) (i : ℕ) → slice_ge
 zip_same xs ys i none =
     let next : i + 1 ≡ suc i = omega arith in
     ap (λ n. zip (take n xs) ys) next ∙ same xs ys i none
+
+-- one pair more, and none more
+pub pairs_more : (own remote : List ℕ) (i c d : ℕ) → i < length own → c ≡ get_or own i c → slice_get remote i ≡ Some d → pairs_of (take (i + 1) own) remote ≡ pairs_of (take i own) remote ++ pair c d ∷ []
+pairs_more own remote i c d below is there =
+    ap (map (λ p. pair p.0 p.1)) (zip_more own remote i c d below is there) ∙ map-append (λ p. pair p.0 p.1) (zip (take i own) remote) ((c, d) ∷ [])
+
+pub pairs_same : (own remote : List ℕ) (i : ℕ) → slice_get remote i ≡ None → pairs_of (take (i + 1) own) remote ≡ pairs_of (take i own) remote
+pairs_same own remote i none = ap (map (λ p. pair p.0 p.1)) (zip_same own remote i none)
+
+-- what is read of two lists side by side, from a place on
+pub zip_step : {A B C E : Type 0} (read : List C → List ℕ → A × B → Result C E) (path : List ℕ) (before : List C) (xs : List A) (ys : List B) (i : ℕ) (x : A) (y : B) → i < length xs → x ≡ get_or xs i x → slice_get ys i ≡ Some y → each_after read path i before (zip (drop i xs) (drop i ys)) ≡ and_then (λ z. each_after read path (i + 1) (before ++ z ∷ []) (zip (drop (i + 1) xs) (drop (i + 1) ys))) (read before (item_path path i) (x, y))
+zip_step read path before xs ys i x y below is there = ap (each_after read path i before) (zip_here xs ys i x y below is there)
+
+-- the step was refused
+pub zip_refused : {A B C E : Type 0} (read : List C → List ℕ → A × B → Result C E) (path p : List ℕ) (before : List C) (xs : List A) (ys : List B) (i : ℕ) (x : A) (y : B) (e : E) → i < length xs → x ≡ get_or xs i x → slice_get ys i ≡ Some y → p ≡ item_path path i → read before p (x, y) ≡ Err e → each_after read path i before (zip (drop i xs) (drop i ys)) ≡ Err e
+zip_refused read path p before xs ys i x y e below is there at refused =
+    zip_step read path before xs ys i x y below is there
+    ∙ ap (and_then (λ z. each_after read path (i + 1) (before ++ z ∷ []) (zip (drop (i + 1) xs) (drop (i + 1) ys)))) (ap (λ q. read before q (x, y)) (sym at) ∙ refused)
+
+-- the step gave a value
+pub zip_given : {A B C E : Type 0} (read : List C → List ℕ → A × B → Result C E) (path p : List ℕ) (before new : List C) (xs : List A) (ys : List B) (i : ℕ) (x : A) (y : B) (z : C) → i < length xs → x ≡ get_or xs i x → slice_get ys i ≡ Some y → p ≡ item_path path i → read before p (x, y) ≡ Ok z → new ≡ before ++ z ∷ [] → each_after read path (i + 1) new (zip (drop (i + 1) xs) (drop (i + 1) ys)) ≡ each_after read path i before (zip (drop i xs) (drop i ys))
+zip_given read path p before new xs ys i x y z below is there at given grows =
+    ap (λ all. each_after read path (i + 1) all (zip (drop (i + 1) xs) (drop (i + 1) ys))) grows
+    ∙ sym
+    (zip_step read path before xs ys i x y below is there
+    ∙ ap (and_then (λ z. each_after read path (i + 1) (before ++ z ∷ []) (zip (drop (i + 1) xs) (drop (i + 1) ys)))) (ap (λ q. read before q (x, y)) (sym at) ∙ given))
+
+-- there was no step
+pub zip_skipped : {A B C E : Type 0} (read : List C → List ℕ → A × B → Result C E) (path : List ℕ) (before : List C) (xs : List A) (ys : List B) (i : ℕ) → slice_get ys i ≡ None → each_after read path (i + 1) before (zip (drop (i + 1) xs) (drop (i + 1) ys)) ≡ each_after read path i before (zip (drop i xs) (drop i ys))
+zip_skipped read path before xs ys i none =
+    let left : zip (drop (i + 1) xs) (drop (i + 1) ys) ≡ [] = sym (zip_past xs ys i none) ∙ zip_nil (drop i xs) (drop i ys) (drop_past ys i none).0 in
+    let here : zip (drop i xs) (drop i ys) ≡ [] = zip_nil (drop i xs) (drop i ys) (drop_past ys i none).0 in
+    ap (each_after read path (i + 1) before) left ∙ sym (ap (each_after read path i before) here)
+
+-- where the step was refused, or memory was wanting, so it is with all
+pub refused_more : {Y Z E : Type 0} (e memory : E) (here : Result Y E) (due : Result Z E) → (here ≡ Err e → due ≡ Err e) → (e ≡ memory) ⊎ (here ≡ Err e) → (e ≡ memory) ⊎ (due ≡ Err e)
+refused_more e memory here due more (inl m) = inl m
+refused_more e memory here due more (inr h) = inr (more h)

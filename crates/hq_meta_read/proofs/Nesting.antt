@@ -1,11 +1,11 @@
 -- What stands in a file nests no deeper than the file.
-use Rattle.std.proofs.Common.{◌≡◌, ◌∙◌, ℕ, zero, suc, max, ◌+◌, ◌*◌, ◌<◌, ◌≤◌, List, [], ◌∷◌, length, map, get_or, Bool, true, false, cond, Option, Some, None, option_and_then, Result, Ok, Err, refl, sym, ap, subst, arith}
+use Rattle.std.proofs.Common.{◌≡◌, ◌∙◌, ℕ, zero, suc, max, ◌+◌, ◌*◌, ◌<◌, ◌≤◌, List, [], ◌∷◌, length, map, get_or, slice_get, Bool, true, false, cond, Option, Some, None, option_and_then, Result, Ok, Err, refl, sym, ap, subst, arith}
 use Rattle.std.specs.Prelude.{IfOk, IfSome, ⊤, ok_or, bytes_eq, is_some}
 use Rattle.std.specs.List.{AllByRecursion}
 use Rattle.std.specs.Map.{lookup}
 use Rattle.hq_base.specs.Due.{and_then}
 use Rattle.hq_base.specs.Json.{JsonTree, null, bool, int, str, arr, obj, ElementTrees, no_element, element, MemberTrees, no_member, member, json_view}
-use Rattle.hq_base.specs.declared.json.Json.{Json}
+use Rattle.hq_base.specs.declared.body.JsonRefusal.{JsonRefusal}
 use Rattle.hq_base.specs.Path.{top_path}
 use Rattle.hq_base.specs.Look.{array_in, object_in, member_in, element_list, member_list}
 use Rattle.hq_filter_read.specs.Nesting.{nesting, nesting_of_elements, nesting_of_members}
@@ -16,6 +16,7 @@ use Rattle.hq_meta_read.specs.declared.refusal.MetaRefusal.{MetaRefusal}
 use Rattle.hq_meta_read.specs.declared.refusal.MetaRefusal.TheVariants as refusal
 use Rattle.hq_meta_read.specs.Field.{field_name}
 use Rattle.hq_meta_read.specs.Node.{at, value_of, checked, object_at, text_member, list_at, member_at, list_member, object_member, entries_in, entries_member}
+use Rattle.hq_meta_read.specs.Reading.{json_in}
 use Rattle.hq_meta_read.specs.Sound.{Shallow}
 use Rattle.hq_meta_read.specs.Top.{unwrapped_by, unwrapped, version_due, sole, no_inherited_roles, kind_due, plain_in, source_path, source_tables, table_entries}
 use Rattle.hq_meta_read.proofs.Steps.{ok_weaker, ok_and_then, ok_next, ok_found, ok_tested}
@@ -150,3 +151,18 @@ all_item P (y ∷ ys) (suc i) x all below is = all_item P ys i x all.1 (omega (a
 pub all_seen : {A B : Type 0} (P : B → Type 0) (f : A → B) (xs : List A) → AllByRecursion P (map f xs) → AllByRecursion (λ x. P (f x)) xs
 all_seen P f [] all = tt
 all_seen P f (x ∷ xs) all = (all.0, all_seen P f xs all.1)
+
+pub all_got : {A : Type 0} (P : A → Type 0) (xs : List A) (i : ℕ) (x : A) → AllByRecursion P xs → slice_get xs i ≡ Some x → P x
+all_got P [] i x all is = cc
+all_got P (y ∷ ys) zero x all is = let same : y ≡ x = cc in subst P same all.0
+all_got P (y ∷ ys) (suc i) x all is = all_got P ys i x all.1 is
+
+-- a member nests no deeper than its object
+pub member_at-nests : (path : List ℕ) (j : JsonTree) (f : Field) → IfOk (member_at path j f) (λ v. nesting v ≤ nesting j)
+unfolding member_at
+member_at-nests path j f = ok_found (value_of j f) (refusal.Shape (at path f)) (λ v. nesting v ≤ nesting j) (λ v is. member_nests j v (field_name f) is)
+
+-- JSON that was read was that of the body
+pub json_in-Ok : (r : Result JsonTree JsonRefusal) (j : JsonTree) → json_in r ≡ Ok j → r ≡ Ok j
+json_in-Ok (Ok k) j is = is
+json_in-Ok (Err e) j is = cc

@@ -21,13 +21,18 @@ rel_at tables m t many path j = do
   link ← link_at tables m t many (at path field.Using) using
   Ok (record { name = name; remote = link.remote; pairs = link.pairs; many = many })
 
+-- the object relationships of an entry at a path, with the place of its table
+unfoldable pub objects_at : List Table → MetaTree → (path : List ℕ) → ℕ × JsonTree → Result (List Rel) MetaRefusal
+objects_at tables m path entry = do
+  list ← entries_member path entry.1 field.ObjectRelationships
+  each (rel_at tables m entry.0 false) (at path field.ObjectRelationships) list
+
 -- the relationships of an entry at a path, with the place of its table: object ones first
 unfoldable pub rels_at : List Table → MetaTree → (path : List ℕ) → ℕ × JsonTree → Result (List Rel) MetaRefusal
 rels_at tables m path entry = do
-  objects ← entries_member path entry.1 field.ObjectRelationships
-  rels ← each (rel_at tables m entry.0 false) (at path field.ObjectRelationships) objects
-  arrays ← entries_member path entry.1 field.ArrayRelationships
-  each_after (λ before. rel_at tables m entry.0 true) (at path field.ArrayRelationships) 0 rels arrays
+  objects ← objects_at tables m path entry
+  list ← entries_member path entry.1 field.ArrayRelationships
+  each_after (λ before. rel_at tables m entry.0 true) (at path field.ArrayRelationships) 0 objects list
 
 -- tracked tables beside what their entries give
 abbrev pub rels_beside : List TrackedTree → List (List Rel) → List TrackedTree

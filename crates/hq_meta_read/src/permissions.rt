@@ -30,7 +30,12 @@ use std::alloc::Global;
 fn has_role(perms: &[Perm], role: &Txt) -> bool
     ensures { result ≡ list_any (λ p. bytes_eq p.role role.now) (map perm_view perms.now) }
 {
-    perms.iter().any(|perm| perm.role == *role)
+    for perm in perms {
+        if perm.role == *role {
+            return true;
+        }
+    }
+    false
 }
 
 // Whether a role's name is that of admin.
@@ -347,7 +352,7 @@ fn with_perms(alloc: Global, meta: Meta, perms: List<PermList>) -> Result<Meta, 
     let mut tables = meta.tracked.into_vec();
     let mut perms = perms.into_vec();
     let mut tracked = List::new(alloc);
-    while !tables.is_empty() && !perms.is_empty() {
+    'tables: while !tables.is_empty() && !perms.is_empty() {
         let table = tables.remove(0);
         tracked.push(Tracked {
             perms: perms.remove(0),

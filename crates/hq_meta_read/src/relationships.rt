@@ -3,7 +3,7 @@ ghost use Rattle.hq_base.specs.Due.{Gives};
 ghost use Rattle.hq_base.specs.Json.{json_view};
 ghost use Rattle.hq_terms.specs.Meta.{meta_view};
 ghost use Rattle.hq_meta_read.specs.Each.{each, each_after};
-ghost use Rattle.hq_meta_read.specs.Related.{rel_at, rels_at, with_rels, related};
+ghost use Rattle.hq_meta_read.specs.Related.{rel_at, objects_at, rels_at, with_rels, related};
 
 use crate::MetaRefusal;
 use crate::field::Field;
@@ -73,6 +73,22 @@ fn listed_rels(
     Ok(rels)
 }
 
+// The object relationships of a table, whose entry stands at a path.
+#[tactic(auto, unfolding(crate::specs::Related::objects_at))]
+fn objects_at(
+    alloc: Global,
+    scope: &Scope,
+    path: &Txt,
+    table: TableId,
+    entry: &Json,
+) -> Result<RelList, MetaRefusal>
+    ensures { Gives (λ rels. rels) MetaRefusal.Memory (objects_at scope.now.catalog.now.tables (meta_view scope.now.meta.now) path.now (table, json_view entry.now)) result }
+{
+    let list = entries_member(alloc, path, entry, Field::ObjectRelationships)?;
+    let path = at(alloc, path, Field::ObjectRelationships)?;
+    listed_rels(alloc, scope, table, false, &path, List::new(alloc), list)
+}
+
 // The relationships of a table, whose entry stands at a path: object ones first.
 #[tactic(auto, unfolding(crate::specs::Related::rels_at))]
 fn rels_at(
@@ -84,20 +100,10 @@ fn rels_at(
 ) -> Result<RelList, MetaRefusal>
     ensures { Gives (λ rels. rels) MetaRefusal.Memory (rels_at scope.now.catalog.now.tables (meta_view scope.now.meta.now) path.now (table, json_view entry.now)) result }
 {
-    let objects = entries_member(alloc, path, entry, Field::ObjectRelationships)?;
-    let objects_path = at(alloc, path, Field::ObjectRelationships)?;
-    let rels = listed_rels(
-        alloc,
-        scope,
-        table,
-        false,
-        &objects_path,
-        List::new(alloc),
-        objects,
-    )?;
-    let arrays = entries_member(alloc, path, entry, Field::ArrayRelationships)?;
-    let arrays_path = at(alloc, path, Field::ArrayRelationships)?;
-    listed_rels(alloc, scope, table, true, &arrays_path, rels, arrays)
+    let objects = objects_at(alloc, scope, path, table, entry)?;
+    let list = entries_member(alloc, path, entry, Field::ArrayRelationships)?;
+    let path = at(alloc, path, Field::ArrayRelationships)?;
+    listed_rels(alloc, scope, table, true, &path, objects, list)
 }
 
 // The relationships of tables, whose entries stand in the list at a path.
@@ -128,7 +134,7 @@ fn with_rels(alloc: Global, meta: Meta, rels: List<RelList>) -> Result<Meta, Mem
     let mut tables = meta.tracked.into_vec();
     let mut rels = rels.into_vec();
     let mut tracked = List::new(alloc);
-    while !tables.is_empty() && !rels.is_empty() {
+    'tables: while !tables.is_empty() && !rels.is_empty() {
         let table = tables.remove(0);
         tracked.push(Tracked {
             rels: rels.remove(0),

@@ -20,7 +20,12 @@ use std::alloc::Global;
 fn is_tracked(tracked: &[Tracked], table: TableId) -> bool
     ensures { result ≡ list_any (λ k. k.table == table) (map tracked_view tracked.now) }
 {
-    tracked.iter().any(|entry| entry.table.at() == table.at())
+    for entry in tracked {
+        if entry.table.at() == table.at() {
+            return true;
+        }
+    }
+    false
 }
 
 // A table is tracked once.

@@ -50,9 +50,9 @@ fn metadata(alloc: Global, tables: u32, columns: u32) -> Result<String, AllocErr
 
 #[test]
 fn the_largest_catalog_is_tracked(rt: HostRuntime) -> Result<(), Fail> {
-    let file = catalog(rt.alloc(), 50, 200)?;
+    let file = catalog(rt.alloc(), 500, 200)?;
     let catalog = read_catalog(rt.alloc(), file.as_bytes())?;
-    let file = metadata(rt.alloc(), 50, 200)?;
+    let file = metadata(rt.alloc(), 500, 200)?;
     assert_eq!(rt; told(rt.alloc(), &catalog, file.as_str())?.as_str(), "read");
     Ok(())
 }

@@ -1,0 +1,28 @@
+use Rattle.std.proofs.Common.{◌≡◌, ◌∙◌, Some, map, option_map, slice_get, sym, ap}
+use Rattle.std.proofs.lemmas.Option.{slice_get-map}
+use Rattle.std.proofs.lemmas.Result.{err_from_is_err_and}
+use Rattle.hq_base.specs.Json.{json_view}
+use Rattle.hq_terms.specs.Meta.{meta_view}
+use Rattle.hq_meta_read.specs.declared.refusal.MetaRefusal.TheVariants.{Memory}
+use Rattle.hq_meta_read.specs.Related.{rels_at}
+use Rattle.hq_meta_read.proofs.Loops.{zip_refused, zip_given, refused_more}
+use Rattle.hq_meta_read.proofs.relationships.all_rels.Goals as goal
+
+pub returns-in_err-rels_at : goal.returns-in_err-rels_at
+returns-in_err-rels_at c =
+    let p = err_from_is_err_and c.from_residual-in_err-rels_at.result c.from_residual-in_err-rels_at.ensures.1 in
+    let read = rels_at c.args.scope.now.catalog.now.tables (meta_view c.args.scope.now.meta.now) in
+    let entry = json_view c.in-Some.entry.now in
+    let there : slice_get (map json_view c.args.list.now) c.loop-place.place ≡ Some entry = slice_get-map json_view c.args.list.now c.loop-place.place ∙ ap (option_map json_view) (sym c.in-Some.ensures.lookup) in
+    rw (p.1, p.2)
+    (refused_more c.in_err-rels_at.field-0.0 Memory (read c.in_ok-path.path (c.index-tables-place.result, entry)) _
+    (λ h. sym c.loop-place.invariant ∙ zip_refused (λ before. read) c.args.path.now c.in_ok-path.path c.loop-place.all c.args.tables.now (map json_view c.args.list.now) c.loop-place.place c.index-tables-place.result entry c.in_err-rels_at.field-0.0 c.loop-place-test.true c.index-tables-place.is there c.in_ok-path.ensures h)
+    c.in_err-rels_at.ensures)
+
+pub loop-place-preserved : goal.loop-place-preserved
+loop-place-preserved c =
+    let read = rels_at c.args.scope.now.catalog.now.tables (meta_view c.args.scope.now.meta.now) in
+    let entry = json_view c.in-Some.entry.now in
+    let there : slice_get (map json_view c.args.list.now) c.loop-place.place ≡ Some entry = slice_get-map json_view c.args.list.now c.loop-place.place ∙ ap (option_map json_view) (sym c.in-Some.ensures.lookup) in
+    zip_given (λ before. read) c.args.path.now c.in_ok-path.path c.loop-place.all c.push.new.self c.args.tables.now (map json_view c.args.list.now) c.loop-place.place c.index-tables-place.result entry c.in_ok-rels_at.field-0 c.loop-place-test.true c.index-tables-place.is there c.in_ok-path.ensures c.in_ok-rels_at.ensures c.in_ok-push.ensures.ok
+    ∙ c.loop-place.invariant
