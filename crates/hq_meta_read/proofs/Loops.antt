@@ -1,12 +1,18 @@
 -- Lists beside one another, from a place on.
 use Rattle.std.proofs.Common.{◌≡◌, ◌∙◌, ℕ, zero, suc, ◌+◌, ◌<◌, ◌≤◌, List, [], ◌∷◌, ◌++◌, length, take, drop, get_or, map, Option, Some, None, Result, Ok, Err, slice_get, refl, sym, ap, arith, inl, inr}
 use Rattle.std.specs.Prelude.{◌⊎◌}
-use Rattle.std.specs.List.{zip}
+use Rattle.std.specs.List.{remove, zip}
 use Rattle.std.proofs.lemmas.List.{drop_more, map-append}
 use Rattle.std.proofs.lemmas.Option.{slice_get_within, get_or_from_slice_get}
 use Rattle.hq_base.specs.Due.{and_then}
 use Rattle.hq_base.specs.Path.{item_path}
+use Rattle.hq_terms.specs.Meta.{PermTree, TrackedTree, perm_view, tracked_view}
 use Rattle.hq_terms.specs.declared.meta.Pair.{Pair}
+use Rattle.hq_terms.specs.declared.meta.Perm.{Perm}
+use Rattle.hq_terms.specs.declared.meta.Rel.{Rel}
+use Rattle.hq_terms.specs.declared.meta.Tracked.{Tracked}
+use Rattle.hq_meta_read.specs.Permitted.{perms_beside}
+use Rattle.hq_meta_read.specs.Related.{rels_beside}
 use Rattle.hq_meta_read.specs.Each.{each_after}
 use Rattle.hq_meta_read.specs.Linked.{pairs_of}
 
@@ -106,3 +112,34 @@ zip_skipped read path before xs ys i none =
 pub refused_more : {Y Z E : Type 0} (e memory : E) (here : Result Y E) (due : Result Z E) → (here ≡ Err e → due ≡ Err e) → (e ≡ memory) ⊎ (here ≡ Err e) → (e ≡ memory) ⊎ (due ≡ Err e)
 refused_more e memory here due more (inl m) = inl m
 refused_more e memory here due more (inr h) = inr (more h)
+
+-- the first table, and the first of what is put in
+pub rels_first : (ts : List Tracked) (rels : List (List Rel)) (k : Tracked) (rs : List Rel) → 0 < length ts → k ≡ get_or ts 0 k → 0 < length rels → rs ≡ get_or rels 0 rs → rels_beside (map tracked_view ts) rels ≡ (record (tracked_view k) { rels = rs }) ∷ rels_beside (map tracked_view (remove ts 0)) (remove rels 0)
+rels_first [] rels k rs some is more are = absurd (omega (arith, some))
+rels_first (t ∷ ts) [] k rs some is more are = absurd (omega (arith, more))
+rels_first (t ∷ ts) (r ∷ rels) k rs some is more are = Prim.cc (is, are)
+
+pub perms_first : (ts : List Tracked) (perms : List (List Perm)) (k : Tracked) (ps : List Perm) → 0 < length ts → k ≡ get_or ts 0 k → 0 < length perms → ps ≡ get_or perms 0 ps → perms_beside (map tracked_view ts) (map (map perm_view) perms) ≡ (record (tracked_view k) { perms = map perm_view ps }) ∷ perms_beside (map tracked_view (remove ts 0)) (map (map perm_view) (remove perms 0))
+perms_first [] perms k ps some is more are = absurd (omega (arith, some))
+perms_first (t ∷ ts) [] k ps some is more are = absurd (omega (arith, more))
+perms_first (t ∷ ts) (p ∷ perms) k ps some is more are = Prim.cc (is, are)
+
+-- nothing is put into no table, and nothing where there is nothing
+pub rels_none : (ts : List TrackedTree) (rels : List (List Rel)) → (length ts ≡ 0) ⊎ (length rels ≡ 0) → rels_beside ts rels ≡ []
+rels_none [] rels none = refl
+rels_none (t ∷ ts) [] none = refl
+rels_none (t ∷ ts) (r ∷ rels) (inl none) = cc
+rels_none (t ∷ ts) (r ∷ rels) (inr none) = cc
+
+pub perms_none : (ts : List TrackedTree) (perms : List (List PermTree)) → (length ts ≡ 0) ⊎ (length perms ≡ 0) → perms_beside ts perms ≡ []
+perms_none [] perms none = refl
+perms_none (t ∷ ts) [] none = refl
+perms_none (t ∷ ts) (p ∷ perms) (inl none) = cc
+perms_none (t ∷ ts) (p ∷ perms) (inr none) = cc
+
+-- as many items as there are, or more, are all
+pub take_past : {A : Type 0} (xs : List A) (n : ℕ) → length xs ≤ n → take n xs ≡ xs
+take_past [] zero past = refl
+take_past [] (suc n) past = refl
+take_past (x ∷ xs) zero past = absurd (omega (arith, past))
+take_past (x ∷ xs) (suc n) past = ap (λ ys. x ∷ ys) (take_past xs n (omega (arith, past)))

@@ -164,5 +164,5 @@ member_at-nests path j f = ok_found (value_of j f) (refusal.Shape (at path f)) (
 
 -- JSON that was read was that of the body
 pub json_in-Ok : (r : Result JsonTree JsonRefusal) (j : JsonTree) → json_in r ≡ Ok j → r ≡ Ok j
-json_in-Ok (Ok k) j is = is
+json_in-Ok (Ok k) j is = cc
 json_in-Ok (Err e) j is = cc

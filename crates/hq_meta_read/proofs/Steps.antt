@@ -87,8 +87,8 @@ each_member-beside P read step path (m ∷ ms) =
 
 -- one element more is read, behind those before it
 pub each_after-more : {A B C E : Type 0} (read : List B → List ℕ → C → Result B E) (f : A → C) (path p : List ℕ) (place : ℕ) (before new : List B) (xs : List A) (x : A) (y : B) → place < length xs → x ≡ get_or xs place x → p ≡ item_path path place → read before p (f x) ≡ Ok y → new ≡ before ++ y ∷ [] → each_after read path (place + 1) new (map f (drop (place + 1) xs)) ≡ each_after read path place before (map f (drop place xs))
-each_after-more read f path p place before new xs x y below is at given grows =
-    let rest = λ (v : B). each_after read path (place + 1) (before ++ v ∷ []) (map f (drop (place + 1) xs)) in
+each_after-more {B = B} {E = E} read f path p place before new xs x y below is at given grows =
+    let rest : B → Result (List B) E = λ v. each_after read path (place + 1) (before ++ v ∷ []) (map f (drop (place + 1) xs)) in
     sym
     (ap (λ vs. each_after read path place before (map f vs)) (drop_more xs place x below)
     ∙ ap (and_then rest) (ap (λ z. read before (item_path path place) (f z)) (sym is) ∙ ap (λ q. read before q (f x)) (sym at) ∙ given)

@@ -1,4 +1,4 @@
--- The names of the members of a metadata file that are read, and the words that stand in it.
+-- The names of the members of a metadata file that are read.
 use Rattle.std.specs.Prelude.{ℕ, List, codes}
 use Rattle.hq_meta_read.specs.declared.field.Field.{Field}
 use Rattle.hq_meta_read.specs.declared.field.Field.TheVariants.{AllowAggregations, ArrayRelationships, Column, ColumnConfig, ColumnMapping, Columns, Configuration, CustomColumnNames, CustomName, CustomRootFields, Customization, Filter, ForeignKeyConstraintOn, InheritedRoles, Kind, Limit, ManualConfiguration, Metadata, Name, ObjectRelationships, Permission, QueryRootFields, RemoteTable, Role, Schema, Select, SelectAggregate, SelectByPk, SelectPermissions, Sources, SubscriptionRootFields, Table, Tables, Using, Version}

@@ -16,9 +16,7 @@ use std::alloc::Global;
 fn table_place(tables: &[Table], schema: &str, name: &Txt) -> Option<usize>
     ensures { result ≡ position (λ t. bytes_eq t.schema schema.now && bytes_eq t.name name.now) tables.now }
 {
-    tables
-        .iter()
-        .position(|table| table.schema.as_str() == schema && table.name == *name)
+    tables.iter().position(|table| table.schema.as_str() == schema && table.name == *name)
 }
 
 // The table of this schema and name, which a node at a path tells.

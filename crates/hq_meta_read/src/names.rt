@@ -250,11 +250,7 @@ fn text_or<'a>(given: Option<&'a Json>, other: &'a Txt) -> &'a Txt
 
 // The name of a column: the one that its member of `column_config` gives; where it has no such member, its member of
 // `custom_column_names`; else its own.
-fn column_name<'a>(
-    config: Option<&'a Json>,
-    texts: Option<&'a Json>,
-    column: &'a Column,
-) -> &'a Txt
+fn column_name<'a>(config: Option<&'a Json>, texts: Option<&'a Json>, column: &'a Column) -> &'a Txt
     ensures { result.now ≡ column_name_of (option_map (λ j. json_view j.now) config.entry) (option_map (λ j. json_view j.now) texts.entry) column.now }
 {
     let own = &column.name;
@@ -356,11 +352,7 @@ fn root(
     requires { has_zero end.now ≡ false }
     ensures { Gives (λ name. name) MetaRefusal.Memory (root_due path.now (option_map (λ j. json_view j.now) custom.entry) which name.now end.now) result }
 {
-    match root_in(
-        alloc,
-        &at(alloc, path, which)?,
-        given_value(custom, which),
-    )? {
+    match root_in(alloc, &at(alloc, path, which)?, given_value(custom, which))? {
         Some(given) => Ok(given.copy(alloc)?),
         None => {
             let mut other = name.copy(alloc)?;

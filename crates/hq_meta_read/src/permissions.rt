@@ -99,12 +99,7 @@ fn chosen(alloc: Global, listed: &[ColId], columns: &[Column]) -> Result<ColList
 }
 
 // All columns, where the text at a path is `*`.
-fn star(
-    alloc: Global,
-    columns: &[Column],
-    path: &Txt,
-    text: &Txt,
-) -> Result<ColList, MetaRefusal>
+fn star(alloc: Global, columns: &[Column], path: &Txt, text: &Txt) -> Result<ColList, MetaRefusal>
     ensures { Gives (λ cols. cols) MetaRefusal.Memory (star columns.now path.now text.now) result }
 {
     if text.as_str() != "*" {
@@ -150,14 +145,7 @@ fn filter_at(
     ensures is { IfOk result (λ b. is_filter (bexp_view b) (schema_of scope.now.catalog.now.tables (meta_view scope.now.meta.now)) table ≡ true) }
     ensures shallow { IfOk result (λ b. depth (bexp_view b) ≤ 2 * nesting (json_view json.now)) }
 {
-    Ok(read_filter(
-        alloc,
-        json,
-        path,
-        scope.catalog,
-        scope.meta,
-        table,
-    )?)
+    Ok(read_filter(alloc, json, path, scope.catalog, scope.meta, table)?)
 }
 
 // A limit: a whole number from 0 on, below 2^63; it may be absent or null.
@@ -190,12 +178,7 @@ fn aggregations(alloc: Global, path: &Txt, json: Option<&Json>) -> Result<bool, 
 }
 
 // A member that would narrow what is passed over here must be absent.
-fn check_absent(
-    alloc: Global,
-    path: &Txt,
-    object: &Json,
-    field: Field,
-) -> Result<(), MetaRefusal>
+fn check_absent(alloc: Global, path: &Txt, object: &Json, field: Field) -> Result<(), MetaRefusal>
     ensures { Gives (λ done. done) MetaRefusal.Memory (absent path.now (json_view object.now) field) result }
 {
     match object.member(field.name()) {

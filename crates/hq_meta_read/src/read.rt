@@ -100,9 +100,9 @@ fn tracked_of(alloc: Global, catalog: &Catalog, list: &[Json]) -> Result<Meta, M
     ensures names { IfOk result (λ meta. names_differ (schema_of catalog.now.tables (meta_view meta)) (meta_view meta) ≡ true) }
 {
     let path = tables_path(alloc)?;
-    let meta = named(alloc, catalog, &path, list)?;
-    let meta = related(alloc, catalog, &path, list, meta)?;
-    let meta = permitted(alloc, catalog, &path, list, meta)?;
+    let tables = named(alloc, catalog, &path, list)?;
+    let joined = related(alloc, catalog, &path, list, tables)?;
+    let meta = permitted(alloc, catalog, &path, list, joined)?;
     check_all_names(alloc, catalog, &meta, &path)?;
     Ok(meta)
 }

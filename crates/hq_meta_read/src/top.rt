@@ -129,11 +129,7 @@ fn check_kind(alloc: Global, path: &Txt, source: &Json) -> Result<(), MetaRefusa
 }
 
 // A customization must be absent or without members: it would change names.
-fn check_plain(
-    alloc: Global,
-    path: &Txt,
-    customization: Option<&Json>,
-) -> Result<(), MetaRefusal>
+fn check_plain(alloc: Global, path: &Txt, customization: Option<&Json>) -> Result<(), MetaRefusal>
     ensures { Gives (λ done. done) MetaRefusal.Memory (plain_in path.now (option_map (λ j. json_view j.now) customization.entry)) result }
 {
     let Some(json) = customization else {

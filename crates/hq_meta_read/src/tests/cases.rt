@@ -8,7 +8,10 @@ static TOPS: [(&str, &str); 27] = [
     ("{}", "Version "),
     (r#"{"version":2,"tables":[]}"#, "Version 2"),
     (r#"{"version":"3"}"#, r#"Version "3""#),
-    (r#"{"version":null,"metadata":{"version":3}}"#, "Version null"),
+    (
+        r#"{"version":null,"metadata":{"version":3}}"#,
+        "Version null",
+    ),
     (r#"{"version":{"a":[true,1]}}"#, r#"Version {"a":[true,1]}"#),
     (r#"{"metadata":3}"#, "Version "),
     (r#"{"metadata":{"metadata":{"version":3}}}"#, "Version "),
@@ -27,7 +30,10 @@ static TOPS: [(&str, &str); 27] = [
         r#"{"version":3,"sources":[],"inherited_roles":[1]}"#,
         "Shape $.inherited_roles",
     ),
-    (r#"{"version":3,"sources":[],"inherited_roles":[]}"#, "Sources 0"),
+    (
+        r#"{"version":3,"sources":[],"inherited_roles":[]}"#,
+        "Sources 0",
+    ),
     (r#"{"version":3,"sources":[7,7]}"#, "Sources 2"),
     (r#"{"version":3,"sources":[7]}"#, "Shape $.sources[0]"),
     (r#"{"version":3,"sources":[{}]}"#, "Shape $.sources[0].name"),
@@ -66,8 +72,7 @@ fn the_top_is_tested_in_order(rt: HostRuntime) -> Result<(), Fail> {
     agree(&rt, "", &TOPS, "")
 }
 
-static ENTRIES: &str =
-    r#"{"version":3,"sources":[{"name":"d","kind":"postgres","tables":["#;
+static ENTRIES: &str = r#"{"version":3,"sources":[{"name":"d","kind":"postgres","tables":["#;
 
 static TABLES: [(&str, &str); 14] = [
     (r#"{}"#, "Shape $.sources[0].tables[0].table"),
@@ -80,13 +85,19 @@ static TABLES: [(&str, &str); 14] = [
         r#"{"table":{"schema":"public"}}"#,
         "Shape $.sources[0].tables[0].table.name",
     ),
-    (r#"{"table":"note"}"#, "UnknownTable $.sources[0].tables[0].table"),
+    (
+        r#"{"table":"note"}"#,
+        "UnknownTable $.sources[0].tables[0].table",
+    ),
     (
         r#"{"table":{"schema":"blog","name":"author"}}"#,
         "UnknownTable $.sources[0].tables[0].table",
     ),
     (r#"{"table":"author"}"#, "read"),
-    (r#"{"table":{"schema":"blog","name":"note","more":1}}"#, "read"),
+    (
+        r#"{"table":{"schema":"blog","name":"note","more":1}}"#,
+        "read",
+    ),
     (
         r#"{"table":"author"},{"table":{"schema":"public","name":"author"}}"#,
         "RepeatedName $.sources[0].tables[1].table",
@@ -119,12 +130,16 @@ fn tables_are_tested_in_order(rt: HostRuntime) -> Result<(), Fail> {
     agree(&rt, ENTRIES, &TABLES, "]}]}")
 }
 
-static CONFIGURATION: &str = r#"{"version":3,"sources":[{"name":"d","kind":"postgres","tables":[{"table":"author","configuration":"#;
+static CONFIGURATION: &str =
+    r#"{"version":3,"sources":[{"name":"d","kind":"postgres","tables":[{"table":"author","configuration":"#;
 
 static CONFIGURATIONS: [(&str, &str); 28] = [
     ("null", "read"),
     ("7", "Shape $.sources[0].tables[0].configuration"),
-    (r#"{"custom_name":null,"custom_root_fields":null,"column_config":null,"custom_column_names":null}"#, "read"),
+    (
+        r#"{"custom_name":null,"custom_root_fields":null,"column_config":null,"custom_column_names":null}"#,
+        "read",
+    ),
     (
         r#"{"custom_name":7}"#,
         "Shape $.sources[0].tables[0].configuration.custom_name",
@@ -153,7 +168,10 @@ static CONFIGURATIONS: [(&str, &str); 28] = [
         r#"{"column_config":{"x":{"custom_name":7}}}"#,
         "UnknownColumn $.sources[0].tables[0].configuration.column_config.x",
     ),
-    (r#"{"column_config":{"x":null,"id":{"custom_name":null}}}"#, "read"),
+    (
+        r#"{"column_config":{"x":null,"id":{"custom_name":null}}}"#,
+        "read",
+    ),
     (
         r#"{"column_config":{"id":{"custom_name":7},"x":7}}"#,
         "Shape $.sources[0].tables[0].configuration.column_config.id.custom_name",
@@ -170,7 +188,10 @@ static CONFIGURATIONS: [(&str, &str); 28] = [
         r#"{"custom_column_names":{"x":"y"}}"#,
         "UnknownColumn $.sources[0].tables[0].configuration.custom_column_names.x",
     ),
-    (r#"{"custom_column_names":{"id":"not a name","x":null}}"#, "read"),
+    (
+        r#"{"custom_column_names":{"id":"not a name","x":null}}"#,
+        "read",
+    ),
     (
         r#"{"custom_root_fields":7}"#,
         "Shape $.sources[0].tables[0].configuration.custom_root_fields",
@@ -195,10 +216,22 @@ static CONFIGURATIONS: [(&str, &str); 28] = [
         r#"{"custom_root_fields":{"select":{"name":"__a"}}}"#,
         "Shape $.sources[0].tables[0].configuration.custom_root_fields.select.name",
     ),
-    (r#"{"custom_root_fields":{"select":{"name":null,"comment":"c"},"select_by_pk":{}}}"#, "read"),
-    (r#"{"custom_root_fields":{"select":{"name":"authors","comment":7}}}"#, "read"),
-    (r#"{"custom_name":"article"}},{"table":"article","configuration":{}"#, "RepeatedName $.sources[0].tables[1]"),
-    (r#"{"custom_name":"article"}},{"table":"article","configuration":{"custom_name":"author"}"#, "read"),
+    (
+        r#"{"custom_root_fields":{"select":{"name":null,"comment":"c"},"select_by_pk":{}}}"#,
+        "read",
+    ),
+    (
+        r#"{"custom_root_fields":{"select":{"name":"authors","comment":7}}}"#,
+        "read",
+    ),
+    (
+        r#"{"custom_name":"article"}},{"table":"article","configuration":{}"#,
+        "RepeatedName $.sources[0].tables[1]",
+    ),
+    (
+        r#"{"custom_name":"article"}},{"table":"article","configuration":{"custom_name":"author"}"#,
+        "read",
+    ),
     (
         r#"{"custom_root_fields":{"select":"author_by_pk"}}"#,
         "RepeatedName $.sources[0].tables[0]",
@@ -214,16 +247,38 @@ fn configurations_are_tested_in_order(rt: HostRuntime) -> Result<(), Fail> {
     agree(&rt, CONFIGURATION, &CONFIGURATIONS, "}]}]}")
 }
 
-static ARTICLE: &str = r#"{"version":3,"sources":[{"name":"d","kind":"postgres","tables":[{"table":"author"},{"table":"article","#;
+static ARTICLE: &str =
+    r#"{"version":3,"sources":[{"name":"d","kind":"postgres","tables":[{"table":"author"},{"table":"article","#;
 
 static RELATIONSHIPS: [(&str, &str); 37] = [
-    (r#""object_relationships":null"#, "Shape $.sources[0].tables[1].object_relationships"),
-    (r#""object_relationships":[7],"array_relationships":7"#, "Shape $.sources[0].tables[1].object_relationships[0]"),
-    (r#""object_relationships":[],"array_relationships":7"#, "Shape $.sources[0].tables[1].array_relationships"),
-    (r#""object_relationships":[{"using":7}]"#, "Shape $.sources[0].tables[1].object_relationships[0].name"),
-    (r#""object_relationships":[{"name":"a b"}]"#, "Shape $.sources[0].tables[1].object_relationships[0].name"),
-    (r#""object_relationships":[{"name":"a"}]"#, "Shape $.sources[0].tables[1].object_relationships[0].using"),
-    (r#""object_relationships":[{"name":"a","using":{}}]"#, "Shape $.sources[0].tables[1].object_relationships[0].using"),
+    (
+        r#""object_relationships":null"#,
+        "Shape $.sources[0].tables[1].object_relationships",
+    ),
+    (
+        r#""object_relationships":[7],"array_relationships":7"#,
+        "Shape $.sources[0].tables[1].object_relationships[0]",
+    ),
+    (
+        r#""object_relationships":[],"array_relationships":7"#,
+        "Shape $.sources[0].tables[1].array_relationships",
+    ),
+    (
+        r#""object_relationships":[{"using":7}]"#,
+        "Shape $.sources[0].tables[1].object_relationships[0].name",
+    ),
+    (
+        r#""object_relationships":[{"name":"a b"}]"#,
+        "Shape $.sources[0].tables[1].object_relationships[0].name",
+    ),
+    (
+        r#""object_relationships":[{"name":"a"}]"#,
+        "Shape $.sources[0].tables[1].object_relationships[0].using",
+    ),
+    (
+        r#""object_relationships":[{"name":"a","using":{}}]"#,
+        "Shape $.sources[0].tables[1].object_relationships[0].using",
+    ),
     (
         r#""object_relationships":[{"name":"a","using":{"foreign_key_constraint_on":7,"manual_configuration":null}}]"#,
         "Shape $.sources[0].tables[1].object_relationships[0].using",
@@ -252,8 +307,14 @@ static RELATIONSHIPS: [(&str, &str); 37] = [
         r#""object_relationships":[{"name":"a","using":{"foreign_key_constraint_on":[]}}]"#,
         "NoForeignKey $.sources[0].tables[1].object_relationships[0].using.foreign_key_constraint_on",
     ),
-    (r#""object_relationships":[{"name":"a","using":{"foreign_key_constraint_on":["author_id","author_id"]}}]"#, "read"),
-    (r#""object_relationships":[{"name":"a","using":{"foreign_key_constraint_on":"author_id"}}]"#, "read"),
+    (
+        r#""object_relationships":[{"name":"a","using":{"foreign_key_constraint_on":["author_id","author_id"]}}]"#,
+        "read",
+    ),
+    (
+        r#""object_relationships":[{"name":"a","using":{"foreign_key_constraint_on":"author_id"}}]"#,
+        "read",
+    ),
     (
         r#""array_relationships":[{"name":"a","using":{"foreign_key_constraint_on":"author_id"}}]"#,
         "Shape $.sources[0].tables[1].array_relationships[0].using.foreign_key_constraint_on",
@@ -303,7 +364,10 @@ static RELATIONSHIPS: [(&str, &str); 37] = [
         r#""array_relationships":[{"name":"a","using":{"foreign_key_constraint_on":{"table":"article","column":"author_id"}}}]"#,
         "NoForeignKey $.sources[0].tables[1].array_relationships[0].using.foreign_key_constraint_on",
     ),
-    (r#""object_relationships":[{"name":"a","using":{"manual_configuration":7}}]"#, "Shape $.sources[0].tables[1].object_relationships[0].using.manual_configuration"),
+    (
+        r#""object_relationships":[{"name":"a","using":{"manual_configuration":7}}]"#,
+        "Shape $.sources[0].tables[1].object_relationships[0].using.manual_configuration",
+    ),
     (
         r#""object_relationships":[{"name":"a","using":{"manual_configuration":{"column_mapping":7}}}]"#,
         "Shape $.sources[0].tables[1].object_relationships[0].using.manual_configuration.remote_table",
@@ -328,7 +392,10 @@ static RELATIONSHIPS: [(&str, &str); 37] = [
         r#""object_relationships":[{"name":"a","using":{"manual_configuration":{"remote_table":"author","column_mapping":{"title":"id","x":"id"}}}}]"#,
         "BadMapping $.sources[0].tables[1].object_relationships[0].using.manual_configuration.column_mapping.title",
     ),
-    (r#""array_relationships":[{"name":"a","using":{"manual_configuration":{"remote_table":"article","column_mapping":{"title":"title","id":"author_id"}}}}]"#, "read"),
+    (
+        r#""array_relationships":[{"name":"a","using":{"manual_configuration":{"remote_table":"article","column_mapping":{"title":"title","id":"author_id"}}}}]"#,
+        "read",
+    ),
     (
         r#""object_relationships":[{"name":"title","using":{"foreign_key_constraint_on":"author_id"}}],"select_permissions":[]"#,
         "RepeatedName $.sources[0].tables[1].object_relationships[0].name",
@@ -392,16 +459,32 @@ fn the_first_of_two_faults_counts(rt: HostRuntime) -> Result<(), Fail> {
     agree(&rt, ENTRIES, &NOTES, "]}]}")
 }
 
-static PERMISSION: &str = r#"{"version":3,"sources":[{"name":"d","kind":"postgres","tables":[{"table":"author","select_permissions":"#;
+static PERMISSION: &str =
+    r#"{"version":3,"sources":[{"name":"d","kind":"postgres","tables":[{"table":"author","select_permissions":"#;
 
 static PERMISSIONS: [(&str, &str); 34] = [
     ("null", "Shape $.sources[0].tables[0].select_permissions"),
     ("[7]", "Shape $.sources[0].tables[0].select_permissions[0]"),
-    ("[{}]", "Shape $.sources[0].tables[0].select_permissions[0].role"),
-    (r#"[{"role":"admin"}]"#, "Shape $.sources[0].tables[0].select_permissions[0].role"),
-    (r#"[{"role":"user"}]"#, "Shape $.sources[0].tables[0].select_permissions[0].permission"),
-    (r#"[{"role":"user","permission":[]}]"#, "Shape $.sources[0].tables[0].select_permissions[0].permission"),
-    (r#"[{"role":"user","permission":{}}]"#, "Shape $.sources[0].tables[0].select_permissions[0].permission.columns"),
+    (
+        "[{}]",
+        "Shape $.sources[0].tables[0].select_permissions[0].role",
+    ),
+    (
+        r#"[{"role":"admin"}]"#,
+        "Shape $.sources[0].tables[0].select_permissions[0].role",
+    ),
+    (
+        r#"[{"role":"user"}]"#,
+        "Shape $.sources[0].tables[0].select_permissions[0].permission",
+    ),
+    (
+        r#"[{"role":"user","permission":[]}]"#,
+        "Shape $.sources[0].tables[0].select_permissions[0].permission",
+    ),
+    (
+        r#"[{"role":"user","permission":{}}]"#,
+        "Shape $.sources[0].tables[0].select_permissions[0].permission.columns",
+    ),
     (
         r#"[{"role":"user","permission":{"columns":"id"}}]"#,
         "Shape $.sources[0].tables[0].select_permissions[0].permission.columns",
@@ -438,9 +521,18 @@ static PERMISSIONS: [(&str, &str); 34] = [
         r#"[{"role":"user","permission":{"columns":"*","filter":{},"limit":"7"}}]"#,
         "Shape $.sources[0].tables[0].select_permissions[0].permission.limit",
     ),
-    (r#"[{"role":"user","permission":{"columns":[],"filter":{},"limit":0}}]"#, "read"),
-    (r#"[{"role":"user","permission":{"columns":["id","id"],"filter":{},"limit":9223372036854775807}}]"#, "read"),
-    (r#"[{"role":"user","permission":{"columns":"*","filter":{},"limit":null}}]"#, "read"),
+    (
+        r#"[{"role":"user","permission":{"columns":[],"filter":{},"limit":0}}]"#,
+        "read",
+    ),
+    (
+        r#"[{"role":"user","permission":{"columns":["id","id"],"filter":{},"limit":9223372036854775807}}]"#,
+        "read",
+    ),
+    (
+        r#"[{"role":"user","permission":{"columns":"*","filter":{},"limit":null}}]"#,
+        "read",
+    ),
     (
         r#"[{"role":"user","permission":{"columns":"*","filter":{},"allow_aggregations":null}}]"#,
         "Shape $.sources[0].tables[0].select_permissions[0].permission.allow_aggregations",
@@ -457,7 +549,10 @@ static PERMISSIONS: [(&str, &str); 34] = [
         r#"[{"role":"user","permission":{"columns":"*","filter":{},"subscription_root_fields":[]}}]"#,
         "Shape $.sources[0].tables[0].select_permissions[0].permission.subscription_root_fields",
     ),
-    (r#"[{"role":"user","permission":{"columns":"*","filter":{},"allow_aggregations":true}},{"role":"editor","permission":{"columns":[],"filter":{}}}]"#, "read"),
+    (
+        r#"[{"role":"user","permission":{"columns":"*","filter":{},"allow_aggregations":true}},{"role":"editor","permission":{"columns":[],"filter":{}}}]"#,
+        "read",
+    ),
     (
         r#"[{"role":"user","permission":{"columns":"*","filter":{}}},{"role":"user","permission":7}]"#,
         "RepeatedRole $.sources[0].tables[0].select_permissions[1].role",
@@ -466,10 +561,22 @@ static PERMISSIONS: [(&str, &str); 34] = [
         r#"[{"role":"user","permission":{"columns":"x","filter":{}}},{"role":"user","permission":7}]"#,
         "Shape $.sources[0].tables[0].select_permissions[0].permission.columns",
     ),
-    (r#"[{"role":"user","permission":{"columns":"*","filter":{"id":{"_eq":"X-Hasura-User-Id"}}}}]"#, "read"),
-    (r#"[{"role":"","permission":{"columns":"*","filter":{}}}]"#, "read"),
-    (r#"[{"role":"Admin","permission":{"columns":"*","filter":{}}}]"#, "read"),
-    (r#"[{"comment":"c","definition":{},"role":"user","permission":{"columns":"*","filter":{},"computed_fields":[],"x":1}}]"#, "read"),
+    (
+        r#"[{"role":"user","permission":{"columns":"*","filter":{"id":{"_eq":"X-Hasura-User-Id"}}}}]"#,
+        "read",
+    ),
+    (
+        r#"[{"role":"","permission":{"columns":"*","filter":{}}}]"#,
+        "read",
+    ),
+    (
+        r#"[{"role":"Admin","permission":{"columns":"*","filter":{}}}]"#,
+        "read",
+    ),
+    (
+        r#"[{"comment":"c","definition":{},"role":"user","permission":{"columns":"*","filter":{},"computed_fields":[],"x":1}}]"#,
+        "read",
+    ),
     (
         r#"[{"role":"user","permission":{"columns":"*","filter":{"_and":[{"id":{"_eq":"a"}}]}}}]"#,
         "BadOperand $.sources[0].tables[0].select_permissions[0].permission.filter._and[0].id._eq",

@@ -18,12 +18,16 @@ fn catalog(alloc: Global, tables: u32, columns: u32) -> Result<String, AllocErro
     let mut list = String::new(alloc);
     for number in 0..columns {
         let start = if number == 0 { "" } else { "," };
-        list.push_str(format!(in alloc; "{start}{{\"name\":\"column_{number}\",\"type\":\"text\"}}")?.as_str())?;
+        list.push_str(format!(in alloc;
+            "{start}{{\"name\":\"column_{number}\",\"type\":\"text\"}}"
+        )?.as_str())?;
     }
     let mut file = String::from_str(alloc, r#"{"tables":["#)?;
     for number in 0..tables {
         let start = if number == 0 { "" } else { "," };
-        file.push_str(format!(in alloc; "{start}{{\"schema\":\"public\",\"name\":\"table_{number}\",\"primary_key\":[\"column_0\"],\"columns\":[")?.as_str())?;
+        file.push_str(format!(in alloc;
+            "{start}{{\"schema\":\"public\",\"name\":\"table_{number}\",\"primary_key\":[\"column_0\"],\"columns\":["
+        )?.as_str())?;
         file.push_str(list.as_str())?;
         file.push_str("]}")?;
     }
@@ -40,7 +44,9 @@ fn metadata(alloc: Global, tables: u32, columns: u32) -> Result<String, AllocErr
     )?;
     for number in 0..tables {
         let start = if number == 0 { "" } else { "," };
-        file.push_str(format!(in alloc; "{start}{{\"table\":\"table_{number}\",\"array_relationships\":[{{\"name\":\"others\",\"using\":{{\"manual_configuration\":{{\"remote_table\":\"table_0\",\"column_mapping\":{{\"column_1\":\"column_2\"}}}}}}}}],\"select_permissions\":[{{\"role\":\"user\",\"permission\":{{\"filter\":{{}},\"columns\":[")?.as_str())?;
+        file.push_str(format!(in alloc;
+            "{start}{{\"table\":\"table_{number}\",\"array_relationships\":[{{\"name\":\"others\",\"using\":{{\"manual_configuration\":{{\"remote_table\":\"table_0\",\"column_mapping\":{{\"column_1\":\"column_2\"}}}}}}}}],\"select_permissions\":[{{\"role\":\"user\",\"permission\":{{\"filter\":{{}},\"columns\":["
+        )?.as_str())?;
         file.push_str(list.as_str())?;
         file.push_str("]}}]}")?;
     }

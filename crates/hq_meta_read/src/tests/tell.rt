@@ -46,12 +46,7 @@ fn told_refusal(alloc: Global, refusal: MetaRefusal) -> Result<String, AllocErro
 }
 
 /// Three pieces in a row.
-pub fn joined(
-    alloc: Global,
-    before: &str,
-    piece: &str,
-    after: &str,
-) -> Result<String, AllocError> {
+pub fn joined(alloc: Global, before: &str, piece: &str, after: &str) -> Result<String, AllocError> {
     let mut whole = String::from_str(alloc, before)?;
     whole.push_str(piece)?;
     whole.push_str(after)?;
@@ -93,10 +88,13 @@ pub fn described(alloc: Global, tracked: &Tracked) -> Result<String, AllocError>
     let mut text = format!(in alloc; "{} {}:", tracked.table.at(), tracked.name.as_str())?;
     push_names(&mut text, tracked.column_names.as_slice())?;
     let roots = &tracked.roots;
-    text.push_str(
-        format!(in alloc; " | {} {} {}", roots.select.as_str(), roots.select_aggregate.as_str(), roots.select_by_pk.as_str())?
-            .as_str(),
-    )?;
+    text.push_str(format!(in alloc;
+        " | {} {} {}",
+        roots.select.as_str(),
+        roots.select_aggregate.as_str(),
+        roots.select_by_pk.as_str()
+    )?
+    .as_str())?;
     Ok(text)
 }
 
@@ -105,9 +103,7 @@ pub fn described_rel(alloc: Global, rel: &Rel) -> Result<String, AllocError> {
     let kind = if rel.many { "many" } else { "one" };
     let mut text = format!(in alloc; "{kind} {} {}", rel.name.as_str(), rel.remote.at())?;
     for pair in rel.pairs.as_slice() {
-        text.push_str(
-            format!(in alloc; " {}={}", pair.own.at(), pair.remote.at())?.as_str(),
-        )?;
+        text.push_str(format!(in alloc; " {}={}", pair.own.at(), pair.remote.at())?.as_str())?;
     }
     Ok(text)
 }
@@ -118,6 +114,9 @@ pub fn described_perm(alloc: Global, perm: &Perm) -> Result<String, AllocError> 
     for column in perm.cols.as_slice() {
         text.push_str(format!(in alloc; " {}", column.at())?.as_str())?;
     }
-    text.push_str(format!(in alloc; " {:?} {:?} {}", perm.filter, perm.limit, perm.aggregations)?.as_str())?;
+    text.push_str(format!(in alloc;
+        " {:?} {:?} {}",
+        perm.filter, perm.limit, perm.aggregations
+    )?.as_str())?;
     Ok(text)
 }

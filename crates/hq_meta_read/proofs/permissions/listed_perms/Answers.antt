@@ -1,4 +1,5 @@
-use Rattle.std.proofs.Common.{◌∙◌, ◌∷◌, [], map, map-append, sym, ap, subst}
+use Rattle.std.proofs.Common.{◌∙◌, ◌∷◌, [], map, sym, ap, subst}
+use Rattle.std.proofs.lemmas.List.{map-append}
 use Rattle.hq_base.specs.Json.{json_view}
 use Rattle.hq_terms.specs.Meta.{meta_view, perm_view}
 use Rattle.hq_terms.specs.Schema.{schema_of}
@@ -19,10 +20,10 @@ loop-place-preserved c =
     let item = json_view c.index-list-place.result in
     record {
       due = each_after-more (perm_at tables m c.args.table) json_view c.args.path.now c.in_ok-path.path c.loop-place.place (map perm_view c.loop-place.perms) (map perm_view c.push.new.self) c.args.list.now c.index-list-place.result (perm_view c.in_ok-perm.perm)
-      c.loop-place-test.true c.index-list-place.is c.in_ok-path.ensures
-      (ap (λ before. perm_at tables m c.args.table (map perm_view before) c.in_ok-path.path item) (sym c.as_slice.ensures) ∙ c.in_ok-perm.ensures.due)
-      (ap (map perm_view) c.in_ok-push.ensures.ok ∙ map-append perm_view c.loop-place.perms (c.in_ok-perm.perm ∷ []))
-      ∙ c.loop-place.invariant.due;
+          c.loop-place-test.true c.index-list-place.is c.in_ok-path.ensures
+          (ap (λ before. perm_at tables m c.args.table (map perm_view before) c.in_ok-path.path item) (sym c.as_slice.ensures) ∙ c.in_ok-perm.ensures.due)
+          (ap (map perm_view) c.in_ok-push.ensures.ok ∙ map-append perm_view c.loop-place.perms (c.in_ok-perm.perm ∷ []))
+          ∙ c.loop-place.invariant.due;
       sound = subst (λ ps. AllSound (schema_of tables m) c.args.table (map perm_view ps)) (sym c.in_ok-push.ensures.ok)
-      (sound_more (schema_of tables m) c.args.table c.loop-place.perms c.in_ok-perm.perm c.loop-place.invariant.sound c.in_ok-perm.ensures.sound);
+          (sound_more (schema_of tables m) c.args.table c.loop-place.perms c.in_ok-perm.perm c.loop-place.invariant.sound c.in_ok-perm.ensures.sound);
     }
