@@ -1,0 +1,4 @@
+mod Results
+mod Differ
+mod Grown
+mod Columns

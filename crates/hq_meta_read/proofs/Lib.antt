@@ -1,0 +1,12 @@
+mod Steps
+mod Lists
+mod TableNames
+mod Heads
+mod Keys
+mod Links
+mod Perms
+mod Beside
+mod Fitting
+mod Loops
+mod Nesting
+mod Sounds

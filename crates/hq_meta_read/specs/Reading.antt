@@ -1,0 +1,60 @@
+-- What a metadata file gives: its tracked tables, or the first refusal. The tests come in this order, each over the whole
+-- file before the next: JSON, version, form of the top, how many sources, form of the source, tables and their names,
+-- relationships, permissions, and names that stand twice.
+use Rattle.std.specs.Prelude.{ℕ, List, [], Result, Ok, Err}
+use Rattle.hq_base.specs.Due.{◌>>=◌}
+use Rattle.hq_base.specs.Json.{JsonTree}
+use Rattle.hq_base.specs.Body.{body_of}
+use Rattle.hq_base.specs.declared.body.JsonRefusal.{JsonRefusal}
+use Rattle.hq_terms.specs.Meta.{MetaTree}
+use Rattle.hq_terms.specs.Schema.{schema_of}
+use Rattle.hq_terms.specs.declared.table.Table.{Table}
+use Rattle.hq_meta_names.specs.Repeats.{names_due}
+use Rattle.hq_meta_names.specs.declared.refusal.NameRefusal.{NameRefusal}
+use Rattle.hq_meta_names.specs.declared.refusal.NameRefusal.TheVariants as name
+use Rattle.hq_meta_read.specs.declared.refusal.MetaRefusal.{MetaRefusal}
+use Rattle.hq_meta_read.specs.declared.refusal.MetaRefusal.TheVariants.{NotJson, RepeatedName, Memory}
+use Rattle.hq_meta_read.specs.Each.{each_after}
+use Rattle.hq_meta_read.specs.Permitted.{permitted}
+use Rattle.hq_meta_read.specs.Related.{related}
+use Rattle.hq_meta_read.specs.Top.{unwrapped, table_entries, tables_path}
+use Rattle.hq_meta_read.specs.Tracked.{tracked_at}
+
+-- the tables that the entries track, with their names
+unfoldable pub named : List Table → List JsonTree → Result MetaTree MetaRefusal
+named tables js = do
+  tracked ← each_after (tracked_at tables) tables_path 0 [] js
+  Ok (record { tracked = tracked })
+
+-- names that stand twice are refused
+abbrev pub name_refusal : NameRefusal → MetaRefusal
+name_refusal (name.Repeated path) = RepeatedName path
+name_refusal name.Memory = Memory
+
+abbrev pub names_in : Result (Unit {0}) NameRefusal → Result (Unit {0}) MetaRefusal
+names_in (Ok u) = Ok u
+names_in (Err e) = Err (name_refusal e)
+
+-- the metadata that the entries give
+unfoldable pub tracked_of : List Table → List JsonTree → Result MetaTree MetaRefusal
+tracked_of tables js = do
+  names ← named tables js
+  rels ← related tables tables_path js names
+  m ← permitted tables tables_path js rels
+  _ ← names_in (names_due (schema_of tables m) m tables_path)
+  Ok m
+
+-- the metadata of a JSON value
+unfoldable pub meta_of : List Table → JsonTree → Result MetaTree MetaRefusal
+meta_of tables j = do
+  entries ← table_entries (unwrapped j)
+  tracked_of tables entries
+
+-- any cause that a body is no JSON of whole numbers makes it no JSON here
+abbrev pub json_in : Result JsonTree JsonRefusal → Result JsonTree MetaRefusal
+json_in (Ok j) = Ok j
+json_in (Err e) = Err NotJson
+
+-- the metadata of a file, over the tables of a catalog
+unfoldable pub meta_due : List Table → (bytes : List ℕ) → Result MetaTree MetaRefusal
+meta_due tables bytes = json_in (body_of bytes) >>= meta_of tables

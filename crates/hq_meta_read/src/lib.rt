@@ -1,0 +1,23 @@
+//! Reads `metadata.json`: an export of Hasura v2's metadata, version 3, over the tables of a catalog. What is read are the
+//! tracked tables of its one source, with their names, relationships and select permissions. Members that change neither
+//! names nor what a role may see are passed over; those that would are refused.
+#![tactic(auto)]
+
+mod field;
+mod found;
+mod link;
+mod linking;
+mod names;
+mod node;
+mod permissions;
+mod read;
+mod refusal;
+mod relationships;
+mod top;
+mod tracking;
+
+pub use read::read_meta;
+pub use refusal::MetaRefusal;
+
+#[cfg(test)]
+mod tests;

@@ -1,0 +1,108 @@
+ghost use Rattle.std.specs.Prelude.{◌≡◌, true, map, IfOk, OnOk};
+ghost use Rattle.std.specs.List.{AllByRecursion};
+ghost use Rattle.hq_base.specs.Body.{body_of};
+ghost use Rattle.hq_base.specs.Due.{Gives};
+ghost use Rattle.hq_base.specs.Json.{json_view};
+ghost use Rattle.hq_terms.specs.Fits.{fits};
+ghost use Rattle.hq_terms.specs.Meta.{meta_view};
+ghost use Rattle.hq_terms.specs.Schema.{schema_of};
+ghost use Rattle.hq_terms.specs.SchemaNames.{names_differ};
+ghost use Rattle.hq_meta_names.specs.Repeats.{names_due};
+ghost use Rattle.hq_meta_read.specs.Reading.{json_in, names_in, named, tracked_of, meta_of, meta_due};
+ghost use Rattle.hq_meta_read.specs.Sound.{Shallow, TablesSound};
+ghost use Rattle.hq_meta_read.specs.Top.{tables_path};
+
+use crate::MetaRefusal;
+use crate::permissions::permitted;
+use crate::relationships::related;
+use crate::top::{table_entries, tables_path, unwrapped};
+use crate::tracking::all_tracked;
+use hq_base::{Json, JsonRefusal, Txt};
+use hq_filter_read::nesting_is_bounded;
+use hq_meta_names::check_names;
+use hq_terms::{Catalog, Meta};
+use std::alloc::Global;
+
+/// Reads the bytes of a `metadata.json`, an export of Hasura v2's metadata of version 3, over a catalog. The tests come in
+/// this order, each over the whole file before the next, lists in order and members in the order of the form: NotJson,
+/// Version, Shape of the top, Sources, Shape of the source, tables and their names, relationships, permissions, and names
+/// that stand twice. The first refusal is the answer.
+#[tactic(auto, unfolding(crate::specs::Reading::meta_due))]
+pub fn read_meta(alloc: Global, bytes: &[u8], catalog: &Catalog) -> Result<Meta, MetaRefusal>
+    ensures due { Gives meta_view MetaRefusal.Memory (meta_due catalog.now.tables bytes.now) result }
+
+    // The metadata fits the catalog.
+    ensures fits { IfOk result (λ meta. fits catalog.now.tables (meta_view meta) ≡ true) }
+{
+    nesting_is_bounded();
+    let json = json_of(alloc, bytes)?;
+    meta_of(alloc, catalog, &json)
+}
+
+// The JSON of the bytes.
+fn json_of(alloc: Global, bytes: &[u8]) -> Result<Json, MetaRefusal>
+    ensures { Gives json_view MetaRefusal.Memory (json_in (body_of bytes.now)) result }
+{
+    match Json::from_body(alloc, bytes) {
+        Ok(json) => Ok(json),
+        Err(JsonRefusal::Memory) => Err(MetaRefusal::Memory),
+        Err(_) => Err(MetaRefusal::NotJson),
+    }
+}
+
+// The metadata of a JSON value.
+#[tactic(auto, unfolding(crate::specs::Reading::meta_of))]
+fn meta_of(alloc: Global, catalog: &Catalog, json: &Json) -> Result<Meta, MetaRefusal>
+    requires { Shallow (json_view json.now) }
+    ensures due { Gives meta_view MetaRefusal.Memory (meta_of catalog.now.tables (json_view json.now)) result }
+    ensures sound { IfOk result (λ meta. TablesSound (schema_of catalog.now.tables (meta_view meta)) (meta_view meta).tracked) }
+    ensures names { IfOk result (λ meta. names_differ (schema_of catalog.now.tables (meta_view meta)) (meta_view meta) ≡ true) }
+{
+    let entries = table_entries(alloc, unwrapped(json))?;
+    tracked_of(alloc, catalog, entries)
+}
+
+// The tables that the entries track, with their names.
+#[tactic(auto, unfolding(crate::specs::Reading::named))]
+fn named(
+    alloc: Global,
+    catalog: &Catalog,
+    path: &Txt,
+    entries: &[Json],
+) -> Result<Meta, MetaRefusal>
+    requires { path.now ≡ tables_path }
+    ensures { Gives meta_view MetaRefusal.Memory (named catalog.now.tables (map json_view entries.now)) result }
+{
+    let tracked = all_tracked(alloc, catalog, path, entries)?;
+    Ok(Meta { tracked })
+}
+
+// Names that stand twice are refused.
+fn check_all_names(
+    alloc: Global,
+    catalog: &Catalog,
+    meta: &Meta,
+    path: &Txt,
+) -> Result<(), MetaRefusal>
+    ensures due { Gives (λ done. done) MetaRefusal.Memory (names_in (names_due (schema_of catalog.now.tables (meta_view meta.now)) (meta_view meta.now) path.now)) result }
+    ensures differ { OnOk result (names_differ (schema_of catalog.now.tables (meta_view meta.now)) (meta_view meta.now) ≡ true) }
+{
+    check_names(alloc, catalog, meta, path)?;
+    Ok(())
+}
+
+// The metadata that the entries give.
+#[tactic(auto, unfolding(crate::specs::Reading::tracked_of))]
+fn tracked_of(alloc: Global, catalog: &Catalog, list: &[Json]) -> Result<Meta, MetaRefusal>
+    requires { AllByRecursion (λ j. Shallow (json_view j)) list.now }
+    ensures due { Gives meta_view MetaRefusal.Memory (tracked_of catalog.now.tables (map json_view list.now)) result }
+    ensures sound { IfOk result (λ meta. TablesSound (schema_of catalog.now.tables (meta_view meta)) (meta_view meta).tracked) }
+    ensures names { IfOk result (λ meta. names_differ (schema_of catalog.now.tables (meta_view meta)) (meta_view meta) ≡ true) }
+{
+    let path = tables_path(alloc)?;
+    let tables = named(alloc, catalog, &path, list)?;
+    let joined = related(alloc, catalog, &path, list, tables)?;
+    let meta = permitted(alloc, catalog, &path, list, joined)?;
+    check_all_names(alloc, catalog, &meta, &path)?;
+    Ok(meta)
+}

@@ -1,0 +1,4 @@
+mod cases;
+mod export;
+mod large;
+mod tell;
