@@ -1,4 +1,4 @@
-ghost use Rattle.std.specs.Prelude.{◌≡◌, ◌↔◌, ◌++◌, ◌∷◌, [], OnOk, OnErr, IsErrOf, option_copied, length};
+ghost use Rattle.std.specs.Prelude.{◌≡◌, ◌≤◌, ◌↔◌, ◌++◌, ◌∷◌, [], OnOk, OnErr, IsErrOf, option_copied, length};
 
 use crate::Header;
 use hq_base::{List, Memory, Txt};
@@ -68,6 +68,7 @@ impl Headers {
     /// Adds a header at the end. TooMany exactly where there are 64 already; a refusal leaves them as they were.
     pub fn push(&mut self, header: Header) -> Result<(), HeadersRefusal>
         ensures ok { OnOk result (self.new ≡ self.old ++ header ∷ []) }
+        ensures few { OnOk result (length self.new ≤ 64) }
         ensures too_many { IsErrOf result HeadersRefusal.TooMany ↔ (length self.old ≡ 64) }
         ensures err { OnErr result (self.new ≡ self.old) }
     {
