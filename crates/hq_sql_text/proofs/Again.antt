@@ -1,5 +1,5 @@
 -- Selects: what is spelled so is read again, whatever follows.
-use Rattle.std.proofs.Common.{◌≡◌, ℕ, zero, suc, ◌<◌, eqb, true, false, cond, List, [], ◌∷◌, ◌++◌, length, map, Option, Some, None, refl, sym, ap, subst, ◌∙◌, append_assoc, arith}
+use Rattle.std.proofs.Common.{◌≡◌, ℕ, zero, suc, ◌<◌, eqb, true, false, cond, List, [], ◌∷◌, ◌++◌, length, map, Option, Some, None, refl, sym, ap, ◌∙◌, append_assoc, arith}
 use Rattle.std.specs.Prelude.{codes}
 use Rattle.std.proofs.lemmas.List.{append-nil}
 use Rattle.std.specs.List.{AllByRecursion}
@@ -7,32 +7,20 @@ use Rattle.hq_sql_tree.specs.declared.word.Word.{Word}
 use Rattle.hq_sql_tree.specs.declared.word.Word.TheVariants as word
 use Rattle.hq_sql_tree.specs.Word.{word_text}
 use Rattle.hq_sql_tree.specs.Tree as tree
-use Rattle.hq_sql_tree.specs.Tree.{ExprTree, AggTree, OrderTree, OutTree, SelectTree, FromTree, JoinTree, JoinTrees, joins_of, join_list}
-use Rattle.hq_sql_tree.specs.Form.{holds_agg, is_rows, reads_as_fold}
-use Rattle.hq_sql_tree.specs.Spelling.{quoted, doubled, name_text, each_after, separated, clause_text, expr_text, order_text, out_text, select_text, from_text, join_text, join_texts}
-use Rattle.hq_sql_expr.specs.Reading.{Reader, nothing, after, strip, expr_at, order_with}
+use Rattle.hq_sql_tree.specs.Tree.{ExprTree, AggTree, OrderTree, OutTree, SelectTree, FromTree, JoinTree, JoinTrees, FilterTree, PredTree, joins_of, join_list}
+use Rattle.hq_sql_tree.specs.Form.{holds_agg, is_rows, reads_as_fold, is_count}
+use Rattle.hq_sql_tree.specs.Spelling.{quoted, doubled, name_text, each_after, separated, clause_text, expr_text, out_text, distinct_text, number_text, select_text, from_text, join_text, join_texts, filter_text}
+use Rattle.hq_sql_expr.specs.Reading.{Reader, nothing, after, strip}
 use Rattle.hq_sql_expr.proofs.Sound.{after_again}
 use Rattle.hq_sql_expr.proofs.Listed.{AllGood, all_many_again}
 use Rattle.hq_sql_expr.proofs.Literals.{IsText, Free, quoted_again}
 use Rattle.hq_sql_expr.proofs.Exprs.{GoodOrder, GoodOut}
-use Rattle.hq_sql_expr.proofs.Again.{as_ends, outs_again, keys_again, expr_again}
-use Rattle.hq_sql_text.specs.Reading.{clause_with, table_at, one_at, aliased_with, from_with, join_with, fold_of, shaped, select_with, select_at}
-use Rattle.hq_sql_text.proofs.Fits.{FitsSelect, FitsFrom, FitsJoins}
-use Rattle.hq_sql_text.proofs.Takes.{aliased_text, GoodAliased, each_is_clause}
-
--- ---- what may follow
-
--- what may follow a select: nothing that would go on with it
-abbrev pub Ends : List ℕ → Type 0
-Ends rest = Free 34 rest × (after word.LateralJoin rest ≡ None) × (after word.OrderBy rest ≡ None) × (after word.Comma rest ≡ None)
-
-close_as_ends : (rest : List ℕ) → Ends (word_text word.CloseAs ++ rest)
-unfolding word_text after
-close_as_ends rest = (refl, refl, refl, refl)
-
-pub nothing_ends : Ends []
-unfolding word_text after
-nothing_ends = (refl, refl, refl, refl)
+use Rattle.hq_sql_expr.proofs.Again.{as_ends, outs_again}
+use Rattle.hq_sql_text.specs.Reading.{clause_with, table_at, one_at, aliased_with, from_with, join_with, fold_of, shaped, inside_with, pred_with, pred_at, select_with, select_at}
+use Rattle.hq_sql_text.proofs.Fits.{FitsDistinct, FitsSelect, FitsFrom, FitsJoins, FitsFilter}
+use Rattle.hq_sql_text.proofs.Takes.{aliased_text, GoodAliased, each_is_clause, bare}
+use Rattle.hq_sql_text.proofs.ClausesAgain.{Ends, close_as_ends, Absent, behind_text, keys_text, free_behind_from, no_join_behind, distinct_again, expr_no_distinct}
+use Rattle.hq_sql_text.proofs.ConditionsAgain.{Query, Condition, pred_zero, pred_deeper, end_again}
 
 dot_free : (rest : List ℕ) → Free 34 (word_text word.Dot ++ rest)
 unfolding word_text
@@ -53,18 +41,6 @@ from_no_comma rest = refl
 lateral_some : 0 < length (word_text word.LateralJoin)
 unfolding word_text
 lateral_some = omega arith
-
-lateral_free : (rest : List ℕ) → Free 34 (word_text word.LateralJoin ++ rest)
-unfolding word_text
-lateral_free rest = refl
-
-order_by_free : (rest : List ℕ) → Free 34 (word_text word.OrderBy ++ rest)
-unfolding word_text
-order_by_free rest = refl
-
-order_by_no_lateral : (rest : List ℕ) → after word.LateralJoin (word_text word.OrderBy ++ rest) ≡ None
-unfolding word_text after
-order_by_no_lateral rest = refl
 
 name_no_open : (n rest : List ℕ) → after word.Open (name_text n ++ rest) ≡ None
 unfolding word_text after quoted
@@ -152,10 +128,6 @@ table_again s t a rest is_s is_t is_a free =
     let as_a = word_text word.As ++ (name_text a ++ rest) in
     rw (quoted_again 34 s (word_text word.Dot ++ (name_text t ++ as_a)) is_s (dot_free (name_text t ++ as_a)), after_again word.Dot (name_text t ++ as_a), quoted_again 34 t as_a is_t (as_ends (name_text a ++ rest)).0, after_again word.As (name_text a ++ rest), quoted_again 34 a rest is_a free) refl
 
--- a reader of selects, within so many parentheses
-abbrev pub Query : ℕ → Reader SelectTree → Type 0
-Query d query = (s : SelectTree) (rest : List ℕ) → FitsSelect s d → Ends rest → query (select_text s ++ rest) ≡ Some (s, rest)
-
 module _ (k : ℕ) (query : Reader SelectTree) (query_again : Query k query) where
   abbrev Good : JoinTree → Type 0
   Good = GoodAliased (λ s. FitsSelect s k)
@@ -193,42 +165,42 @@ JoinsAgain d query = (js : JoinTrees) (rest : List ℕ) → FitsJoins js d → a
 abbrev FromAgain : ℕ → Reader SelectTree → Type 0
 FromAgain d query = (f : FromTree) (rest : List ℕ) → FitsFrom f d → Free 34 rest → from_with d query (from_text f ++ rest) ≡ Some (f, rest)
 
--- rows without WHERE, LIMIT and OFFSET
-abbrev plain : List OutTree → FromTree → JoinTrees → List OrderTree → SelectTree
-plain outs from joins keys = tree.rows [] outs from joins tree.no_filter keys None None
+-- ---- the text of rows, part by part
 
-abbrev keys_text : List OrderTree → List ℕ
-keys_text keys = clause_text word.OrderBy word.Comma (map order_text keys)
+abbrev after_from : FromTree → JoinTrees → FilterTree → List OrderTree → (limit offset : Option ℕ) → List ℕ → List ℕ
+after_from from joins condition keys limit offset rest = from_text from ++ (each_after word.LateralJoin (join_texts joins) ++ behind_text condition keys limit offset rest)
 
-abbrev after_from : FromTree → JoinTrees → List OrderTree → List ℕ → List ℕ
-after_from from joins keys rest = from_text from ++ (each_after word.LateralJoin (join_texts joins) ++ (keys_text keys ++ rest))
+abbrev parts : List ExprTree → List OutTree → FromTree → JoinTrees → FilterTree → List OrderTree → (limit offset : Option ℕ) → List ℕ → List ℕ
+parts distinct outs from joins condition keys limit offset rest = word_text word.Select ++ (distinct_text distinct ++ (separated word.Comma (map out_text outs) ++ (word_text word.From ++ after_from from joins condition keys limit offset rest)))
 
--- the text of rows, part by part
-abbrev parts : List OutTree → FromTree → JoinTrees → List OrderTree → List ℕ → List ℕ
-parts outs from joins keys rest = word_text word.Select ++ (separated word.Comma (map out_text outs) ++ (word_text word.From ++ after_from from joins keys rest))
+-- the pieces of rows
+pieces : (s d o f t j w k l n r : List ℕ) → (s ++ (d ++ (o ++ (f ++ (t ++ (j ++ (w ++ (k ++ (l ++ n))))))))) ++ r ≡ s ++ (d ++ (o ++ (f ++ (t ++ (j ++ (w ++ (k ++ (l ++ (n ++ r)))))))))
+pieces s d o f t j w k l n r = simp append_assoc
 
-plain_parts : (outs : List OutTree) (from : FromTree) (joins : JoinTrees) (keys : List OrderTree) (rest : List ℕ) → select_text (plain outs from joins keys) ++ rest ≡ parts outs from joins keys rest
-plain_parts outs from joins keys rest = simp (append_assoc, append-nil)
+rows_parts : (distinct : List ExprTree) (outs : List OutTree) (from : FromTree) (joins : JoinTrees) (condition : FilterTree) (keys : List OrderTree) (limit offset : Option ℕ) (rest : List ℕ)
+    → select_text (tree.rows distinct outs from joins condition keys limit offset) ++ rest ≡ parts distinct outs from joins condition keys limit offset rest
+rows_parts distinct outs from joins condition keys limit offset rest =
+    pieces (word_text word.Select) (distinct_text distinct) (separated word.Comma (map out_text outs)) (word_text word.From) (from_text from) (each_after word.LateralJoin (join_texts joins)) (filter_text condition) (keys_text keys) (number_text word.Limit limit) (number_text word.Offset offset) rest
 
-fold_parts : (o : OutTree) (s : SelectTree) (a rest : List ℕ) → select_text (tree.fold o s a) ++ rest ≡ parts (o ∷ []) (tree.sub s a) tree.no_join [] rest
+fold_parts : (o : OutTree) (s : SelectTree) (a rest : List ℕ) → select_text (tree.fold o s a) ++ rest ≡ parts [] (o ∷ []) (tree.sub s a) tree.no_join tree.no_filter [] None None rest
 fold_parts o s a rest = simp (append_assoc, append-nil)
 
--- the rows of a tree are such rows
-is_plain : (distinct : List ExprTree) (outs : List OutTree) (from : FromTree) (joins : JoinTrees) (condition : _) (keys : List OrderTree) (limit offset : Option ℕ) → distinct ≡ [] → condition ≡ tree.no_filter → limit ≡ None → offset ≡ None
-    → tree.rows distinct outs from joins condition keys limit offset ≡ plain outs from joins keys
-is_plain distinct outs from joins condition keys limit offset a b c d = cc
+distinct_not_one : (t rest : List ℕ) → after word.One (word_text word.Select ++ ((word_text word.DistinctOn ++ t) ++ rest)) ≡ None
+unfolding after word_text
+distinct_not_one t rest = refl
 
--- a select begins with an output, so it is not One
-parts_not_one : (outs : List OutTree) (from : FromTree) (joins : JoinTrees) (keys : List OrderTree) (rest : List ℕ) (d : ℕ) → AllGood (GoodOut d) outs → after word.One (parts outs from joins keys rest) ≡ None
-parts_not_one [] from joins keys rest d good = absurd good
-parts_not_one (o ∷ os) from joins keys rest d good = outputs_not_one o os (after_from from joins keys rest)
+-- a select begins with DISTINCT ON or an output, so it is not One
+parts_not_one : (distinct : List ExprTree) (outs : List OutTree) (from : FromTree) (joins : JoinTrees) (condition : FilterTree) (keys : List OrderTree) (limit offset : Option ℕ) (rest : List ℕ) (d : ℕ) → AllGood (GoodOut d) outs
+    → after word.One (parts distinct outs from joins condition keys limit offset rest) ≡ None
+parts_not_one distinct [] from joins condition keys limit offset rest d good = absurd good
+parts_not_one [] (o ∷ os) from joins condition keys limit offset rest d good = outputs_not_one o os (after_from from joins condition keys limit offset rest)
+parts_not_one (e ∷ es) (o ∷ os) from joins condition keys limit offset rest d good = distinct_not_one _ _
 
 select_not_one : (s : SelectTree) (d : ℕ) (rest : List ℕ) → FitsSelect s d → after word.One (select_text s ++ rest) ≡ None
 select_not_one (tree.rows distinct outs from joins condition keys limit offset) d rest fits =
-    let same = is_plain distinct outs from joins condition keys limit offset fits.0 fits.4 fits.6 fits.7 in
-    ap (λ s. after word.One (select_text s ++ rest)) same ∙ ap (after word.One) (plain_parts outs from joins keys rest) ∙ parts_not_one outs from joins keys rest d fits.1
+    ap (after word.One) (rows_parts distinct outs from joins condition keys limit offset rest) ∙ parts_not_one distinct outs from joins condition keys limit offset rest d fits.1
 select_not_one (tree.fold o inner a) zero rest fits = absurd fits
-select_not_one (tree.fold o inner a) (suc d) rest fits = ap (after word.One) (fold_parts o inner a rest) ∙ outputs_not_one o [] (after_from (tree.sub inner a) tree.no_join [] rest)
+select_not_one (tree.fold o inner a) (suc d) rest fits = ap (after word.One) (fold_parts o inner a rest) ∙ outputs_not_one o [] (after_from (tree.sub inner a) tree.no_join tree.no_filter [] None None rest)
 
 -- ---- FROM and joins, by the depth
 
@@ -271,72 +243,67 @@ joins_deeper d query query_again js rest fits none =
 
 -- ---- selects
 
-from_followed : (joins : JoinTrees) (keys : List OrderTree) (rest : List ℕ) → Free 34 rest → Free 34 (each_after word.LateralJoin (join_texts joins) ++ (keys_text keys ++ rest))
-unfolding word_text
-from_followed tree.no_join [] rest free = free
-from_followed tree.no_join (k ∷ keys) rest free = refl
-from_followed (tree.join s a js) keys rest free = refl
+output_no_distinct : (o : OutTree) (os : List OutTree) (rest : List ℕ) → Absent word.DistinctOn (separated word.Comma (map out_text (o ∷ os)) ++ rest)
+output_no_distinct o os rest =
+    let later = word_text word.As ++ (name_text o.name ++ (each_after word.Comma (map out_text os) ++ rest)) in
+    let regrouped : separated word.Comma (map out_text (o ∷ os)) ++ rest ≡ expr_text o.value ++ later = simp append_assoc in
+    ap (after word.DistinctOn) regrouped ∙ expr_no_distinct o.value later
 
-joins_followed : (keys : List OrderTree) (rest : List ℕ) → after word.LateralJoin rest ≡ None → after word.LateralJoin (keys_text keys ++ rest) ≡ None
-unfolding word_text after
-joins_followed [] rest none = none
-joins_followed (k ∷ keys) rest none = refl
-
-keys_clause : (d : ℕ) (keys : List OrderTree) (rest : List ℕ) → AllByRecursion (GoodOrder d) keys → Ends rest → clause_with word.OrderBy word.Comma (order_with (expr_at d)) (keys_text keys ++ rest) ≡ Some (keys, rest)
-keys_clause d [] rest good ends = rw (ends.2) refl
-keys_clause d (k ∷ keys) rest good ends =
-    let listed = separated word.Comma (map order_text (k ∷ keys)) in
-    rw (append_assoc (word_text word.OrderBy) listed rest, after_again word.OrderBy (listed ++ rest), keys_again d (expr_at d) (expr_again d) k keys rest good.0 good.1 ends.3) refl
-
-module _ (d : ℕ) (query : Reader SelectTree) (from_again : FromAgain d query) (joins_again : JoinsAgain d query) where
-  parts_again : (outs : List OutTree) (from : FromTree) (joins : JoinTrees) (keys : List OrderTree) (rest : List ℕ) → AllGood (GoodOut d) outs → FitsFrom from d → FitsJoins joins d → AllByRecursion (GoodOrder d) keys → Ends rest
-      → select_with d query (parts outs from joins keys rest) ≡ Some (shaped (plain outs from joins keys), rest)
+module _ (d : ℕ) (query : Reader SelectTree) (condition : Reader PredTree) (from_again : FromAgain d query) (joins_again : JoinsAgain d query) (condition_again : Condition d condition) where
+  parts_again : (distinct : List ExprTree) (outs : List OutTree) (from : FromTree) (joins : JoinTrees) (f : FilterTree) (keys : List OrderTree) (limit offset : Option ℕ) (rest : List ℕ)
+      → FitsDistinct d distinct → AllGood (GoodOut d) outs → FitsFrom from d → FitsJoins joins d → FitsFilter f d → AllByRecursion (GoodOrder d) keys → is_count limit ≡ true → is_count offset ≡ true → Ends rest
+      → select_with d query condition (parts distinct outs from joins f keys limit offset rest) ≡ Some (shaped (tree.rows distinct outs from joins f keys limit offset), rest)
   unfolding select_with
-  parts_again [] from joins keys rest good fits_from fits_joins fits_keys ends = absurd good
-  parts_again (o ∷ os) from joins keys rest good fits_from fits_joins fits_keys ends =
-      let tail = keys_text keys ++ rest in
+  parts_again distinct [] from joins f keys limit offset rest fits_d good fits_from fits_joins fits_f fits_keys is_limit is_offset ends = absurd good
+  parts_again distinct (o ∷ os) from joins f keys limit offset rest fits_d good fits_from fits_joins fits_f fits_keys is_limit is_offset ends =
+      let tail = behind_text f keys limit offset rest in
       let middle = each_after word.LateralJoin (join_texts joins) ++ tail in
       let later = from_text from ++ middle in
+      let outputs = separated word.Comma (map out_text (o ∷ os)) ++ (word_text word.From ++ later) in
       rw (
-        after_again word.Select (separated word.Comma (map out_text (o ∷ os)) ++ (word_text word.From ++ later)),
+        after_again word.Select (distinct_text distinct ++ outputs),
+        distinct_again d distinct outputs fits_d (output_no_distinct o os (word_text word.From ++ later)),
         outs_again d o os (word_text word.From ++ later) good.0 good.1 (from_free later) (from_no_comma later),
         after_again word.From later,
-        from_again from middle fits_from (from_followed joins keys rest ends.0),
-        joins_again joins tail fits_joins (joins_followed keys rest ends.1),
-        keys_clause d keys rest fits_keys ends,
+        from_again from middle fits_from (free_behind_from joins f keys limit offset rest ends.0),
+        joins_again joins tail fits_joins (no_join_behind f keys limit offset rest ends.1),
+        end_again d condition condition_again f keys limit offset rest fits_f fits_keys is_limit is_offset ends,
       )
-      (ap (λ js. Some (shaped (plain (o ∷ os) from js keys), rest)) (joins_of-join_list joins))
+      (ap (λ js. Some (shaped (tree.rows distinct (o ∷ os) from js f keys limit offset), rest)) (joins_of-join_list joins))
 
-  rows_again : (outs : List OutTree) (from : FromTree) (joins : JoinTrees) (keys : List OrderTree) (rest : List ℕ) → AllGood (GoodOut d) outs → FitsFrom from d → FitsJoins joins d → AllByRecursion (GoodOrder d) keys → reads_as_fold (plain outs from joins keys) ≡ false → Ends rest
-      → select_with d query (select_text (plain outs from joins keys) ++ rest) ≡ Some (plain outs from joins keys, rest)
-  rows_again outs from joins keys rest good fits_from fits_joins fits_keys not_fold ends =
-      ap (select_with d query) (plain_parts outs from joins keys rest) ∙ parts_again outs from joins keys rest good fits_from fits_joins fits_keys ends
-      ∙ ap (λ b. Some (cond b (fold_of (plain outs from joins keys)) (plain outs from joins keys), rest)) not_fold
+  rows_again : (distinct : List ExprTree) (outs : List OutTree) (from : FromTree) (joins : JoinTrees) (f : FilterTree) (keys : List OrderTree) (limit offset : Option ℕ) (rest : List ℕ) → FitsSelect (tree.rows distinct outs from joins f keys limit offset) d → Ends rest
+      → select_with d query condition (select_text (tree.rows distinct outs from joins f keys limit offset) ++ rest) ≡ Some (tree.rows distinct outs from joins f keys limit offset, rest)
+  rows_again distinct outs from joins f keys limit offset rest fits ends =
+      let s = tree.rows distinct outs from joins f keys limit offset in
+      ap (select_with d query condition) (rows_parts distinct outs from joins f keys limit offset rest)
+      ∙ parts_again distinct outs from joins f keys limit offset rest fits.0 fits.1 fits.2 fits.3 fits.4 fits.5 fits.6 fits.7 ends
+      ∙ ap (λ b. Some (cond b (fold_of s) s, rest)) fits.8
 
   fold_again : (o : OutTree) (s : SelectTree) (a rest : List ℕ) → GoodOut d o → holds_agg o.value ≡ true → is_rows s ≡ true → FitsFrom (tree.sub s a) d → FitsJoins tree.no_join d → Ends rest
-      → select_with d query (select_text (tree.fold o s a) ++ rest) ≡ Some (tree.fold o s a, rest)
+      → select_with d query condition (select_text (tree.fold o s a) ++ rest) ≡ Some (tree.fold o s a, rest)
   fold_again o s a rest good holds rows fits_from fits_joins ends =
-      let folds : shaped (plain (o ∷ []) (tree.sub s a) tree.no_join []) ≡ tree.fold o s a = rw (holds, rows) refl in
-      ap (select_with d query) (fold_parts o s a rest) ∙ parts_again (o ∷ []) (tree.sub s a) tree.no_join [] rest (good, tt) fits_from fits_joins tt ends ∙ ap (λ t. Some (t, rest)) folds
+      let folds : shaped (bare (o ∷ []) (tree.sub s a)) ≡ tree.fold o s a = rw (holds, rows) refl in
+      ap (select_with d query condition) (fold_parts o s a rest)
+      ∙ parts_again [] (o ∷ []) (tree.sub s a) tree.no_join tree.no_filter [] None None rest tt (good, tt) fits_from fits_joins tt tt refl refl ends
+      ∙ ap (λ t. Some (t, rest)) folds
 
-  plain_again : (distinct : List ExprTree) (outs : List OutTree) (from : FromTree) (joins : JoinTrees) (condition : _) (keys : List OrderTree) (limit offset : Option ℕ) (rest : List ℕ) → FitsSelect (tree.rows distinct outs from joins condition keys limit offset) d → Ends rest
-      → select_with d query (select_text (tree.rows distinct outs from joins condition keys limit offset) ++ rest) ≡ Some (tree.rows distinct outs from joins condition keys limit offset, rest)
-  plain_again distinct outs from joins condition keys limit offset rest fits ends =
-      let same = is_plain distinct outs from joins condition keys limit offset fits.0 fits.4 fits.6 fits.7 in
-      let not_fold : reads_as_fold (plain outs from joins keys) ≡ false = ap reads_as_fold (sym same) ∙ fits.8 in
-      subst (λ s. select_with d query (select_text s ++ rest) ≡ Some (s, rest)) (sym same) (rows_again outs from joins keys rest fits.1 fits.2 fits.3 fits.5 not_fold ends)
-
-query_zero : Query zero (select_with zero nothing)
-query_zero (tree.rows distinct outs from joins condition keys limit offset) rest fits ends = plain_again zero nothing from_zero joins_zero distinct outs from joins condition keys limit offset rest fits ends
+query_zero : Query zero (select_with zero nothing (pred_with nothing nothing))
+query_zero (tree.rows distinct outs from joins f keys limit offset) rest fits ends = rows_again zero nothing (pred_with nothing nothing) from_zero joins_zero pred_zero distinct outs from joins f keys limit offset rest fits ends
 query_zero (tree.fold o s a) rest fits ends = absurd fits
 
-query_deeper : (d : ℕ) (query : Reader SelectTree) → Query d query → Query (suc d) (select_with (suc d) query)
-query_deeper d query query_again (tree.rows distinct outs from joins condition keys limit offset) rest fits ends =
-    plain_again (suc d) query (from_deeper d query query_again) (joins_deeper d query query_again) distinct outs from joins condition keys limit offset rest fits ends
-query_deeper d query query_again (tree.fold o s a) rest fits ends =
-    fold_again (suc d) query (from_deeper d query query_again) (joins_deeper d query query_again) o s a rest fits.0 fits.1 fits.2 (fits.3, fits.4) tt ends
+query_deeper : (d : ℕ) (query : Reader SelectTree) (condition : Reader PredTree) → Query d query → Condition (suc d) condition → Query (suc d) (select_with (suc d) query condition)
+query_deeper d query condition query_again condition_again (tree.rows distinct outs from joins f keys limit offset) rest fits ends =
+    rows_again (suc d) query condition (from_deeper d query query_again) (joins_deeper d query query_again) condition_again distinct outs from joins f keys limit offset rest fits ends
+query_deeper d query condition query_again condition_again (tree.fold o s a) rest fits ends =
+    fold_again (suc d) query condition (from_deeper d query query_again) (joins_deeper d query query_again) condition_again o s a rest fits.0 fits.1 fits.2 (fits.3, fits.4) tt ends
+
+both_again : (d : ℕ) → Condition d (pred_at d) × Query d (select_at d)
+unfolding pred_at select_at
+both_again zero = (pred_zero, query_zero)
+both_again (suc d) =
+    let both = both_again d in
+    let condition_again = pred_deeper d (pred_at d) (select_at d) both.0 both.1 in
+    (condition_again, query_deeper d (select_at d) (pred_with (inside_with d (pred_at d)) (select_at d)) both.1 condition_again)
 
 pub select_again : (d : ℕ) → Query d (select_at d)
-unfolding select_at
-select_again zero = query_zero
-select_again (suc d) = query_deeper d (select_at d) (select_again d)
+select_again d = (both_again d).1

@@ -2,7 +2,11 @@ pub mod Below
 pub mod Views
 pub mod Joined
 pub mod Fits
+pub mod ClausesTaken
+pub mod ConditionsTaken
 pub mod Takes
+pub mod ClausesAgain
+pub mod ConditionsAgain
 pub mod Again
 pub mod Form
 pub mod Whole

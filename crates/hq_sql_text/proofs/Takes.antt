@@ -1,38 +1,25 @@
 -- Selects: what is read is spelled so.
-use Rattle.std.proofs.Common.{◌≡◌, ℕ, zero, suc, Bool, true, false, ◌&&◌, ◌==◌, cond, List, [], ◌∷◌, ◌++◌, map, length, Some, None, refl, sym, ap, subst, ◌∙◌, append_assoc, arith}
-use Rattle.std.proofs.lemmas.List.{append-nil}
+use Rattle.std.proofs.Common.{◌≡◌, ℕ, zero, suc, Bool, true, false, ◌&&◌, ◌==◌, cond, List, [], ◌∷◌, ◌++◌, map, length, Option, Some, None, refl, sym, ap, subst, ◌∙◌, append_assoc, arith}
+use Rattle.std.specs.Prelude.{is_none}
+use Rattle.std.proofs.lemmas.Bool.{eqb-true}
+use Rattle.std.proofs.lemmas.List.{append-nil, nil_from_length}
 use Rattle.std.specs.List.{AllByRecursion}
 use Rattle.hq_sql_tree.specs.declared.word.Word.{Word}
 use Rattle.hq_sql_tree.specs.declared.word.Word.TheVariants as word
 use Rattle.hq_sql_tree.specs.Word.{word_text}
 use Rattle.hq_sql_tree.specs.Tree as tree
-use Rattle.hq_sql_tree.specs.Tree.{ExprTree, OrderTree, OutTree, SelectTree, FromTree, JoinTree, JoinTrees, joins_of}
-use Rattle.hq_sql_tree.specs.Form.{holds_agg, is_rows, is_lone_agg, is_sub_of_rows, is_no_join, reads_as_fold}
-use Rattle.hq_sql_tree.specs.Spelling.{name_text, each_after, clause_text, order_text, out_text, select_text, from_text, join_text, join_texts}
+use Rattle.hq_sql_tree.specs.Tree.{ExprTree, OrderTree, OutTree, SelectTree, FromTree, JoinTree, JoinTrees, FilterTree, PredTree, joins_of}
+use Rattle.hq_sql_tree.specs.Form.{holds_agg, is_rows, is_lone_agg, is_sub_of_rows, is_no_join, is_no_filter, reads_as_fold}
+use Rattle.hq_sql_tree.specs.Spelling.{name_text, each_after, clause_text, order_text, out_text, distinct_text, select_text, from_text, join_text, join_texts}
 use Rattle.hq_sql_expr.specs.Reading.{◌>>=◌, Reader, nothing, after, choose, all_many, name_at, expr_at, order_with, out_with}
-use Rattle.hq_sql_expr.proofs.Sound.{Sound, Spelled, sound_next, sound_last, sound_word, sound_choose, sound_end, sound_pure, sound_nothing, sound_wider}
+use Rattle.hq_sql_expr.proofs.Sound.{Sound, Spelled, sound_next, sound_last, sound_word, sound_choose, sound_end, sound_pure, sound_nothing}
 use Rattle.hq_sql_expr.proofs.Listed.{AllGood, list_text, all_many_takes}
 use Rattle.hq_sql_expr.proofs.Literals.{IsText, quoted_takes}
-use Rattle.hq_sql_expr.proofs.Exprs.{GoodOrder, GoodOut, outs_take, orders_take}
-use Rattle.hq_sql_text.specs.Reading.{clause_with, table_at, one_at, aliased_with, from_with, join_with, fold_of, shaped, select_with, select_at}
-use Rattle.hq_sql_text.proofs.Fits.{FitsSelect, FitsFrom, FitsJoins}
-
--- ---- a list behind a word
-
-module _ {A : Type 0} (first between : Word) (item : Reader A) (spelled : A → List ℕ) (Good : A → Type 0) where
-  abbrev pub clause_spelled : List A → List ℕ
-  clause_spelled xs = clause_text first between (map spelled xs)
-
-  some_listed : (b : List ℕ) (xs : List A) → Spelled (list_text item between spelled Good) (AllGood Good) b xs → Spelled clause_spelled (AllByRecursion Good) (word_text first ++ b) xs
-  some_listed b [] r = absurd r.1
-  some_listed b (x ∷ xs) r = (ap (λ t. word_text first ++ t) r.0, r.1)
-
-  pub clause_takes : Sound (all_many item between) (Spelled (list_text item between spelled Good) (AllGood Good)) → Sound (clause_with first between item) (Spelled clause_spelled (AllByRecursion Good))
-  clause_takes items_take =
-      sound_choose first (λ rest. all_many item between rest) (Spelled clause_spelled (AllByRecursion Good))
-      (sound_wider (all_many item between) (Spelled (list_text item between spelled Good) (AllGood Good)) (λ b xs. Spelled clause_spelled (AllByRecursion Good) (word_text first ++ b) xs) some_listed items_take)
-      (λ bytes. Some ([], bytes))
-      (sound_pure [] (Spelled clause_spelled (AllByRecursion Good)) (refl, tt))
+use Rattle.hq_sql_expr.proofs.Exprs.{GoodOrder, GoodOut, outs_take}
+use Rattle.hq_sql_text.specs.Reading.{EndTree, clause_with, distinct_at, table_at, one_at, aliased_with, from_with, join_with, fold_of, shaped, end_with, select_with, select_at, inside_with, pred_with, pred_at}
+use Rattle.hq_sql_text.proofs.Fits.{FitsDistinct, FitsSelect, FitsFrom, FitsJoins, FitsPred}
+use Rattle.hq_sql_text.proofs.ClausesTaken.{clause_spelled, clause_takes, distinct_takes}
+use Rattle.hq_sql_text.proofs.ConditionsTaken.{OnePred, end_text, GoodEnd, end_takes, inside_takes, pred_with_takes}
 
 -- ---- what a select takes its rows from
 
@@ -96,41 +83,61 @@ and_both false b e = absurd cc
 abbrev pub OneSelect : ℕ → List ℕ → SelectTree → Type 0
 OneSelect d = Spelled select_text (λ s. FitsSelect s d)
 
--- rows without WHERE, LIMIT and OFFSET
-abbrev plain : List OutTree → FromTree → JoinTrees → List OrderTree → SelectTree
-plain outs from joins keys = tree.rows [] outs from joins tree.no_filter keys None None
+no_join : (joins : JoinTrees) → is_no_join joins ≡ true → joins ≡ tree.no_join
+no_join tree.no_join e = refl
+no_join (tree.join s a js) e = absurd cc
+
+no_filter : (condition : FilterTree) → is_no_filter condition ≡ true → condition ≡ tree.no_filter
+no_filter tree.no_filter e = refl
+no_filter (tree.filter p) e = absurd cc
+
+no_number : (n : Option ℕ) → is_none n ≡ true → n ≡ None
+no_number None e = refl
+no_number (Some n) e = absurd cc
+
+-- rows of FROM alone
+abbrev pub bare : List OutTree → FromTree → SelectTree
+bare outs from = tree.rows [] outs from tree.no_join tree.no_filter [] None None
+
+same_rows : (distinct : List ExprTree) (outs : List OutTree) (from : FromTree) (joins : JoinTrees) (condition : FilterTree) (keys : List OrderTree) (limit offset : Option ℕ) → distinct ≡ [] → joins ≡ tree.no_join → condition ≡ tree.no_filter → keys ≡ [] → limit ≡ None → offset ≡ None
+    → tree.rows distinct outs from joins condition keys limit offset ≡ bare outs from
+same_rows distinct outs from joins condition keys limit offset a b c d e f = cc
 
 -- what makes rows a fold
-fold_parts : (outs : List OutTree) (from : FromTree) (joins : JoinTrees) (keys : List OrderTree) → reads_as_fold (plain outs from joins keys) ≡ true → (is_lone_agg outs ≡ true) × (is_sub_of_rows from ≡ true) × (is_no_join joins ≡ true) × ((length keys == 0) ≡ true)
-fold_parts outs from joins keys e =
-    let p = and_both (is_lone_agg outs && is_sub_of_rows from && true && is_no_join joins && true && (length keys == 0) && true) true e in
-    let q = and_both (is_lone_agg outs && is_sub_of_rows from && true && is_no_join joins && true && (length keys == 0)) true p.0 in
-    let r = and_both (is_lone_agg outs && is_sub_of_rows from && true && is_no_join joins && true) (length keys == 0) q.0 in
-    let s = and_both (is_lone_agg outs && is_sub_of_rows from && true && is_no_join joins) true r.0 in
-    let t = and_both (is_lone_agg outs && is_sub_of_rows from && true) (is_no_join joins) s.0 in
-    let u = and_both (is_lone_agg outs && is_sub_of_rows from) true t.0 in
-    let v = and_both (is_lone_agg outs) (is_sub_of_rows from) u.0 in
-    (v.0, v.1, t.1, r.1)
+fold_parts : (distinct : List ExprTree) (outs : List OutTree) (from : FromTree) (joins : JoinTrees) (condition : FilterTree) (keys : List OrderTree) (limit offset : Option ℕ) → reads_as_fold (tree.rows distinct outs from joins condition keys limit offset) ≡ true
+    → (is_lone_agg outs ≡ true) × (is_sub_of_rows from ≡ true) × (tree.rows distinct outs from joins condition keys limit offset ≡ bare outs from)
+fold_parts distinct outs from joins condition keys limit offset e =
+    let p7 = and_both (is_lone_agg outs && is_sub_of_rows from && (length distinct == 0) && is_no_join joins && is_no_filter condition && (length keys == 0) && is_none limit) (is_none offset) e in
+    let p6 = and_both (is_lone_agg outs && is_sub_of_rows from && (length distinct == 0) && is_no_join joins && is_no_filter condition && (length keys == 0)) (is_none limit) p7.0 in
+    let p5 = and_both (is_lone_agg outs && is_sub_of_rows from && (length distinct == 0) && is_no_join joins && is_no_filter condition) (length keys == 0) p6.0 in
+    let p4 = and_both (is_lone_agg outs && is_sub_of_rows from && (length distinct == 0) && is_no_join joins) (is_no_filter condition) p5.0 in
+    let p3 = and_both (is_lone_agg outs && is_sub_of_rows from && (length distinct == 0)) (is_no_join joins) p4.0 in
+    let p2 = and_both (is_lone_agg outs && is_sub_of_rows from) (length distinct == 0) p3.0 in
+    let p1 = and_both (is_lone_agg outs) (is_sub_of_rows from) p2.0 in
+    let no_distinct = nil_from_length distinct (eqb-true (length distinct) 0 p2.1) in
+    let no_keys = nil_from_length keys (eqb-true (length keys) 0 p5.1) in
+    (p1.0, p1.1, same_rows distinct outs from joins condition keys limit offset no_distinct (no_join joins p3.1) (no_filter condition p4.1) no_keys (no_number limit p6.1) (no_number offset p7.1))
 
 module _ (d : ℕ) (fold_fits : (o : OutTree) (s : SelectTree) (a : List ℕ) → GoodOut d o → holds_agg o.value ≡ true → is_rows s ≡ true → FitsFrom (tree.sub s a) d → FitsSelect (tree.fold o s a) d) where
-  fold_spelled : (outs : List OutTree) (from : FromTree) (joins : JoinTrees) (keys : List OrderTree) → AllGood (GoodOut d) outs → FitsFrom from d → is_lone_agg outs ≡ true → is_sub_of_rows from ≡ true → is_no_join joins ≡ true → (length keys == 0) ≡ true
-      → OneSelect d (select_text (plain outs from joins keys)) (fold_of (plain outs from joins keys))
-  fold_spelled [] from joins keys good fits lone sub none empty = absurd cc
-  fold_spelled (o ∷ p ∷ outs) from joins keys good fits lone sub none empty = absurd cc
-  fold_spelled (o ∷ []) (tree.table s n a) joins keys good fits lone sub none empty = absurd cc
-  fold_spelled (o ∷ []) (tree.one a) joins keys good fits lone sub none empty = absurd cc
-  fold_spelled (o ∷ []) (tree.sub s a) (tree.join t b js) keys good fits lone sub none empty = absurd cc
-  fold_spelled (o ∷ []) (tree.sub s a) tree.no_join (k ∷ keys) good fits lone sub none empty = absurd (grind arith)
-  fold_spelled (o ∷ []) (tree.sub s a) tree.no_join [] good fits lone sub none empty = (simp (append_assoc, append-nil), fold_fits o s a good.0 lone sub fits)
+  fold_spelled : (outs : List OutTree) (from : FromTree) → AllGood (GoodOut d) outs → FitsFrom from d → is_lone_agg outs ≡ true → is_sub_of_rows from ≡ true → OneSelect d (select_text (bare outs from)) (fold_of (bare outs from))
+  fold_spelled [] from good fits lone sub = absurd cc
+  fold_spelled (o ∷ p ∷ outs) from good fits lone sub = absurd cc
+  fold_spelled (o ∷ []) (tree.table s n a) good fits lone sub = absurd cc
+  fold_spelled (o ∷ []) (tree.one a) good fits lone sub = absurd cc
+  fold_spelled (o ∷ []) (tree.sub s a) good fits lone sub = (simp (append_assoc, append-nil), fold_fits o s a good.0 lone sub fits)
 
-  shape_by : (outs : List OutTree) (from : FromTree) (joins : JoinTrees) (keys : List OrderTree) → AllGood (GoodOut d) outs → FitsFrom from d → FitsJoins joins d → AllByRecursion (GoodOrder d) keys → (b : Bool) → reads_as_fold (plain outs from joins keys) ≡ b
-      → OneSelect d (select_text (plain outs from joins keys)) (cond b (fold_of (plain outs from joins keys)) (plain outs from joins keys))
-  shape_by outs from joins keys good fits_from fits_joins fits_keys true e = let p = fold_parts outs from joins keys e in fold_spelled outs from joins keys good fits_from p.0 p.1 p.2 p.3
-  shape_by outs from joins keys good fits_from fits_joins fits_keys false e = (refl, (refl, good, fits_from, fits_joins, refl, fits_keys, refl, refl, e))
+  shape_by : (distinct : List ExprTree) (outs : List OutTree) (from : FromTree) (joins : JoinTrees) (e : EndTree) → FitsDistinct d distinct → AllGood (GoodOut d) outs → FitsFrom from d → FitsJoins joins d → GoodEnd d e
+      → (b : Bool) → reads_as_fold (tree.rows distinct outs from joins e.condition e.keys e.limit e.offset) ≡ b
+      → OneSelect d (select_text (tree.rows distinct outs from joins e.condition e.keys e.limit e.offset)) (cond b (fold_of (tree.rows distinct outs from joins e.condition e.keys e.limit e.offset)) (tree.rows distinct outs from joins e.condition e.keys e.limit e.offset))
+  shape_by distinct outs from joins e good_d good fits_from fits_joins good_e true reads =
+      let p = fold_parts distinct outs from joins e.condition e.keys e.limit e.offset reads in
+      subst (λ s. OneSelect d (select_text s) (fold_of s)) (sym p.2) (fold_spelled outs from good fits_from p.0 p.1)
+  shape_by distinct outs from joins e good_d good fits_from fits_joins good_e false reads = (refl, (good_d, good, fits_from, fits_joins, good_e.0, good_e.1, good_e.2, good_e.3, reads))
 
-  pub shape_takes : (outs : List OutTree) (from : FromTree) (joins : JoinTrees) (keys : List OrderTree) → AllGood (GoodOut d) outs → FitsFrom from d → FitsJoins joins d → AllByRecursion (GoodOrder d) keys
-      → OneSelect d (select_text (plain outs from joins keys)) (shaped (plain outs from joins keys))
-  shape_takes outs from joins keys good fits_from fits_joins fits_keys = shape_by outs from joins keys good fits_from fits_joins fits_keys (reads_as_fold (plain outs from joins keys)) refl
+  pub shape_takes : (distinct : List ExprTree) (outs : List OutTree) (from : FromTree) (joins : JoinTrees) (e : EndTree) → FitsDistinct d distinct → AllGood (GoodOut d) outs → FitsFrom from d → FitsJoins joins d → GoodEnd d e
+      → OneSelect d (select_text (tree.rows distinct outs from joins e.condition e.keys e.limit e.offset)) (shaped (tree.rows distinct outs from joins e.condition e.keys e.limit e.offset))
+  shape_takes distinct outs from joins e good_d good fits_from fits_joins good_e =
+      shape_by distinct outs from joins e good_d good fits_from fits_joins good_e (reads_as_fold (tree.rows distinct outs from joins e.condition e.keys e.limit e.offset)) refl
 
 -- ---- selects
 
@@ -146,7 +153,7 @@ each_is_clause w (t ∷ ts) = refl
 joins_spelled : (js : List JoinTree) → clause_text word.LateralJoin word.LateralJoin (map join_text js) ≡ each_after word.LateralJoin (join_texts (joins_of js))
 joins_spelled js = sym (ap (each_after word.LateralJoin) (join_texts_of js) ∙ each_is_clause word.LateralJoin (map join_text js))
 
-module _ (d : ℕ) (query : Reader SelectTree) (Q : SelectTree → Type 0) (query_takes : Sound query (Spelled select_text Q))
+module _ (d : ℕ) (query : Reader SelectTree) (condition : Reader PredTree) (Q : SelectTree → Type 0) (query_takes : Sound query (Spelled select_text Q)) (condition_takes : Sound condition (OnePred d))
     (sub_fits : (s : SelectTree) (a : List ℕ) → Q s → IsText a → FitsFrom (tree.sub s a) d) (joins_fit : (js : List JoinTree) → AllByRecursion (GoodAliased Q) js → FitsJoins (joins_of js) d)
     (fold_fits : (o : OutTree) (s : SelectTree) (a : List ℕ) → GoodOut d o → holds_agg o.value ≡ true → is_rows s ≡ true → FitsFrom (tree.sub s a) d → FitsSelect (tree.fold o s a) d) where
   abbrev outs_text : List OutTree → List ℕ
@@ -155,36 +162,46 @@ module _ (d : ℕ) (query : Reader SelectTree) (Q : SelectTree → Type 0) (quer
   abbrev joins_text : List JoinTree → List ℕ
   joins_text = clause_spelled word.LateralJoin word.LateralJoin (join_with query) join_text (GoodAliased Q)
 
-  abbrev keys_text : List OrderTree → List ℕ
-  keys_text = clause_spelled word.OrderBy word.Comma (order_with (expr_at d)) order_text (GoodOrder d)
+  -- the rows of these parts
+  abbrev rows_of : List ExprTree → List OutTree → FromTree → List JoinTree → EndTree → SelectTree
+  rows_of distinct outs from joins e = tree.rows distinct outs from (joins_of joins) e.condition e.keys e.limit e.offset
 
   -- the parts in order are the text of the rows
-  parts_text : (outs : List OutTree) (from : FromTree) (joins : List JoinTree) (keys : List OrderTree) → word_text word.Select ++ (outs_text outs ++ (word_text word.From ++ (from_text from ++ (joins_text joins ++ keys_text keys)))) ≡ select_text (plain outs from (joins_of joins) keys)
-  parts_text outs from joins keys =
-      ap (λ t. word_text word.Select ++ (outs_text outs ++ (word_text word.From ++ (from_text from ++ t)))) (ap (λ t. t ++ keys_text keys) (joins_spelled joins) ∙ ap (λ t. each_after word.LateralJoin (join_texts (joins_of joins)) ++ t) (sym (append-nil (keys_text keys))))
+  parts_text : (distinct : List ExprTree) (outs : List OutTree) (from : FromTree) (joins : List JoinTree) (e : EndTree)
+      → word_text word.Select ++ (distinct_text distinct ++ (outs_text outs ++ (word_text word.From ++ (from_text from ++ (joins_text joins ++ end_text e))))) ≡ select_text (rows_of distinct outs from joins e)
+  parts_text distinct outs from joins e = ap (λ t. word_text word.Select ++ (distinct_text distinct ++ (outs_text outs ++ (word_text word.From ++ (from_text from ++ (t ++ end_text e)))))) (joins_spelled joins)
 
-  select_with_takes : Sound (select_with d query) (OneSelect d)
+  from_on : (distinct : List ExprTree) (outs : List OutTree) → FitsDistinct d distinct → AllGood (GoodOut d) outs
+      → Sound (λ rest. from_with d query rest >>= λ from. clause_with word.LateralJoin word.LateralJoin (join_with query) from.1 >>= λ joins. end_with d condition joins.1 >>= λ e. Some (shaped (rows_of distinct outs from.0 joins.0 e.0), e.1))
+      (λ b s. OneSelect d (word_text word.Select ++ (distinct_text distinct ++ (outs_text outs ++ (word_text word.From ++ b)))) s)
+  from_on distinct outs good_d good =
+      sound_next (from_with d query)
+      (λ from bytes. clause_with word.LateralJoin word.LateralJoin (join_with query) bytes >>= λ joins. end_with d condition joins.1 >>= λ e. Some (shaped (rows_of distinct outs from joins.0 e.0), e.1))
+      from_text (λ f. FitsFrom f d) (λ b s. OneSelect d (word_text word.Select ++ (distinct_text distinct ++ (outs_text outs ++ (word_text word.From ++ b)))) s) (from_takes query Q query_takes d sub_fits)
+      (λ from fits_from. sound_next (clause_with word.LateralJoin word.LateralJoin (join_with query))
+      (λ joins bytes. end_with d condition bytes >>= λ e. Some (shaped (rows_of distinct outs from joins e.0), e.1))
+      joins_text (AllByRecursion (GoodAliased Q)) (λ b s. OneSelect d (word_text word.Select ++ (distinct_text distinct ++ (outs_text outs ++ (word_text word.From ++ (from_text from ++ b))))) s) (joins_take query Q query_takes)
+      (λ joins good_joins. sound_last (end_with d condition) (λ e. shaped (rows_of distinct outs from joins e)) end_text (GoodEnd d)
+      (λ b s. OneSelect d (word_text word.Select ++ (distinct_text distinct ++ (outs_text outs ++ (word_text word.From ++ (from_text from ++ (joins_text joins ++ b)))))) s)
+      (λ e good_e. subst (λ t. OneSelect d t (shaped (rows_of distinct outs from joins e))) (sym (parts_text distinct outs from joins e)) (shape_takes d fold_fits distinct outs from (joins_of joins) e good_d good fits_from (joins_fit joins good_joins) good_e))
+      (end_takes d condition condition_takes)))
+
+  select_with_takes : Sound (select_with d query condition) (OneSelect d)
   unfolding select_with
   select_with_takes =
       sound_word word.Select
-      (λ start. all_many (out_with (expr_at d)) word.Comma start >>= λ outs. after word.From outs.1 >>= λ rest. from_with d query rest >>= λ from. clause_with word.LateralJoin word.LateralJoin (join_with query) from.1 >>= λ joins. clause_with word.OrderBy word.Comma (order_with (expr_at d)) joins.1 >>= λ keys. Some (shaped (plain outs.0 from.0 (joins_of joins.0) keys.0), keys.1))
+      (λ start. distinct_at d start >>= λ distinct. all_many (out_with (expr_at d)) word.Comma distinct.1 >>= λ outs. after word.From outs.1 >>= λ rest. from_with d query rest >>= λ from. clause_with word.LateralJoin word.LateralJoin (join_with query) from.1 >>= λ joins. end_with d condition joins.1 >>= λ e. Some (shaped (rows_of distinct.0 outs.0 from.0 joins.0 e.0), e.1))
       (OneSelect d)
-      (sound_next (all_many (out_with (expr_at d)) word.Comma)
-      (λ outs bytes. after word.From bytes >>= λ rest. from_with d query rest >>= λ from. clause_with word.LateralJoin word.LateralJoin (join_with query) from.1 >>= λ joins. clause_with word.OrderBy word.Comma (order_with (expr_at d)) joins.1 >>= λ keys. Some (shaped (plain outs from.0 (joins_of joins.0) keys.0), keys.1))
-      outs_text (AllGood (GoodOut d)) (λ b s. OneSelect d (word_text word.Select ++ b) s) (outs_take d)
+      (sound_next (distinct_at d)
+      (λ distinct bytes. all_many (out_with (expr_at d)) word.Comma bytes >>= λ outs. after word.From outs.1 >>= λ rest. from_with d query rest >>= λ from. clause_with word.LateralJoin word.LateralJoin (join_with query) from.1 >>= λ joins. end_with d condition joins.1 >>= λ e. Some (shaped (rows_of distinct outs.0 from.0 joins.0 e.0), e.1))
+      distinct_text (FitsDistinct d) (λ b s. OneSelect d (word_text word.Select ++ b) s) (distinct_takes d)
+      (λ distinct good_d. sound_next (all_many (out_with (expr_at d)) word.Comma)
+      (λ outs bytes. after word.From bytes >>= λ rest. from_with d query rest >>= λ from. clause_with word.LateralJoin word.LateralJoin (join_with query) from.1 >>= λ joins. end_with d condition joins.1 >>= λ e. Some (shaped (rows_of distinct outs from.0 joins.0 e.0), e.1))
+      outs_text (AllGood (GoodOut d)) (λ b s. OneSelect d (word_text word.Select ++ (distinct_text distinct ++ b)) s) (outs_take d)
       (λ outs good. sound_word word.From
-      (λ rest. from_with d query rest >>= λ from. clause_with word.LateralJoin word.LateralJoin (join_with query) from.1 >>= λ joins. clause_with word.OrderBy word.Comma (order_with (expr_at d)) joins.1 >>= λ keys. Some (shaped (plain outs from.0 (joins_of joins.0) keys.0), keys.1))
-      (λ b s. OneSelect d (word_text word.Select ++ (outs_text outs ++ b)) s)
-      (sound_next (from_with d query)
-      (λ from bytes. clause_with word.LateralJoin word.LateralJoin (join_with query) bytes >>= λ joins. clause_with word.OrderBy word.Comma (order_with (expr_at d)) joins.1 >>= λ keys. Some (shaped (plain outs from (joins_of joins.0) keys.0), keys.1))
-      from_text (λ f. FitsFrom f d) (λ b s. OneSelect d (word_text word.Select ++ (outs_text outs ++ (word_text word.From ++ b))) s) (from_takes query Q query_takes d sub_fits)
-      (λ from fits_from. sound_next (clause_with word.LateralJoin word.LateralJoin (join_with query))
-      (λ joins bytes. clause_with word.OrderBy word.Comma (order_with (expr_at d)) bytes >>= λ keys. Some (shaped (plain outs from (joins_of joins) keys.0), keys.1))
-      joins_text (AllByRecursion (GoodAliased Q)) (λ b s. OneSelect d (word_text word.Select ++ (outs_text outs ++ (word_text word.From ++ (from_text from ++ b)))) s) (joins_take query Q query_takes)
-      (λ joins good_joins. sound_last (clause_with word.OrderBy word.Comma (order_with (expr_at d))) (λ keys. shaped (plain outs from (joins_of joins) keys)) keys_text (AllByRecursion (GoodOrder d))
-      (λ b s. OneSelect d (word_text word.Select ++ (outs_text outs ++ (word_text word.From ++ (from_text from ++ (joins_text joins ++ b))))) s)
-      (λ keys good_keys. subst (λ t. OneSelect d t (shaped (plain outs from (joins_of joins) keys))) (sym (parts_text outs from joins keys)) (shape_takes d fold_fits outs from (joins_of joins) keys good fits_from (joins_fit joins good_joins) good_keys))
-      (clause_takes word.OrderBy word.Comma (order_with (expr_at d)) order_text (GoodOrder d) (orders_take d)))))))
+      (λ rest. from_with d query rest >>= λ from. clause_with word.LateralJoin word.LateralJoin (join_with query) from.1 >>= λ joins. end_with d condition joins.1 >>= λ e. Some (shaped (rows_of distinct outs from.0 joins.0 e.0), e.1))
+      (λ b s. OneSelect d (word_text word.Select ++ (distinct_text distinct ++ (outs_text outs ++ b))) s)
+      (from_on distinct outs good_d good))))
 
 -- ---- by the depth
 
@@ -196,8 +213,26 @@ joins_fit_at : (d : ℕ) (js : List JoinTree) → AllByRecursion (GoodAliased (�
 joins_fit_at d [] h = tt
 joins_fit_at d (j ∷ js) h = (h.0.0, h.0.1, joins_fit_at d js h.1)
 
+-- no parenthesis may open
+abbrev never : SelectTree → Type 0
+never s = ⊥
+
+pred_zero : Sound (pred_with nothing nothing) (OnePred zero)
+pred_zero = pred_with_takes zero nothing nothing never (sound_nothing {A = PredTree} (λ b p. OnePred zero (word_text word.Open ++ b) p)) (sound_nothing {A = SelectTree} (Spelled select_text never)) (λ s q rows. absurd q)
+
+pred_deeper : (d : ℕ) → Sound (pred_at d) (OnePred d) → Sound (select_at d) (OneSelect d) → Sound (pred_with (inside_with d (pred_at d)) (select_at d)) (OnePred (suc d))
+pred_deeper d pred_takes query_takes = pred_with_takes (suc d) (inside_with d (pred_at d)) (select_at d) (λ s. FitsSelect s d) (inside_takes d (pred_at d) pred_takes) query_takes (λ s q rows. (rows, q))
+
+both_take : (d : ℕ) → Sound (pred_at d) (OnePred d) × Sound (select_at d) (OneSelect d)
+unfolding pred_at select_at
+both_take zero = (
+  pred_zero,
+  select_with_takes zero nothing (pred_with nothing nothing) never (sound_nothing {A = SelectTree} (Spelled select_text never)) pred_zero (λ s a q is. absurd q) no_joins_fit (λ o s a good holds rows fits. absurd fits),
+)
+both_take (suc d) =
+    let both = both_take d in
+    let condition_takes = pred_deeper d both.0 both.1 in
+    (condition_takes, select_with_takes (suc d) (select_at d) (pred_with (inside_with d (pred_at d)) (select_at d)) (λ s. FitsSelect s d) both.1 condition_takes (λ s a q is. (q, is)) (joins_fit_at d) (λ o s a good holds rows fits. (good, holds, rows, fits.0, fits.1)))
+
 pub select_takes : (d : ℕ) → Sound (select_at d) (OneSelect d)
-unfolding select_at
-select_takes zero = select_with_takes zero nothing (λ s. ⊥) (sound_nothing {A = SelectTree} (Spelled select_text (λ s. ⊥))) (λ s a q is. absurd q) no_joins_fit (λ o s a good holds rows fits. absurd fits)
-select_takes (suc d) =
-    select_with_takes (suc d) (select_at d) (λ s. FitsSelect s d) (select_takes d) (λ s a q is. (q, is)) (joins_fit_at d) (λ o s a good holds rows fits. (good, holds, rows, fits.0, fits.1))
+select_takes d = (both_take d).1

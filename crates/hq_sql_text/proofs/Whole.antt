@@ -16,7 +16,8 @@ use Rattle.hq_base.specs.Due.{Gives}
 use Rattle.hq_sql_text.specs.Readable.{Spells}
 use Rattle.hq_sql_text.proofs.Fits.{FitsSelect}
 use Rattle.hq_sql_text.proofs.Takes.{OneSelect, select_takes}
-use Rattle.hq_sql_text.proofs.Again.{select_again, nothing_ends}
+use Rattle.hq_sql_text.proofs.ClausesAgain.{nothing_ends}
+use Rattle.hq_sql_text.proofs.Again.{select_again}
 use Rattle.hq_sql_text.proofs.Form.{readable_fits, fits_readable}
 
 ended : (b : Bool) (x y : SelectTree) → cond b (Some x) None ≡ Some y → (b ≡ true) × (x ≡ y)

@@ -1,54 +1,25 @@
-//! Reading selects.
+//! Reading selects and their conditions.
 ghost use Rattle.std.specs.Prelude.{◌≡◌, List, ℕ, map};
 ghost use Rattle.hq_sql_tree.specs.declared.word.Word.TheVariants as words;
-ghost use Rattle.hq_sql_tree.specs.View.{order_view, out_view, select_view, from_view, join_view};
-ghost use Rattle.hq_sql_expr.specs.Reading.{Reads, below, all_many, expr_at, order_with};
-ghost use Rattle.hq_sql_text.specs.Reading.{clause_with, table_at, one_at, aliased_with, from_with, join_with, select_with, select_at, whole};
+ghost use Rattle.hq_sql_tree.specs.Tree.{preds_of};
+ghost use Rattle.hq_sql_tree.specs.View.{order_view, select_view, from_view, join_view, pred_view, filter_view};
+ghost use Rattle.hq_sql_expr.specs.Reading.{Reads, below, all_many};
+ghost use Rattle.hq_sql_text.specs.Reading.{clause_with, aliased_with, from_with, join_with, select_with, select_at, whole, pred_with, inside_with, inside_at, negated_with, joined_with, others_with, exists_with, filter_with, counts_with, end_with, EndTree};
 
+use crate::clauses::{count_clause, distinct_clause, one_of, order_clause, table_of};
 use crate::shape::shaped;
-use hq_sql_expr::{ReadRefusal, read_keys, read_name, read_outs, skip, starts};
-use hq_sql_tree::{From, Join, JoinList, OrderList, Select, Word};
+use crate::tested::{is_member_next, tested_of};
+use hq_sql_expr::{ReadRefusal, read_name, read_outs, skip, starts};
+use hq_sql_tree::{From, Join, JoinList, OrderList, Pred, PredList, Select, Word};
 use std::alloc::Global;
 
-#[tactic(auto, unfolding(crate::specs::Reading::table_at))]
-fn table_of(alloc: Global, bytes: &[u8]) -> Result<(From, &[u8]), ReadRefusal>
-    ensures { Reads (λ x. (from_view x.0, x.1.now)) result (table_at bytes.now) }
-{
-    let (schema, rest) = read_name(alloc, bytes)?;
-    let rest = skip(rest, Word::Dot)?;
-    let (table, rest) = read_name(alloc, rest)?;
-    let rest = skip(rest, Word::As)?;
-    let (alias, rest) = read_name(alloc, rest)?;
-    Ok((
-        From::Table {
-            schema,
-            table,
-            alias,
-        },
-        rest,
-    ))
-}
-
-// The sort keys of ORDER BY, where there is one.
-fn order_clause(alloc: Global, depth: u32, bytes: &[u8]) -> Result<(OrderList, &[u8]), ReadRefusal>
-    ensures { Reads (λ x. (map order_view x.0.items, x.1.now)) result (clause_with words.OrderBy words.Comma (order_with (expr_at depth)) bytes.now) }
-{
-    match starts(bytes, Word::OrderBy) {
-        Some(rest) => read_keys(alloc, depth, rest),
-        None => Ok((Vec::new(alloc), bytes)),
-    }
-}
-
-// One under an alias, where its parenthesis may open.
-#[tactic(auto, unfolding(crate::specs::Reading::one_at))]
-fn one_of(alloc: Global, depth: u32, bytes: &[u8]) -> Result<(From, &[u8]), ReadRefusal>
-    ensures { Reads (λ x. (from_view x.0, x.1.now)) result (one_at depth bytes.now) }
-{
-    if depth == 0 {
-        return Err(ReadRefusal::NotSql);
-    }
-    let (alias, rest) = read_name(alloc, bytes)?;
-    Ok((From::One { alias }, rest))
+// What stands behind the joins of a select.
+#[derive(Drop)]
+struct End {
+    filter: Option<Pred>,
+    order: OrderList,
+    limit: Option<u64>,
+    offset: Option<u64>,
 }
 
 #[cycle(read_select)]
@@ -60,6 +31,151 @@ fn select_below(alloc: Global, depth: u32, bytes: &[u8]) -> Result<(Select, &[u8
     }
     select_of(alloc, depth - 1, bytes)
 }
+
+// ---- conditions
+
+#[cycle(read_select)]
+#[tactic(auto, unfolding(crate::specs::Reading::pred_with))]
+fn pred_of(alloc: Global, depth: u32, bytes: &[u8]) -> Result<(Pred, &[u8]), ReadRefusal>
+    ensures { Reads (λ x. (pred_view x.0, x.1.now)) result (pred_with (below inside_at depth) (below select_at depth) bytes.now) }
+{
+    if let Some(rest) = starts(bytes, Word::True) {
+        return Ok((Pred::True, rest));
+    }
+    if let Some(rest) = starts(bytes, Word::False) {
+        return Ok((Pred::False, rest));
+    }
+    if let Some(rest) = starts(bytes, Word::Open) {
+        return inside_below(alloc, depth, rest);
+    }
+    let rest = skip(bytes, Word::Exists)?;
+    exists_of(alloc, depth, rest)
+}
+
+// The rows of an EXISTS, up to the closing parenthesis.
+#[cycle(read_select)]
+#[tactic(auto, unfolding(crate::specs::Reading::exists_with))]
+fn exists_of(alloc: Global, depth: u32, bytes: &[u8]) -> Result<(Pred, &[u8]), ReadRefusal>
+    ensures { Reads (λ x. (pred_view x.0, x.1.now)) result (exists_with (below select_at depth) bytes.now) }
+{
+    let (select, rest) = select_below(alloc, depth, bytes)?;
+    let rest = skip(rest, Word::Close)?;
+    if !select.is_rows() {
+        return Err(ReadRefusal::NotSql);
+    }
+    let select = Box::new(alloc, select)?;
+    Ok((Pred::Exists(select), rest))
+}
+
+#[cycle(read_select)]
+fn inside_below(alloc: Global, depth: u32, bytes: &[u8]) -> Result<(Pred, &[u8]), ReadRefusal>
+    ensures { Reads (λ x. (pred_view x.0, x.1.now)) result (below inside_at depth bytes.now) }
+{
+    if depth == 0 {
+        return Err(ReadRefusal::NotSql);
+    }
+    inside_of(alloc, depth - 1, bytes)
+}
+
+// What a parenthesis holds, up to the one that closes it.
+#[cycle(read_select)]
+#[tactic(auto, unfolding(crate::specs::Reading::inside_with))]
+fn inside_of(alloc: Global, depth: u32, bytes: &[u8]) -> Result<(Pred, &[u8]), ReadRefusal>
+    ensures { Reads (λ x. (pred_view x.0, x.1.now)) result (inside_with depth (pred_with (below inside_at depth) (below select_at depth)) bytes.now) }
+{
+    if let Some(rest) = starts(bytes, Word::Not) {
+        return negated_of(alloc, depth, rest);
+    }
+    if is_member_next(bytes) {
+        return joined_of(alloc, depth, bytes);
+    }
+    tested_of(alloc, depth, bytes)
+}
+
+#[cycle(read_select)]
+#[tactic(auto, unfolding(crate::specs::Reading::negated_with))]
+fn negated_of(alloc: Global, depth: u32, bytes: &[u8]) -> Result<(Pred, &[u8]), ReadRefusal>
+    ensures { Reads (λ x. (pred_view x.0, x.1.now)) result (negated_with (pred_with (below inside_at depth) (below select_at depth)) bytes.now) }
+{
+    let (pred, rest) = pred_of(alloc, depth, bytes)?;
+    let rest = skip(rest, Word::Close)?;
+    let pred = Box::new(alloc, pred)?;
+    Ok((Pred::Not(pred), rest))
+}
+
+// The members of AND or OR, up to the closing parenthesis.
+#[cycle(read_select)]
+#[tactic(auto, unfolding(crate::specs::Reading::joined_with))]
+fn joined_of(alloc: Global, depth: u32, bytes: &[u8]) -> Result<(Pred, &[u8]), ReadRefusal>
+    ensures { Reads (λ x. (pred_view x.0, x.1.now)) result (joined_with (pred_with (below inside_at depth) (below select_at depth)) bytes.now) }
+{
+    let (first, rest) = pred_of(alloc, depth, bytes)?;
+    if let Some(rest) = starts(rest, Word::And) {
+        let (members, rest) = others_of(alloc, depth, Word::And, first, rest)?;
+        return Ok((Pred::And(members), rest));
+    }
+    let rest = skip(rest, Word::Or)?;
+    let (members, rest) = others_of(alloc, depth, Word::Or, first, rest)?;
+    Ok((Pred::Or(members), rest))
+}
+
+// The first condition and those behind it, up to the closing parenthesis.
+#[cycle(read_select)]
+#[tactic(auto, unfolding(crate::specs::Reading::others_with))]
+fn others_of(
+    alloc: Global,
+    depth: u32,
+    between: Word,
+    first: Pred,
+    bytes: &[u8],
+) -> Result<(PredList, &[u8]), ReadRefusal>
+    ensures { Reads (λ x. (map pred_view x.0.items, x.1.now)) result (others_with (pred_with (below inside_at depth) (below select_at depth)) between (pred_view first) bytes.now) }
+{
+    let (mut members, rest) = pred_list(alloc, depth, between, bytes)?;
+    let rest = skip(rest, Word::Close)?;
+    members.insert(0, first)?;
+    Ok((members, rest))
+}
+
+#[cycle(read_select)]
+fn pred_list(
+    alloc: Global,
+    depth: u32,
+    between: Word,
+    bytes: &[u8],
+) -> Result<(PredList, &[u8]), ReadRefusal>
+    ensures { Reads (λ x. (map pred_view x.0.items, x.1.now)) result (all_many (pred_with (below inside_at depth) (below select_at depth)) between bytes.now) }
+{
+    let mut found = Vec::new(alloc);
+    let mut rest = bytes;
+    for _ in 0..bytes.len() + 1 {
+        let (pred, left) = pred_of(alloc, depth, rest)?;
+        found.push(pred)?;
+        match starts(left, between) {
+            None => return Ok((found, left)),
+            Some(next) => rest = next,
+        }
+    }
+    Err(ReadRefusal::NotSql)
+}
+
+// The condition of WHERE, where it stands.
+#[cycle(read_select)]
+fn filter_clause(
+    alloc: Global,
+    depth: u32,
+    bytes: &[u8],
+) -> Result<(Option<Pred>, &[u8]), ReadRefusal>
+    ensures { Reads (λ x. (filter_view x.0, x.1.now)) result (filter_with (pred_with (below inside_at depth) (below select_at depth)) bytes.now) }
+{
+    let Some(rest) = starts(bytes, Word::Where) else {
+        return Ok((None, bytes));
+    };
+    let (pred, rest) = pred_of(alloc, depth, rest)?;
+    Ok((Some(pred), rest))
+}
+
+// ---- what a select takes its rows from
 
 // A select, the parenthesis that closes it, and its alias.
 #[cycle(read_select)]
@@ -127,26 +243,68 @@ fn join_clause(alloc: Global, depth: u32, bytes: &[u8]) -> Result<(JoinList, &[u
     }
 }
 
+// ---- selects
+
+// The limit and the offset, behind WHERE and ORDER BY.
+#[tactic(auto, unfolding(crate::specs::Reading::counts_with))]
+fn counts_of(
+    alloc: Global,
+    filter: Option<Pred>,
+    order: OrderList,
+    bytes: &[u8],
+) -> Result<(End, &[u8]), ReadRefusal>
+    ensures { Reads (λ x. (record { condition = filter_view x.0.filter; keys = map order_view x.0.order.items; limit = x.0.limit; offset = x.0.offset }, x.1.now)) result (counts_with (filter_view filter) (map order_view order.items) bytes.now) }
+{
+    let (limit, rest) = count_clause(alloc, Word::Limit, bytes)?;
+    let (offset, rest) = count_clause(alloc, Word::Offset, rest)?;
+    Ok((
+        End {
+            filter,
+            order,
+            limit,
+            offset,
+        },
+        rest,
+    ))
+}
+
+#[cycle(read_select)]
+#[tactic(auto, unfolding(crate::specs::Reading::end_with))]
+fn end_of(alloc: Global, depth: u32, bytes: &[u8]) -> Result<(End, &[u8]), ReadRefusal>
+    ensures { Reads (λ x. (record { condition = filter_view x.0.filter; keys = map order_view x.0.order.items; limit = x.0.limit; offset = x.0.offset }, x.1.now)) result (end_with depth (pred_with (below inside_at depth) (below select_at depth)) bytes.now) }
+{
+    let (filter, rest) = filter_clause(alloc, depth, bytes)?;
+    let (order, rest) = order_clause(alloc, depth, rest)?;
+    counts_of(alloc, filter, order, rest)
+}
+
 #[cycle(read_select)]
 #[tactic(auto, unfolding(crate::specs::Reading::select_with))]
 fn select_of(alloc: Global, depth: u32, bytes: &[u8]) -> Result<(Select, &[u8]), ReadRefusal>
-    ensures { Reads (λ x. (select_view x.0, x.1.now)) result (select_with depth (below select_at depth) bytes.now) }
+    ensures { Reads (λ x. (select_view x.0, x.1.now)) result (select_with depth (below select_at depth) (pred_with (below inside_at depth) (below select_at depth)) bytes.now) }
 {
     let rest = skip(bytes, Word::Select)?;
+    let (distinct, rest) = distinct_clause(alloc, depth, rest)?;
     let (outs, rest) = read_outs(alloc, depth, rest)?;
     let rest = skip(rest, Word::From)?;
     let (from, rest) = from_of(alloc, depth, rest)?;
     let (joins, rest) = join_clause(alloc, depth, rest)?;
-    let (order, rest) = order_clause(alloc, depth, rest)?;
+    let (end, rest) = end_of(alloc, depth, rest)?;
+    let End {
+        filter,
+        order,
+        limit,
+        offset,
+    } = end;
     let rows = Select::Rows {
-        distinct: Vec::new(alloc),
+        distinct,
         outs,
         from,
         joins,
-        filter: None,
+        filter,
         order,
-        limit: None,
-        offset: None,
+        limit,
+        offset,
     };
     Ok((shaped(rows), rest))
 }

@@ -26,3 +26,8 @@ pub fn read(alloc: Global, text: &[u8]) -> Result<Select, ReadRefusal>
 pub fn one_tree()
     ensures { (text : List ℕ) (a b : SelectTree) → Spells text a → Spells text b → a ≡ b }
 {}
+
+/// No tree has two spellings.
+pub fn one_spelling()
+    ensures { (a b : List ℕ) (s : SelectTree) → Spells a s → Spells b s → a ≡ b }
+{}

@@ -4,3 +4,4 @@ pub mod Word
 pub mod Spelling
 pub mod Meaning
 pub mod Form
+pub mod WellFormed

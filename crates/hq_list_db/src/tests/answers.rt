@@ -41,6 +41,10 @@ const REFUSED: &[(&[u8], DbRefusal)] = &[
         br#"SELECT "t0"."u" AS "v" FROM (SELECT TRUE AS "u") AS "t0""#,
         DbRefusal::NotTyped,
     ),
+    (
+        br#"SELECT TRUE AS "u" FROM "s"."t" AS "e" WHERE (NOT ("e"."n" IS NULL)) LIMIT 1"#,
+        DbRefusal::NotTyped,
+    ),
 ];
 
 #[test]
