@@ -78,12 +78,7 @@ fn count_rows(all: &[Rows]) -> u64
 }
 
 // Writes the line of a check.
-fn write_counts<K: Sink>(
-    out: &mut K,
-    tables: u64,
-    roles: u64,
-    rows: u64,
-) -> Result<(), WriteFailed>
+fn write_counts<K: Sink>(out: &mut K, tables: u64, roles: u64, rows: u64) -> Result<(), WriteFailed>
     ensures { Wrote (K.written out.old) (K.written out.new) (K.faults out.old) (K.faults out.new) (counts_line tables roles rows) result }
 {
     write_parts(

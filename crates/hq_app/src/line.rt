@@ -146,16 +146,61 @@ fn write_meta<'a, E: Sink>(
 {
     match refusal {
         MetaRefusal::NotJson => write_name(err, file, Phrase::NotJson),
-        MetaRefusal::Version { found } => write_field(err, file, Phrase::Version, Part::Text(found)),
+        MetaRefusal::Version { found } => write_field(
+            err,
+            file,
+            Phrase::Version,
+            Part::Text(found),
+        ),
         MetaRefusal::Shape { path } => write_field(err, file, Phrase::Shape, Part::Text(path)),
-        MetaRefusal::UnknownTable { path } => write_field(err, file, Phrase::UnknownTable, Part::Text(path)),
-        MetaRefusal::UnknownColumn { path } => write_field(err, file, Phrase::UnknownColumn, Part::Text(path)),
-        MetaRefusal::NoForeignKey { path } => write_field(err, file, Phrase::NoForeignKey, Part::Text(path)),
-        MetaRefusal::BadOperand { path } => write_field(err, file, Phrase::BadOperand, Part::Text(path)),
-        MetaRefusal::BadMapping { path } => write_field(err, file, Phrase::BadMapping, Part::Text(path)),
-        MetaRefusal::RepeatedName { path } => write_field(err, file, Phrase::RepeatedName, Part::Text(path)),
-        MetaRefusal::RepeatedRole { path } => write_field(err, file, Phrase::RepeatedRole, Part::Text(path)),
-        MetaRefusal::Sources { count } => write_field(err, file, Phrase::Sources, Part::Number(*count)),
+        MetaRefusal::UnknownTable { path } => write_field(
+            err,
+            file,
+            Phrase::UnknownTable,
+            Part::Text(path),
+        ),
+        MetaRefusal::UnknownColumn { path } => write_field(
+            err,
+            file,
+            Phrase::UnknownColumn,
+            Part::Text(path),
+        ),
+        MetaRefusal::NoForeignKey { path } => write_field(
+            err,
+            file,
+            Phrase::NoForeignKey,
+            Part::Text(path),
+        ),
+        MetaRefusal::BadOperand { path } => write_field(
+            err,
+            file,
+            Phrase::BadOperand,
+            Part::Text(path),
+        ),
+        MetaRefusal::BadMapping { path } => write_field(
+            err,
+            file,
+            Phrase::BadMapping,
+            Part::Text(path),
+        ),
+        MetaRefusal::RepeatedName { path } => write_field(
+            err,
+            file,
+            Phrase::RepeatedName,
+            Part::Text(path),
+        ),
+        MetaRefusal::RepeatedRole { path } => write_field(
+            err,
+            file,
+            Phrase::RepeatedRole,
+            Part::Text(path),
+        ),
+        MetaRefusal::Sources { count } => write_field(
+            err,
+            file,
+            Phrase::Sources,
+            Part::Number(*count),
+        ),
         MetaRefusal::Memory => write_name(err, file, Phrase::Memory),
     }
 }

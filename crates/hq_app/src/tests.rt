@@ -132,9 +132,31 @@ fn headers_give_the_session(rt: HostRuntime) -> Result<(), Fail> {
     let cases: [(&[&str], &[u8], &[u8]); 5] = [
         (&["query", "db"], authors, emails),
         (&["query", "db", "X-Hasura-Role:admin"], articles, owners),
-        (&["query", "db", "x-hasura-user-id: 1", "Accept: */*"], articles, owners),
-        (&["query", "db", "x-hasura-role:  user\t", "X-HASURA-ROLE: admin"], LIST, REPLY),
-        (&["query", "db", "X-Hasura-Admin-Secret: s", "X-Hasura-Role: user"], LIST, REPLY),
+        (
+            &["query", "db", "x-hasura-user-id: 1", "Accept: */*"],
+            articles,
+            owners,
+        ),
+        (
+            &[
+                "query",
+                "db",
+                "x-hasura-role:  user\t",
+                "X-HASURA-ROLE: admin",
+            ],
+            LIST,
+            REPLY,
+        ),
+        (
+            &[
+                "query",
+                "db",
+                "X-Hasura-Admin-Secret: s",
+                "X-Hasura-Role: user",
+            ],
+            LIST,
+            REPLY,
+        ),
     ];
     for (words, input, reply) in cases {
         let (status, out, err) = outcome(rt.alloc(), words, DIRECTORY, input, [&[], &[], &[]])?;
@@ -174,7 +196,13 @@ fn at_most_64_headers_are_taken(rt: HostRuntime) -> Result<(), Fail> {
     words[0] = "query";
     words[1] = "db";
     for (count, want) in [(66, 0), (67, 2)] {
-        let (status, _, _) = outcome(rt.alloc(), &words[..count], DIRECTORY, LIST, [&[], &[], &[]])?;
+        let (status, _, _) = outcome(
+            rt.alloc(),
+            &words[..count],
+            DIRECTORY,
+            LIST,
+            [&[], &[], &[]],
+        )?;
         assert_eq!(rt; status, want);
     }
     Ok(())
@@ -217,19 +245,34 @@ fn a_refused_file_is_told(rt: HostRuntime) -> Result<(), Fail> {
     let none: Held = ("db/metadata.json", br#"{"version":3,"sources":[]}"#);
     let cases: [(&[Held], &str); 11] = [
         (&[METADATA, AUTHORS], "hq: catalog.json: Missing\n"),
-        (&[("db/catalog.json", b"{"), METADATA, AUTHORS], "hq: catalog.json: NotJson\n"),
-        (&[("db/catalog.json", b"{}")], "hq: catalog.json: Shape $.tables\n"),
+        (
+            &[("db/catalog.json", b"{"), METADATA, AUTHORS],
+            "hq: catalog.json: NotJson\n",
+        ),
+        (
+            &[("db/catalog.json", b"{}")],
+            "hq: catalog.json: Shape $.tables\n",
+        ),
         (&[no_key], "hq: catalog.json: NoKey public.author\n"),
         (&[CATALOG, AUTHORS], "hq: metadata.json: Missing\n"),
-        (&[CATALOG, ("db/metadata.json", b"{}")], "hq: metadata.json: Version \n"),
+        (
+            &[CATALOG, ("db/metadata.json", b"{}")],
+            "hq: metadata.json: Version \n",
+        ),
         (&[CATALOG, second], "hq: metadata.json: Version 2\n"),
         (&[CATALOG, none], "hq: metadata.json: Sources 0\n"),
         (
             &[CATALOG, titel],
             "hq: metadata.json: UnknownColumn $.sources[0].tables[1].select_permissions[0].permission.columns[1]\n",
         ),
-        (&[CATALOG, METADATA, narrow], "hq: public.author.csv: Width 2\n"),
-        (&[CATALOG, METADATA, repeated], "hq: public.author.csv: RepeatedKey 5 3\n"),
+        (
+            &[CATALOG, METADATA, narrow],
+            "hq: public.author.csv: Width 2\n",
+        ),
+        (
+            &[CATALOG, METADATA, repeated],
+            "hq: public.author.csv: RepeatedKey 5 3\n",
+        ),
     ];
     for (held, line) in cases {
         for words in [WORDS, &["check", "db"]] {

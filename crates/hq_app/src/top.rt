@@ -6,9 +6,9 @@ ghost use Rattle.hq_app.specs.Loading.{contents, loaded_view};
 ghost use Rattle.hq_app.specs.Due.{check_due, due, query_due, reply_due};
 ghost use Rattle.hq_app.specs.Ending.{Answer, Ends, Silent, Tells, NotDatabase, status_of, told_line};
 
+use crate::check::write_check;
 use crate::line::write_line;
 use crate::reply::reply_to;
-use crate::check::write_check;
 use crate::{Command, Loaded, Ran, Refusal, World, load};
 use hq_base::Txt;
 use hq_engine::Engine;
