@@ -1,17 +1,18 @@
-//! Reading the clauses of a select that hold no select.
+//! Reading the clauses of a select that hold no select. Each stands apart, so that its frame is not part of that of a select.
 ghost use Rattle.std.specs.Prelude.{◌≡◌, List, ℕ, map};
 ghost use Rattle.hq_sql_tree.specs.declared.word.Word.TheVariants as words;
-ghost use Rattle.hq_sql_tree.specs.View.{expr_view, order_view, from_view};
-ghost use Rattle.hq_sql_expr.specs.Reading.{Reads, expr_at, order_with};
+ghost use Rattle.hq_sql_tree.specs.View.{expr_view, order_view, out_view, from_view};
+ghost use Rattle.hq_sql_expr.specs.Reading.{Reads, all_many, expr_at, order_with, out_with};
 ghost use Rattle.hq_sql_text.specs.Reading.{clause_with, count_at, distinct_at, one_at, table_at};
 
 use hq_sql_expr::{
-    ReadRefusal, read_closed_exprs, read_keys, read_name, read_number, skip, starts,
+    ReadRefusal, read_closed_exprs, read_keys, read_name, read_number, read_outs, skip, starts,
 };
-use hq_sql_tree::{ExprList, From, OrderList, Word};
+use hq_sql_tree::{ExprList, From, OrderList, OutList, Word};
 use std::alloc::Global;
 
 /// The expressions of DISTINCT ON, where it stands.
+#[inline(never)]
 pub(crate) fn distinct_clause(
     alloc: Global,
     depth: u32,
@@ -25,7 +26,20 @@ pub(crate) fn distinct_clause(
     }
 }
 
+/// One output or more.
+#[inline(never)]
+pub(crate) fn out_list(
+    alloc: Global,
+    depth: u32,
+    bytes: &[u8],
+) -> Result<(OutList, &[u8]), ReadRefusal>
+    ensures { Reads (λ x. (map out_view x.0.items, x.1.now)) result (all_many (out_with (expr_at depth)) words.Comma bytes.now) }
+{
+    read_outs(alloc, depth, bytes)
+}
+
 /// A table and its alias.
+#[inline(never)]
 #[tactic(auto, unfolding(crate::specs::Reading::table_at))]
 pub(crate) fn table_of(alloc: Global, bytes: &[u8]) -> Result<(From, &[u8]), ReadRefusal>
     ensures { Reads (λ x. (from_view x.0, x.1.now)) result (table_at bytes.now) }
@@ -46,6 +60,7 @@ pub(crate) fn table_of(alloc: Global, bytes: &[u8]) -> Result<(From, &[u8]), Rea
 }
 
 /// One under an alias, where its parenthesis may open.
+#[inline(never)]
 #[tactic(auto, unfolding(crate::specs::Reading::one_at))]
 pub(crate) fn one_of(alloc: Global, depth: u32, bytes: &[u8]) -> Result<(From, &[u8]), ReadRefusal>
     ensures { Reads (λ x. (from_view x.0, x.1.now)) result (one_at depth bytes.now) }
@@ -58,6 +73,7 @@ pub(crate) fn one_of(alloc: Global, depth: u32, bytes: &[u8]) -> Result<(From, &
 }
 
 /// The sort keys of ORDER BY, where it stands.
+#[inline(never)]
 pub(crate) fn order_clause(
     alloc: Global,
     depth: u32,
@@ -72,6 +88,7 @@ pub(crate) fn order_clause(
 }
 
 /// The number behind the word of LIMIT or OFFSET, where it stands.
+#[inline(never)]
 pub(crate) fn count_clause(
     alloc: Global,
     word: Word,

@@ -2,6 +2,7 @@
 #![tactic(auto)]
 
 mod clauses;
+mod parts;
 mod printing;
 mod reading;
 mod shape;

@@ -1,30 +1,25 @@
 //! Reading selects and their conditions.
-ghost use Rattle.std.specs.Prelude.{◌≡◌, List, ℕ, map};
+ghost use Rattle.std.specs.Prelude.{◌≡◌, List, ℕ, map, option_map};
 ghost use Rattle.hq_sql_tree.specs.declared.word.Word.TheVariants as words;
 ghost use Rattle.hq_sql_tree.specs.Tree.{preds_of};
-ghost use Rattle.hq_sql_tree.specs.View.{order_view, select_view, from_view, join_view, pred_view, filter_view};
+ghost use Rattle.hq_sql_tree.specs.View.{order_view, select_view, from_view, join_view, pred_view, filter_of};
 ghost use Rattle.hq_sql_expr.specs.Reading.{Reads, below, all_many};
-ghost use Rattle.hq_sql_text.specs.Reading.{clause_with, aliased_with, from_with, join_with, select_with, select_at, whole, pred_with, inside_with, inside_at, negated_with, joined_with, others_with, exists_with, filter_with, counts_with, end_with, EndTree};
+ghost use Rattle.hq_sql_text.specs.Reading.{clause_with, aliased_with, from_with, join_with, select_with, select_at, whole, pred_with, inside_with, inside_at, negated_with, joined_with, others_with, exists_with, filter_with, end_with, EndTree};
 
-use crate::clauses::{count_clause, distinct_clause, one_of, order_clause, table_of};
-use crate::shape::shaped;
+use crate::clauses::{distinct_clause, one_of, order_clause, out_list, table_of};
+use crate::parts::{End, add_first, add_last, boxed, counts_of, rows_of};
 use crate::tested::{is_member_next, tested_of};
-use hq_sql_expr::{ReadRefusal, read_name, read_outs, skip, starts};
-use hq_sql_tree::{From, Join, JoinList, OrderList, Pred, PredList, Select, Word};
+use hq_sql_expr::{ReadRefusal, read_name, skip, starts};
+use hq_sql_tree::{From, Join, JoinList, Pred, PredList, Select, Word};
 use std::alloc::Global;
 
-// What stands behind the joins of a select.
-#[derive(Drop)]
-struct End {
-    filter: Option<Pred>,
-    order: OrderList,
-    limit: Option<u64>,
-    offset: Option<u64>,
-}
-
 #[cycle(read_select)]
-fn select_below(alloc: Global, depth: u32, bytes: &[u8]) -> Result<(Select, &[u8]), ReadRefusal>
-    ensures { Reads (λ x. (select_view x.0, x.1.now)) result (below select_at depth bytes.now) }
+fn select_below(
+    alloc: Global,
+    depth: u32,
+    bytes: &[u8],
+) -> Result<(Box<Select>, &[u8]), ReadRefusal>
+    ensures { Reads (λ x. (select_view x.0.value, x.1.now)) result (below select_at depth bytes.now) }
 {
     if depth == 0 {
         return Err(ReadRefusal::NotSql);
@@ -34,16 +29,17 @@ fn select_below(alloc: Global, depth: u32, bytes: &[u8]) -> Result<(Select, &[u8
 
 // ---- conditions
 
+#[inline(never)]
 #[cycle(read_select)]
 #[tactic(auto, unfolding(crate::specs::Reading::pred_with))]
-fn pred_of(alloc: Global, depth: u32, bytes: &[u8]) -> Result<(Pred, &[u8]), ReadRefusal>
-    ensures { Reads (λ x. (pred_view x.0, x.1.now)) result (pred_with (below inside_at depth) (below select_at depth) bytes.now) }
+fn pred_of(alloc: Global, depth: u32, bytes: &[u8]) -> Result<(Box<Pred>, &[u8]), ReadRefusal>
+    ensures { Reads (λ x. (pred_view x.0.value, x.1.now)) result (pred_with (below inside_at depth) (below select_at depth) bytes.now) }
 {
     if let Some(rest) = starts(bytes, Word::True) {
-        return Ok((Pred::True, rest));
+        return boxed(alloc, Pred::True, rest);
     }
     if let Some(rest) = starts(bytes, Word::False) {
-        return Ok((Pred::False, rest));
+        return boxed(alloc, Pred::False, rest);
     }
     if let Some(rest) = starts(bytes, Word::Open) {
         return inside_below(alloc, depth, rest);
@@ -55,21 +51,20 @@ fn pred_of(alloc: Global, depth: u32, bytes: &[u8]) -> Result<(Pred, &[u8]), Rea
 // The rows of an EXISTS, up to the closing parenthesis.
 #[cycle(read_select)]
 #[tactic(auto, unfolding(crate::specs::Reading::exists_with))]
-fn exists_of(alloc: Global, depth: u32, bytes: &[u8]) -> Result<(Pred, &[u8]), ReadRefusal>
-    ensures { Reads (λ x. (pred_view x.0, x.1.now)) result (exists_with (below select_at depth) bytes.now) }
+fn exists_of(alloc: Global, depth: u32, bytes: &[u8]) -> Result<(Box<Pred>, &[u8]), ReadRefusal>
+    ensures { Reads (λ x. (pred_view x.0.value, x.1.now)) result (exists_with (below select_at depth) bytes.now) }
 {
     let (select, rest) = select_below(alloc, depth, bytes)?;
     let rest = skip(rest, Word::Close)?;
     if !select.is_rows() {
         return Err(ReadRefusal::NotSql);
     }
-    let select = Box::new(alloc, select)?;
-    Ok((Pred::Exists(select), rest))
+    boxed(alloc, Pred::Exists(select), rest)
 }
 
 #[cycle(read_select)]
-fn inside_below(alloc: Global, depth: u32, bytes: &[u8]) -> Result<(Pred, &[u8]), ReadRefusal>
-    ensures { Reads (λ x. (pred_view x.0, x.1.now)) result (below inside_at depth bytes.now) }
+fn inside_below(alloc: Global, depth: u32, bytes: &[u8]) -> Result<(Box<Pred>, &[u8]), ReadRefusal>
+    ensures { Reads (λ x. (pred_view x.0.value, x.1.now)) result (below inside_at depth bytes.now) }
 {
     if depth == 0 {
         return Err(ReadRefusal::NotSql);
@@ -80,8 +75,8 @@ fn inside_below(alloc: Global, depth: u32, bytes: &[u8]) -> Result<(Pred, &[u8])
 // What a parenthesis holds, up to the one that closes it.
 #[cycle(read_select)]
 #[tactic(auto, unfolding(crate::specs::Reading::inside_with))]
-fn inside_of(alloc: Global, depth: u32, bytes: &[u8]) -> Result<(Pred, &[u8]), ReadRefusal>
-    ensures { Reads (λ x. (pred_view x.0, x.1.now)) result (inside_with depth (pred_with (below inside_at depth) (below select_at depth)) bytes.now) }
+fn inside_of(alloc: Global, depth: u32, bytes: &[u8]) -> Result<(Box<Pred>, &[u8]), ReadRefusal>
+    ensures { Reads (λ x. (pred_view x.0.value, x.1.now)) result (inside_with depth (pred_with (below inside_at depth) (below select_at depth)) bytes.now) }
 {
     if let Some(rest) = starts(bytes, Word::Not) {
         return negated_of(alloc, depth, rest);
@@ -94,46 +89,47 @@ fn inside_of(alloc: Global, depth: u32, bytes: &[u8]) -> Result<(Pred, &[u8]), R
 
 #[cycle(read_select)]
 #[tactic(auto, unfolding(crate::specs::Reading::negated_with))]
-fn negated_of(alloc: Global, depth: u32, bytes: &[u8]) -> Result<(Pred, &[u8]), ReadRefusal>
-    ensures { Reads (λ x. (pred_view x.0, x.1.now)) result (negated_with (pred_with (below inside_at depth) (below select_at depth)) bytes.now) }
+fn negated_of(alloc: Global, depth: u32, bytes: &[u8]) -> Result<(Box<Pred>, &[u8]), ReadRefusal>
+    ensures { Reads (λ x. (pred_view x.0.value, x.1.now)) result (negated_with (pred_with (below inside_at depth) (below select_at depth)) bytes.now) }
 {
     let (pred, rest) = pred_of(alloc, depth, bytes)?;
     let rest = skip(rest, Word::Close)?;
-    let pred = Box::new(alloc, pred)?;
-    Ok((Pred::Not(pred), rest))
+    boxed(alloc, Pred::Not(pred), rest)
 }
 
 // The members of AND or OR, up to the closing parenthesis.
+#[inline(never)]
 #[cycle(read_select)]
 #[tactic(auto, unfolding(crate::specs::Reading::joined_with))]
-fn joined_of(alloc: Global, depth: u32, bytes: &[u8]) -> Result<(Pred, &[u8]), ReadRefusal>
-    ensures { Reads (λ x. (pred_view x.0, x.1.now)) result (joined_with (pred_with (below inside_at depth) (below select_at depth)) bytes.now) }
+fn joined_of(alloc: Global, depth: u32, bytes: &[u8]) -> Result<(Box<Pred>, &[u8]), ReadRefusal>
+    ensures { Reads (λ x. (pred_view x.0.value, x.1.now)) result (joined_with (pred_with (below inside_at depth) (below select_at depth)) bytes.now) }
 {
     let (first, rest) = pred_of(alloc, depth, bytes)?;
     if let Some(rest) = starts(rest, Word::And) {
         let (members, rest) = others_of(alloc, depth, Word::And, first, rest)?;
-        return Ok((Pred::And(members), rest));
+        return boxed(alloc, Pred::And(members), rest);
     }
     let rest = skip(rest, Word::Or)?;
     let (members, rest) = others_of(alloc, depth, Word::Or, first, rest)?;
-    Ok((Pred::Or(members), rest))
+    boxed(alloc, Pred::Or(members), rest)
 }
 
 // The first condition and those behind it, up to the closing parenthesis.
+#[inline(never)]
 #[cycle(read_select)]
 #[tactic(auto, unfolding(crate::specs::Reading::others_with))]
 fn others_of(
     alloc: Global,
     depth: u32,
     between: Word,
-    first: Pred,
+    first: Box<Pred>,
     bytes: &[u8],
 ) -> Result<(PredList, &[u8]), ReadRefusal>
-    ensures { Reads (λ x. (map pred_view x.0.items, x.1.now)) result (others_with (pred_with (below inside_at depth) (below select_at depth)) between (pred_view first) bytes.now) }
+    ensures { Reads (λ x. (map pred_view x.0.items, x.1.now)) result (others_with (pred_with (below inside_at depth) (below select_at depth)) between (pred_view first.value) bytes.now) }
 {
     let (mut members, rest) = pred_list(alloc, depth, between, bytes)?;
     let rest = skip(rest, Word::Close)?;
-    members.insert(0, first)?;
+    add_first(&mut members, first)?;
     Ok((members, rest))
 }
 
@@ -150,7 +146,7 @@ fn pred_list(
     let mut rest = bytes;
     for _ in 0..bytes.len() + 1 {
         let (pred, left) = pred_of(alloc, depth, rest)?;
-        found.push(pred)?;
+        add_last(&mut found, pred)?;
         match starts(left, between) {
             None => return Ok((found, left)),
             Some(next) => rest = next,
@@ -160,13 +156,14 @@ fn pred_list(
 }
 
 // The condition of WHERE, where it stands.
+#[inline(never)]
 #[cycle(read_select)]
 fn filter_clause(
     alloc: Global,
     depth: u32,
     bytes: &[u8],
-) -> Result<(Option<Pred>, &[u8]), ReadRefusal>
-    ensures { Reads (λ x. (filter_view x.0, x.1.now)) result (filter_with (pred_with (below inside_at depth) (below select_at depth)) bytes.now) }
+) -> Result<(Option<Box<Pred>>, &[u8]), ReadRefusal>
+    ensures { Reads (λ x. (filter_of (option_map (λ p. pred_view p.value) x.0), x.1.now)) result (filter_with (pred_with (below inside_at depth) (below select_at depth)) bytes.now) }
 {
     let Some(rest) = starts(bytes, Word::Where) else {
         return Ok((None, bytes));
@@ -186,10 +183,10 @@ fn aliased_of(alloc: Global, depth: u32, bytes: &[u8]) -> Result<(Join, &[u8]), 
     let (select, rest) = select_below(alloc, depth, bytes)?;
     let rest = skip(rest, Word::CloseAs)?;
     let (alias, rest) = read_name(alloc, rest)?;
-    let select = Box::new(alloc, select)?;
     Ok((Join { select, alias }, rest))
 }
 
+#[inline(never)]
 #[cycle(read_select)]
 #[tactic(auto, unfolding(crate::specs::Reading::from_with))]
 fn from_of(alloc: Global, depth: u32, bytes: &[u8]) -> Result<(From, &[u8]), ReadRefusal>
@@ -233,6 +230,7 @@ fn join_list(alloc: Global, depth: u32, bytes: &[u8]) -> Result<(JoinList, &[u8]
 }
 
 // The lateral joins, if there are any.
+#[inline(never)]
 #[cycle(read_select)]
 fn join_clause(alloc: Global, depth: u32, bytes: &[u8]) -> Result<(JoinList, &[u8]), ReadRefusal>
     ensures { Reads (λ x. (map join_view x.0.items, x.1.now)) result (clause_with words.LateralJoin words.LateralJoin (join_with (below select_at depth)) bytes.now) }
@@ -245,72 +243,35 @@ fn join_clause(alloc: Global, depth: u32, bytes: &[u8]) -> Result<(JoinList, &[u
 
 // ---- selects
 
-// The limit and the offset, behind WHERE and ORDER BY.
-#[tactic(auto, unfolding(crate::specs::Reading::counts_with))]
-fn counts_of(
-    alloc: Global,
-    filter: Option<Pred>,
-    order: OrderList,
-    bytes: &[u8],
-) -> Result<(End, &[u8]), ReadRefusal>
-    ensures { Reads (λ x. (record { condition = filter_view x.0.filter; keys = map order_view x.0.order.items; limit = x.0.limit; offset = x.0.offset }, x.1.now)) result (counts_with (filter_view filter) (map order_view order.items) bytes.now) }
-{
-    let (limit, rest) = count_clause(alloc, Word::Limit, bytes)?;
-    let (offset, rest) = count_clause(alloc, Word::Offset, rest)?;
-    Ok((
-        End {
-            filter,
-            order,
-            limit,
-            offset,
-        },
-        rest,
-    ))
-}
-
+#[inline(never)]
 #[cycle(read_select)]
 #[tactic(auto, unfolding(crate::specs::Reading::end_with))]
-fn end_of(alloc: Global, depth: u32, bytes: &[u8]) -> Result<(End, &[u8]), ReadRefusal>
-    ensures { Reads (λ x. (record { condition = filter_view x.0.filter; keys = map order_view x.0.order.items; limit = x.0.limit; offset = x.0.offset }, x.1.now)) result (end_with depth (pred_with (below inside_at depth) (below select_at depth)) bytes.now) }
+fn end_of(alloc: Global, depth: u32, bytes: &[u8]) -> Result<(Box<End>, &[u8]), ReadRefusal>
+    ensures { Reads (λ x. (record { condition = filter_of (option_map (λ p. pred_view p.value) x.0.value.filter); keys = map order_view x.0.value.order.items; limit = x.0.value.limit; offset = x.0.value.offset }, x.1.now)) result (end_with depth (pred_with (below inside_at depth) (below select_at depth)) bytes.now) }
 {
     let (filter, rest) = filter_clause(alloc, depth, bytes)?;
     let (order, rest) = order_clause(alloc, depth, rest)?;
     counts_of(alloc, filter, order, rest)
 }
 
+#[inline(never)]
 #[cycle(read_select)]
 #[tactic(auto, unfolding(crate::specs::Reading::select_with))]
-fn select_of(alloc: Global, depth: u32, bytes: &[u8]) -> Result<(Select, &[u8]), ReadRefusal>
-    ensures { Reads (λ x. (select_view x.0, x.1.now)) result (select_with depth (below select_at depth) (pred_with (below inside_at depth) (below select_at depth)) bytes.now) }
+fn select_of(alloc: Global, depth: u32, bytes: &[u8]) -> Result<(Box<Select>, &[u8]), ReadRefusal>
+    ensures { Reads (λ x. (select_view x.0.value, x.1.now)) result (select_with depth (below select_at depth) (pred_with (below inside_at depth) (below select_at depth)) bytes.now) }
 {
     let rest = skip(bytes, Word::Select)?;
     let (distinct, rest) = distinct_clause(alloc, depth, rest)?;
-    let (outs, rest) = read_outs(alloc, depth, rest)?;
+    let (outs, rest) = out_list(alloc, depth, rest)?;
     let rest = skip(rest, Word::From)?;
     let (from, rest) = from_of(alloc, depth, rest)?;
     let (joins, rest) = join_clause(alloc, depth, rest)?;
     let (end, rest) = end_of(alloc, depth, rest)?;
-    let End {
-        filter,
-        order,
-        limit,
-        offset,
-    } = end;
-    let rows = Select::Rows {
-        distinct,
-        outs,
-        from,
-        joins,
-        filter,
-        order,
-        limit,
-        offset,
-    };
-    Ok((shaped(rows), rest))
+    rows_of(alloc, distinct, outs, from, joins, end, rest)
 }
 
-fn select_top(alloc: Global, depth: u32, bytes: &[u8]) -> Result<(Select, &[u8]), ReadRefusal>
-    ensures { Reads (λ x. (select_view x.0, x.1.now)) result (select_at depth bytes.now) }
+fn select_top(alloc: Global, depth: u32, bytes: &[u8]) -> Result<(Box<Select>, &[u8]), ReadRefusal>
+    ensures { Reads (λ x. (select_view x.0.value, x.1.now)) result (select_at depth bytes.now) }
 {
     select_of(alloc, depth, bytes)
 }
@@ -324,5 +285,5 @@ pub(crate) fn whole_of(alloc: Global, depth: u32, bytes: &[u8]) -> Result<Select
     if rest.len() != 0 {
         return Err(ReadRefusal::NotSql);
     }
-    Ok(select)
+    Ok(Box::into_inner(select))
 }

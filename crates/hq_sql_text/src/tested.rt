@@ -4,6 +4,7 @@ ghost use Rattle.hq_sql_tree.specs.View.{expr_view, pred_view};
 ghost use Rattle.hq_sql_expr.specs.Reading.{Reads, after};
 ghost use Rattle.hq_sql_text.specs.Reading.{joint_behind, joint_next, member_next, op_at, test_with, tested_at};
 
+use crate::parts::boxed;
 use hq_sql_expr::{ReadRefusal, read_closed_expr, read_closed_exprs, read_expr, skip, starts};
 use hq_sql_tree::{Expr, Pred, Word};
 use hq_terms::Op;
@@ -78,16 +79,18 @@ fn test_of(
 }
 
 /// An expression and what is asked of it, up to the closing parenthesis.
+#[inline(never)]
 #[tactic(auto, unfolding(crate::specs::Reading::tested_at))]
 pub(crate) fn tested_of(
     alloc: Global,
     depth: u32,
     bytes: &[u8],
-) -> Result<(Pred, &[u8]), ReadRefusal>
-    ensures { Reads (λ x. (pred_view x.0, x.1.now)) result (tested_at depth bytes.now) }
+) -> Result<(Box<Pred>, &[u8]), ReadRefusal>
+    ensures { Reads (λ x. (pred_view x.0.value, x.1.now)) result (tested_at depth bytes.now) }
 {
     let (left, rest) = read_expr(alloc, depth, bytes)?;
-    test_of(alloc, depth, left, rest)
+    let (pred, rest) = test_of(alloc, depth, left, rest)?;
+    boxed(alloc, pred, rest)
 }
 
 // Whether AND or OR stands here.

@@ -170,7 +170,7 @@ struct Nested {
     back: &'static [u8],
 }
 
-fn nested(alloc: Global, form: &Nested, count: usize) -> Result<Vec<u8>, AllocError> {
+fn written(alloc: Global, form: &Nested, count: usize) -> Result<Vec<u8>, AllocError> {
     let mut text = Vec::new(alloc);
     text.extend_from_slice(form.front)?;
     for _ in 0..count {
@@ -231,9 +231,9 @@ fn two_thousand_parentheses_are_read(rt: HostRuntime) -> Result<(), Fail> {
         },
     ];
     for form in &forms {
-        let text = nested(rt.alloc(), form, 2000)?;
+        let text = written(rt.alloc(), form, 2000)?;
         assert!(rt; again(rt.alloc(), text.as_slice())?);
-        let deeper = nested(rt.alloc(), form, 2001)?;
+        let deeper = written(rt.alloc(), form, 2001)?;
         assert!(rt; is_refused(rt.alloc(), deeper.as_slice()));
     }
     Ok(())

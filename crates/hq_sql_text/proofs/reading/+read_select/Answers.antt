@@ -15,12 +15,12 @@ use Rattle.hq_sql_text.proofs.reading.+read_select.Goals as goal
 pub select_below-returns : goal.select_below-returns
 select_below-returns t c =
     let lt : 0 < c.args.depth = omega arith in
-    subst (Reads (λ x. (select_view x.0, x.1.now)) c.select_of.result) (sym (select_below_is c.args.depth c.args.bytes.now lt)) c.select_of.ensures
+    subst (Reads (λ x. (select_view x.0.value, x.1.now)) c.select_of.result) (sym (select_below_is c.args.depth c.args.bytes.now lt)) c.select_of.ensures
 
 pub inside_below-returns : goal.inside_below-returns
 inside_below-returns t c =
     let lt : 0 < c.args.depth = omega arith in
-    subst (Reads (λ x. (pred_view x.0, x.1.now)) c.inside_of.result) (sym (inside_below_is c.args.depth c.args.bytes.now lt)) c.inside_of.ensures
+    subst (Reads (λ x. (pred_view x.0.value, x.1.now)) c.inside_of.result) (sym (inside_below_is c.args.depth c.args.bytes.now lt)) c.inside_of.ensures
 
 -- where no alias is read, neither is the whole
 no_alias : (query : Reader SelectTree) (bytes behind rest : List ℕ) (s : SelectTree) (e : ReadRefusal) → query bytes ≡ Some (s, behind) → after word.CloseAs behind ≡ Some rest → Refuses e (name_at rest) → Refuses e (aliased_with query bytes)
@@ -71,14 +71,14 @@ pub pred_list-returns-in-None : goal.pred_list-returns-in-None
 pred_list-returns-in-None t c =
     let l = c.loop in
     let item = pred_with (below inside_at c.args.depth) (below select_at c.args.depth) in
-    let e : map pred_view c.push.new.self.items ≡ map pred_view l.found.items ++ pred_view c.in_ok-pred.pred ∷ [] = rw c.in_ok-push.ensures.items (map_push _ l.found.items c.in_ok-pred.pred) in
+    let e : map pred_view c.add_last.new.preds.items ≡ map pred_view l.found.items ++ pred_view c.in_ok-pred.pred.value ∷ [] = c.in_ok-add_last.ensures in
     rw e (finishes item c.args.between (map pred_view l.found.items) (length c.args.bytes.now + 1) l.counter l.rest.now (all_many item c.args.between c.args.bytes.now) c.loop-test.true l.invariant _ _ c.in_ok-pred.ensures (sym c.in-None.ensures))
 
 pub pred_list-loop-preserved : goal.pred_list-loop-preserved
 pred_list-loop-preserved t c =
     let l = c.loop in
     let item = pred_with (below inside_at c.args.depth) (below select_at c.args.depth) in
-    let e : map pred_view c.push.new.self.items ≡ map pred_view l.found.items ++ pred_view c.in_ok-pred.pred ∷ [] = rw c.in_ok-push.ensures.items (map_push _ l.found.items c.in_ok-pred.pred) in
+    let e : map pred_view c.add_last.new.preds.items ≡ map pred_view l.found.items ++ pred_view c.in_ok-pred.pred.value ∷ [] = c.in_ok-add_last.ensures in
     rw e (goes_on item c.args.between (map pred_view l.found.items) (length c.args.bytes.now + 1) l.counter l.rest.now (all_many item c.args.between c.args.bytes.now) c.loop-test.true l.invariant _ _ c.in-Some.next.now c.in_ok-pred.ensures (sym c.in-Some.ensures))
 
 pub pred_list-returns : goal.pred_list-returns
