@@ -1,5 +1,5 @@
 -- How a run ends, by its parts.
-use Rattle.std.proofs.Common.{◌≡◌, ◌⊎◌, ◌≤◌, ◌∙◌, ℕ, List, [], length, Option, Some, None, IfSome, Result, Ok, Err, IsErrOf, refl, sym, ap, subst, inl, inr, arith, append-nil}
+use Rattle.std.proofs.Common.{◌≡◌, ◌⊎◌, ◌≤◌, ◌∙◌, ℕ, List, [], length, Option, Some, None, IfSome, Result, Ok, Err, ok_or, refl, sym, ap, subst, inl, inr, arith, append-nil}
 use Rattle.std.proofs.lemmas.Bool.{lt-ltb, le-ltb}
 use Rattle.std.specs.Io.KnownBytes.{Appends}
 use Rattle.hq_base.specs.Due.{and_then}
@@ -14,15 +14,15 @@ use Rattle.hq_engine.specs.Due.{due_reply}
 use Rattle.hq_engine.specs.ListRequest.{request_of}
 use Rattle.hq_engine.specs.declared.refusal.EngineRefusal.{EngineRefusal}
 use Rattle.hq_engine.specs.declared.refusal.EngineRefusal.TheVariants as engine
-use Rattle.hq_app.specs.Words.{query_of}
+use Rattle.hq_app.specs.Words.{command_of}
 use Rattle.hq_app.specs.Wrote.{Wrote}
 use Rattle.hq_app.specs.Told.{GivesUnless}
 use Rattle.hq_app.specs.Loading.{Contents, loading_due, loaded_view, refused_as}
-use Rattle.hq_app.specs.Due.{of_words, of_loading, of_input, of_engine, session_of, reply_due, due}
+use Rattle.hq_app.specs.Due.{of_words, of_loading, of_input, of_engine, reply_due, command_due, due}
 use Rattle.hq_app.specs.Ending.{Answer, Ends, Silent, Tells, status_of}
 use Rattle.hq_app.specs.declared.reply.TheConstants.{INPUT_LIMIT}
 use Rattle.hq_app.specs.declared.loaded.Loaded.{Loaded}
-use Rattle.hq_app.specs.declared.words.Query.{Query}
+use Rattle.hq_app.specs.declared.words.Command.{Command}
 use Rattle.hq_app.specs.declared.words.WordsRefusal.{WordsRefusal}
 use Rattle.hq_app.specs.declared.words.WordsRefusal.TheVariants as words
 use Rattle.hq_app.specs.declared.refusal.LoadingRefusal.{LoadingRefusal}
@@ -103,9 +103,23 @@ told_at o a P is h = subst (λ q. IfSome q P) is h
 
 -- ---- the words and the directory
 
-pub words_end : (given : List (List ℕ)) (files : List File) (text : List ℕ) (old : Option (List ℕ)) (e : WordsRefusal) → (IsErrOf {T = Query} (Err e) words.BadWords → query_of given ≡ None)
+-- nothing is what is refused so
+refused_so : {A E : Type 0} (o : Option A) (e : E) → ok_or o e ≡ Err e → o ≡ None
+refused_so None e h = refl
+refused_so (Some a) e h = absurd cc
+
+pub no_command : (given : List (List ℕ)) → (words.BadWords ≡ words.Memory) ⊎ (ok_or (command_of given) words.BadWords ≡ Err words.BadWords) → command_of given ≡ None
+no_command given (inl same) = absurd cc
+no_command given (inr h) = refused_so (command_of given) words.BadWords h
+
+pub the_command : (given : List (List ℕ)) (c : Command) → ok_or (command_of given) words.BadWords ≡ Ok c → command_of given ≡ Some c
+the_command given c h =
+    let go : (o : Option Command) → ok_or o words.BadWords ≡ Ok c → o ≡ Some c = elim [ None ↦ λ g. absurd cc | Some d ↦ λ g. cc ] in
+    go (command_of given) h
+
+pub words_end : (given : List (List ℕ)) (files : List File) (text : List ℕ) (old : Option (List ℕ)) (e : WordsRefusal) → (e ≡ words.Memory) ⊎ (ok_or (command_of given) words.BadWords ≡ Err e)
     → Ends old old (due given files text) (Err (of_words e))
-words_end given files text old words.BadWords h = rw (h refl) refl
+words_end given files text old words.BadWords h = rw (no_command given h) refl
 words_end given files text old words.Memory h = tt
 
 loading_is : (e : LoadingRefusal) (d : Result Contents LoadingRefusal) → (e ≡ loading.Memory → ⊥) → (e ≡ loading.Failed → ⊥) → (e ≡ loading.Memory) ⊎ ((e ≡ loading.Failed) ⊎ (d ≡ Err e)) → d ≡ Err e
@@ -113,21 +127,20 @@ loading_is e d memory failed (inl h) = absurd (memory h)
 loading_is e d memory failed (inr (inl h)) = absurd (failed h)
 loading_is e d memory failed (inr (inr h)) = h
 
-pub loading_ends : (given : List (List ℕ)) (files : List File) (text : List ℕ) (old : Option (List ℕ)) (query : Query) (e : LoadingRefusal) → query_of given ≡ Some query
-    → GivesUnless {X = Loaded} loaded_view loading.Memory loading.Failed (loading_due files query.dir) (Err e) → Ends old old (due given files text) (Err (of_loading e))
-loading_ends given files text old query (loading.File file fault) asked h =
-    let is = loading_is (loading.File file fault) (loading_due files query.dir) (λ same. cc) (λ same. cc) h in
-    rw asked (ap (λ r. and_then (λ c. reply_due c (session_of query.role) text) (refused_as of_loading r)) is)
-loading_ends given files text old query loading.NotBuilt asked h =
-    let is = loading_is loading.NotBuilt (loading_due files query.dir) (λ same. cc) (λ same. cc) h in
-    rw asked (ap (λ r. and_then (λ c. reply_due c (session_of query.role) text) (refused_as of_loading r)) is)
-loading_ends given files text old query loading.Failed asked h = tt
-loading_ends given files text old query loading.Memory asked h = tt
+-- what is due of what a directory holds, where its loading is refused and where it is not
+pub loading_ends : (f : Contents → Result (List ℕ) Refusal) (files : List File) (dir : List ℕ) (old : Option (List ℕ)) (e : LoadingRefusal)
+    → GivesUnless {X = Loaded} loaded_view loading.Memory loading.Failed (loading_due files dir) (Err e) → Ends old old (and_then f (refused_as of_loading (loading_due files dir))) (Err (of_loading e))
+loading_ends f files dir old (loading.File file fault) h =
+    ap (λ r. and_then f (refused_as of_loading r)) (loading_is (loading.File file fault) (loading_due files dir) (λ same. cc) (λ same. cc) h)
+loading_ends f files dir old loading.Failed h = tt
+loading_ends f files dir old loading.Memory h = tt
 
-pub due_reply_is : (given : List (List ℕ)) (files : List File) (text : List ℕ) (query : Query) (held : Contents) → query_of given ≡ Some query → loading_due files query.dir ≡ Ok held
-    → due given files text ≡ reply_due held (session_of query.role) text
-due_reply_is given files text query held asked is =
-    rw asked (ap (λ r. and_then (λ c. reply_due c (session_of query.role) text) (refused_as of_loading r)) is)
+pub loaded_due : (f : Contents → Result (List ℕ) Refusal) (files : List File) (dir : List ℕ) (held : Contents) → loading_due files dir ≡ Ok held → and_then f (refused_as of_loading (loading_due files dir)) ≡ f held
+loaded_due f files dir held is = ap (λ r. and_then f (refused_as of_loading r)) is
+
+-- what is due for a command that the words ask for
+pub asked_due : (given : List (List ℕ)) (files : List File) (text : List ℕ) (c : Command) → ok_or (command_of given) words.BadWords ≡ Ok c → due given files text ≡ command_due c files text
+asked_due given files text c h = rw (the_command given c h) refl
 
 -- ---- the input and the reply
 

@@ -4,5 +4,6 @@ pub mod Directory
 pub mod Loading
 pub mod Line
 pub mod Wrote
+pub mod Check
 pub mod Due
 pub mod Ending

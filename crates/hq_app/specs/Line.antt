@@ -4,6 +4,8 @@ use Rattle.std.specs.List.{concat}
 use Rattle.std.specs.Fmt.{decimal}
 use Rattle.hq_catalog_read.specs.declared.refusal.CatalogRefusal.{CatalogRefusal}
 use Rattle.hq_catalog_read.specs.declared.refusal.CatalogRefusal.TheVariants as catalog
+use Rattle.hq_meta_read.specs.declared.refusal.MetaRefusal.{MetaRefusal}
+use Rattle.hq_meta_read.specs.declared.refusal.MetaRefusal.TheVariants as meta
 use Rattle.hq_tables.specs.declared.load.refusal.LoadRefusal.{LoadRefusal}
 use Rattle.hq_tables.specs.declared.load.refusal.LoadRefusal.TheVariants as table
 use Rattle.hq_app.specs.declared.refusal.FileFault.{FileFault}
@@ -13,7 +15,7 @@ use Rattle.hq_app.specs.declared.refusal.Refusal.TheVariants as refusal
 use Rattle.hq_app.specs.declared.parts.Part.{Part}
 use Rattle.hq_app.specs.declared.parts.Part.TheVariants.{Fixed, Text, Number}
 use Rattle.hq_app.specs.declared.phrase.Phrase.{Phrase}
-use Rattle.hq_app.specs.declared.phrase.Phrase.TheVariants.{Hq, Colon, Space, End, BadArguments, ReadFailed, WriteFailed, DatabaseFailed, OutOfMemory, InputTooLong, NotBuilt, Missing, TooLarge, NotJson, Shape, Repeated, NoKey, NameLength, TooMany, Header, Width, NotUtf8, ZeroByte, NotInteger, NotBoolean, NullInNotNull, RepeatedKey, Memory}
+use Rattle.hq_app.specs.declared.phrase.Phrase.TheVariants.{Hq, Colon, Space, End, BadArguments, ReadFailed, WriteFailed, DatabaseFailed, OutOfMemory, InputTooLong, NotBuilt, Missing, TooLarge, NotJson, Shape, Repeated, NoKey, NameLength, TooMany, Header, Width, NotUtf8, ZeroByte, NotInteger, NotBoolean, NullInNotNull, RepeatedKey, Version, UnknownTable, UnknownColumn, NoForeignKey, BadOperand, BadMapping, RepeatedName, RepeatedRole, Sources, Memory, Ok, Tables, Roles, Rows}
 
 -- the text of a phrase
 unfoldable pub phrase_text : Phrase → List ℕ
@@ -44,7 +46,20 @@ phrase_text NotInteger = codes "NotInteger"
 phrase_text NotBoolean = codes "NotBoolean"
 phrase_text NullInNotNull = codes "NullInNotNull"
 phrase_text RepeatedKey = codes "RepeatedKey"
+phrase_text Version = codes "Version"
+phrase_text UnknownTable = codes "UnknownTable"
+phrase_text UnknownColumn = codes "UnknownColumn"
+phrase_text NoForeignKey = codes "NoForeignKey"
+phrase_text BadOperand = codes "BadOperand"
+phrase_text BadMapping = codes "BadMapping"
+phrase_text RepeatedName = codes "RepeatedName"
+phrase_text RepeatedRole = codes "RepeatedRole"
+phrase_text Sources = codes "Sources"
 phrase_text Memory = codes "Memory"
+phrase_text Ok = codes "ok: "
+phrase_text Tables = codes " tables, "
+phrase_text Roles = codes " roles, "
+phrase_text Rows = codes " rows"
 
 -- the text of a part
 abbrev pub part_text : Part → List ℕ
@@ -74,6 +89,20 @@ catalog_line file (catalog.NameLength name) = file_line file NameLength (name �
 catalog_line file (catalog.TooMany what count) = file_line file TooMany (what ∷ decimal count ∷ [])
 catalog_line file catalog.Memory = file_line file Memory []
 
+abbrev pub meta_line : (file : List ℕ) → MetaRefusal → List ℕ
+meta_line file meta.NotJson = file_line file NotJson []
+meta_line file (meta.Version found) = file_line file Version (found ∷ [])
+meta_line file (meta.Shape path) = file_line file Shape (path ∷ [])
+meta_line file (meta.UnknownTable path) = file_line file UnknownTable (path ∷ [])
+meta_line file (meta.UnknownColumn path) = file_line file UnknownColumn (path ∷ [])
+meta_line file (meta.NoForeignKey path) = file_line file NoForeignKey (path ∷ [])
+meta_line file (meta.BadOperand path) = file_line file BadOperand (path ∷ [])
+meta_line file (meta.BadMapping path) = file_line file BadMapping (path ∷ [])
+meta_line file (meta.RepeatedName path) = file_line file RepeatedName (path ∷ [])
+meta_line file (meta.RepeatedRole path) = file_line file RepeatedRole (path ∷ [])
+meta_line file (meta.Sources count) = file_line file Sources (decimal count ∷ [])
+meta_line file meta.Memory = file_line file Memory []
+
 abbrev pub table_line : (file : List ℕ) → LoadRefusal → List ℕ
 table_line file table.Header = file_line file Header []
 table_line file (table.Width line) = file_line file Width (decimal line ∷ [])
@@ -89,6 +118,7 @@ abbrev pub fault_line : (file : List ℕ) → FileFault → List ℕ
 fault_line file fault.Missing = file_line file Missing []
 fault_line file fault.TooLarge = file_line file TooLarge []
 fault_line file (fault.Catalog e) = catalog_line file e
+fault_line file (fault.Meta e) = meta_line file e
 fault_line file (fault.Table e) = table_line file e
 
 abbrev pub database_line : (before after : ℕ) → List ℕ

@@ -11,9 +11,9 @@ use Rattle.hq_terms.specs.declared.table.Table.{Table}
 use Rattle.hq_catalog_read.specs.Reading.{catalog_due}
 use Rattle.hq_catalog_read.specs.declared.refusal.CatalogRefusal.{CatalogRefusal}
 use Rattle.hq_catalog_read.specs.declared.refusal.CatalogRefusal.TheVariants as catalog
-use Rattle.hq_meta_form.specs.Form.{meta_of}
-use Rattle.hq_meta_form.specs.declared.refusal.MetaFormRefusal.{MetaFormRefusal}
-use Rattle.hq_meta_form.specs.declared.refusal.MetaFormRefusal.TheVariants as form
+use Rattle.hq_meta_read.specs.Reading.{meta_due}
+use Rattle.hq_meta_read.specs.declared.refusal.MetaRefusal.{MetaRefusal}
+use Rattle.hq_meta_read.specs.declared.refusal.MetaRefusal.TheVariants as meta
 use Rattle.hq_tables.specs.Load.{table_due}
 use Rattle.hq_tables.specs.declared.load.refusal.LoadRefusal.{LoadRefusal}
 use Rattle.hq_tables.specs.declared.load.refusal.LoadRefusal.TheVariants as table
@@ -38,15 +38,9 @@ abbrev pub table_refused : (file : List ℕ) → LoadRefusal → LoadingRefusal
 table_refused name table.Memory = loading.Memory
 table_refused name refusal = loading.File name (fault.Table refusal)
 
-abbrev pub meta_file_refused : FileRefusal → LoadingRefusal
-meta_file_refused file.Missing = loading.NotBuilt
-meta_file_refused file.TooLarge = loading.NotBuilt
-meta_file_refused file.Failed = loading.Failed
-meta_file_refused file.Memory = loading.Memory
-
-abbrev pub meta_refused : MetaFormRefusal → LoadingRefusal
-meta_refused form.NotBuilt = loading.NotBuilt
-meta_refused form.Memory = loading.Memory
+abbrev pub meta_refused : (file : List ℕ) → MetaRefusal → LoadingRefusal
+meta_refused name meta.Memory = loading.Memory
+meta_refused name refusal = loading.File name (fault.Meta refusal)
 
 -- the refusal under f
 abbrev pub refused_as : {X E F : Type 0} → (E → F) → Result X E → Result X F
@@ -65,7 +59,7 @@ catalog_in files dir = and_then (λ bytes. refused_as (catalog_refused catalog_f
 
 -- the directory's metadata, over these tables
 abbrev pub meta_in : List File → (dir : List ℕ) → List Table → Result MetaTree LoadingRefusal
-meta_in files dir tables = and_then (λ bytes. refused_as meta_refused (meta_of tables bytes)) (refused_as meta_file_refused (file_due files dir meta_file))
+meta_in files dir tables = and_then (λ bytes. refused_as (meta_refused meta_file) (meta_due tables bytes)) (refused_as (file_refused meta_file) (file_due files dir meta_file))
 
 -- the rows of a table of the directory
 abbrev pub rows_in : List File → (dir : List ℕ) → Table → Result (List Row) LoadingRefusal

@@ -1,31 +1,36 @@
--- What the words behind the program's name ask.
-use Rattle.std.specs.Prelude.{◌≡◌, ℕ, List, [], ◌∷◌, Option, Some, None, Bool, false, true, not, ◌&&◌, bytes_eq, codes, option_map, cond}
-use Rattle.hq_base.specs.Text.{after}
-use Rattle.hq_app.specs.declared.words.Query.{Query}
+-- What the words behind the program's name ask: `query DIR [HEADER]...` or `check DIR`, where a header is `name: value` and
+-- at most 64 are given.
+use Rattle.std.specs.Prelude.{ℕ, List, [], ◌∷◌, length, Bool, false, true, nat_le, Option, Some, None, option_and_then, option_map, cond, bytes_eq, codes}
+use Rattle.hq_session.specs.Fields.{header_in}
+use Rattle.hq_session.specs.declared.header.Header.{Header}
+use Rattle.hq_app.specs.declared.words.Command.{Command}
+use Rattle.hq_app.specs.declared.words.Command.TheVariants.{Query, Check}
 
--- a role that may ask is neither empty nor `admin`
-abbrev pub is_asking_role : List ℕ → Bool
-is_asking_role role = not (bytes_eq role []) && not (bytes_eq role (codes "admin"))
+-- the headers of these words, where each is one
+abbrev pub headers_in : List (List ℕ) → Option (List Header)
+headers_in [] = Some []
+headers_in (word ∷ words) = option_and_then (λ h. option_map (λ hs. h ∷ hs) (headers_in words)) (header_in word)
 
--- the word `X-Hasura-Role: ROLE` with a role that may ask
-abbrev pub is_asking_rest : Option (List ℕ) → Bool
-is_asking_rest None = false
-is_asking_rest (Some role) = is_asking_role role
+-- at most 64 are given
+abbrev pub headers_of : List (List ℕ) → Option (List Header)
+headers_of words = cond (nat_le (length words) 64) (headers_in words) None
 
-abbrev pub is_role_word : List ℕ → Bool
-is_role_word header = is_asking_rest (after (codes "X-Hasura-Role: ") header)
+-- the command of this name with these words
+abbrev pub query_of : (dir : List ℕ) (words : List (List ℕ)) → Option Command
+query_of dir words = option_map (Query dir) (headers_of words)
 
--- `query`, a directory, and the word of a role
-abbrev pub is_asking : List (List ℕ) → Bool
-is_asking (command ∷ dir ∷ header ∷ []) = bytes_eq command (codes "query") && is_role_word header
-is_asking _ = false
+abbrev pub check_of : (dir : List ℕ) (words : List (List ℕ)) → Option Command
+check_of dir [] = Some (Check dir)
+check_of dir (word ∷ words) = None
 
--- words that ask, with their directory and the word of a role
-abbrev pub IsAsked : List (List ℕ) → (dir header : List ℕ) → Type 0
-IsAsked words dir header = (command : List ℕ) × (words ≡ command ∷ dir ∷ header ∷ []) × (is_asking words ≡ true)
+-- the command that words ask for: all but those of these forms ask for none
+abbrev pub command_of : List (List ℕ) → Option Command
+command_of (name ∷ dir ∷ words) =
+    cond (bytes_eq name (codes "query")) (query_of dir words) (cond (bytes_eq name (codes "check")) (check_of dir words) None)
+command_of _ = None
 
--- what words ask: all but those that ask in this form ask nothing
-abbrev pub query_of : List (List ℕ) → Option Query
-query_of (command ∷ dir ∷ header ∷ []) =
-    cond (is_asking (command ∷ dir ∷ header ∷ [])) (option_map (λ role. record { dir = dir; role = role }) (after (codes "X-Hasura-Role: ") header)) None
-query_of _ = None
+-- words that ask for a check, which reads no input
+abbrev pub is_check : Option Command → Bool
+is_check None = false
+is_check (Some (Query dir headers)) = false
+is_check (Some (Check dir)) = true

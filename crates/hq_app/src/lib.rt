@@ -1,6 +1,7 @@
 //! The program over a world that is handed in.
 #![tactic(auto)]
 
+mod check;
 mod directory;
 mod line;
 mod loaded;
@@ -19,7 +20,7 @@ pub use loading::load;
 pub use refusal::{FileFault, LoadingRefusal, Refusal};
 pub use reply::INPUT_LIMIT;
 pub use top::{answer_one, run};
-pub use words::{Query, WordsRefusal};
+pub use words::{Command, WordsRefusal};
 pub use world::{Ran, World};
 
 #[cfg(test)]

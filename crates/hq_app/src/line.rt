@@ -1,6 +1,6 @@
 ghost use Rattle.std.specs.Prelude.{◌∷◌, []};
 ghost use Rattle.std.specs.Fmt.{decimal};
-ghost use Rattle.hq_app.specs.Line.{database_line, plain_line, file_line, catalog_line, table_line, fault_line, line_of, part_text};
+ghost use Rattle.hq_app.specs.Line.{database_line, plain_line, file_line, catalog_line, meta_line, table_line, fault_line, line_of, part_text};
 ghost use Rattle.hq_app.specs.Wrote.{Wrote};
 
 use crate::parts::{Part, write_parts};
@@ -8,6 +8,7 @@ use crate::phrase::Phrase;
 use crate::{FileFault, Refusal};
 use hq_base::Txt;
 use hq_catalog_read::CatalogRefusal;
+use hq_meta_read::MetaRefusal;
 use hq_outside::{Sink, WriteFailed};
 use hq_tables::LoadRefusal;
 
@@ -135,6 +136,75 @@ fn write_catalog<'a, E: Sink>(
     }
 }
 
+// Writes the line of refused metadata.
+fn write_meta<'a, E: Sink>(
+    err: &mut E,
+    file: &'a Txt,
+    refusal: &'a MetaRefusal,
+) -> Result<(), WriteFailed>
+    ensures { Wrote (E.written err.old) (E.written err.new) (E.faults err.old) (E.faults err.new) (meta_line file.now refusal.now) result }
+{
+    match refusal {
+        MetaRefusal::NotJson => write_name(err, file, Phrase::NotJson),
+        MetaRefusal::Version { found } => write_field(
+            err,
+            file,
+            Phrase::Version,
+            Part::Text(found),
+        ),
+        MetaRefusal::Shape { path } => write_field(err, file, Phrase::Shape, Part::Text(path)),
+        MetaRefusal::UnknownTable { path } => write_field(
+            err,
+            file,
+            Phrase::UnknownTable,
+            Part::Text(path),
+        ),
+        MetaRefusal::UnknownColumn { path } => write_field(
+            err,
+            file,
+            Phrase::UnknownColumn,
+            Part::Text(path),
+        ),
+        MetaRefusal::NoForeignKey { path } => write_field(
+            err,
+            file,
+            Phrase::NoForeignKey,
+            Part::Text(path),
+        ),
+        MetaRefusal::BadOperand { path } => write_field(
+            err,
+            file,
+            Phrase::BadOperand,
+            Part::Text(path),
+        ),
+        MetaRefusal::BadMapping { path } => write_field(
+            err,
+            file,
+            Phrase::BadMapping,
+            Part::Text(path),
+        ),
+        MetaRefusal::RepeatedName { path } => write_field(
+            err,
+            file,
+            Phrase::RepeatedName,
+            Part::Text(path),
+        ),
+        MetaRefusal::RepeatedRole { path } => write_field(
+            err,
+            file,
+            Phrase::RepeatedRole,
+            Part::Text(path),
+        ),
+        MetaRefusal::Sources { count } => write_field(
+            err,
+            file,
+            Phrase::Sources,
+            Part::Number(*count),
+        ),
+        MetaRefusal::Memory => write_name(err, file, Phrase::Memory),
+    }
+}
+
 // Writes the line of a refused table.
 fn write_table<E: Sink>(err: &mut E, file: &Txt, refusal: LoadRefusal) -> Result<(), WriteFailed>
     ensures { Wrote (E.written err.old) (E.written err.new) (E.faults err.old) (E.faults err.new) (table_line file.now refusal) result }
@@ -178,6 +248,7 @@ fn write_fault<'a, E: Sink>(
         FileFault::Missing => write_name(err, file, Phrase::Missing),
         FileFault::TooLarge => write_name(err, file, Phrase::TooLarge),
         FileFault::Catalog(refusal) => write_catalog(err, file, refusal),
+        FileFault::Meta(refusal) => write_meta(err, file, refusal),
         FileFault::Table(refusal) => write_table(err, file, *refusal),
     }
 }

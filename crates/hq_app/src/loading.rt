@@ -9,13 +9,11 @@ ghost use Rattle.hq_app.specs.Told.{GivesUnless};
 ghost use Rattle.hq_app.specs.Loading.{catalog_file, meta_file, catalog_in, meta_in, rows_in, each_due, loaded_view, loading_due};
 
 use crate::directory::{load_file, table_file_name};
-use crate::refused::{
-    refused_catalog, refused_load, refused_meta, refused_meta_load, refused_table,
-};
+use crate::refused::{refused_catalog, refused_load, refused_meta, refused_table};
 use crate::{Loaded, LoadingRefusal};
 use hq_base::{List, Memory, Txt};
 use hq_catalog_read::read_catalog;
-use hq_meta_form::read_meta_form;
+use hq_meta_read::read_meta;
 use hq_outside::Files;
 use hq_tables::{Rows, RowsList, load_table};
 use hq_terms::{Catalog, Meta, Table};
@@ -61,28 +59,27 @@ fn load_catalog<F: Files>(
     }
 }
 
-// The metadata of a directory, over these tables.
+// The metadata of a directory, over the tables of a catalog.
 fn load_meta<F: Files>(
     alloc: Global,
     files: &mut F,
     dir: &Txt,
-    tables: &[Table],
+    catalog: &Catalog,
 ) -> Result<Meta, LoadingRefusal>
-    requires { is_catalog tables.now ≡ true }
     ensures told { IfSome (F.folder files.old) (λ folder.
-        GivesUnless meta_view LoadingRefusal.Memory LoadingRefusal.Failed (meta_in folder dir.now tables.now) result) }
-    ensures fits { IfOk result (λ meta. fits tables.now (meta_view meta) ≡ true) }
+        GivesUnless meta_view LoadingRefusal.Memory LoadingRefusal.Failed (meta_in folder dir.now catalog.now.tables) result) }
+    ensures fits { IfOk result (λ meta. fits catalog.now.tables (meta_view meta) ≡ true) }
     ensures failed { IsErrOf result LoadingRefusal.Failed → Rose (F.faults files.old) (F.faults files.new) }
     ensures folder { F.folder files.new ≡ F.folder files.old }
     ensures later { F.faults files.old ≤ F.faults files.new }
 {
     let file = meta_file_name(alloc)?;
     match load_file(alloc, files, dir, &file) {
-        Ok(bytes) => match read_meta_form(alloc, bytes.as_slice(), tables) {
+        Ok(bytes) => match read_meta(alloc, bytes.as_slice(), catalog) {
             Ok(meta) => Ok(meta),
-            Err(refusal) => Err(refused_meta(refusal)),
+            Err(refusal) => Err(refused_meta(file, refusal)),
         },
-        Err(refusal) => Err(refused_meta_load(refusal)),
+        Err(refusal) => Err(refused_load(file, refusal)),
     }
 }
 
@@ -143,7 +140,7 @@ pub fn load<F: Files>(alloc: Global, files: &mut F, dir: &Txt) -> Result<Loaded,
     ensures later { F.faults files.old ≤ F.faults files.new }
 {
     let catalog = load_catalog(alloc, files, dir)?;
-    let meta = load_meta(alloc, files, dir, catalog.tables.as_slice())?;
+    let meta = load_meta(alloc, files, dir, &catalog)?;
     let rows = load_tables(alloc, files, dir, catalog.tables.as_slice())?;
     Ok(Loaded {
         catalog,

@@ -10,7 +10,7 @@ use hq_base::Txt;
 use hq_outside::{Sink, WriteFailed, write_all};
 use itoa::Buffer;
 
-/// A part of a line on standard error.
+/// A part of a line.
 #[derive(Clone, Copy)]
 pub enum Part<'a> {
     Fixed(Phrase),

@@ -1,6 +1,6 @@
 ghost use Rattle.std.specs.Prelude.{◌≡◌};
 
-/// A fixed part of a line on standard error.
+/// A fixed part of a line.
 #[derive(Clone, Copy, Debug, PartialEq, Eq)]
 pub enum Phrase {
     Hq,
@@ -30,7 +30,20 @@ pub enum Phrase {
     NotBoolean,
     NullInNotNull,
     RepeatedKey,
+    Version,
+    UnknownTable,
+    UnknownColumn,
+    NoForeignKey,
+    BadOperand,
+    BadMapping,
+    RepeatedName,
+    RepeatedRole,
+    Sources,
     Memory,
+    Ok,
+    Tables,
+    Roles,
+    Rows,
 }
 
 impl Phrase {
@@ -69,7 +82,20 @@ impl Phrase {
             Phrase::NotBoolean => b"NotBoolean",
             Phrase::NullInNotNull => b"NullInNotNull",
             Phrase::RepeatedKey => b"RepeatedKey",
+            Phrase::Version => b"Version",
+            Phrase::UnknownTable => b"UnknownTable",
+            Phrase::UnknownColumn => b"UnknownColumn",
+            Phrase::NoForeignKey => b"NoForeignKey",
+            Phrase::BadOperand => b"BadOperand",
+            Phrase::BadMapping => b"BadMapping",
+            Phrase::RepeatedName => b"RepeatedName",
+            Phrase::RepeatedRole => b"RepeatedRole",
+            Phrase::Sources => b"Sources",
             Phrase::Memory => b"Memory",
+            Phrase::Ok => b"ok: ",
+            Phrase::Tables => b" tables, ",
+            Phrase::Roles => b" roles, ",
+            Phrase::Rows => b" rows",
         }
     }
 }

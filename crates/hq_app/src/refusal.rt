@@ -5,6 +5,7 @@ use crate::WordsRefusal;
 use hq_base::{Memory, Txt};
 use hq_catalog_read::CatalogRefusal;
 use hq_engine::EngineRefusal;
+use hq_meta_read::MetaRefusal;
 use hq_outside::{InputRefusal, WriteFailed};
 use hq_tables::LoadRefusal;
 use thiserror::Error;
@@ -19,6 +20,8 @@ pub enum FileFault {
     #[error("{0}")]
     Catalog(CatalogRefusal),
     #[error("{0}")]
+    Meta(MetaRefusal),
+    #[error("{0}")]
     Table(LoadRefusal),
 }
 
@@ -28,9 +31,6 @@ pub enum LoadingRefusal {
     /// A file is absent, too large, or refused by its reader.
     #[error("{fault}")]
     File { file: Txt, fault: FileFault },
-    /// The metadata is absent, too large, or not of the form that is read so far.
-    #[error("not built")]
-    NotBuilt,
     /// A load failed, and the count of faults rose.
     #[error("load failed")]
     Failed,
@@ -65,7 +65,7 @@ pub enum Refusal {
     Memory,
     #[error("input too long")]
     InputTooLong,
-    /// The metadata or the request is none of those that are built so far.
+    /// The request is none of those that are built so far.
     #[error("not built")]
     NotBuilt,
 }
@@ -135,7 +135,6 @@ impl From<LoadingRefusal> for Refusal {
     fn from(refusal: LoadingRefusal) -> Self {
         match refusal {
             LoadingRefusal::File { file, fault } => Refusal::File { file, fault },
-            LoadingRefusal::NotBuilt => Refusal::NotBuilt,
             LoadingRefusal::Failed => Refusal::ReadFailed,
             LoadingRefusal::Memory => Refusal::Memory,
         }

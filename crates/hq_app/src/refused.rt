@@ -1,10 +1,10 @@
 ghost use Rattle.std.specs.Prelude.{◌≡◌};
-ghost use Rattle.hq_app.specs.Loading.{file_refused, catalog_refused, table_refused, meta_file_refused, meta_refused};
+ghost use Rattle.hq_app.specs.Loading.{file_refused, catalog_refused, table_refused, meta_refused};
 
 use crate::{FileFault, LoadingRefusal};
 use hq_base::Txt;
 use hq_catalog_read::CatalogRefusal;
-use hq_meta_form::MetaFormRefusal;
+use hq_meta_read::MetaRefusal;
 use hq_outside::FileRefusal;
 use hq_tables::LoadRefusal;
 
@@ -52,23 +52,15 @@ pub fn refused_table(file: Txt, refusal: LoadRefusal) -> LoadingRefusal
     }
 }
 
-// What a refused load of the metadata is to the directory.
-pub fn refused_meta_load(refusal: FileRefusal) -> LoadingRefusal
-    ensures { result ≡ meta_file_refused refusal }
-{
-    match refusal {
-        FileRefusal::Missing | FileRefusal::TooLarge => LoadingRefusal::NotBuilt,
-        FileRefusal::Failed => LoadingRefusal::Failed,
-        FileRefusal::Memory => LoadingRefusal::Memory,
-    }
-}
-
 // What refused metadata is to the directory.
-pub fn refused_meta(refusal: MetaFormRefusal) -> LoadingRefusal
-    ensures { result ≡ meta_refused refusal }
+pub fn refused_meta(file: Txt, refusal: MetaRefusal) -> LoadingRefusal
+    ensures { result ≡ meta_refused file refusal }
 {
     match refusal {
-        MetaFormRefusal::NotBuilt => LoadingRefusal::NotBuilt,
-        MetaFormRefusal::Memory => LoadingRefusal::Memory,
+        MetaRefusal::Memory => LoadingRefusal::Memory,
+        refusal => LoadingRefusal::File {
+            file,
+            fault: FileFault::Meta(refusal),
+        },
     }
 }

@@ -19,21 +19,36 @@ type Held<'a> = (&'a str, &'a [u8]);
 const CATALOG: Held<'static> = (
     "db/catalog.json",
     br#"{"tables":[{"schema":"public","name":"author","columns":[{"name":"id","type":"integer","nullable":false},
-    {"name":"name","type":"text","nullable":false},{"name":"email","type":"text"}],"primary_key":["id"]}]}"#,
+    {"name":"name","type":"text","nullable":false},{"name":"email","type":"text"}],"primary_key":["id"]},
+    {"schema":"public","name":"article","columns":[{"name":"id","type":"integer"},{"name":"author_id","type":"integer"},
+    {"name":"title","type":"text","nullable":false},{"name":"published","type":"boolean","nullable":false},
+    {"name":"rating","type":"bigint"}],"primary_key":["id"],"foreign_keys":[{"columns":["author_id"],
+    "table":{"schema":"public","name":"author"},"references":["id"]}]}]}"#,
 );
 
 const METADATA: Held<'static> = (
     "db/metadata.json",
     br#"{"version":3,"sources":[{"name":"default","kind":"postgres","tables":[{"table":{"schema":"public","name":"author"},
-    "select_permissions":[{"role":"user","permission":{"columns":["id","name"],"filter":{}}}]}]}]}"#,
+    "array_relationships":[{"name":"articles","using":{"foreign_key_constraint_on":{"column":"author_id",
+    "table":{"schema":"public","name":"article"}}}}],
+    "select_permissions":[{"role":"user","permission":{"columns":["id","name"],"filter":{}}}]},
+    {"table":{"schema":"public","name":"article"},
+    "object_relationships":[{"name":"author","using":{"foreign_key_constraint_on":"author_id"}}],
+    "select_permissions":[{"role":"user","permission":{"columns":["id","title","rating"],
+    "filter":{"_or":[{"published":{"_eq":true}},{"author_id":{"_eq":"X-Hasura-User-Id"}}]},"allow_aggregations":true}}]}]}]}"#,
 );
 
 const AUTHORS: Held<'static> = (
     "db/public.author.csv",
-    b"id,name,email\n3,O'Hara,\\N\n1,Ann,ann@example.com\n2,Bob,\\N\n",
+    b"id,name,email\n3,O'Hara,\\N\n1,Ann,\\N\n2,Bob,b@x\n",
 );
 
-const DIRECTORY: &[Held<'static>] = &[CATALOG, METADATA, AUTHORS];
+const ARTICLES: Held<'static> = (
+    "db/public.article.csv",
+    b"id,author_id,title,published,rating\n10,1,A,t,5\n11,1,B,f,\\N\n12,2,C,t,5\n13,\\N,D,t,7\n",
+);
+
+const DIRECTORY: &[Held<'static>] = &[CATALOG, METADATA, AUTHORS, ARTICLES];
 
 const WORDS: &[&str] = &["query", "db", "X-Hasura-Role: user"];
 
@@ -107,14 +122,64 @@ fn a_list_is_answered_in_key_order(rt: HostRuntime) -> Result<(), Fail> {
 }
 
 #[test]
+fn headers_give_the_session(rt: HostRuntime) -> Result<(), Fail> {
+    let authors = br#"{"query":"{author{id email}}"}"#;
+    let emails =
+        br#"{"data":{"author":[{"id":1,"email":null},{"id":2,"email":"b@x"},{"id":3,"email":null}]}}"#;
+    let articles = br#"{"query":"{article{author_id}}"}"#;
+    let owners =
+        br#"{"data":{"article":[{"author_id":1},{"author_id":1},{"author_id":2},{"author_id":null}]}}"#;
+    let cases: [(&[&str], &[u8], &[u8]); 5] = [
+        (&["query", "db"], authors, emails),
+        (&["query", "db", "X-Hasura-Role:admin"], articles, owners),
+        (
+            &["query", "db", "x-hasura-user-id: 1", "Accept: */*"],
+            articles,
+            owners,
+        ),
+        (
+            &[
+                "query",
+                "db",
+                "x-hasura-role:  user\t",
+                "X-HASURA-ROLE: admin",
+            ],
+            LIST,
+            REPLY,
+        ),
+        (
+            &[
+                "query",
+                "db",
+                "X-Hasura-Admin-Secret: s",
+                "X-Hasura-Role: user",
+            ],
+            LIST,
+            REPLY,
+        ),
+    ];
+    for (words, input, reply) in cases {
+        let (status, out, err) = outcome(rt.alloc(), words, DIRECTORY, input, [&[], &[], &[]])?;
+        assert_eq!(rt; status, 0);
+        assert_eq!(rt; out.bytes(), reply);
+        assert_eq!(rt; err.bytes(), b"".as_slice());
+    }
+    Ok(())
+}
+
+#[test]
 fn words_of_another_form_are_refused(rt: HostRuntime) -> Result<(), Fail> {
-    let cases: [&[&str]; 6] = [
+    let many = ["a: 1"; 67];
+    let cases: [&[&str]; 9] = [
         &[],
-        &["query", "db"],
+        &["query"],
+        &["fetch", "db"],
         &["db", "query", "X-Hasura-Role: user"],
         &["query", "X-Hasura-Role: user", "db"],
-        &["query", "db", "X-Hasura-Role: admin"],
-        &["query", "db", "X-Hasura-Role: "],
+        &["query", "db", "X-Hasura-Role : user"],
+        &["check"],
+        &["check", "db", "X-Hasura-Role: user"],
+        &many,
     ];
     for words in cases {
         let (status, out, err) = outcome(rt.alloc(), words, DIRECTORY, LIST, [&[], &[], &[]])?;
@@ -126,71 +191,111 @@ fn words_of_another_form_are_refused(rt: HostRuntime) -> Result<(), Fail> {
 }
 
 #[test]
+fn at_most_64_headers_are_taken(rt: HostRuntime) -> Result<(), Fail> {
+    let mut words = ["a: 1"; 67];
+    words[0] = "query";
+    words[1] = "db";
+    for (count, want) in [(66, 0), (67, 2)] {
+        let (status, _, _) = outcome(
+            rt.alloc(),
+            &words[..count],
+            DIRECTORY,
+            LIST,
+            [&[], &[], &[]],
+        )?;
+        assert_eq!(rt; status, want);
+    }
+    Ok(())
+}
+
+#[test]
+fn a_check_counts(rt: HostRuntime) -> Result<(), Fail> {
+    let cases: [([&[u64]; 3], u8, &str, &str); 4] = [
+        ([&[], &[], &[]], 0, "ok: 2 tables, 1 roles, 7 rows\n", ""),
+        ([&[], &[1], &[]], 0, "ok: 2 tables, 1 roles, 7 rows\n", ""),
+        ([&[3], &[], &[]], 4, "", "hq: read failed\n"),
+        ([&[], &[], &[1]], 5, "", "hq: write failed\n"),
+    ];
+    for (failing, want, line, told) in cases {
+        let (status, out, err) = outcome(rt.alloc(), &["check", "db"], DIRECTORY, LIST, failing)?;
+        assert_eq!(rt; status, want);
+        assert_eq!(rt; out.bytes(), line.as_bytes());
+        assert_eq!(rt; err.bytes(), told.as_bytes());
+    }
+    Ok(())
+}
+
+#[test]
 fn a_refused_file_is_told(rt: HostRuntime) -> Result<(), Fail> {
     let narrow: Held = ("db/public.author.csv", b"id,name,email\n1,Ann\n");
     let repeated: Held = (
         "db/public.author.csv",
-        b"id,name,email\n3,Ann,\\N\n1,Bob,\\N\n2,Eve,\\N\n1,Joe,\\N\n",
-    );
-    let five: Held = (
-        "db/public.author.csv",
-        b"id,name,email\n4,Zoe,\\N\n1,Bob,\\N\n2,Eve,\\N\n1,Joe,\\N\n",
+        b"id,name,email\n3,O'Hara,\\N\n1,Ann,\\N\n2,Bob,b@x\n1,Zed,\\N\n",
     );
     let no_key: Held = (
         "db/catalog.json",
         br#"{"tables":[{"schema":"public","name":"author","columns":[{"name":"id","type":"integer"}],"primary_key":[]}]}"#,
     );
-    let cases: [(&[Held], u8, &str); 8] = [
-        (&[METADATA, AUTHORS], 3, "hq: catalog.json: Missing\n"),
+    let titel: Held = (
+        "db/metadata.json",
+        br#"{"version":3,"sources":[{"name":"default","kind":"postgres","tables":[{"table":"author"},{"table":"article",
+        "select_permissions":[{"role":"user","permission":{"columns":["id","titel","rating"],"filter":{}}}]}]}]}"#,
+    );
+    let second: Held = ("db/metadata.json", br#"{"version":2,"tables":[]}"#);
+    let none: Held = ("db/metadata.json", br#"{"version":3,"sources":[]}"#);
+    let cases: [(&[Held], &str); 11] = [
+        (&[METADATA, AUTHORS], "hq: catalog.json: Missing\n"),
         (
             &[("db/catalog.json", b"{"), METADATA, AUTHORS],
-            3,
             "hq: catalog.json: NotJson\n",
         ),
         (
             &[("db/catalog.json", b"{}")],
-            3,
             "hq: catalog.json: Shape $.tables\n",
         ),
-        (&[no_key], 3, "hq: catalog.json: NoKey public.author\n"),
-        (&[CATALOG, METADATA], 3, "hq: public.author.csv: Missing\n"),
+        (&[no_key], "hq: catalog.json: NoKey public.author\n"),
+        (&[CATALOG, AUTHORS], "hq: metadata.json: Missing\n"),
+        (
+            &[CATALOG, ("db/metadata.json", b"{}")],
+            "hq: metadata.json: Version \n",
+        ),
+        (&[CATALOG, second], "hq: metadata.json: Version 2\n"),
+        (&[CATALOG, none], "hq: metadata.json: Sources 0\n"),
+        (
+            &[CATALOG, titel],
+            "hq: metadata.json: UnknownColumn $.sources[0].tables[1].select_permissions[0].permission.columns[1]\n",
+        ),
         (
             &[CATALOG, METADATA, narrow],
-            3,
             "hq: public.author.csv: Width 2\n",
         ),
         (
             &[CATALOG, METADATA, repeated],
-            3,
-            "hq: public.author.csv: RepeatedKey 5 3\n",
-        ),
-        (
-            &[CATALOG, METADATA, five],
-            3,
             "hq: public.author.csv: RepeatedKey 5 3\n",
         ),
     ];
-    for (held, want, line) in cases {
-        let (status, out, err) = outcome(rt.alloc(), WORDS, held, LIST, [&[], &[], &[]])?;
-        assert_eq!(rt; status, want, "{line}");
-        assert_eq!(rt; out.bytes(), b"".as_slice(), "{line}");
-        assert_eq!(rt; err.bytes(), line.as_bytes(), "{line}");
+    for (held, line) in cases {
+        for words in [WORDS, &["check", "db"]] {
+            let (status, out, err) = outcome(rt.alloc(), words, held, LIST, [&[], &[], &[]])?;
+            assert_eq!(rt; status, 3, "{line}");
+            assert_eq!(rt; out.bytes(), b"".as_slice(), "{line}");
+            assert_eq!(rt; err.bytes(), line.as_bytes(), "{line}");
+        }
     }
     Ok(())
 }
 
 #[test]
 fn what_is_not_built_is_told(rt: HostRuntime) -> Result<(), Fail> {
-    let cases: [(&[Held], &[u8]); 6] = [
-        (&[CATALOG, AUTHORS], LIST),
-        (&[CATALOG, ("db/metadata.json", b"{}"), AUTHORS], LIST),
-        (DIRECTORY, b"{ author { id } }"),
-        (DIRECTORY, br#"{"query":"{ author { email } }"}"#),
-        (DIRECTORY, br#"{"query":"{ author { id age } }"}"#),
-        (DIRECTORY, b""),
+    let cases: [&[u8]; 5] = [
+        b"{ author { id } }",
+        br#"{"query":"{ author { email } }"}"#,
+        br#"{"query":"{ author { id age } }"}"#,
+        br#"{"query":"{ article { id } }"}"#,
+        b"",
     ];
-    for (held, input) in cases {
-        let (status, out, err) = outcome(rt.alloc(), WORDS, held, input, [&[], &[], &[]])?;
+    for input in cases {
+        let (status, out, err) = outcome(rt.alloc(), WORDS, DIRECTORY, input, [&[], &[], &[]])?;
         assert_eq!(rt; status, 9);
         assert_eq!(rt; out.bytes(), b"".as_slice());
         assert_eq!(rt; err.bytes(), b"hq: not built\n".as_slice());
@@ -200,10 +305,11 @@ fn what_is_not_built_is_told(rt: HostRuntime) -> Result<(), Fail> {
 
 #[test]
 fn each_object_fails_in_turn(rt: HostRuntime) -> Result<(), Fail> {
-    let cases: [([&[u64]; 3], u8, &str); 6] = [
+    let cases: [([&[u64]; 3], u8, &str); 7] = [
         ([&[1], &[], &[]], 4, "hq: read failed\n"),
         ([&[2], &[], &[]], 4, "hq: read failed\n"),
         ([&[3], &[], &[]], 4, "hq: read failed\n"),
+        ([&[4], &[], &[]], 4, "hq: read failed\n"),
         ([&[], &[1], &[]], 4, "hq: read failed\n"),
         ([&[], &[2], &[]], 4, "hq: read failed\n"),
         ([&[], &[], &[1]], 5, "hq: write failed\n"),

@@ -1,33 +1,35 @@
-ghost use Rattle.std.specs.Prelude.{◌≡◌, ◌≢◌, ◌⊎◌, ◌≤◌, ◌↔◌, IsErrOf, IfErr, IfSome, None};
+ghost use Rattle.std.specs.Prelude.{◌≡◌, ◌≢◌, ◌⊎◌, ◌≤◌, ◌↔◌, IsErrOf, IfErr, IfSome, None, true};
 ghost use Rattle.hq_outside.specs.Causes.{Rose};
 ghost use Rattle.hq_terms.specs.Meta.{meta_view};
-ghost use Rattle.hq_app.specs.Words.{query_of};
+ghost use Rattle.hq_app.specs.Words.{command_of, is_check};
 ghost use Rattle.hq_app.specs.Loading.{contents, loaded_view};
-ghost use Rattle.hq_app.specs.Due.{session_of, reply_due, due};
+ghost use Rattle.hq_app.specs.Due.{check_due, due, query_due, reply_due};
 ghost use Rattle.hq_app.specs.Ending.{Answer, Ends, Silent, Tells, NotDatabase, status_of, told_line};
 
+use crate::check::write_check;
 use crate::line::write_line;
 use crate::reply::reply_to;
-use crate::{Loaded, Query, Ran, Refusal, World, load};
-use hq_base::{List, Txt};
+use crate::{Command, Loaded, Ran, Refusal, World, load};
+use hq_base::Txt;
 use hq_engine::Engine;
 use hq_link::Database;
 use hq_list_db::ListDb;
 use hq_outside::{Door, Files, Sink, Source};
+use hq_session::Headers;
 use hq_tables::{MemTables, Tables};
 use hq_terms::Session;
 use std::alloc::Global;
 
-// Answers a request of a role over what a directory holds.
+// Answers a request of a session over what a directory holds.
 fn respond<S: Source, K: Sink>(
     alloc: Global,
     loaded: Loaded,
-    role: Txt,
+    session: &Session,
     input: &mut S,
     out: &mut K,
 ) -> Result<(), Refusal>
     ensures told { IfSome (S.left input.old) (λ left.
-        Ends (K.written out.old) (K.written out.new) (reply_due (loaded_view loaded) (session_of role) left) result) }
+        Ends (K.written out.old) (K.written out.new) (reply_due (loaded_view loaded) session.now left) result) }
     ensures silent { Silent (K.written out.old) (K.written out.new) result }
     ensures read { IsErrOf result Refusal.ReadFailed → Rose (S.faults input.old) (S.faults input.new) }
     ensures write { IsErrOf result Refusal.WriteFailed → Rose (K.faults out.old) (K.faults out.new) }
@@ -43,25 +45,22 @@ fn respond<S: Source, K: Sink>(
     } = loaded;
     let engine = Engine::new(catalog.copy(alloc)?, meta);
     let mut db = ListDb::new(MemTables::new(catalog, rows));
-    let session = Session {
-        role,
-        vars: List::new(alloc),
-    };
-    reply_to(alloc, &engine, &session, &mut db, input, out)
+    reply_to(alloc, &engine, session, &mut db, input, out)
 }
 
-// Reads the words, loads the directory, and answers the request.
-fn answered<F: Files, S: Source, K: Sink>(
+// Loads a directory, and answers a request for the session of the headers.
+fn query<F: Files, S: Source, K: Sink>(
     alloc: Global,
-    words: &[Txt],
+    dir: &Txt,
+    headers: &Headers,
     files: &mut F,
     input: &mut S,
     out: &mut K,
 ) -> Result<(), Refusal>
     ensures told { IfSome (F.folder files.old) (λ folder. IfSome (S.left input.old) (λ left.
-        Ends (K.written out.old) (K.written out.new) (due words.now folder left) result)) }
+        Ends (K.written out.old) (K.written out.new) (query_due dir.now headers.now folder left) result)) }
     ensures silent { Silent (K.written out.old) (K.written out.new) result }
-    ensures words { IsErrOf result Refusal.BadWords ↔ (query_of words.now ≡ None) }
+    ensures words { IsErrOf result Refusal.BadWords → ⊥ }
     ensures read { IsErrOf result Refusal.ReadFailed →
         Rose (F.faults files.old) (F.faults files.new) × (S.left input.new ≡ S.left input.old)
         ⊎ Rose (S.faults input.old) (S.faults input.new) }
@@ -72,9 +71,60 @@ fn answered<F: Files, S: Source, K: Sink>(
     ensures input_later { S.faults input.old ≤ S.faults input.new }
     ensures out_later { K.faults out.old ≤ K.faults out.new }
 {
-    let query = Query::read(alloc, words)?;
-    let loaded = load(alloc, files, &query.dir)?;
-    respond(alloc, loaded, query.role, input, out)
+    let loaded = load(alloc, files, dir)?;
+    let session = headers.session(alloc)?;
+    respond(alloc, loaded, &session, input, out)
+}
+
+// Loads a directory, and writes what it holds.
+fn check<F: Files, K: Sink>(
+    alloc: Global,
+    dir: &Txt,
+    files: &mut F,
+    out: &mut K,
+) -> Result<(), Refusal>
+    ensures told { IfSome (F.folder files.old) (λ folder.
+        Ends (K.written out.old) (K.written out.new) (check_due dir.now folder) result) }
+    ensures silent { Silent (K.written out.old) (K.written out.new) result }
+    ensures words { IsErrOf result Refusal.BadWords → ⊥ }
+    ensures read { IsErrOf result Refusal.ReadFailed → Rose (F.faults files.old) (F.faults files.new) }
+    ensures write { IsErrOf result Refusal.WriteFailed → Rose (K.faults out.old) (K.faults out.new) }
+    ensures failed { IfErr result NotDatabase }
+    ensures folder { F.folder files.new ≡ F.folder files.old }
+    ensures files_later { F.faults files.old ≤ F.faults files.new }
+    ensures out_later { K.faults out.old ≤ K.faults out.new }
+{
+    let loaded = load(alloc, files, dir)?;
+    write_check(alloc, &loaded, out)
+}
+
+// Reads the words, and does what they ask.
+fn answered<F: Files, S: Source, K: Sink>(
+    alloc: Global,
+    words: &[Txt],
+    files: &mut F,
+    input: &mut S,
+    out: &mut K,
+) -> Result<(), Refusal>
+    ensures told { IfSome (F.folder files.old) (λ folder. IfSome (S.left input.old) (λ left.
+        Ends (K.written out.old) (K.written out.new) (due words.now folder left) result)) }
+    ensures silent { Silent (K.written out.old) (K.written out.new) result }
+    ensures words { IsErrOf result Refusal.BadWords ↔ (command_of words.now ≡ None) }
+    ensures check { is_check (command_of words.now) ≡ true → input.new ≡ input.old }
+    ensures read { IsErrOf result Refusal.ReadFailed →
+        Rose (F.faults files.old) (F.faults files.new) × (S.left input.new ≡ S.left input.old)
+        ⊎ Rose (S.faults input.old) (S.faults input.new) }
+    ensures write { IsErrOf result Refusal.WriteFailed → Rose (K.faults out.old) (K.faults out.new) }
+    ensures failed { IfErr result NotDatabase }
+    ensures folder { F.folder files.new ≡ F.folder files.old }
+    ensures files_later { F.faults files.old ≤ F.faults files.new }
+    ensures input_later { S.faults input.old ≤ S.faults input.new }
+    ensures out_later { K.faults out.old ≤ K.faults out.new }
+{
+    match Command::read(alloc, words)? {
+        Command::Query { dir, headers } => query(alloc, &dir, &headers, files, input, out),
+        Command::Check { dir } => check(alloc, &dir, files, out),
+    }
 }
 
 // Tells a refusal on standard error. Gives the status of the answer.
@@ -126,8 +176,9 @@ pub fn answer_one<T: Tables, S: Source, K: Sink, E: Sink>(
     tell(err, reply_to(alloc, engine, session, db, input, out))
 }
 
-/// The program: `query DIR "X-Hasura-Role: ROLE"` answers the request on the standard input over the directory, as the role.
-/// Everything that it touches is handed in, and handed back with the status that the program ends with.
+/// The program. `query DIR [HEADER]...` answers the request on the standard input over the directory, for the session of the
+/// headers. `check DIR` loads the directory and writes `ok: T tables, R roles, N rows`. Everything that it touches is handed
+/// in, and handed back with the status that the program ends with.
 pub fn run<F: Files, D: Door, S: Source, K: Sink, E: Sink>(
     alloc: Global,
     words: &[Txt],
@@ -142,7 +193,10 @@ pub fn run<F: Files, D: Door, S: Source, K: Sink, E: Sink>(
 
     // Nothing is written at a status other than 0 and 5.
     ensures silent { result.status ≢ 0 → result.status ≢ 5 → K.written result.world.out ≡ K.written world.out }
-    ensures words { (result.status ≡ 2) ↔ (query_of words.now ≡ None) }
+    ensures words { (result.status ≡ 2) ↔ (command_of words.now ≡ None) }
+
+    // A check reads no input.
+    ensures check { is_check (command_of words.now) ≡ true → result.world.input ≡ world.input }
 
     // A failure is told only where the count of that object rose; a failed load comes before anything is read.
     ensures read { result.status ≡ 4 →

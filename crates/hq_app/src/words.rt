@@ -1,16 +1,17 @@
-ghost use Rattle.std.specs.Prelude.{◌≡◌, ◌↔◌, IfOk, IsErrOf, MatchOption, None, Some, false, true};
-ghost use Rattle.hq_base.specs.Text.{after};
-ghost use Rattle.hq_app.specs.Words.{is_asking_role, is_role_word, is_asking, IsAsked, query_of};
+ghost use Rattle.std.specs.Prelude.{◌≡◌, IfOk, None, Some, ok_or, cond, nat_le, length};
+ghost use Rattle.hq_base.specs.Due.{Gives};
+ghost use Rattle.hq_app.specs.Words.{headers_of, headers_in, query_of, command_of};
 
 use hq_base::{Memory, Txt};
+use hq_session::{Header, Headers, HeadersRefusal};
 use std::alloc::Global;
 use thiserror::Error;
 
-/// What the words ask: to answer a query over this directory, for this role.
+/// What the words ask: to answer a request over this directory for the session of the headers, or to check the directory.
 #[derive(Debug, Drop)]
-pub struct Query {
-    pub dir: Txt,
-    pub role: Txt,
+pub enum Command {
+    Query { dir: Txt, headers: Headers },
+    Check { dir: Txt },
 }
 
 /// Why words ask nothing.
@@ -33,59 +34,50 @@ impl From<Memory> for WordsRefusal {
     }
 }
 
-// What stands before the role in its header word.
-const BEFORE_ROLE: &str = "X-Hasura-Role: ";
+impl From<HeadersRefusal> for WordsRefusal {
+    ghost use Rattle.std.specs.Prelude.{◌≡◌};
+    ghost use Rattle.hq_app.specs.Due.{of_headers};
 
-// What follows a front, where the text begins with it.
-fn behind<'a>(text: &'a str, front: &str) -> Option<&'a str>
-    ensures { MatchOption result (after front.now text.now ≡ None) (λ rest. after front.now text.now ≡ Some rest.now) }
-{
-    text.strip_prefix(front)
-}
+    ghost from_gives = { λ r e. e ≡ of_headers r };
 
-// Whether a role may ask.
-fn may_ask(role: &str) -> bool
-    ensures { result ≡ is_asking_role role.now }
-{
-    !role.is_empty() && role != "admin"
-}
-
-// Whether a word names a role that may ask.
-fn names_role(header: &Txt) -> bool
-    ensures { result ≡ is_role_word header.now }
-{
-    match behind(header.as_str(), BEFORE_ROLE) {
-        Some(role) => may_ask(role),
-        None => false,
+    fn from(refusal: HeadersRefusal) -> Self {
+        match refusal {
+            HeadersRefusal::TooMany => WordsRefusal::BadWords,
+            HeadersRefusal::Memory => WordsRefusal::Memory,
+        }
     }
 }
 
-// The directory and the header word of words that ask.
-fn asked(words: &[Txt]) -> Option<(&Txt, &Txt)>
-    ensures { MatchOption result (is_asking words.now ≡ false) (λ found. IsAsked words.now found.0.now found.1.now) }
+// The headers of these words.
+fn headers(alloc: Global, words: &[Txt]) -> Result<Headers, WordsRefusal>
+    ensures { Gives (λ headers. headers) WordsRefusal.Memory (ok_or (headers_of words.now) WordsRefusal.BadWords) result }
 {
-    match words {
-        [command, dir, header] if command.as_str() == "query" && names_role(header) => Some((
-            dir, header,
-        )),
-        _ => None,
-    }
-}
-
-impl Query {
-    /// What these words ask, which are those behind the program's name. BadWords exactly where they are not `query`, a
-    /// directory and `X-Hasura-Role: ROLE` with a role that is neither empty nor `admin`.
-    pub fn read(alloc: Global, words: &[Txt]) -> Result<Query, WordsRefusal>
-        ensures words { IsErrOf result WordsRefusal.BadWords ↔ (query_of words.now ≡ None) }
-        ensures query { IfOk result (λ query. query_of words.now ≡ Some query) }
-    {
-        let Some((dir, header)) = asked(words) else {
+    let mut headers = Headers::new(alloc);
+    for word in words {
+        let Some(header) = Header::read(alloc, word)? else {
             return Err(WordsRefusal::BadWords);
         };
-        let dir = dir.copy(alloc)?;
-        match header.after(alloc, BEFORE_ROLE)? {
-            Some(role) => Ok(Query { dir, role }),
-            None => Err(WordsRefusal::Memory),
+        headers.push(header)?;
+    }
+    Ok(headers)
+}
+
+impl Command {
+    /// What these words ask, which are those behind the program's name. BadWords exactly where they are neither `query`, a
+    /// directory and at most 64 headers, each `name: value`, nor `check` and a directory.
+    pub fn read(alloc: Global, words: &[Txt]) -> Result<Command, WordsRefusal>
+        ensures { Gives (λ command. command) WordsRefusal.Memory (ok_or (command_of words.now) WordsRefusal.BadWords) result }
+    {
+        match words {
+            [name, dir, words @ ..] if name.as_str() == "query" => {
+                let headers = headers(alloc, words)?;
+                let dir = dir.copy(alloc)?;
+                Ok(Command::Query { dir, headers })
+            }
+            [name, dir] if name.as_str() == "check" => Ok(Command::Check {
+                dir: dir.copy(alloc)?,
+            }),
+            _ => Err(WordsRefusal::BadWords),
         }
     }
 }

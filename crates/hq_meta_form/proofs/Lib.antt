@@ -1,6 +1,0 @@
-mod Differ
-mod ListTests
-mod TableNames
-mod ColumnNames
-mod Fitting
-mod Forms
