@@ -6,3 +6,9 @@ mod Rooms
 mod Exact
 mod Choices
 mod Items
+mod TokenLaws
+mod ValueLists
+mod ValueLaws
+mod DirectiveLaws
+mod TypeLaws
+mod SelectionLaws

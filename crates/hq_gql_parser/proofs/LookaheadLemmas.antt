@@ -13,7 +13,7 @@ use Rattle.hq_gql_parser.specs.contracts.lookahead.LookaheadPartialEq.TheImpl as
 use Rattle.hq_gql_parser.specs.Lookahead.{punct_number, word_number, is_at}
 
 -- a variant's tag is its number
-punct_tag : (p : Punct) → tag_of punct_type.the_type p ≡ punct_number p
+pub punct_tag : (p : Punct) → tag_of punct_type.the_type p ≡ punct_number p
 punct_tag punct.Bang = refl
 punct_tag punct.Dollar = refl
 punct_tag punct.Ampersand = refl
@@ -29,7 +29,7 @@ punct_tag punct.OpenBrace = refl
 punct_tag punct.Pipe = refl
 punct_tag punct.CloseBrace = refl
 
-word_tag : (w : Word) → tag_of word_type.the_type w ≡ word_number w
+pub word_tag : (w : Word) → tag_of word_type.the_type w ≡ word_number w
 word_tag word.Query = refl
 word_tag word.Mutation = refl
 word_tag word.Subscription = refl
@@ -39,7 +39,7 @@ word_tag word.True = refl
 word_tag word.False = refl
 word_tag word.Null = refl
 
-same : (a b c d : ℕ) → a ≡ c → b ≡ d → nat_eq a b ≡ nat_eq c d
+pub same : (a b c d : ℕ) → a ≡ c → b ≡ d → nat_eq a b ≡ nat_eq c d
 same a b c d e f = ap (λ k. nat_eq k b) e ∙ ap (nat_eq c) f
 
 -- the derived `==` is the test

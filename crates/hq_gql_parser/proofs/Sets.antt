@@ -148,3 +148,25 @@ joined_token s t a not_end e = rw not_end (left_holds (s a) (if s ahead.End then
 pub first_in : (s t : Set) (front rest : List Token) → s (next front) ≡ true → t (next rest) ≡ true → joined s t (next (front ++ rest)) ≡ true
 first_in s t [] rest e h = joined_empty s t (next rest) e h
 first_in s t (x ∷ front) rest e h = joined_token s t (next_of x.kind) (token_next x.kind) e
+
+-- ---- inclusions of any sets
+
+pub holds_all : (f : Set) (xs : List Lookahead) → ((a : Lookahead) → f a ≡ true) → holds f xs ≡ true
+holds_all f [] every = refl
+holds_all f (a ∷ xs) every = rw (every a) (holds_all f xs every)
+
+implied_self : (b : Bool) → (if b then b else true) ≡ true
+implied_self true = refl
+implied_self false = refl
+
+implied_true : (b : Bool) → (if b then true else true) ≡ true
+implied_true true = refl
+implied_true false = refl
+
+-- a set lies in itself
+pub subset_self : (s : Set) → subset s s ≡ true
+subset_self s = holds_all (implied s s) everything (λ a. implied_self (s a))
+
+-- each set lies in the whole
+pub subset_anything : (s : Set) → subset s anything ≡ true
+subset_anything s = holds_all (implied s anything) everything (λ a. implied_true (s a))

@@ -2,6 +2,7 @@
 -- token lists that spell it.
 use Rattle.std.specs.Prelude.{◌≡◌, ℕ, List, [], ◌∷◌, ◌++◌}
 use Rattle.hq_gql_lexer.specs.declared.token.Punct.{Punct}
+use Rattle.hq_gql_lexer.specs.declared.token.Punct.TheVariants.{OpenParenthesis, CloseParenthesis}
 use Rattle.hq_gql_lexer.specs.declared.token.Token.{Token}
 use Rattle.hq_gql_lexer.specs.declared.token.TokenKind.{TokenKind}
 use Rattle.hq_gql_lexer.specs.declared.token.TokenKind.TheVariants as kind
@@ -34,3 +35,8 @@ abbrev pub ◌▸◌ : Language → Language → Language
 abbrev pub Each : {A : Type 0} → (A → Language) → List A → Language
 Each P [] = IsNothing
 Each P (x ∷ xs) = P x ▸ Each P xs
+
+-- nothing, or one of these and more in parentheses
+abbrev pub InParentheses : {A : Type 0} → (A → Language) → List A → Language
+InParentheses P [] = IsNothing
+InParentheses P (x ∷ xs) = IsPunct OpenParenthesis ▸ (P x ▸ Each P xs) ▸ IsPunct CloseParenthesis

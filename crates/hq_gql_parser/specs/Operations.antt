@@ -1,6 +1,6 @@
 -- Operations and fragments (GraphQL October 2021, 2.2, 2.3, 2.8, 2.10).
 use Rattle.std.specs.Prelude.{◌≡◌, ℕ, ◌⊎◌, true, false, List, [], ◌∷◌, Option, Some, None}
-use Rattle.hq_gql_lexer.specs.declared.token.Punct.TheVariants.{Dollar, OpenParenthesis, CloseParenthesis, Colon, Equals}
+use Rattle.hq_gql_lexer.specs.declared.token.Punct.TheVariants.{Dollar, Colon, Equals}
 use Rattle.hq_gql_lexer.specs.declared.token.TokenKind.TheVariants as kind
 use Rattle.hq_gql_tree.specs.declared.document.OpKind.{OpKind}
 use Rattle.hq_gql_tree.specs.declared.document.OpKind.TheVariants.{Query, Mutation, Subscription}
@@ -9,7 +9,7 @@ use Rattle.hq_gql_tree.specs.Documents.{VarDefTree, OperationTree, FragmentTree,
 use Rattle.hq_gql_parser.specs.declared.word.Word.{Word}
 use Rattle.hq_gql_parser.specs.declared.word.Word.TheVariants as word
 use Rattle.hq_gql_parser.specs.Lookahead.{word_text}
-use Rattle.hq_gql_parser.specs.Languages.{Language, IsNothing, IsToken, IsPunct, IsName, ◌▸◌, Each}
+use Rattle.hq_gql_parser.specs.Languages.{Language, IsNothing, IsToken, IsPunct, IsName, ◌▸◌, Each, InParentheses}
 use Rattle.hq_gql_parser.specs.Values.{IsPlaced, AreDirectives}
 use Rattle.hq_gql_parser.specs.Types.{IsType}
 use Rattle.hq_gql_parser.specs.Selections.{IsFragmentName, IsCondition, IsSelectionSet}
@@ -23,10 +23,8 @@ IsDefault (Some v) = IsPunct Equals ▸ IsPlaced true v
 abbrev pub IsVariable : VarDefTree → Language
 IsVariable v = IsToken v.at (kind.Punct Dollar) ▸ IsName v.name ▸ IsPunct Colon ▸ IsType v.ty ▸ IsDefault v.default ▸ AreDirectives true v.directives
 
--- nothing, or the definition of a variable and more in parentheses
 abbrev pub AreVariables : List VarDefTree → Language
-AreVariables [] = IsNothing
-AreVariables (v ∷ vs) = IsPunct OpenParenthesis ▸ (IsVariable v ▸ Each IsVariable vs) ▸ IsPunct CloseParenthesis
+AreVariables = InParentheses IsVariable
 
 -- the word of a kind of operations (2.3)
 abbrev pub kind_word : OpKind → Word

@@ -8,8 +8,8 @@ use Rattle.hq_gql_parser.specs.Languages.{Language, IsToken, IsPunct, ◌▸◌}
 abbrev mutual
   -- a type without a `!` behind it, at this place
   pub IsNullable : (at : ℕ) → TypeTree → Language
-  IsNullable at (named place name) = λ ts. (at ≡ place) × IsToken at (kind.Name name) ts
-  IsNullable at (list place of) = λ ts. (at ≡ place) × (IsToken at (kind.Punct OpenBracket) ▸ IsType of ▸ IsPunct CloseBracket) ts
+  IsNullable at (named place name) = λ ts. (at ≡ place) × IsToken place (kind.Name name) ts
+  IsNullable at (list place of) = λ ts. (at ≡ place) × (IsToken place (kind.Punct OpenBracket) ▸ IsType of ▸ IsPunct CloseBracket) ts
   IsNullable at (non_null place of) = λ ts. ⊥
 
   -- a type

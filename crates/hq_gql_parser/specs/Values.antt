@@ -1,12 +1,12 @@
 -- Values, arguments and directives (GraphQL October 2021, 2.6, 2.9, 2.12). Where they are constant, no variable stands
 -- in them.
 use Rattle.std.specs.Prelude.{◌≡◌, ℕ, Bool, true, false, List, [], ◌∷◌, if◌then◌else◌}
-use Rattle.hq_gql_lexer.specs.declared.token.Punct.TheVariants.{Dollar, OpenParenthesis, CloseParenthesis, Colon, At, OpenBracket, CloseBracket, OpenBrace, CloseBrace}
+use Rattle.hq_gql_lexer.specs.declared.token.Punct.TheVariants.{Dollar, Colon, At, OpenBracket, CloseBracket, OpenBrace, CloseBrace}
 use Rattle.hq_gql_lexer.specs.declared.token.TokenKind.TheVariants as kind
 use Rattle.hq_gql_tree.specs.Values.{ValueTree, int, float, str, bool, null, enum, list, object, variable, ElementTrees, no_element, element, MemberTrees, no_member, member, PlacedTree, ArgumentTree, DirectiveTree}
 use Rattle.hq_gql_parser.specs.declared.word.Word.TheVariants as word
 use Rattle.hq_gql_parser.specs.Lookahead.{is_word}
-use Rattle.hq_gql_parser.specs.Languages.{Language, IsNothing, IsToken, IsPunct, IsName, ◌▸◌, Each}
+use Rattle.hq_gql_parser.specs.Languages.{Language, IsNothing, IsToken, IsPunct, IsName, ◌▸◌, Each, InParentheses}
 
 -- the value that a name is: a boolean, null, or an enum value (2.9.3, 2.9.5, 2.9.6)
 unfoldable pub name_value : List ℕ → ValueTree
@@ -46,10 +46,8 @@ IsPlaced c v = IsValue c v.at v.value
 abbrev pub IsArgument : (constant : Bool) → ArgumentTree → Language
 IsArgument c a = IsToken a.at (kind.Name a.name) ▸ IsPunct Colon ▸ IsPlaced c a.value
 
--- nothing, or one argument and more in parentheses
 abbrev pub AreArguments : (constant : Bool) → List ArgumentTree → Language
-AreArguments c [] = IsNothing
-AreArguments c (a ∷ more) = IsPunct OpenParenthesis ▸ (IsArgument c a ▸ Each (IsArgument c) more) ▸ IsPunct CloseParenthesis
+AreArguments c = InParentheses (IsArgument c)
 
 -- a directive
 abbrev pub IsDirective : (constant : Bool) → DirectiveTree → Language
