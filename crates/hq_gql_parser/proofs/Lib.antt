@@ -12,3 +12,4 @@ mod ValueLaws
 mod DirectiveLaws
 mod TypeLaws
 mod SelectionLaws
+mod OperationLaws

@@ -211,3 +211,12 @@ law_value c n = let both = exact_both c n in exact_value n (list_at c n) (object
 
 pub law_argument : (c : Bool) (n : ℕ) → Exact n n (argument_at c n) (IsArgument c) is_name anything
 law_argument c n = exact_argument c n (value_at c n) (law_value c n)
+
+-- a value and a name take a token
+pub value_takes : is_value ahead.End ≡ false
+unfolding is_at is_literal
+value_takes = refl
+
+pub name_takes : is_name ahead.End ≡ false
+unfolding is_name
+name_takes = refl
