@@ -63,7 +63,7 @@ law_arguments c n =
 
 -- ---- directives
 
-law_directive : (c : Bool) (n : ℕ) → Exact n n (directive_at c n) (IsDirective c) (is_at (ahead.Punct At)) no_parenthesis
+pub law_directive : (c : Bool) (n : ℕ) → Exact n n (directive_at c n) (IsDirective c) (is_at (ahead.Punct At)) no_parenthesis
 unfolding directive_at is_at is_name
 law_directive c n =
     exact_as (IsDirective c) (is_at (ahead.Punct At)) no_parenthesis
@@ -77,5 +77,9 @@ abbrev pub no_directive : Set
 no_directive a = not (is_at (ahead.Punct At) a) && no_parenthesis a
 
 pub law_directives : (c : Bool) (n : ℕ) → Exact n n (directives_at c n) (AreDirectives c) (union (is_at (ahead.Punct At)) is_end) no_directive
-unfolding directives_at is_at
+unfolding is_at
 law_directives c n = exact_all (law_directive c n) refl (is_at (ahead.Punct At)) no_directive refl refl refl refl
+
+pub directive_takes : is_at (ahead.Punct At) ahead.End ≡ false
+unfolding is_at
+directive_takes = refl

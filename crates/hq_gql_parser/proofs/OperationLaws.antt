@@ -76,7 +76,7 @@ variable_from : (x : VarDefTree) (ts : List Token) → IsVariable x ts → Varia
 variable_from x ts (a, b, is, r, (a1, b1, is1, (place, r1), (a2, b2, is2, (e, r2), (a3, b3, is3, r3, (a4, b4, is4, r4, r5))))) =
     (x.at, (a, b, is, r, ((place, x.name), (a1, b1, is1, r1, (e, (a2, b2, is2, r2, (x.ty, (a3, b3, is3, r3, (x.default, (a4, b4, is4, r4, (x.directives, refl, r5)))))))))))
 
-law_variable : (n : ℕ) → Exact n n (variable_definition_at n) IsVariable (is_at (ahead.Punct Dollar)) after_variable
+pub law_variable : (n : ℕ) → Exact n n (variable_definition_at n) IsVariable (is_at (ahead.Punct Dollar)) after_variable
 unfolding variable_definition_at is_at is_name
 law_variable n =
     exact_as IsVariable (is_at (ahead.Punct Dollar)) after_variable
@@ -219,7 +219,7 @@ definition_from (fragment f) ts (a, b, is, r, (a1, b1, is1, r1, (a2, b2, is2, r2
     inr (inl (f.at, (a, b, is, r, (f.name, (a1, b1, is1, r1, (f.cond, (a2, b2, is2, r2, (f.directives, (a3, b3, is3, r3, ((place, selections_in f.selections), ap (λ ws. fragment (record { at = f.at; name = f.name; cond = f.cond; directives = f.directives; selections = ws })) (sym (selections_back f.selections)), set_back place f.selections b3 r4))))))))))
 
 -- what a definition begins with
-abbrev is_definition : Set
+abbrev pub is_definition : Set
 is_definition a = is_set a || (is_fragment a || (is_kind Mutation a || (is_kind Subscription a || is_kind Query a)))
 
 pub law_definition : (n : ℕ) → Exact n n (definition_at n) IsDefinition is_definition anything
@@ -241,6 +241,14 @@ document_from [] ts r = absurd r
 document_from (d ∷ ds) ts r = r
 
 pub law_document : (n : ℕ) → Exact n n (document_at n) IsDocument is_definition is_end
-unfolding document_at is_at
+unfolding is_at
 law_document n =
     exact_as IsDocument is_definition is_end (exact_some (law_definition n) refl (until ahead.End) is_end refl refl refl refl refl refl) document_to document_from refl refl
+
+pub variable_takes : is_at (ahead.Punct Dollar) ahead.End ≡ false
+unfolding is_at
+variable_takes = refl
+
+pub definition_takes : is_definition ahead.End ≡ false
+unfolding is_at
+definition_takes = refl

@@ -281,3 +281,7 @@ law_set (suc n) = exact_set n (selection_at n) (law_selection n (set_at n) (law_
 
 pub law_selection_at : (n : ℕ) → Exact n n (selection_at n) IsSelection is_selection after_field
 law_selection_at n = law_selection n (set_at n) (law_set n)
+
+pub selection_takes : is_selection ahead.End ≡ false
+unfolding is_at is_name
+selection_takes = refl

@@ -74,5 +74,5 @@ definition_at n =
     (either (is_at (ahead.Word word.Subscription)) (operation_with n Subscription) (operation_with n Query))))
 
 -- one definition, and more up to the end
-unfoldable pub document_at : ℕ → Parse (List DefinitionTree)
+abbrev pub document_at : ℕ → Parse (List DefinitionTree)
 document_at n = some (until ahead.End) (definition_at n)

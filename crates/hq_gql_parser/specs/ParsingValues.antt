@@ -103,5 +103,5 @@ directive_at c n ts = do
   more ← arguments_at c n m.1
   Ok (record { at = a.0; name = m.0.1; args = more.0 }, more.1)
 
-unfoldable pub directives_at : (constant : Bool) → ℕ → Parse (List DirectiveTree)
+abbrev pub directives_at : (constant : Bool) → ℕ → Parse (List DirectiveTree)
 directives_at c n = all (is_at (ahead.Punct At)) (directive_at c n)

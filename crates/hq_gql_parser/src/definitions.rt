@@ -120,7 +120,7 @@ fn definition(alloc: Global, depth: u32, tokens: &[Token]) -> Result<(Definition
 }
 
 // One definition, and more up to the end.
-#[tactic(auto, unfolding(crate::specs::ParsingOperations::document_at))]
+#[tactic(auto, unfolding(crate::specs::Parsing::some))]
 pub(crate) fn definitions(
     alloc: Global,
     depth: u32,

@@ -15,6 +15,7 @@ use hq_gql_tree::{ArgumentList, Directive, DirectiveList};
 use std::alloc::Global;
 
 // One argument, and more up to the parenthesis.
+#[tactic(auto, unfolding(crate::specs::Parsing::some))]
 fn some_arguments(
     alloc: Global,
     depth: u32,
@@ -81,7 +82,6 @@ fn directive(
 }
 
 // The directives, while an `@` stands next.
-#[tactic(auto, unfolding(crate::specs::ParsingValues::directives_at))]
 pub(crate) fn directives(
     alloc: Global,
     depth: u32,

@@ -194,6 +194,7 @@ fn selection(alloc: Global, depth: u32, tokens: &[Token]) -> Result<(Selection, 
 
 // One selection, and more up to the brace.
 #[cycle(selection)]
+#[tactic(auto, unfolding(crate::specs::Parsing::some))]
 fn some_selections(
     alloc: Global,
     depth: u32,

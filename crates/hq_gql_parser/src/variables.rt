@@ -59,6 +59,7 @@ fn variable_definition(
 }
 
 // One definition of a variable, and more up to the parenthesis.
+#[tactic(auto, unfolding(crate::specs::Parsing::some))]
 fn some_variables(
     alloc: Global,
     depth: u32,
