@@ -13,3 +13,5 @@ mod DirectiveLaws
 mod TypeLaws
 mod SelectionLaws
 mod OperationLaws
+mod NestLemmas
+mod NestLaws
