@@ -15,3 +15,5 @@ mod SelectionLaws
 mod OperationLaws
 mod NestLemmas
 mod NestLaws
+mod Splits
+mod DocumentLaws

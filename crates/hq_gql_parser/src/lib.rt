@@ -15,5 +15,5 @@ mod values;
 mod variables;
 mod word;
 
-pub use parsing::parse;
+pub use parsing::{one_answer, one_document, parse};
 pub use refusal::ParseRefusal;
