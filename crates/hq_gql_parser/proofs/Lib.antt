@@ -17,3 +17,4 @@ mod NestLemmas
 mod NestLaws
 mod Splits
 mod DocumentLaws
+mod Views

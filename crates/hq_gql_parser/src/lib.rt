@@ -17,3 +17,6 @@ mod word;
 
 pub use parsing::{one_answer, one_document, parse};
 pub use refusal::ParseRefusal;
+
+#[cfg(test)]
+mod tests;

@@ -1,13 +1,15 @@
-use Rattle.std.proofs.Common.{◌≡◌, ◌<◌, ◌++◌, ◌∷◌, [], map, refl, inr, sym, subst, ap, ◌∙◌, Err, arith}
+use Rattle.std.proofs.Common.{◌≡◌, ◌<◌, ◌++◌, ◌∷◌, [], map, refl, inr, sym, subst, ap, ◌∙◌, Ok, Err, arith}
 use Rattle.std.proofs.lemmas.List.{map_push}
 use Rattle.std.proofs.lemmas.Result.{err_from_is_err_and}
 use Rattle.hq_base.specs.Due.{Gives}
 use Rattle.hq_gql_tree.specs.Selections.{selection_view}
 use Rattle.hq_gql_lexer.specs.declared.token.Punct.TheVariants.{CloseBrace}
 use Rattle.hq_gql_parser.specs.Parsing.{some, until_punct}
+use Rattle.hq_gql_parser.specs.ParsingSelections.{field_with, inline_with}
 use Rattle.hq_gql_parser.specs.ParsingSelections.{selection_at}
 use Rattle.hq_gql_parser.specs.declared.lookahead.Lookahead.TheVariants as ahead
 use Rattle.hq_gql_parser.specs.declared.stop.Stop.TheVariants.{Memory}
+use Rattle.hq_gql_parser.proofs.Views.{field_seen, inline_seen}
 use Rattle.hq_gql_parser.proofs.Depths.{set_none, set_is}
 use Rattle.hq_gql_parser.proofs.Items.{item_takes}
 use Rattle.hq_gql_parser.proofs.Loops.{begun, goes_on, stands, stopped, parsed_more, finished}
@@ -46,3 +48,16 @@ pub set-returns : goal.set-returns
 set-returns t c =
     let lt : 0 < c.args.depth = omega arith in
     subst (λ due. Gives (λ x. ((x.0, map selection_view x.1.items), x.2.now)) Memory due c.opened_set.result) (sym (set_is c.args.depth c.args.tokens.now lt)) c.opened_set.ensures
+
+pub field-returns : goal.field-returns
+unfolding field_with
+field-returns t c =
+    let h = c.in_ok-head.head in
+    let seen = field_seen (record { at = h.at; alias = h.alias; name = h.name; args = c.in_ok-args.args; directives = c.in_ok-directives.directives; selections = c.in_ok-selections.selections }) in
+    rw (c.in_ok-head.ensures, c.in_ok-args.ensures, c.in_ok-directives.ensures, c.in_ok-selections.ensures) (ap (λ v. Ok (v, c.in_ok-selections.rest.now)) (sym seen))
+
+pub inline-returns : goal.inline-returns
+unfolding inline_with
+inline-returns t c =
+    let seen = inline_seen (record { at = c.args.at; cond = c.in_ok-cond.cond; directives = c.in_ok-directives.directives; selections = c.in_ok-_at.selections }) in
+    rw (c.in_ok-cond.ensures, c.in_ok-directives.ensures, c.in_ok-_at.ensures) (ap (λ v. Ok (v, c.in_ok-_at.rest.now)) (sym seen))
