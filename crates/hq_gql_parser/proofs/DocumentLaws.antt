@@ -256,8 +256,8 @@ one_answer end ts (Err Memory) b p q = absurd p
 
 -- ---- what the code answers
 
-pub only_ok : (end : ℕ) (ts : List Token) (d : Document) → Parses end ts (Ok (document_view d)) → (due : Result DocumentTree ParseRefusal) → Parses end ts due → Gives document_view Memory due (Ok d)
-only_ok end ts d p due q = one_answer end ts due (Ok (document_view d)) q p
+pub only_ok : (end : ℕ) (ts : List Token) (d : DocumentTree) → Parses end ts (Ok d) → (due : Result DocumentTree ParseRefusal) → Parses end ts due → due ≡ Ok d
+only_ok end ts d p due q = one_answer end ts due (Ok d) q p
 
 pub only_err : (end : ℕ) (ts : List Token) (e : ParseRefusal) → Parses end ts (Err e) → (due : Result DocumentTree ParseRefusal) → Parses end ts due → Gives document_view Memory due (Err e)
 only_err end ts e p due q = inr (one_answer end ts due (Err e) q p)
