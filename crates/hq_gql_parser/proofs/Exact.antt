@@ -100,8 +100,8 @@ module _ {A B : Type 0} (d e f : ℕ) (p : Parse A) (q : A → Parse B) (R : A �
     begins_second a b x r begins,
     (m'.0, room_then d e a b m ∙ m'.1),
     λ after h.
-      let same : first (b ++ after) ≡ first rest = first-append b after rest' h ∙ ap first (sym is') in
-      rw (append_assoc a b after, local (b ++ after) same) (local' after h),
+        let same : first (b ++ after) ≡ first rest = first-append b after rest' h ∙ ap first (sym is') in
+        rw (append_assoc a b after, local (b ++ after) same) (local' after h),
   )
 
   second_deep : (ts : List Token) (x : A) (rest : List Token) (n : ℕ) → Taken d e p R ts x rest → Deep e (S x) rest n → Deep d (Chain R S) ts n
@@ -123,8 +123,8 @@ module _ {A B : Type 0} (d e f : ℕ) (p : Parse A) (q : A → Parse B) (R : A �
     (x, (a, b, refl, r, s)),
     room_then d e a b m ∙ m',
     λ after h.
-      let same : first (b ++ after) ≡ first rest = first-append b after rest' h ∙ ap first (sym is') in
-      rw (append_assoc a b after, local (b ++ after) same) (local' after h),
+        let same : first (b ++ after) ≡ first rest = first-append b after rest' h ∙ ap first (sym is') in
+        rw (append_assoc a b after, local (b ++ after) same) (local' after h),
   )
 
   pub second : (ts : List Token) (x : A) (rest : List Token) → Taken d e p R ts x rest → (r : Result (B × List Token) Stop) → Seen e f (q x) (S x) rest r → Seen d f both (Chain R S) ts r

@@ -209,7 +209,7 @@ shorthand_from : (at : ℕ) (k : OpKind) (m : Option (List ℕ)) (vs : List VarD
     → k ≡ Query → m ≡ None → vs ≡ [] → ds ≡ [] → IsSelectionSet at ss ts → ShorthandIs (operation (record { at = at; kind = k; name = m; vars = vs; directives = ds; selections = ss })) ts
 shorthand_from at k m vs ds ss ts e1 e2 e3 e4 r =
     let same : ◌≡◌ {A = DefinitionTree} (operation (record { at = at; kind = k; name = m; vars = vs; directives = ds; selections = ss })) (operation (record { at = at; kind = Query; name = None; vars = []; directives = []; selections = selections_of (selections_in ss) })) =
-        rw (e1, e2, e3, e4, selections_back ss) refl in
+    rw (e1, e2, e3, e4, selections_back ss) refl in
     ((at, selections_in ss), same, set_back at ss ts r)
 
 definition_from : (x : DefinitionTree) (ts : List Token) → IsDefinition x ts → DefinitionIs x ts

@@ -142,7 +142,7 @@ abbrev FragmentIs : SelectionTree → Language
 FragmentIs = Chain (PunctAt Spread) (λ o. Either (SpreadIs o) (InlineIs o))
 
 field_to : (x : SelectionTree) (ts : List Token) → FieldIs x ts → IsSelection x ts
-field_to x ts (h, (a, b, is, r, (args, (a', b', is', r', (ds, (a'', b'', is'', r'', (ss, same, r''')))))))  = subst (λ w. IsSelection w ts) (sym same) (a, b, is, r, (a', b', is', r', (a'', b'', is'', r'', r''')))
+field_to x ts (h, (a, b, is, r, (args, (a', b', is', r', (ds, (a'', b'', is'', r'', (ss, same, r'''))))))) = subst (λ w. IsSelection w ts) (sym same) (a, b, is, r, (a', b', is', r', (a'', b'', is'', r'', r''')))
 
 spread_to : (o : ℕ) (x : SelectionTree) (ts a b : List Token) → ts ≡ a ++ b → PunctAt Spread o a → SpreadIs o x b → IsSelection x ts
 spread_to o x ts a b is r (m, (a', b', is', r', (ds, same, r''))) = subst (λ w. IsSelection w ts) (sym same) (a, b, is, r, (a', b', is', r', r''))
@@ -255,8 +255,7 @@ a_field = field (record { at = 0; alias = None; name = []; args = []; directives
 set_begins : (t : Token) → t.kind ≡ kind.Punct OpenBrace → Begins SetIs (t ∷ [])
 set_begins t e =
     let name = token 0 (kind.Name []) in
-    let close = token 0 (kind.Punct CloseBrace) in
-    (
+    let close = token 0 (kind.Punct CloseBrace) in (
       name ∷ close ∷ [],
       (t.from, a_field ∷ []),
       (
