@@ -1,5 +1,5 @@
 -- The laws of the parsers of one token.
-use Rattle.std.proofs.Common.{◌≡◌, ℕ, Bool, true, false, not, nat_eq, ◌&&◌, List, [], ◌∷◌, Option, Some, None, bytes_eq, refl, sym, ap, subst, ◌∙◌, if◌then◌else◌}
+use Rattle.std.proofs.Common.{◌≡◌, ℕ, Bool, true, false, not, nat_eq, List, [], ◌∷◌, Option, Some, None, bytes_eq, refl, sym, ap, subst, ◌∙◌, if◌then◌else◌}
 use Rattle.std.proofs.lemmas.Slice.Eq.{bytes_eq-Decides}
 use denote.Enum.Bare.{same_true, true_same}
 use Rattle.hq_gql_lexer.specs.declared.token.Punct.{Punct}
@@ -10,13 +10,12 @@ use Rattle.hq_gql_lexer.specs.declared.token.TokenKind.TheVariants as kind
 use Rattle.hq_gql_tree.specs.Values.{int, PlacedTree}
 use Rattle.hq_gql_parser.specs.declared.word.Word.{Word}
 use Rattle.hq_gql_parser.specs.declared.word.Word.TheVariants as word
-use Rattle.hq_gql_parser.specs.declared.lookahead.Lookahead.{Lookahead}
 use Rattle.hq_gql_parser.specs.declared.lookahead.Lookahead.TheVariants as ahead
 use Rattle.hq_gql_parser.specs.Lookahead.{word_text, is_word, word_among, words, word_of, named, next_of, punct_number, is_at, is_name, is_fragment_name}
-use Rattle.hq_gql_parser.specs.Languages.{Language, IsToken, IsName}
+use Rattle.hq_gql_parser.specs.Languages.{Language, IsToken}
 use Rattle.hq_gql_parser.specs.Selections.{IsFragmentName}
 use Rattle.hq_gql_parser.specs.Documents.{behind, behind_punct}
-use Rattle.hq_gql_parser.specs.Parsing.{Parse, punct_use, punct_at, name_of, with_place, name_use, name_at, when, word_use_of, word_use, word_at, fragment_use_of, fragment_use, fragment_name_at}
+use Rattle.hq_gql_parser.specs.Parsing.{punct_use, punct_at, name_of, with_place, name_use, name_at, word_use_of, word_use, word_at, fragment_use_of, fragment_use, fragment_name_at}
 use Rattle.hq_gql_parser.specs.ParsingValues.{literal_of, placed_at, literal_use, literal_at}
 use Rattle.hq_gql_parser.proofs.LookaheadLemmas.{punct_tag, same}
 use Rattle.hq_gql_parser.proofs.Sets.{Set, anything, subset_self, subset_anything}
