@@ -1,5 +1,5 @@
 -- What is due: the bytes on standard output, or the first refusal. It is a function of the words, the files and the input.
-use Rattle.std.specs.Prelude.{ℕ, List, [], length, nat_lt, Result, Ok, Err, ok_or, cond}
+use Rattle.std.specs.Prelude.{ℕ, List, length, nat_lt, Result, Ok, Err, ok_or, cond}
 use Rattle.hq_base.specs.Due.{and_then}
 use Rattle.hq_outside.specs.declared.files.File.{File}
 use Rattle.hq_outside.specs.declared.streams.InputRefusal.{InputRefusal}

@@ -1,4 +1,4 @@
-use Rattle.std.proofs.Common.{◌≡◌, ◌≤◌, List, length, sym, subst}
+use Rattle.std.proofs.Common.{◌≤◌, List, length, sym, subst}
 use Rattle.hq_terms.specs.Database.{Row}
 use Rattle.hq_app.proofs.Catalogs.{few_tables}
 use Rattle.hq_app.proofs.check.write_check.Goals as goal
