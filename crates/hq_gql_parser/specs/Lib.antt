@@ -1,0 +1,12 @@
+pub mod Lookahead
+pub mod Languages
+pub mod Values
+pub mod Types
+pub mod Selections
+pub mod Operations
+pub mod Documents
+pub mod Parsing
+pub mod ParsingValues
+pub mod ParsingTypes
+pub mod ParsingSelections
+pub mod ParsingOperations
