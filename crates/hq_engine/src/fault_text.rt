@@ -113,7 +113,11 @@ fn named_message(alloc: Global, fault: &Fault) -> Result<Txt, Memory>
             name_of(&fault.name),
             " is missing",
         ),
-        RuleId::UnreadableVariable => unreadable(alloc, name_of(&fault.name), want_text(fault.want)),
+        RuleId::UnreadableVariable => unreadable(
+            alloc,
+            name_of(&fault.name),
+            want_text(fault.want),
+        ),
         rule => joined(alloc, "validation rule ", rule.text(), " is violated"),
     }
 }
@@ -154,12 +158,7 @@ fn place_json(at: Option<u64>) -> Json
 }
 
 // Adds a member behind the others.
-fn push_member(
-    alloc: Global,
-    members: &mut Members,
-    name: &str,
-    value: Json,
-) -> Result<(), Memory>
+fn push_member(alloc: Global, members: &mut Members, name: &str, value: Json) -> Result<(), Memory>
     ensures { OnOk result (map member_view members.new.items ≡ map member_view members.old.items ++ (name.now, json_view value) ∷ []) }
 {
     let name = text_of(alloc, name)?;
@@ -168,12 +167,7 @@ fn push_member(
 }
 
 // Adds a member that is a text.
-fn push_text(
-    alloc: Global,
-    members: &mut Members,
-    name: &str,
-    text: &str,
-) -> Result<(), Memory>
+fn push_text(alloc: Global, members: &mut Members, name: &str, text: &str) -> Result<(), Memory>
     ensures { OnOk result (map member_view members.new.items ≡ map member_view members.old.items ++ (name.now, tree.str text.now) ∷ []) }
 {
     let value = Json::Str(text_of(alloc, text)?);

@@ -113,10 +113,7 @@ fn document_due(alloc: Global, text: &[u8]) -> Result<Document, RequestRefusal>
 
 /// What a body reads as: its JSON, and the document of its query text.
 #[tactic(auto, unfolding(crate::specs::Reading::reading_due))]
-pub(crate) fn reading_due(
-    alloc: Global,
-    body: &[u8],
-) -> Result<(Json, Document), RequestRefusal>
+pub(crate) fn reading_due(alloc: Global, body: &[u8]) -> Result<(Json, Document), RequestRefusal>
     ensures { Gives (λ read. (json_view read.0, document_view read.1)) RequestRefusal.Memory (reading_due body.now) result }
 {
     let json = json_due(alloc, body)?;

@@ -59,13 +59,17 @@ fn repeated(alloc: Global, piece: &str, count: usize) -> Result<String, Fail> {
     Ok(text)
 }
 
-const NOT_JSON: &str = r#"{"errors":[{"message":"body is not JSON","extensions":{"path":"$","code":"invalid-json","rule":"F1","at":null}}]}"#;
+const NOT_JSON: &str =
+    r#"{"errors":[{"message":"body is not JSON","extensions":{"path":"$","code":"invalid-json","rule":"F1","at":null}}]}"#;
 
-const FRACTION: &str = r#"{"errors":[{"message":"body has a number that is not a whole 64-bit number","extensions":{"path":"$","code":"invalid-json","rule":"F1","at":null}}]}"#;
+const FRACTION: &str =
+    r#"{"errors":[{"message":"body has a number that is not a whole 64-bit number","extensions":{"path":"$","code":"invalid-json","rule":"F1","at":null}}]}"#;
 
-const ZERO_BYTE: &str = r#"{"errors":[{"message":"body has a zero byte","extensions":{"path":"$","code":"invalid-json","rule":"F1","at":null}}]}"#;
+const ZERO_BYTE: &str =
+    r#"{"errors":[{"message":"body has a zero byte","extensions":{"path":"$","code":"invalid-json","rule":"F1","at":null}}]}"#;
 
-const FORM: &str = r#"{"errors":[{"message":"body has not the form of a request","extensions":{"path":"$","code":"parse-failed","rule":"F2","at":null}}]}"#;
+const FORM: &str =
+    r#"{"errors":[{"message":"body has not the form of a request","extensions":{"path":"$","code":"parse-failed","rule":"F2","at":null}}]}"#;
 
 #[test]
 fn bodies(rt: HostRuntime) -> Result<(), Fail> {
@@ -73,7 +77,10 @@ fn bodies(rt: HostRuntime) -> Result<(), Fail> {
         ("", NOT_JSON),
         ("{author{id}}", NOT_JSON),
         (r#"{"query":"{a{b}}"} x"#, NOT_JSON),
-        (r#"{"query":"{author{id}}","variables":{"x":1.5}}"#, FRACTION),
+        (
+            r#"{"query":"{author{id}}","variables":{"x":1.5}}"#,
+            FRACTION,
+        ),
         (r#"{"query":"{author{id}}","variables":{"x":-0}}"#, FRACTION),
         (r#"{"query":"{a{b}}","x":"\u0000"}"#, ZERO_BYTE),
         ("[1]", FORM),
@@ -86,8 +93,14 @@ fn bodies(rt: HostRuntime) -> Result<(), Fail> {
         (r#"{"query":"{a{b}}","operationName":1}"#, FORM),
         (r#"{"query":"(","variables":1}"#, FORM),
         (r#"{"query":"{a{b}}"}"#, "a b"),
-        (r#"{"query":"{a{b}}","variables":null,"operationName":null}"#, "a b"),
-        (r#"{"query":"{a{b}}","variables":{"x":[1]},"operationName":""}"#, "a b"),
+        (
+            r#"{"query":"{a{b}}","variables":null,"operationName":null}"#,
+            "a b",
+        ),
+        (
+            r#"{"query":"{a{b}}","variables":{"x":[1]},"operationName":""}"#,
+            "a b",
+        ),
         (r#"{"query":"{a{b}}","extensions":true,"id":7}"#, "a b"),
         (r#"{"query":"(","query":"{a{b}}"}"#, "a b"),
         (r#"{"query":"{a{\u0062}}"}"#, "a b"),
