@@ -1,22 +1,19 @@
 -- Laws of single tokens, of choices, and of the same parser with another grammar.
-use Rattle.std.proofs.Common.{◌≡◌, ℕ, zero, suc, ◌⊎◌, inl, inr, Bool, true, false, not, List, [], ◌∷◌, ◌++◌, length, Option, Some, None, Result, Ok, Err, refl, sym, ap, subst, ◌∙◌, append_assoc, if◌then◌else◌}
-use Rattle.std.proofs.lemmas.List.{append-nil}
+use Rattle.std.proofs.Common.{◌≡◌, ℕ, ◌⊎◌, inl, inr, Bool, true, false, not, List, [], ◌∷◌, ◌++◌, length, Option, Some, None, Result, Ok, Err, refl, sym, ap, ◌∙◌, if◌then◌else◌}
 use Rattle.hq_base.specs.Due.{◌>>=◌}
 use Rattle.hq_gql_lexer.specs.declared.token.Punct.{Punct}
 use Rattle.hq_gql_lexer.specs.declared.token.Token.{Token}
-use Rattle.hq_gql_lexer.specs.declared.token.TokenKind.{TokenKind}
 use Rattle.hq_gql_lexer.specs.declared.token.TokenKind.TheVariants as kind
-use Rattle.hq_gql_parser.specs.declared.lookahead.Lookahead.{Lookahead}
 use Rattle.hq_gql_parser.specs.declared.lookahead.Lookahead.TheVariants as ahead
 use Rattle.hq_gql_parser.specs.declared.stop.Stop.{Stop}
 use Rattle.hq_gql_parser.specs.declared.stop.Stop.TheVariants.{Unexpected, TooDeep, Memory}
 use Rattle.hq_gql_parser.specs.Lookahead.{next_of, next, is_at}
-use Rattle.hq_gql_parser.specs.Languages.{Language, ◌▸◌}
+use Rattle.hq_gql_parser.specs.Languages.{Language}
 use Rattle.hq_gql_parser.specs.Documents.{and_then, behind, behind_punct, room}
 use Rattle.hq_gql_parser.specs.Parsing.{Parse, taken, take, either, closed}
-use Rattle.hq_gql_parser.proofs.Sets.{Set, subset, within, joined, first_in, is_end, anything, union, left_holds, right_holds, token_next}
-use Rattle.hq_gql_parser.proofs.Rooms.{room_then, room_none, room_one}
-use Rattle.hq_gql_parser.proofs.Exact.{first, first_next, Begins, Local, Taken, Wrong, Deep, Seen, Reads, Exact, Chain, exact_then}
+use Rattle.hq_gql_parser.proofs.Sets.{Set, subset, within, joined, first_in, is_end, anything, union, left_holds, right_holds}
+use Rattle.hq_gql_parser.proofs.Rooms.{room_one}
+use Rattle.hq_gql_parser.proofs.Exact.{first, first_next, Begins, Taken, Wrong, Deep, Seen, Reads, Exact}
 
 -- ---- one token
 

@@ -2,7 +2,7 @@
 use Rattle.std.proofs.Common.{◌≡◌, ℕ, zero, suc, ◌-◌, ◌<◌, Bool, List, Err, refl, ap, arith}
 use Rattle.hq_gql_lexer.specs.declared.token.Punct.TheVariants.{OpenBracket, OpenBrace}
 use Rattle.hq_gql_lexer.specs.declared.token.Token.{Token}
-use Rattle.hq_gql_parser.specs.Parsing.{Parse, closed}
+use Rattle.hq_gql_parser.specs.Parsing.{closed}
 use Rattle.hq_gql_parser.specs.ParsingValues.{value_at, list_at, list_with, object_at, object_with}
 use Rattle.hq_gql_parser.specs.ParsingTypes.{type_at, list_type_at, list_type_with}
 use Rattle.hq_gql_parser.specs.ParsingSelections.{selection_at, set_at, set_with}

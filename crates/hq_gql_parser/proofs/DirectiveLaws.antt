@@ -1,16 +1,14 @@
 -- The laws of the parsers of arguments and directives, and of lists in parentheses.
-use Rattle.std.proofs.Common.{◌≡◌, ℕ, inl, inr, Bool, true, false, not, ◌&&◌, ◌||◌, List, [], ◌∷◌, ◌++◌, Ok, refl, sym, subst, if◌then◌else◌}
-use Rattle.hq_base.specs.Due.{◌>>=◌}
+use Rattle.std.proofs.Common.{◌≡◌, ℕ, inl, inr, Bool, false, not, ◌&&◌, List, [], ◌∷◌, ◌++◌, refl, sym, subst}
 use Rattle.hq_gql_lexer.specs.declared.token.Punct.TheVariants.{OpenParenthesis, CloseParenthesis, At}
 use Rattle.hq_gql_lexer.specs.declared.token.Token.{Token}
-use Rattle.hq_gql_tree.specs.Values.{ArgumentTree, DirectiveTree}
 use Rattle.hq_gql_parser.specs.declared.lookahead.Lookahead.TheVariants as ahead
 use Rattle.hq_gql_parser.specs.Lookahead.{is_at, is_name}
-use Rattle.hq_gql_parser.specs.Languages.{Language, Each, InParentheses}
+use Rattle.hq_gql_parser.specs.Languages.{Language, InParentheses}
 use Rattle.hq_gql_parser.specs.Values.{IsArgument, AreArguments, IsDirective, AreDirectives}
-use Rattle.hq_gql_parser.specs.Parsing.{Parse, either, some, punct_at, until_punct}
-use Rattle.hq_gql_parser.specs.ParsingValues.{argument_at, listed_at, arguments_at, directive_at, directives_at}
-use Rattle.hq_gql_parser.proofs.Sets.{Set, anything, is_end, union, joined, subset}
+use Rattle.hq_gql_parser.specs.Parsing.{until_punct}
+use Rattle.hq_gql_parser.specs.ParsingValues.{listed_at, arguments_at, directive_at, directives_at}
+use Rattle.hq_gql_parser.proofs.Sets.{Set, is_end, union}
 use Rattle.hq_gql_parser.proofs.Exact.{Exact, Chain, exact_then}
 use Rattle.hq_gql_parser.proofs.Choices.{Only, exact_pure, Mapped, exact_map, Either, exact_either, exact_as}
 use Rattle.hq_gql_parser.proofs.Items.{AtLeastOne, exact_some, exact_all}

@@ -1,11 +1,10 @@
 -- What parsing answers is due, and nothing else is.
-use Rattle.std.proofs.Common.{◌≡◌, ◌≢◌, ℕ, zero, suc, ◌+◌, ◌-◌, ◌≤◌, ◌<◌, ◌⊎◌, inl, inr, Bool, true, false, not, List, [], ◌∷◌, ◌++◌, length, drop, Option, Some, None, Result, Ok, Err, refl, sym, ap, subst, ◌∙◌, append_assoc, arith, if◌then◌else◌}
+use Rattle.std.proofs.Common.{◌≡◌, ◌≢◌, ℕ, zero, suc, ◌+◌, ◌-◌, ◌≤◌, ◌<◌, ◌⊎◌, inl, inr, Bool, true, false, List, [], ◌∷◌, ◌++◌, length, drop, Some, None, Result, Ok, Err, refl, sym, ap, subst, ◌∙◌, append_assoc, arith, if◌then◌else◌}
 use Rattle.std.proofs.lemmas.List.{append-nil}
 use Rattle.std.proofs.lemmas.Bool.{cases_lt}
 use Rattle.hq_base.specs.Due.{Gives, ◌>>=◌}
 use Rattle.hq_gql_lexer.specs.declared.token.Token.{Token}
 use Rattle.hq_gql_tree.specs.Documents.{DocumentTree, DefinitionTree}
-use Rattle.hq_gql_tree.specs.declared.document.Document.{Document}
 use Rattle.hq_gql_tree.specs.View.{document_view}
 use Rattle.hq_gql_tree.specs.Nesting.{document_nest}
 use Rattle.hq_gql_parser.specs.declared.lookahead.Lookahead.{Lookahead}
@@ -20,10 +19,9 @@ use Rattle.hq_gql_parser.specs.Documents.{and_then, behind, room, most, BeginsDo
 use Rattle.hq_gql_parser.specs.Parsing.{Parse, many, all, some, until}
 use Rattle.hq_gql_parser.specs.ParsingOperations.{definition_at, document_at}
 use Rattle.hq_gql_parser.proofs.Sets.{Set, is_end, token_next}
-use Rattle.hq_gql_parser.proofs.Rooms.{room_then, room_none}
-use Rattle.hq_gql_parser.proofs.Exact.{first, Begins, Wrong, Deep, Seen, Reads, Exact}
+use Rattle.hq_gql_parser.proofs.Rooms.{room_then}
+use Rattle.hq_gql_parser.proofs.Exact.{first, Deep, Seen, Reads}
 use Rattle.hq_gql_parser.proofs.OperationLaws.{law_document, definition_takes}
-use Rattle.hq_gql_parser.proofs.NestLemmas.{Opens}
 use Rattle.hq_gql_parser.proofs.NestLaws.{document_opens}
 use Rattle.hq_gql_parser.proofs.Splits.{Splits, splits, left_is, left_fits}
 

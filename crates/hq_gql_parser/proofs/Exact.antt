@@ -1,19 +1,16 @@
 -- What holds of each parser, and of parsers put together: it takes exactly what the grammar has, looks one token ahead,
 -- and stops at the first token that no sentence goes on with, or at the first bracket that is one too many.
-use Rattle.std.proofs.Common.{◌≡◌, ℕ, zero, suc, ◌⊎◌, inl, inr, Bool, true, false, not, List, [], ◌∷◌, ◌++◌, length, Option, Some, None, Result, Ok, Err, refl, sym, ap, subst, ◌∙◌, append_assoc, if◌then◌else◌}
-use Rattle.std.proofs.lemmas.List.{append-nil}
+use Rattle.std.proofs.Common.{◌≡◌, ℕ, ◌⊎◌, inl, inr, true, List, [], ◌∷◌, ◌++◌, length, Option, Some, None, Result, Ok, Err, refl, sym, ap, subst, ◌∙◌, append_assoc}
 use Rattle.hq_base.specs.Due.{◌>>=◌}
 use Rattle.hq_gql_lexer.specs.declared.token.Token.{Token}
-use Rattle.hq_gql_parser.specs.declared.lookahead.Lookahead.{Lookahead}
-use Rattle.hq_gql_parser.specs.declared.lookahead.Lookahead.TheVariants as ahead
 use Rattle.hq_gql_parser.specs.declared.stop.Stop.{Stop}
 use Rattle.hq_gql_parser.specs.declared.stop.Stop.TheVariants.{Unexpected, TooDeep, Memory}
 use Rattle.hq_gql_parser.specs.Lookahead.{next_of, next}
 use Rattle.hq_gql_parser.specs.Languages.{Language, ◌▸◌}
 use Rattle.hq_gql_parser.specs.Documents.{behind, room}
-use Rattle.hq_gql_parser.specs.Parsing.{Parse, taken, take, either}
-use Rattle.hq_gql_parser.proofs.Sets.{Set, subset, within, joined, first_in, is_end, anything, union, left_holds, right_holds, token_next}
-use Rattle.hq_gql_parser.proofs.Rooms.{room_then, room_none, room_one}
+use Rattle.hq_gql_parser.specs.Parsing.{Parse}
+use Rattle.hq_gql_parser.proofs.Sets.{Set, subset, within, joined, first_in}
+use Rattle.hq_gql_parser.proofs.Rooms.{room_then, room_none}
 
 -- the first token
 abbrev pub first : List Token → Option Token
@@ -100,8 +97,8 @@ module _ {A B : Type 0} (d e f : ℕ) (p : Parse A) (q : A → Parse B) (R : A �
     begins_second a b x r begins,
     (m'.0, room_then d e a b m ∙ m'.1),
     λ after h.
-      let same : first (b ++ after) ≡ first rest = first-append b after rest' h ∙ ap first (sym is') in
-      rw (append_assoc a b after, local (b ++ after) same) (local' after h),
+        let same : first (b ++ after) ≡ first rest = first-append b after rest' h ∙ ap first (sym is') in
+        rw (append_assoc a b after, local (b ++ after) same) (local' after h),
   )
 
   second_deep : (ts : List Token) (x : A) (rest : List Token) (n : ℕ) → Taken d e p R ts x rest → Deep e (S x) rest n → Deep d (Chain R S) ts n
@@ -123,8 +120,8 @@ module _ {A B : Type 0} (d e f : ℕ) (p : Parse A) (q : A → Parse B) (R : A �
     (x, (a, b, refl, r, s)),
     room_then d e a b m ∙ m',
     λ after h.
-      let same : first (b ++ after) ≡ first rest = first-append b after rest' h ∙ ap first (sym is') in
-      rw (append_assoc a b after, local (b ++ after) same) (local' after h),
+        let same : first (b ++ after) ≡ first rest = first-append b after rest' h ∙ ap first (sym is') in
+        rw (append_assoc a b after, local (b ++ after) same) (local' after h),
   )
 
   pub second : (ts : List Token) (x : A) (rest : List Token) → Taken d e p R ts x rest → (r : Result (B × List Token) Stop) → Seen e f (q x) (S x) rest r → Seen d f both (Chain R S) ts r

@@ -1,17 +1,16 @@
 -- Laws of items one behind the other, while a test holds on what stands next.
-use Rattle.std.proofs.Common.{◌≡◌, ℕ, zero, suc, ◌+◌, ◌<◌, ◌≤◌, inl, inr, Bool, true, false, not, List, [], ◌∷◌, ◌++◌, length, Option, Some, None, Result, Ok, Err, refl, sym, ap, subst, ◌∙◌, append_assoc, arith, if◌then◌else◌}
-use Rattle.std.proofs.lemmas.List.{append-nil, length-append}
+use Rattle.std.proofs.Common.{◌≡◌, ℕ, zero, suc, ◌<◌, ◌≤◌, inl, inr, Bool, true, false, not, List, [], ◌∷◌, ◌++◌, length, Result, Ok, Err, refl, sym, ap, subst, ◌∙◌, append_assoc, arith, if◌then◌else◌}
+use Rattle.std.proofs.lemmas.List.{length-append}
 use Rattle.hq_base.specs.Due.{◌>>=◌}
 use Rattle.hq_gql_lexer.specs.declared.token.Token.{Token}
 use Rattle.hq_gql_parser.specs.declared.lookahead.Lookahead.TheVariants as ahead
 use Rattle.hq_gql_parser.specs.declared.stop.Stop.{Stop}
 use Rattle.hq_gql_parser.specs.declared.stop.Stop.TheVariants.{Unexpected, TooDeep, Memory}
-use Rattle.hq_gql_parser.specs.Lookahead.{next_of, next}
+use Rattle.hq_gql_parser.specs.Lookahead.{next}
 use Rattle.hq_gql_parser.specs.Languages.{Language, ◌▸◌, Each}
-use Rattle.hq_gql_parser.specs.Documents.{room}
 use Rattle.hq_gql_parser.specs.Parsing.{Parse, either, many, all, some}
-use Rattle.hq_gql_parser.proofs.Sets.{Set, subset, within, joined, first_in, is_end, anything, union, left_holds, right_holds}
-use Rattle.hq_gql_parser.proofs.Exact.{Taken, Wrong, Deep, Seen, Reads, Exact, Chain, exact_then, first_wrong, first_deep, second, reads_both}
+use Rattle.hq_gql_parser.proofs.Sets.{Set, subset, within, joined, first_in, is_end, anything, union, right_holds}
+use Rattle.hq_gql_parser.proofs.Exact.{Taken, Seen, Reads, Exact, Chain, exact_then, first_wrong, first_deep, second, reads_both}
 use Rattle.hq_gql_parser.proofs.Choices.{Only, Mapped, mapped_seen, mapped_reads, exact_map, Either, on_seen, off_seen, exact_as}
 
 -- the same answers of an equal parser, for a wider grammar

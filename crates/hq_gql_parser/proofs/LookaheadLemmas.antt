@@ -1,5 +1,5 @@
 -- Comparing what stands next.
-use Rattle.std.proofs.Common.{◌≡◌, ℕ, Bool, true, false, nat_eq, refl, ap, ◌∙◌}
+use Rattle.std.proofs.Common.{◌≡◌, ℕ, nat_eq, refl, ap, ◌∙◌}
 use denote.Enum.Declared.{tag_of}
 use Rattle.hq_gql_lexer.specs.declared.token.Punct.{Punct}
 use Rattle.hq_gql_lexer.specs.declared.token.Punct.TheVariants as punct

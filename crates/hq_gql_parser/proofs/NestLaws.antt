@@ -1,7 +1,6 @@
 -- The tokens of each part of a document open as many brackets at once as the part nests deep.
-use Rattle.std.proofs.Common.{◌≡◌, ℕ, suc, ◌⊎◌, inl, inr, Bool, true, false, List, [], ◌∷◌, ◌++◌, Option, Some, None, refl, arith}
+use Rattle.std.proofs.Common.{◌≡◌, ℕ, suc, inl, inr, Bool, true, false, List, [], ◌∷◌, Option, Some, None, refl, arith}
 use Rattle.std.specs.Prelude.{max}
-use Rattle.hq_gql_lexer.specs.declared.token.Punct.{Punct}
 use Rattle.hq_gql_lexer.specs.declared.token.Punct.TheVariants as punct
 use Rattle.hq_gql_lexer.specs.declared.token.Token.{Token}
 use Rattle.hq_gql_lexer.specs.declared.token.TokenKind.TheVariants as kind
@@ -10,13 +9,13 @@ use Rattle.hq_gql_tree.specs.Values.{ValueTree, int, float, str, bool, null, enu
 use Rattle.hq_gql_tree.specs.Types.{TypeTree, named, non_null}
 use Rattle.hq_gql_tree.specs.Types.{list as list_type}
 use Rattle.hq_gql_tree.specs.Selections.{SelectionTree, field, spread, inline, SelectionTrees, no_selection, selection}
-use Rattle.hq_gql_tree.specs.Documents.{VarDefTree, OperationTree, FragmentTree, DefinitionTree, operation, fragment, DocumentTree}
+use Rattle.hq_gql_tree.specs.Documents.{VarDefTree, OperationTree, DefinitionTree, operation, fragment, DocumentTree}
 use Rattle.hq_gql_tree.specs.Nesting.{value_nest, elements_nest, members_nest, arguments_nest, directives_nest, selection_nest, set_nest, selections_nest, type_nest, default_nest, vars_nest, definition_nest, document_nest}
-use Rattle.hq_gql_parser.specs.Languages.{Language, IsToken, IsPunct, IsName, ◌▸◌, Each, InParentheses}
-use Rattle.hq_gql_parser.specs.Values.{IsNamed, IsValue, AreElements, AreMembers, IsPlaced, IsArgument, AreArguments, IsDirective, AreDirectives}
+use Rattle.hq_gql_parser.specs.Languages.{Language, IsPunct, IsName, Each, InParentheses}
+use Rattle.hq_gql_parser.specs.Values.{IsValue, AreElements, AreMembers, IsArgument, AreArguments, IsDirective, AreDirectives}
 use Rattle.hq_gql_parser.specs.Types.{IsNullable, IsType}
 use Rattle.hq_gql_parser.specs.Selections.{IsHead, IsFragmentName, IsCondition, IsSomeCondition, IsSelection, IsSet, AreSelections, IsSelectionSet}
-use Rattle.hq_gql_parser.specs.Operations.{IsDefault, IsVariable, AreVariables, IsSomeName, IsNamedOperation, IsShorthand, IsFragment, IsDefinition, IsDocument}
+use Rattle.hq_gql_parser.specs.Operations.{IsDefault, IsVariable, AreVariables, IsSomeName, IsNamedOperation, IsShorthand, IsDefinition, IsDocument}
 use Rattle.hq_gql_parser.proofs.NestLemmas.{Opens, opens_nothing, opens_token, opens_both, opens_as, opens_behind, opens_before, opens_in}
 
 -- ---- names and words

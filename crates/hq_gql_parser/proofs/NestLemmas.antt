@@ -1,14 +1,13 @@
 -- Nesting and brackets: the tokens of a tree open as many brackets at once as the tree nests deep.
-use Rattle.std.proofs.Common.{◌≡◌, ℕ, zero, suc, ◌≤◌, ◌<◌, ◌⊎◌, inl, inr, Bool, false, List, [], ◌∷◌, ◌++◌, Option, Some, None, refl, sym, ap, subst, ◌∙◌, arith}
+use Rattle.std.proofs.Common.{◌≡◌, ℕ, zero, suc, ◌≤◌, ◌<◌, ◌⊎◌, inl, inr, List, [], ◌++◌, Some, None, refl, subst, ◌∙◌, arith}
 use Rattle.std.specs.Prelude.{max}
 use Rattle.std.proofs.lemmas.Bool.{cases_lt}
 use Rattle.hq_gql_lexer.specs.declared.token.Punct.{Punct}
-use Rattle.hq_gql_lexer.specs.declared.token.Punct.TheVariants as punct
 use Rattle.hq_gql_lexer.specs.declared.token.Token.{Token}
 use Rattle.hq_gql_lexer.specs.declared.token.TokenKind.{TokenKind}
 use Rattle.hq_gql_lexer.specs.declared.token.TokenKind.TheVariants as kind
-use Rattle.hq_gql_parser.specs.Languages.{Language, IsToken, IsPunct, IsName, ◌▸◌, Each}
-use Rattle.hq_gql_parser.specs.Documents.{and_then, behind, behind_punct, behind_open, room}
+use Rattle.hq_gql_parser.specs.Languages.{IsToken, IsPunct}
+use Rattle.hq_gql_parser.specs.Documents.{behind, behind_punct, behind_open, room}
 use Rattle.hq_gql_parser.proofs.Rooms.{room_then, room_none, room_one}
 
 -- The tokens open and close so many brackets at once.

@@ -1,23 +1,21 @@
 -- The laws of the parsers of operations, fragments and documents.
-use Rattle.std.proofs.Common.{◌≡◌, ℕ, inl, inr, true, false, not, ◌&&◌, ◌||◌, List, [], ◌∷◌, ◌++◌, Option, Some, None, Ok, refl, sym, ap, subst, ◌∙◌, if◌then◌else◌}
-use Rattle.hq_base.specs.Due.{◌>>=◌}
-use Rattle.hq_gql_lexer.specs.declared.token.Punct.TheVariants.{Dollar, OpenParenthesis, CloseParenthesis, Colon, Equals, At, OpenBrace}
+use Rattle.std.proofs.Common.{◌≡◌, ℕ, inl, inr, true, false, not, ◌&&◌, ◌||◌, List, [], ◌∷◌, Option, Some, None, refl, sym, ap, subst}
+use Rattle.hq_gql_lexer.specs.declared.token.Punct.TheVariants.{Dollar, OpenParenthesis, CloseParenthesis, Colon, Equals, At}
 use Rattle.hq_gql_lexer.specs.declared.token.Token.{Token}
-use Rattle.hq_gql_lexer.specs.declared.token.TokenKind.TheVariants as kind
 use Rattle.hq_gql_tree.specs.declared.document.OpKind.{OpKind}
 use Rattle.hq_gql_tree.specs.declared.document.OpKind.TheVariants.{Query, Mutation, Subscription}
 use Rattle.hq_gql_tree.specs.Values.{PlacedTree, DirectiveTree}
-use Rattle.hq_gql_tree.specs.Selections.{SelectionTree, SelectionTrees, selections_of, selections_in}
-use Rattle.hq_gql_tree.specs.Documents.{VarDefTree, OperationTree, FragmentTree, DefinitionTree, operation, fragment}
+use Rattle.hq_gql_tree.specs.Selections.{SelectionTrees, selections_of, selections_in}
+use Rattle.hq_gql_tree.specs.Documents.{VarDefTree, DefinitionTree, operation, fragment}
 use Rattle.hq_gql_parser.specs.declared.word.Word.TheVariants as word
 use Rattle.hq_gql_parser.specs.declared.lookahead.Lookahead.TheVariants as ahead
 use Rattle.hq_gql_parser.specs.Lookahead.{is_at, is_name, is_fragment_name}
-use Rattle.hq_gql_parser.specs.Languages.{Language, ◌▸◌, Each}
+use Rattle.hq_gql_parser.specs.Languages.{Language}
 use Rattle.hq_gql_parser.specs.Values.{IsPlaced, AreDirectives}
 use Rattle.hq_gql_parser.specs.Types.{IsType}
 use Rattle.hq_gql_parser.specs.Selections.{IsFragmentName, IsCondition, IsSelectionSet}
-use Rattle.hq_gql_parser.specs.Operations.{IsDefault, IsVariable, AreVariables, kind_word, IsSomeName, IsNamedOperation, IsShorthand, IsFragment, IsDefinition, IsDocument}
-use Rattle.hq_gql_parser.specs.Parsing.{Parse, either, some, punct_at, name_at, word_at, until, until_punct}
+use Rattle.hq_gql_parser.specs.Operations.{IsDefault, IsVariable, AreVariables, kind_word, IsSomeName, IsNamedOperation, IsDefinition, IsDocument}
+use Rattle.hq_gql_parser.specs.Parsing.{until, until_punct}
 use Rattle.hq_gql_parser.specs.ParsingOperations.{default_at, variable_definition_at, listed_variables_at, variables_at, some_name_at, operation_with, shorthand_at, fragment_at, definition_at, document_at}
 use Rattle.hq_gql_parser.proofs.Sets.{Set, anything, is_end, union, joined, subset, subset_anything}
 use Rattle.hq_gql_parser.proofs.Exact.{Exact, Chain, exact_then}
@@ -26,7 +24,7 @@ use Rattle.hq_gql_parser.proofs.Items.{AtLeastOne, exact_some}
 use Rattle.hq_gql_parser.proofs.TokenLaws.{PunctAt, exact_punct, NameAt, exact_name, WordAt, exact_word, exact_fragment_name}
 use Rattle.hq_gql_parser.proofs.ValueLaws.{is_value, law_value}
 use Rattle.hq_gql_parser.proofs.DirectiveLaws.{is_parenthesis, no_parenthesis, ListedIs, listed_to, listed_from, no_directive, law_directives}
-use Rattle.hq_gql_parser.proofs.TypeLaws.{is_type, no_bang, law_type}
+use Rattle.hq_gql_parser.proofs.TypeLaws.{no_bang, law_type}
 use Rattle.hq_gql_parser.proofs.SelectionLaws.{selections_back, law_condition, SetIs, is_set, law_set}
 
 -- ---- default values
@@ -209,7 +207,7 @@ shorthand_from : (at : ℕ) (k : OpKind) (m : Option (List ℕ)) (vs : List VarD
     → k ≡ Query → m ≡ None → vs ≡ [] → ds ≡ [] → IsSelectionSet at ss ts → ShorthandIs (operation (record { at = at; kind = k; name = m; vars = vs; directives = ds; selections = ss })) ts
 shorthand_from at k m vs ds ss ts e1 e2 e3 e4 r =
     let same : ◌≡◌ {A = DefinitionTree} (operation (record { at = at; kind = k; name = m; vars = vs; directives = ds; selections = ss })) (operation (record { at = at; kind = Query; name = None; vars = []; directives = []; selections = selections_of (selections_in ss) })) =
-        rw (e1, e2, e3, e4, selections_back ss) refl in
+    rw (e1, e2, e3, e4, selections_back ss) refl in
     ((at, selections_in ss), same, set_back at ss ts r)
 
 definition_from : (x : DefinitionTree) (ts : List Token) → IsDefinition x ts → DefinitionIs x ts

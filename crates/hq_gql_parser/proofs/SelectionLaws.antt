@@ -1,7 +1,6 @@
 -- The laws of the parsers of selections.
-use Rattle.std.proofs.Common.{◌≡◌, ℕ, zero, suc, inl, inr, true, false, not, ◌&&◌, ◌||◌, List, [], ◌∷◌, ◌++◌, Option, Some, None, Ok, Err, refl, sym, ap, subst, ◌∙◌, if◌then◌else◌}
+use Rattle.std.proofs.Common.{◌≡◌, ℕ, zero, suc, inl, inr, false, not, ◌&&◌, ◌||◌, List, [], ◌∷◌, ◌++◌, Option, Some, None, refl, sym, ap, subst, ◌∙◌}
 use Rattle.std.proofs.lemmas.List.{append-nil}
-use Rattle.hq_base.specs.Due.{◌>>=◌}
 use Rattle.hq_gql_lexer.specs.declared.token.Punct.TheVariants.{Spread, Colon, OpenBrace, CloseBrace, At}
 use Rattle.hq_gql_lexer.specs.declared.token.Token.{Token}
 use Rattle.hq_gql_lexer.specs.declared.token.TokenKind.TheVariants as kind
@@ -11,17 +10,17 @@ use Rattle.hq_gql_tree.specs.Selections.{SelectionTree, field, spread, inline, S
 use Rattle.hq_gql_parser.specs.declared.word.Word.TheVariants as word
 use Rattle.hq_gql_parser.specs.declared.lookahead.Lookahead.TheVariants as ahead
 use Rattle.hq_gql_parser.specs.Lookahead.{is_at, is_name, is_fragment_name}
-use Rattle.hq_gql_parser.specs.Languages.{Language, ◌▸◌, Each}
+use Rattle.hq_gql_parser.specs.Languages.{Language, Each}
 use Rattle.hq_gql_parser.specs.Values.{AreArguments, AreDirectives}
 use Rattle.hq_gql_parser.specs.Selections.{IsHead, IsFragmentName, IsCondition, IsSomeCondition, IsSelection, IsSet, AreSelections, IsSelectionSet}
-use Rattle.hq_gql_parser.specs.Parsing.{Parse, either, some, punct_at, name_at, word_at, until_punct}
+use Rattle.hq_gql_parser.specs.Parsing.{Parse, until_punct}
 use Rattle.hq_gql_parser.specs.ParsingSelections.{Head, alias_at, head_at, SetParse, some_set_with, field_with, condition_at, some_condition_at, spread_with, inline_with, fragment_with, selection_with, set_with, set_at, selection_at}
 use Rattle.hq_gql_parser.proofs.Sets.{Set, anything, is_end, union}
 use Rattle.hq_gql_parser.proofs.Exact.{Begins, Exact, Chain, exact_then}
 use Rattle.hq_gql_parser.proofs.Choices.{Only, exact_pure, Mapped, exact_map, Either, exact_either, exact_as, exact_stopped}
 use Rattle.hq_gql_parser.proofs.Items.{AtLeastOne, exact_some}
-use Rattle.hq_gql_parser.proofs.TokenLaws.{token, PunctAt, exact_punct, punct_is, at_self, NameAt, exact_name, WordAt, exact_word, exact_fragment_name}
-use Rattle.hq_gql_parser.proofs.DirectiveLaws.{no_parenthesis, law_arguments, no_directive, law_directives}
+use Rattle.hq_gql_parser.proofs.TokenLaws.{token, PunctAt, exact_punct, punct_is, at_self, NameAt, exact_name, exact_word, exact_fragment_name}
+use Rattle.hq_gql_parser.proofs.DirectiveLaws.{law_arguments, no_directive, law_directives}
 
 -- ---- lists of selections
 
@@ -142,7 +141,7 @@ abbrev FragmentIs : SelectionTree → Language
 FragmentIs = Chain (PunctAt Spread) (λ o. Either (SpreadIs o) (InlineIs o))
 
 field_to : (x : SelectionTree) (ts : List Token) → FieldIs x ts → IsSelection x ts
-field_to x ts (h, (a, b, is, r, (args, (a', b', is', r', (ds, (a'', b'', is'', r'', (ss, same, r''')))))))  = subst (λ w. IsSelection w ts) (sym same) (a, b, is, r, (a', b', is', r', (a'', b'', is'', r'', r''')))
+field_to x ts (h, (a, b, is, r, (args, (a', b', is', r', (ds, (a'', b'', is'', r'', (ss, same, r'''))))))) = subst (λ w. IsSelection w ts) (sym same) (a, b, is, r, (a', b', is', r', (a'', b'', is'', r'', r''')))
 
 spread_to : (o : ℕ) (x : SelectionTree) (ts a b : List Token) → ts ≡ a ++ b → PunctAt Spread o a → SpreadIs o x b → IsSelection x ts
 spread_to o x ts a b is r (m, (a', b', is', r', (ds, same, r''))) = subst (λ w. IsSelection w ts) (sym same) (a, b, is, r, (a', b', is', r', r''))
@@ -255,8 +254,7 @@ a_field = field (record { at = 0; alias = None; name = []; args = []; directives
 set_begins : (t : Token) → t.kind ≡ kind.Punct OpenBrace → Begins SetIs (t ∷ [])
 set_begins t e =
     let name = token 0 (kind.Name []) in
-    let close = token 0 (kind.Punct CloseBrace) in
-    (
+    let close = token 0 (kind.Punct CloseBrace) in (
       name ∷ close ∷ [],
       (t.from, a_field ∷ []),
       (

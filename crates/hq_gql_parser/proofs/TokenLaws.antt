@@ -1,5 +1,5 @@
 -- The laws of the parsers of one token.
-use Rattle.std.proofs.Common.{◌≡◌, ℕ, Bool, true, false, not, nat_eq, ◌&&◌, List, [], ◌∷◌, Option, Some, None, bytes_eq, refl, sym, ap, subst, ◌∙◌, if◌then◌else◌}
+use Rattle.std.proofs.Common.{◌≡◌, ℕ, Bool, true, false, not, nat_eq, List, [], ◌∷◌, Option, Some, None, bytes_eq, refl, sym, ap, subst, ◌∙◌, if◌then◌else◌}
 use Rattle.std.proofs.lemmas.Slice.Eq.{bytes_eq-Decides}
 use denote.Enum.Bare.{same_true, true_same}
 use Rattle.hq_gql_lexer.specs.declared.token.Punct.{Punct}
@@ -10,13 +10,12 @@ use Rattle.hq_gql_lexer.specs.declared.token.TokenKind.TheVariants as kind
 use Rattle.hq_gql_tree.specs.Values.{int, PlacedTree}
 use Rattle.hq_gql_parser.specs.declared.word.Word.{Word}
 use Rattle.hq_gql_parser.specs.declared.word.Word.TheVariants as word
-use Rattle.hq_gql_parser.specs.declared.lookahead.Lookahead.{Lookahead}
 use Rattle.hq_gql_parser.specs.declared.lookahead.Lookahead.TheVariants as ahead
 use Rattle.hq_gql_parser.specs.Lookahead.{word_text, is_word, word_among, words, word_of, named, next_of, punct_number, is_at, is_name, is_fragment_name}
-use Rattle.hq_gql_parser.specs.Languages.{Language, IsToken, IsName}
+use Rattle.hq_gql_parser.specs.Languages.{Language, IsToken}
 use Rattle.hq_gql_parser.specs.Selections.{IsFragmentName}
 use Rattle.hq_gql_parser.specs.Documents.{behind, behind_punct}
-use Rattle.hq_gql_parser.specs.Parsing.{Parse, punct_use, punct_at, name_of, with_place, name_use, name_at, when, word_use_of, word_use, word_at, fragment_use_of, fragment_use, fragment_name_at}
+use Rattle.hq_gql_parser.specs.Parsing.{punct_use, punct_at, name_of, with_place, name_use, name_at, word_use_of, word_use, word_at, fragment_use_of, fragment_use, fragment_name_at}
 use Rattle.hq_gql_parser.specs.ParsingValues.{literal_of, placed_at, literal_use, literal_at}
 use Rattle.hq_gql_parser.proofs.LookaheadLemmas.{punct_tag, same}
 use Rattle.hq_gql_parser.proofs.Sets.{Set, anything, subset_self, subset_anything}
@@ -181,18 +180,18 @@ not_true : (b : Bool) → not b ≡ true → b ≡ false
 not_true true e = absurd cc
 not_true false e = refl
 
-fragment_used : (k : TokenKind) (at : ℕ) (x : List ℕ) → fragment_use_of at (name_of k) ≡ Some x → (k ≡ kind.Name x) × (is_word x word.On ≡ false)
-fragment_used (kind.Punct p) at x e = absurd cc
-fragment_used (kind.Name name) at x e =
+fragment_used : (k : TokenKind) (x : List ℕ) → fragment_use_of (name_of k) ≡ Some x → (k ≡ kind.Name x) × (is_word x word.On ≡ false)
+fragment_used (kind.Punct p) x e = absurd cc
+fragment_used (kind.Name name) x e =
     let g = given (not (is_word name word.On)) name x e in (ap kind.Name g.1, subst (λ n. is_word n word.On ≡ false) g.1 (not_true (is_word name word.On) g.0))
-fragment_used (kind.Int text) at x e = absurd cc
-fragment_used (kind.Float text) at x e = absurd cc
-fragment_used (kind.Str value) at x e = absurd cc
+fragment_used (kind.Int text) x e = absurd cc
+fragment_used (kind.Float text) x e = absurd cc
+fragment_used (kind.Str value) x e = absurd cc
 
-fragment_self : (name : List ℕ) (at : ℕ) → is_word name word.On ≡ false → fragment_use_of at (Some name) ≡ Some name
-fragment_self name at h = rw h refl
+fragment_self : (name : List ℕ) → is_word name word.On ≡ false → fragment_use_of (Some name) ≡ Some name
+fragment_self name h = rw h refl
 
-fragment_empty : fragment_use_of 0 (Some []) ≡ Some []
+fragment_empty : fragment_use_of (Some []) ≡ Some []
 unfolding word_text
 fragment_empty = refl
 
@@ -201,11 +200,11 @@ unfolding fragment_name_at
 exact_fragment_name d =
     exact_as IsFragmentName is_fragment_name anything
     (exact_take d d fragment_use is_fragment_name
-    (λ t x h. let u = fragment_used t.kind t.from x h in subst (λ k. is_fragment_name (next_of k) ≡ true) (sym u.0) (not_on x (word_of x) refl u.1))
-    (λ t x h. ap (λ k. behind k d) (fragment_used t.kind t.from x h).0)
+    (λ t x h. let u = fragment_used t.kind x h in subst (λ k. is_fragment_name (next_of k) ≡ true) (sym u.0) (not_on x (word_of x) refl u.1))
+    (λ t x h. ap (λ k. behind k d) (fragment_used t.kind x h).0)
     (token 0 (kind.Name []), [], fragment_empty))
-    (λ x ts (t, is, e). let u = fragment_used t.kind t.from x e in (u.1, (t.from, (t.to, is ∙ ap (λ k. record { from = t.from; to = t.to; kind = k } ∷ []) u.0))))
-    (λ x ts (h, (at, (to, is))). (record { from = at; to = to; kind = kind.Name x }, is, fragment_self x at h))
+    (λ x ts (t, is, e). let u = fragment_used t.kind x e in (u.1, (t.from, (t.to, is ∙ ap (λ k. record { from = t.from; to = t.to; kind = k } ∷ []) u.0))))
+    (λ x ts (h, (at, (to, is))). (record { from = at; to = to; kind = kind.Name x }, is, fragment_self x h))
     (subset_self is_fragment_name) (subset_anything anything)
 
 -- ---- literals

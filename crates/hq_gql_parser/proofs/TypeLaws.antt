@@ -1,16 +1,15 @@
 -- The laws of the parsers of types.
-use Rattle.std.proofs.Common.{◌≡◌, ℕ, zero, suc, inl, inr, true, ◌||◌, List, [], ◌∷◌, ◌++◌, Ok, Err, refl, sym, ap, subst, ◌∙◌, if◌then◌else◌}
+use Rattle.std.proofs.Common.{◌≡◌, ℕ, zero, suc, inl, inr, ◌||◌, List, [], ◌∷◌, ◌++◌, refl, sym, ap, subst, ◌∙◌}
 use Rattle.std.proofs.lemmas.List.{append-nil}
-use Rattle.hq_base.specs.Due.{◌>>=◌}
 use Rattle.hq_gql_lexer.specs.declared.token.Punct.TheVariants.{Bang, OpenBracket, CloseBracket}
 use Rattle.hq_gql_lexer.specs.declared.token.Token.{Token}
 use Rattle.hq_gql_lexer.specs.declared.token.TokenKind.TheVariants as kind
 use Rattle.hq_gql_tree.specs.Types.{TypeTree, named, list, non_null}
 use Rattle.hq_gql_parser.specs.declared.lookahead.Lookahead.TheVariants as ahead
 use Rattle.hq_gql_parser.specs.Lookahead.{is_at, is_name}
-use Rattle.hq_gql_parser.specs.Languages.{Language, ◌▸◌}
+use Rattle.hq_gql_parser.specs.Languages.{Language}
 use Rattle.hq_gql_parser.specs.Types.{IsNullable, IsType}
-use Rattle.hq_gql_parser.specs.Parsing.{Parse, either, punct_at, until_punct}
+use Rattle.hq_gql_parser.specs.Parsing.{Parse, until_punct}
 use Rattle.hq_gql_parser.specs.ParsingTypes.{named_type_at, nullable_with, bang_at, type_with, list_type_with, list_type_at, type_at}
 use Rattle.hq_gql_parser.proofs.Sets.{Set, anything, is_end, union}
 use Rattle.hq_gql_parser.proofs.Exact.{Begins, Exact, Chain, exact_then}

@@ -1,19 +1,18 @@
 -- The laws of the parsers of values.
-use Rattle.std.proofs.Common.{◌≡◌, ℕ, zero, suc, inl, inr, ◌||◌, Bool, true, false, List, [], ◌∷◌, ◌++◌, Option, Some, None, Ok, Err, refl, sym, ap, subst, ◌∙◌, if◌then◌else◌}
-use Rattle.hq_base.specs.Due.{◌>>=◌}
+use Rattle.std.proofs.Common.{◌≡◌, ℕ, zero, suc, inl, inr, ◌||◌, Bool, true, false, List, [], ◌∷◌, ◌++◌, Some, refl, sym, ap, subst, ◌∙◌, if◌then◌else◌}
 use Rattle.hq_gql_lexer.specs.declared.token.Punct.TheVariants.{Dollar, Colon, OpenBracket, CloseBracket, OpenBrace, CloseBrace}
 use Rattle.hq_gql_lexer.specs.declared.token.Token.{Token}
 use Rattle.hq_gql_lexer.specs.declared.token.TokenKind.{TokenKind}
 use Rattle.hq_gql_lexer.specs.declared.token.TokenKind.TheVariants as kind
-use Rattle.hq_gql_tree.specs.Values.{ValueTree, int, float, str, bool, null, enum, list, object, variable, ElementTrees, no_element, MemberTrees, no_member, PlacedTree, ArgumentTree, elements_of, elements_in, members_of, members_in}
+use Rattle.hq_gql_tree.specs.Values.{ValueTree, int, float, str, bool, null, enum, list, object, variable, ElementTrees, no_element, MemberTrees, no_member, PlacedTree, elements_of, elements_in, members_of, members_in}
 use Rattle.hq_gql_parser.specs.declared.word.Word.TheVariants as word
 use Rattle.hq_gql_parser.specs.declared.lookahead.Lookahead.TheVariants as ahead
 use Rattle.hq_gql_parser.specs.Lookahead.{is_word, is_at, is_name}
-use Rattle.hq_gql_parser.specs.Languages.{Language, IsToken, IsPunct, IsName, ◌▸◌, Each}
+use Rattle.hq_gql_parser.specs.Languages.{Language, IsToken, Each}
 use Rattle.hq_gql_parser.specs.Values.{name_value, IsValue, IsPlaced, IsArgument}
 use Rattle.hq_gql_parser.specs.Parsing.{Parse, until_punct}
 use Rattle.hq_gql_parser.specs.ParsingValues.{literal_of, placed_at, literal_use, variable_at, is_bracket, is_brace, is_variable, value_with, list_with, argument_with, object_with, list_at, object_at, value_at, argument_at}
-use Rattle.hq_gql_parser.proofs.Sets.{Set, anything, subset_anything}
+use Rattle.hq_gql_parser.proofs.Sets.{Set, anything}
 use Rattle.hq_gql_parser.proofs.Exact.{Begins, Exact, Chain, exact_then}
 use Rattle.hq_gql_parser.proofs.Choices.{OfUse, Mapped, exact_map, Either, exact_either, exact_as, exact_stopped}
 use Rattle.hq_gql_parser.proofs.Items.{exact_all}

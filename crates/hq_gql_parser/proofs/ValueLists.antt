@@ -1,8 +1,8 @@
 -- The elements of a list, the members of an object, and lists of these.
-use Rattle.std.proofs.Common.{◌≡◌, ℕ, Bool, List, [], ◌∷◌, ◌++◌, refl, ap}
+use Rattle.std.proofs.Common.{◌≡◌, Bool, List, [], ◌∷◌, refl, ap}
 use Rattle.hq_gql_lexer.specs.declared.token.Token.{Token}
 use Rattle.hq_gql_tree.specs.Values.{ElementTrees, no_element, element, MemberTrees, no_member, member, PlacedTree, ArgumentTree, elements_of, elements_in, members_of, members_in}
-use Rattle.hq_gql_parser.specs.Languages.{Language, Each}
+use Rattle.hq_gql_parser.specs.Languages.{Each}
 use Rattle.hq_gql_parser.specs.Values.{IsPlaced, AreElements, IsArgument, AreMembers}
 
 pub elements_back : (vs : ElementTrees) → elements_of (elements_in vs) ≡ vs

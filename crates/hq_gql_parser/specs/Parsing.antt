@@ -66,12 +66,12 @@ word_use w t = word_use_of w t.from (name_of t.kind)
 unfoldable pub word_at : Word → Parse ℕ
 word_at w = take (word_use w)
 
-abbrev pub fragment_use_of : ℕ → Option (List ℕ) → Option (List ℕ)
-fragment_use_of at None = None
-fragment_use_of at (Some name) = when (not (is_word name word.On)) name
+abbrev pub fragment_use_of : Option (List ℕ) → Option (List ℕ)
+fragment_use_of None = None
+fragment_use_of (Some name) = when (not (is_word name word.On)) name
 
 abbrev pub fragment_use : Token → Option (List ℕ)
-fragment_use t = fragment_use_of t.from (name_of t.kind)
+fragment_use t = fragment_use_of (name_of t.kind)
 
 -- a name but `on`
 unfoldable pub fragment_name_at : Parse (List ℕ)

@@ -1,16 +1,15 @@
 -- Parsing operations, fragments and documents.
-use Rattle.std.specs.Prelude.{ℕ, zero, suc, Bool, true, false, not, List, [], ◌∷◌, Option, Some, None, Result, Ok, Err, if◌then◌else◌}
+use Rattle.std.specs.Prelude.{ℕ, true, false, List, [], Option, Some, None, Ok}
 use Rattle.hq_base.specs.Due.{◌>>=◌}
 use Rattle.hq_gql_lexer.specs.declared.token.Punct.TheVariants.{Dollar, OpenParenthesis, CloseParenthesis, Colon, Equals, OpenBrace}
 use Rattle.hq_gql_tree.specs.declared.document.OpKind.{OpKind}
 use Rattle.hq_gql_tree.specs.declared.document.OpKind.TheVariants.{Query, Mutation, Subscription}
 use Rattle.hq_gql_tree.specs.Values.{PlacedTree}
 use Rattle.hq_gql_tree.specs.Selections.{selections_of}
-use Rattle.hq_gql_tree.specs.Documents.{VarDefTree, OperationTree, FragmentTree, DefinitionTree, operation, fragment}
+use Rattle.hq_gql_tree.specs.Documents.{VarDefTree, DefinitionTree, operation, fragment}
 use Rattle.hq_gql_parser.specs.declared.word.Word.TheVariants as word
-use Rattle.hq_gql_parser.specs.declared.lookahead.Lookahead.{Lookahead}
 use Rattle.hq_gql_parser.specs.declared.lookahead.Lookahead.TheVariants as ahead
-use Rattle.hq_gql_parser.specs.Lookahead.{next, is_at, is_name}
+use Rattle.hq_gql_parser.specs.Lookahead.{is_at, is_name}
 use Rattle.hq_gql_parser.specs.Operations.{kind_word}
 use Rattle.hq_gql_parser.specs.Parsing.{Parse, punct_at, name_at, word_at, fragment_name_at, either, some, until, until_punct}
 use Rattle.hq_gql_parser.specs.ParsingValues.{value_at, directives_at}

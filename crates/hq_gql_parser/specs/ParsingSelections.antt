@@ -1,14 +1,12 @@
 -- Parsing selections.
-use Rattle.std.specs.Prelude.{ℕ, zero, suc, Bool, false, not, List, [], ◌∷◌, Option, Some, None, Result, Ok, Err, if◌then◌else◌}
+use Rattle.std.specs.Prelude.{ℕ, zero, suc, false, List, [], Option, Some, None, Ok, Err}
 use Rattle.hq_base.specs.Due.{◌>>=◌}
 use Rattle.hq_gql_lexer.specs.declared.token.Punct.TheVariants.{Spread, Colon, OpenBrace, CloseBrace}
 use Rattle.hq_gql_tree.specs.declared.selection.TypeCond.{TypeCond}
-use Rattle.hq_gql_tree.specs.Values.{DirectiveTree}
 use Rattle.hq_gql_tree.specs.Selections.{SelectionTree, field, spread, inline, selections_of}
 use Rattle.hq_gql_parser.specs.declared.word.Word.TheVariants as word
-use Rattle.hq_gql_parser.specs.declared.lookahead.Lookahead.{Lookahead}
 use Rattle.hq_gql_parser.specs.declared.lookahead.Lookahead.TheVariants as ahead
-use Rattle.hq_gql_parser.specs.Lookahead.{next, is_at, is_fragment_name}
+use Rattle.hq_gql_parser.specs.Lookahead.{is_at, is_fragment_name}
 use Rattle.hq_gql_parser.specs.Parsing.{Parse, punct_at, name_at, word_at, fragment_name_at, closed, either, some, until_punct}
 use Rattle.hq_gql_parser.specs.ParsingValues.{arguments_at, directives_at}
 

@@ -1,10 +1,10 @@
 -- Parsing types.
-use Rattle.std.specs.Prelude.{ℕ, zero, suc, Ok, Err, if◌then◌else◌}
+use Rattle.std.specs.Prelude.{ℕ, zero, suc, Ok, Err}
 use Rattle.hq_base.specs.Due.{◌>>=◌}
 use Rattle.hq_gql_lexer.specs.declared.token.Punct.TheVariants.{Bang, OpenBracket, CloseBracket}
 use Rattle.hq_gql_tree.specs.Types.{TypeTree, named, list, non_null}
 use Rattle.hq_gql_parser.specs.declared.lookahead.Lookahead.TheVariants as ahead
-use Rattle.hq_gql_parser.specs.Lookahead.{next, is_at}
+use Rattle.hq_gql_parser.specs.Lookahead.{is_at}
 use Rattle.hq_gql_parser.specs.Parsing.{Parse, punct_at, name_at, closed, either}
 
 -- a type without a `!` behind it, with its place

@@ -1,5 +1,5 @@
 -- Parsing values, arguments and directives.
-use Rattle.std.specs.Prelude.{ℕ, zero, suc, Bool, not, ◌&&◌, List, [], ◌∷◌, length, Option, Some, None, Result, Ok, Err, if◌then◌else◌}
+use Rattle.std.specs.Prelude.{ℕ, zero, suc, Bool, not, ◌&&◌, List, [], Option, Some, None, Ok, Err}
 use Rattle.hq_base.specs.Due.{◌>>=◌}
 use Rattle.hq_gql_lexer.specs.declared.token.Punct.TheVariants.{Dollar, OpenParenthesis, CloseParenthesis, Colon, At, OpenBracket, CloseBracket, OpenBrace, CloseBrace}
 use Rattle.hq_gql_lexer.specs.declared.token.Token.{Token}
@@ -8,7 +8,7 @@ use Rattle.hq_gql_lexer.specs.declared.token.TokenKind.TheVariants as kind
 use Rattle.hq_gql_tree.specs.Values.{ValueTree, int, float, str, list, object, variable, PlacedTree, elements_of, ArgumentTree, members_of, DirectiveTree}
 use Rattle.hq_gql_parser.specs.declared.lookahead.Lookahead.{Lookahead}
 use Rattle.hq_gql_parser.specs.declared.lookahead.Lookahead.TheVariants as ahead
-use Rattle.hq_gql_parser.specs.Lookahead.{next, is_at}
+use Rattle.hq_gql_parser.specs.Lookahead.{is_at}
 use Rattle.hq_gql_parser.specs.Values.{name_value}
 use Rattle.hq_gql_parser.specs.Parsing.{Parse, take, punct_at, name_at, closed, either, all, some, until_punct}
 

@@ -1,6 +1,6 @@
 -- Values, arguments and directives (GraphQL October 2021, 2.6, 2.9, 2.12). Where they are constant, no variable stands
 -- in them.
-use Rattle.std.specs.Prelude.{◌≡◌, ℕ, Bool, true, false, List, [], ◌∷◌, if◌then◌else◌}
+use Rattle.std.specs.Prelude.{◌≡◌, ℕ, Bool, true, false, List, if◌then◌else◌}
 use Rattle.hq_gql_lexer.specs.declared.token.Punct.TheVariants.{Dollar, Colon, At, OpenBracket, CloseBracket, OpenBrace, CloseBrace}
 use Rattle.hq_gql_lexer.specs.declared.token.TokenKind.TheVariants as kind
 use Rattle.hq_gql_tree.specs.Values.{ValueTree, int, float, str, bool, null, enum, list, object, variable, ElementTrees, no_element, element, MemberTrees, no_member, member, PlacedTree, ArgumentTree, DirectiveTree}

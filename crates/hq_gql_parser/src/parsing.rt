@@ -62,14 +62,12 @@ pub fn parse(alloc: Global, tokens: &Tokens, end: u64) -> Result<Document, Parse
 /// Tokens spell at most one document.
 pub fn one_document()
     ensures { (ts : List Token) (a b : DocumentTree) → IsDocument a ts → IsDocument b ts → a ≡ b }
-{
-}
+{}
 
 /// At most one answer is due.
 pub fn one_answer()
     ensures { (end : ℕ) (ts : List Token) (a b : Result DocumentTree ParseRefusal) → Parses end ts a → Parses end ts b → a ≡ b }
-{
-}
+{}
 
 /// The answer that is computed is due, whatever the tokens.
 pub fn parsed_is_due()

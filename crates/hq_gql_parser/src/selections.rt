@@ -27,12 +27,7 @@ struct Head {
 
 // The field's name behind a colon, or the first name as it is.
 #[tactic(auto, unfolding(crate::specs::ParsingSelections::alias_at))]
-fn alias(
-    alloc: Global,
-    at: u64,
-    first: Txt,
-    tokens: &[Token],
-) -> Result<(Head, &[Token]), Stop>
+fn alias(alloc: Global, at: u64, first: Txt, tokens: &[Token]) -> Result<(Head, &[Token]), Stop>
     ensures { Gives (λ x. ((x.0.at, x.0.alias, x.0.name), x.1.now)) Stop.Memory (alias_at (at, first) tokens.now) result }
 {
     if is_at(tokens, Lookahead::Punct(Punct::Colon)) {
@@ -71,10 +66,7 @@ pub(crate) fn condition(alloc: Global, tokens: &[Token]) -> Result<(TypeCond, &[
 }
 
 #[tactic(auto, unfolding(crate::specs::ParsingSelections::some_condition_at))]
-fn some_condition(
-    alloc: Global,
-    tokens: &[Token],
-) -> Result<(Option<TypeCond>, &[Token]), Stop>
+fn some_condition(alloc: Global, tokens: &[Token]) -> Result<(Option<TypeCond>, &[Token]), Stop>
     ensures { Gives (λ x. (x.0, x.1.now)) Stop.Memory (some_condition_at tokens.now) result }
 {
     if is_at(tokens, Lookahead::Word(Word::On)) {
@@ -106,11 +98,7 @@ fn spread(
 
 #[cycle(selection)]
 #[tactic(auto, unfolding(crate::specs::ParsingSelections::some_set_with))]
-fn some_set(
-    alloc: Global,
-    depth: u32,
-    tokens: &[Token],
-) -> Result<(SelectionList, &[Token]), Stop>
+fn some_set(alloc: Global, depth: u32, tokens: &[Token]) -> Result<(SelectionList, &[Token]), Stop>
     ensures { Gives (λ x. (map selection_view x.0.items, x.1.now)) Stop.Memory (some_set_with (set_at depth) tokens.now) result }
 {
     if is_at(tokens, Lookahead::Punct(Punct::OpenBrace)) {

@@ -157,31 +157,70 @@ fn no_token_is_empty(rt: HostRuntime) -> Result<(), Fail> {
 #[test]
 fn selection_sets_nest_fifty_deep(rt: HostRuntime) -> Result<(), Fail> {
     let alloc = rt.alloc();
-    assert_eq!(rt; nested(alloc, "", ("{a", 50), "", ("}", 50), "")?.as_str(), "document");
-    assert_eq!(rt; nested(alloc, "", ("{a", 51), "", ("}", 51), "")?.as_str(), "TooDeep { at: 100 }");
-    assert_eq!(rt; nested(alloc, "", ("{a", 51), "", ("}", 0), "")?.as_str(), "TooDeep { at: 100 }");
-    assert_eq!(rt; nested(alloc, "", ("{a", 50), " b{", ("}", 0), "")?.as_str(), "TooDeep { at: 102 }");
+    assert_eq!(rt;
+        nested(alloc, "", ("{a", 50), "", ("}", 50), "")?.as_str(),
+        "document"
+    );
+    assert_eq!(rt;
+        nested(alloc, "", ("{a", 51), "", ("}", 51), "")?.as_str(),
+        "TooDeep { at: 100 }"
+    );
+    assert_eq!(rt;
+        nested(alloc, "", ("{a", 51), "", ("}", 0), "")?.as_str(),
+        "TooDeep { at: 100 }"
+    );
+    assert_eq!(rt;
+        nested(alloc, "", ("{a", 50), " b{", ("}", 0), "")?.as_str(),
+        "TooDeep { at: 102 }"
+    );
     Ok(())
 }
 
 #[test]
 fn values_and_types_nest_fifty_deep(rt: HostRuntime) -> Result<(), Fail> {
     let alloc = rt.alloc();
-    assert_eq!(rt; nested(alloc, "{a(b:", ("[", 49), "", ("]", 49), ")}")?.as_str(), "document");
-    assert_eq!(rt; nested(alloc, "{a(b:", ("[", 50), "", ("]", 0), "")?.as_str(), "TooDeep { at: 54 }");
-    assert_eq!(rt; nested(alloc, "{a(b:", ("{c:", 49), "1", ("}", 49), ")}")?.as_str(), "document");
-    assert_eq!(rt; nested(alloc, "{a(b:", ("{c:", 50), "1", ("}", 50), ")}")?.as_str(), "TooDeep { at: 152 }");
-    assert_eq!(rt; nested(alloc, "query($a:", ("[", 50), "I", ("]", 50), "){b}")?.as_str(), "document");
-    assert_eq!(rt; nested(alloc, "query($a:", ("[", 51), "I", ("]", 51), "){b}")?.as_str(), "TooDeep { at: 59 }");
+    assert_eq!(rt;
+        nested(alloc, "{a(b:", ("[", 49), "", ("]", 49), ")}")?.as_str(),
+        "document"
+    );
+    assert_eq!(rt;
+        nested(alloc, "{a(b:", ("[", 50), "", ("]", 0), "")?.as_str(),
+        "TooDeep { at: 54 }"
+    );
+    assert_eq!(rt;
+        nested(alloc, "{a(b:", ("{c:", 49), "1", ("}", 49), ")}")?.as_str(),
+        "document"
+    );
+    assert_eq!(rt;
+        nested(alloc, "{a(b:", ("{c:", 50), "1", ("}", 50), ")}")?.as_str(),
+        "TooDeep { at: 152 }"
+    );
+    assert_eq!(rt;
+        nested(alloc, "query($a:", ("[", 50), "I", ("]", 50), "){b}")?.as_str(),
+        "document"
+    );
+    assert_eq!(rt;
+        nested(alloc, "query($a:", ("[", 51), "I", ("]", 51), "){b}")?.as_str(),
+        "TooDeep { at: 59 }"
+    );
     Ok(())
 }
 
 #[test]
 fn the_first_of_both_counts(rt: HostRuntime) -> Result<(), Fail> {
     let alloc = rt.alloc();
-    assert_eq!(rt; nested(alloc, "", ("{a", 50), "[", ("]", 0), "")?.as_str(), "Unexpected { at: 100 }");
-    assert_eq!(rt; nested(alloc, "{a()", ("{a", 60), "", ("}", 0), "")?.as_str(), "Unexpected { at: 3 }");
-    assert_eq!(rt; nested(alloc, "", ("{a", 60), "!", ("}", 0), "")?.as_str(), "TooDeep { at: 100 }");
+    assert_eq!(rt;
+        nested(alloc, "", ("{a", 50), "[", ("]", 0), "")?.as_str(),
+        "Unexpected { at: 100 }"
+    );
+    assert_eq!(rt;
+        nested(alloc, "{a()", ("{a", 60), "", ("}", 0), "")?.as_str(),
+        "Unexpected { at: 3 }"
+    );
+    assert_eq!(rt;
+        nested(alloc, "", ("{a", 60), "!", ("}", 0), "")?.as_str(),
+        "TooDeep { at: 100 }"
+    );
     Ok(())
 }
 

@@ -1,4 +1,4 @@
-use Rattle.std.proofs.Common.{◌≡◌, map, length}
+use Rattle.std.proofs.Common.{map, length}
 use Rattle.hq_gql_tree.specs.Documents.{definition_view}
 use Rattle.hq_gql_parser.specs.declared.lookahead.Lookahead.TheVariants as ahead
 use Rattle.hq_gql_parser.specs.Parsing.{some, until}

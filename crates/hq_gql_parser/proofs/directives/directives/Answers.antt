@@ -1,16 +1,13 @@
-use Rattle.std.proofs.Common.{◌≡◌, ◌<◌, ◌++◌, ◌∷◌, [], map, refl, inr, sym, subst, ap, ◌∙◌, Err, arith}
+use Rattle.std.proofs.Common.{◌≡◌, ◌++◌, ◌∷◌, [], map, sym, ◌∙◌}
 use Rattle.std.proofs.lemmas.List.{map_push}
 use Rattle.std.proofs.lemmas.Result.{err_from_is_err_and}
-use Rattle.hq_base.specs.Due.{Gives}
 use Rattle.hq_gql_tree.specs.Values.{directive_view}
 use Rattle.hq_gql_lexer.specs.declared.token.Punct.TheVariants.{At}
 use Rattle.hq_gql_parser.specs.declared.lookahead.Lookahead.TheVariants as ahead
 use Rattle.hq_gql_parser.specs.Lookahead.{is_at}
-use Rattle.hq_gql_parser.specs.ParsingValues.{directive_at}
 use Rattle.hq_gql_parser.specs.declared.lookahead.Lookahead.TheVariants as ahead
-use Rattle.hq_gql_parser.specs.declared.stop.Stop.TheVariants.{Memory}
 use Rattle.hq_gql_parser.proofs.Items.{item_takes}
-use Rattle.hq_gql_parser.proofs.Loops.{begun, goes_on, stands, stopped, parsed_more, finished}
+use Rattle.hq_gql_parser.proofs.Loops.{stopped, parsed_more, finished}
 use Rattle.hq_gql_parser.proofs.DirectiveLaws.{law_directive, directive_takes}
 use Rattle.hq_gql_parser.proofs.directives.directives.Goals as goal
 

@@ -1,4 +1,4 @@
-use Rattle.std.proofs.Common.{◌≡◌, map, length}
+use Rattle.std.proofs.Common.{map, length}
 use Rattle.hq_gql_tree.specs.Values.{directive_view}
 use Rattle.hq_gql_lexer.specs.declared.token.Punct.TheVariants.{At}
 use Rattle.hq_gql_parser.specs.declared.lookahead.Lookahead.TheVariants as ahead

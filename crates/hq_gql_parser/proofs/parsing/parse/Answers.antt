@@ -1,4 +1,4 @@
-use Rattle.std.proofs.Common.{◌≡◌, ◌≢◌, ℕ, ◌⊎◌, inl, inr, false, ◌==◌, List, [], ◌∷◌, length, map, Result, Ok, Err, sym, ap, subst, ◌∙◌}
+use Rattle.std.proofs.Common.{◌≡◌, ◌≢◌, ℕ, ◌⊎◌, inl, inr, false, ◌==◌, List, [], ◌∷◌, length, map, Result, Err, sym, ap, subst, ◌∙◌}
 use Rattle.hq_gql_lexer.specs.declared.token.Token.{Token}
 use Rattle.hq_gql_tree.specs.declared.document.Document.{Document}
 use Rattle.hq_gql_tree.specs.Documents.{DefinitionTree, definition_view}

@@ -4,7 +4,7 @@ use Rattle.std.proofs.lemmas.Result.{err_from_is_err_and}
 use Rattle.hq_base.specs.Due.{Gives}
 use Rattle.hq_gql_tree.specs.Selections.{selection_view}
 use Rattle.hq_gql_lexer.specs.declared.token.Punct.TheVariants.{CloseBrace}
-use Rattle.hq_gql_parser.specs.Parsing.{some, until_punct}
+use Rattle.hq_gql_parser.specs.Parsing.{until_punct}
 use Rattle.hq_gql_parser.specs.ParsingSelections.{field_with, inline_with}
 use Rattle.hq_gql_parser.specs.ParsingSelections.{selection_at}
 use Rattle.hq_gql_parser.specs.declared.lookahead.Lookahead.TheVariants as ahead

@@ -1,4 +1,4 @@
-use Rattle.std.proofs.Common.{◌≡◌, map, length, ◌+◌, ◌*◌}
+use Rattle.std.proofs.Common.{map, length, ◌+◌, ◌*◌}
 use Rattle.hq_gql_tree.specs.Selections.{selection_view}
 use Rattle.hq_gql_lexer.specs.declared.token.Punct.TheVariants.{CloseBrace}
 use Rattle.hq_gql_parser.specs.Parsing.{some, until_punct}

@@ -1,4 +1,4 @@
-use Rattle.std.proofs.Common.{ℕ, ◌+◌, ◌*◌}
+use Rattle.std.proofs.Common.{◌+◌, ◌*◌}
 use Rattle.hq_gql_parser.proofs.types.+type_ref.Given as goal
 
 abbrev pub decreases-list_type : goal.decreases-list_type

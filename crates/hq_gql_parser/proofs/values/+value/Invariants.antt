@@ -1,4 +1,4 @@
-use Rattle.std.proofs.Common.{◌≡◌, map, ℕ, ◌+◌, ◌*◌, length}
+use Rattle.std.proofs.Common.{map, ◌+◌, ◌*◌, length}
 use Rattle.hq_gql_tree.specs.Values.{placed_view, argument_view}
 use Rattle.hq_gql_lexer.specs.declared.token.Punct.TheVariants.{CloseBracket, CloseBrace}
 use Rattle.hq_gql_parser.specs.Parsing.{all, until_punct}

@@ -1,13 +1,11 @@
-use Rattle.std.proofs.Common.{◌≡◌, ◌<◌, ◌++◌, ◌∷◌, [], map, refl, inr, sym, subst, ap, ◌∙◌, Err, arith}
+use Rattle.std.proofs.Common.{◌≡◌, ◌++◌, ◌∷◌, [], map, refl}
 use Rattle.std.proofs.lemmas.List.{map_push}
 use Rattle.std.proofs.lemmas.Result.{err_from_is_err_and}
-use Rattle.hq_base.specs.Due.{Gives}
 use Rattle.hq_gql_tree.specs.Documents.{var_def_view}
 use Rattle.hq_gql_lexer.specs.declared.token.Punct.TheVariants.{CloseParenthesis}
-use Rattle.hq_gql_parser.specs.Parsing.{some, until_punct}
+use Rattle.hq_gql_parser.specs.Parsing.{until_punct}
 use Rattle.hq_gql_parser.specs.ParsingOperations.{variable_definition_at}
 use Rattle.hq_gql_parser.specs.declared.lookahead.Lookahead.TheVariants as ahead
-use Rattle.hq_gql_parser.specs.declared.stop.Stop.TheVariants.{Memory}
 use Rattle.hq_gql_parser.proofs.Items.{item_takes}
 use Rattle.hq_gql_parser.proofs.Loops.{begun, goes_on, stands, stopped, parsed_more, finished}
 use Rattle.hq_gql_parser.proofs.OperationLaws.{law_variable, variable_takes}
