@@ -1,1 +1,3 @@
+mod Dues
+mod Refusals
 pub mod Requests
