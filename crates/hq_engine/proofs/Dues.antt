@@ -1,5 +1,5 @@
 -- What is due for a body, by its parts.
-use Rattle.std.proofs.Common.{◌≡◌, ℕ, List, Option, Some, None, Result, Ok, Err, IfSome, refl, sym, ap, subst, ◌∙◌}
+use Rattle.std.proofs.Common.{◌≡◌, ℕ, Bool, true, false, is_some, List, Option, Some, None, Result, Ok, Err, IfSome, refl, sym, ap, subst, ◌∙◌}
 use Rattle.hq_base.specs.Json.{JsonTree}
 use Rattle.hq_gql_tree.specs.Documents.{DocumentTree}
 use Rattle.hq_terms.specs.Database.{Row}
@@ -60,3 +60,10 @@ pub data_due : (tables : List Table) (m : MetaTree) (session : Session) (body : 
     → due_of m session body ≡ Asks ask → IfSome database (λ d. reply ≡ data_text (resolved_for tables m session d ask)) → IfSome database (λ d. due_reply tables m d session body ≡ Some reply)
 data_due tables m session body ask None reply e told = tt
 data_due tables m session body ask (Some d) reply e told = ap (reply_text tables m d session) e ∙ ap (λ t. Some t) (sym told)
+
+-- a reply tells a fault exactly where there is one
+pub fault_kind : (m : MetaTree) (session : Session) (body : List ℕ) (f : RequestFault) (told : Bool) → due_of m session body ≡ Faulty f → told ≡ true → told ≡ is_some (first_fault body)
+fault_kind m session body f told e h = h ∙ ap is_some (sym (first_is m session body f e))
+
+pub data_kind : (m : MetaTree) (session : Session) (body : List ℕ) (ask : Ask) (told : Bool) → due_of m session body ≡ Asks ask → told ≡ false → told ≡ is_some (first_fault body)
+data_kind m session body ask told e h = h ∙ ap is_some (sym (no_first m session body ask e))

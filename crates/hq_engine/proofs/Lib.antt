@@ -1,3 +1,4 @@
 mod Dues
 mod Refusals
+mod Told
 pub mod Requests

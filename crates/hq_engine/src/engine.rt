@@ -1,4 +1,4 @@
-ghost use Rattle.std.specs.Prelude.{◌≡◌, ◌⊎◌, ◌≤◌, true, length, IfOk, IfErr, IfSome, OnOk, Err, Some};
+ghost use Rattle.std.specs.Prelude.{◌≡◌, ◌⊎◌, ◌≤◌, true, false, is_some, length, IfOk, IfErr, IfSome, OnOk, Err, Some};
 ghost use Rattle.hq_base.specs.Json.{json_view};
 ghost use Rattle.hq_link.specs.Asked.{Asked, NotAsked};
 ghost use Rattle.hq_link.specs.Typed.{IsList, IsTyped};
@@ -11,7 +11,7 @@ ghost use Rattle.hq_terms.specs.Grants.{grant, grants_of};
 ghost use Rattle.hq_terms.specs.Meta.{meta_view};
 ghost use Rattle.hq_engine.specs.Answer.{Asks, IsStatement, States, TellsDatabase, TellsFault, asked_text, compiled};
 ghost use Rattle.hq_engine.specs.Due.{data_text, resolved_for, due_of, due_reply};
-ghost use Rattle.hq_engine.specs.FaultTexts.{fault_text};
+ghost use Rattle.hq_engine.specs.FaultTexts.{fault_text, tells_fault};
 ghost use Rattle.hq_engine.specs.Reading.{first_fault};
 
 use crate::EngineRefusal;
@@ -69,6 +69,7 @@ impl Engine {
         ensures status { IfOk result (λ reply. reply.status ≡ 200) }
         ensures reply { IfOk result (λ reply. IfSome (D.database db.old) (λ d.
             reply.body ≡ data_text (resolved_for self.now.catalog.tables (meta_view self.now.meta) session.now d request.now))) }
+        ensures kind { IfOk result (λ reply. tells_fault reply.body ≡ false) }
         ensures asks { Asks (asked_text self.now.catalog.tables (meta_view self.now.meta)) (Due.Asks request.now)
             (record { asks = D.asks db.old; last = D.last db.old }) (record { asks = D.asks db.new; last = D.last db.new }) result }
         ensures statement { OnOk result (IsStatement self.now.catalog.tables (meta_view self.now.meta) session.now request.now) }
@@ -99,7 +100,8 @@ impl Engine {
         ensures reply { IfOk result (λ reply. IfSome (D.database db.old) (λ d.
             due_reply self.now.catalog.tables (meta_view self.now.meta) d session.now body.now ≡ Some reply.body)) }
 
-        // The first fault is told, and nothing else is answered then but Memory.
+        // A reply tells a fault exactly where the request has one, and then the first.
+        ensures kind { IfOk result (λ reply. tells_fault reply.body ≡ is_some (first_fault body.now)) }
         ensures fault { IfOk result (λ reply. IfSome (first_fault body.now) (λ f. reply.body ≡ fault_text f)) }
 
         // One text is asked for a request, and none for a fault or a body that is not built so far.

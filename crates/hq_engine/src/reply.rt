@@ -1,4 +1,4 @@
-ghost use Rattle.std.specs.Prelude.{◌≡◌, IfOk, codes};
+ghost use Rattle.std.specs.Prelude.{◌≡◌, IfOk, codes, true, false};
 ghost use Rattle.hq_base.specs.Compact.{compact};
 ghost use Rattle.hq_base.specs.Json as tree;
 ghost use Rattle.hq_base.specs.Json.{json_view};
@@ -35,6 +35,7 @@ fn reply_of(alloc: Global, json: &Json) -> Result<Reply, Memory>
 pub(crate) fn data_reply(alloc: Global, value: Json) -> Result<Reply, Memory>
     ensures status { IfOk result (λ reply. reply.status ≡ 200) }
     ensures body { IfOk result (λ reply. reply.body ≡ data_text (json_view value)) }
+    ensures kind { IfOk result (λ reply. tells_fault reply.body ≡ false) }
 {
     let json = data_object(alloc, value)?;
     reply_of(alloc, &json)
@@ -44,6 +45,7 @@ pub(crate) fn data_reply(alloc: Global, value: Json) -> Result<Reply, Memory>
 pub(crate) fn fault_reply(alloc: Global, fault: &RequestFault) -> Result<Reply, Memory>
     ensures status { IfOk result (λ reply. reply.status ≡ 200) }
     ensures body { IfOk result (λ reply. reply.body ≡ fault_text fault.now) }
+    ensures kind { IfOk result (λ reply. tells_fault reply.body ≡ true) }
 {
     let json = fault_json(alloc, fault)?;
     reply_of(alloc, &json)
