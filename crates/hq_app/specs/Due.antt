@@ -1,5 +1,6 @@
--- What is due: the bytes on standard output, which tell data, counts or a fault, or the first refusal. It is a function of the words, the files and the input.
-use Rattle.std.specs.Prelude.{ℕ, List, [], length, nat_lt, Option, Some, None, option_map, Result, Ok, Err, ok_or, cond, if◌then◌else◌}
+-- What is due: the bytes on standard output, which tell data, counts or a fault, or the first refusal. It is a function of the words,
+-- the files and the input.
+use Rattle.std.specs.Prelude.{ℕ, List, length, nat_lt, Option, Some, None, option_map, Result, Ok, Err, ok_or, cond, if◌then◌else◌}
 use Rattle.hq_base.specs.Due.{and_then}
 use Rattle.hq_outside.specs.declared.files.File.{File}
 use Rattle.hq_outside.specs.declared.streams.InputRefusal.{InputRefusal}

@@ -1,4 +1,4 @@
-ghost use Rattle.std.specs.Prelude.{◌≡◌, ◌≢◌, ◌⊎◌, ◌≤◌, ◌↔◌, IsErrOf, IfErr, IsSome, IfSome, None, Ok, true};
+ghost use Rattle.std.specs.Prelude.{◌≡◌, ◌≢◌, ◌⊎◌, ◌≤◌, IsErrOf, IfErr, IsSome, IfSome, None, Ok, true};
 ghost use Rattle.hq_outside.specs.Causes.{Rose};
 ghost use Rattle.hq_terms.specs.Meta.{meta_view};
 ghost use Rattle.hq_engine.specs.Reading.{first_fault};
@@ -114,7 +114,8 @@ fn answered<F: Files, S: Source, K: Sink>(
         Ends (K.written out.old) (K.written out.new) (due words.now folder left) result)) }
     ensures fault { result ≡ Ok Done.Faulty → IfSome (S.left input.old) (λ left. IsSome (first_fault left)) }
     ensures silent { Silent (K.written out.old) (K.written out.new) result }
-    ensures words { IsErrOf result Refusal.BadWords ↔ (command_of words.now ≡ None) }
+    ensures words { IsErrOf result Refusal.BadWords → command_of words.now ≡ None }
+    ensures no_words { command_of words.now ≡ None → IsErrOf result Refusal.BadWords ⊎ IsErrOf result Refusal.Memory }
     ensures check { is_check (command_of words.now) ≡ true → input.new ≡ input.old }
     ensures read { IsErrOf result Refusal.ReadFailed →
         Rose (F.faults files.old) (F.faults files.new) × (S.left input.new ≡ S.left input.old)
@@ -205,7 +206,10 @@ pub fn run<F: Files, D: Door, S: Source, K: Sink, E: Sink>(
 
     // Nothing is written at a status other than 0, 1 and 5.
     ensures silent { result.status ≢ 0 → result.status ≢ 1 → result.status ≢ 5 → K.written result.world.out ≡ K.written world.out }
-    ensures words { (result.status ≡ 2) ↔ (command_of words.now ≡ None) }
+
+    // It ends with 2 exactly where the words ask for no command, unless memory is wanted.
+    ensures words { result.status ≡ 2 → command_of words.now ≡ None }
+    ensures no_words { command_of words.now ≡ None → (result.status ≡ 2) ⊎ (result.status ≡ 7) }
 
     // A check reads no input.
     ensures check { is_check (command_of words.now) ≡ true → result.world.input ≡ world.input }

@@ -1,4 +1,6 @@
 mod cases;
 mod export;
 mod large;
+mod permissions;
+mod relationships;
 mod tell;

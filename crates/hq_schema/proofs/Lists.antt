@@ -1,5 +1,5 @@
 -- Lists of values that are seen by a function.
-use Rattle.std.proofs.Common.{◌≡◌, refl, ◌∙◌, ap, sym, ℕ, Bool, true, false, cond, List, [], ◌∷◌, map, length, not, ◌+◌, Option, Some, None}
+use Rattle.std.proofs.Common.{◌≡◌, refl, ◌∙◌, ap, sym, Bool, true, false, cond, List, [], ◌∷◌, map, not, ◌+◌, Option, Some, None}
 use Rattle.std.specs.Prelude.{find, position, option_map, option_copied}
 use Rattle.std.specs.Borrow.{Bor}
 use Rattle.std.specs.List.{position_or_len}

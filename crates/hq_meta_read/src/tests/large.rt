@@ -54,11 +54,21 @@ fn metadata(alloc: Global, tables: u32, columns: u32) -> Result<String, AllocErr
     Ok(file)
 }
 
+fn told_of(alloc: Global, tables: u32, columns: u32) -> Result<String, Fail> {
+    let file = catalog(alloc, tables, columns)?;
+    let catalog = read_catalog(alloc, file.as_bytes())?;
+    let file = metadata(alloc, tables, columns)?;
+    Ok(told(alloc, &catalog, file.as_str())?)
+}
+
 #[test]
-fn the_largest_catalog_is_tracked(rt: HostRuntime) -> Result<(), Fail> {
-    let file = catalog(rt.alloc(), 500, 200)?;
-    let catalog = read_catalog(rt.alloc(), file.as_bytes())?;
-    let file = metadata(rt.alloc(), 500, 200)?;
-    assert_eq!(rt; told(rt.alloc(), &catalog, file.as_str())?.as_str(), "read");
+fn the_most_tables_are_tracked(rt: HostRuntime) -> Result<(), Fail> {
+    assert_eq!(rt; told_of(rt.alloc(), 500, 3)?.as_str(), "read");
+    Ok(())
+}
+
+#[test]
+fn tables_of_the_most_columns_are_tracked(rt: HostRuntime) -> Result<(), Fail> {
+    assert_eq!(rt; told_of(rt.alloc(), 3, 200)?.as_str(), "read");
     Ok(())
 }

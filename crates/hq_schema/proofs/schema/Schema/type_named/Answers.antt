@@ -1,4 +1,4 @@
-use Rattle.std.proofs.Common.{◌∙◌, ap, Some, rules}
+use Rattle.std.proofs.Common.{◌∙◌, ap, Some}
 use Rattle.std.specs.Prelude.{bytes_eq}
 use Rattle.hq_schema.specs.Schema.{type_view}
 use Rattle.hq_schema.proofs.Lists.{position-map}
