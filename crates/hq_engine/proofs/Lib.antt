@@ -1,4 +1,5 @@
 mod Dues
 mod Refusals
+mod Selections
 mod Told
 pub mod Requests

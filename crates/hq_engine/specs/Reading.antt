@@ -68,7 +68,7 @@ document_due text = refused_as of_lex (tokens_of text) >>= λ tokens. refused_as
 
 -- what a body reads as: its JSON, and the document of its query text
 unfoldable pub reading_due : List ℕ → Result (JsonTree × DocumentTree) RequestRefusal
-reading_due body = json_due body >>= λ json. query_due json >>= λ text. document_due text >>= λ document. Ok (json, document)
+reading_due body = json_due body >>= λ value. query_due value >>= λ text. document_due text >>= λ document. Ok (value, document)
 
 abbrev pub fault_of : {X : Type 0} → Result X RequestRefusal → Option RequestFault
 fault_of (Err (Fault f)) = Some f

@@ -1,7 +1,7 @@
 -- The form of a request: an object whose member `query` is a text; its member `variables` is an object, null or absent,
 -- and its member `operationName` a text, null or absent (Hasura v2 documentation, GraphQL API reference).
-use Rattle.std.specs.Prelude.{ℕ, List, [], ◌∷◌, Bool, true, false, ◌&&◌, cond, codes, Option, Some, None, option_and_then, ok_or, Result, Err}
-use Rattle.hq_base.specs.Json.{JsonTree, null, bool, int, str, arr, obj}
+use Rattle.std.specs.Prelude.{ℕ, List, ◌∷◌, Bool, true, false, ◌&&◌, cond, codes, Option, Some, None, option_and_then}
+use Rattle.hq_base.specs.Json.{JsonTree, null, str, obj}
 use Rattle.hq_base.specs.Look.{str_in, member_in}
 use Rattle.hq_gql_tree.specs.declared.rule.RuleId.TheVariants.{RequestForm}
 use Rattle.hq_engine.specs.Faults.{fault_at}

@@ -28,6 +28,7 @@ fn is_query(kind: OpKind) -> bool
 }
 
 // An anonymous query without variables and directives.
+#[tactic(auto, using(crate::proofs::Selections::mapped_length))]
 fn is_plain_query(operation: &Operation) -> bool
     ensures { result ≡ is_plain_query (operation_view operation.now) }
 {
@@ -38,6 +39,7 @@ fn is_plain_query(operation: &Operation) -> bool
 }
 
 // A field without alias, arguments and directives.
+#[tactic(auto, using(crate::proofs::Selections::mapped_length))]
 fn is_plain_field(field: &Field) -> bool
     ensures { result ≡ is_plain_field (field_view field.now).0 }
 {
@@ -45,6 +47,7 @@ fn is_plain_field(field: &Field) -> bool
 }
 
 // The name of a plain field without a selection set.
+#[tactic(auto, using(crate::proofs::Selections::empty_listed, crate::proofs::Selections::mapped_length))]
 fn column_of(selection: &Selection) -> Option<&Txt>
     ensures { option_copied result ≡ column_of (selection_view selection.now) }
 {
@@ -98,6 +101,7 @@ fn is_list_length(length: usize) -> bool
 }
 
 // The list that a root field asks for: 1 to 50 different columns.
+#[tactic(auto, using(crate::proofs::Selections::listed_back, crate::proofs::Selections::mapped_length))]
 fn list_under(alloc: Global, field: &Field) -> Result<Option<ListBody>, Memory>
     ensures { IfOk result (λ list. list ≡ list_under (field_view field.now).0 (selections_in (field_view field.now).1)) }
 {
@@ -123,6 +127,7 @@ fn list_of_roots(alloc: Global, roots: &[Selection]) -> Result<Option<ListBody>,
     }
 }
 
+#[tactic(auto, using(crate::proofs::Selections::listed_back))]
 fn list_of_operation(alloc: Global, operation: &Operation) -> Result<Option<ListBody>, Memory>
     ensures { IfOk result (λ list. list ≡ list_of_operation (operation_view operation.now)) }
 {

@@ -118,7 +118,7 @@ fn named_message(alloc: Global, fault: &Fault) -> Result<Txt, Memory>
             name_of(&fault.name),
             want_text(fault.want),
         ),
-        rule => joined(alloc, "validation rule ", rule.text(), " is violated"),
+        _ => joined(alloc, "validation rule ", fault.rule.text(), " is violated"),
     }
 }
 

@@ -87,6 +87,7 @@ impl From<ParseRefusal> for RequestRefusal {
 }
 
 // A body as JSON.
+#[tactic(auto, using(crate::proofs::Refusals::refused))]
 fn json_due(alloc: Global, body: &[u8]) -> Result<Json, RequestRefusal>
     ensures { Gives json_view RequestRefusal.Memory (json_due body.now) result }
 {
@@ -104,6 +105,7 @@ fn query_due(body: &Json) -> Result<&Txt, RequestRefusal>
 }
 
 // The document of a query text.
+#[tactic(auto, using(crate::proofs::Refusals::refused))]
 fn document_due(alloc: Global, text: &[u8]) -> Result<Document, RequestRefusal>
     ensures { Gives document_view RequestRefusal.Memory (document_due text.now) result }
 {

@@ -32,6 +32,7 @@ fn reply_of(alloc: Global, json: &Json) -> Result<Reply, Memory>
 }
 
 /// The reply whose data is this value.
+#[tactic(auto, using(crate::proofs::Told::tells_not))]
 pub(crate) fn data_reply(alloc: Global, value: Json) -> Result<Reply, Memory>
     ensures status { IfOk result (λ reply. reply.status ≡ 200) }
     ensures body { IfOk result (λ reply. reply.body ≡ data_text (json_view value)) }
@@ -42,6 +43,7 @@ pub(crate) fn data_reply(alloc: Global, value: Json) -> Result<Reply, Memory>
 }
 
 /// The reply that tells a fault.
+#[tactic(auto, using(crate::proofs::Told::tells))]
 pub(crate) fn fault_reply(alloc: Global, fault: &RequestFault) -> Result<Reply, Memory>
     ensures status { IfOk result (λ reply. reply.status ≡ 200) }
     ensures body { IfOk result (λ reply. reply.body ≡ fault_text fault.now) }
