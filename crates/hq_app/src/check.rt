@@ -1,4 +1,4 @@
-ghost use Rattle.std.specs.Prelude.{◌≡◌, ◌≤◌, ◌++◌, ◌∷◌, [], ℕ, List as Items, Ok, map, length, IfOk, OnOk, IsErrOf, IfErr};
+ghost use Rattle.std.specs.Prelude.{◌≡◌, ◌≢◌, ◌≤◌, ◌++◌, ◌∷◌, [], ℕ, List as Items, Ok, map, length, IfOk, OnOk, IsErrOf, IfErr};
 ghost use Rattle.std.specs.List.{list_any};
 ghost use Rattle.std.specs.Prelude.{bytes_eq, flat_map};
 ghost use Rattle.hq_outside.specs.Causes.{Rose};
@@ -99,6 +99,7 @@ fn write_counts<K: Sink>(out: &mut K, tables: u64, roles: u64, rows: u64) -> Res
 /// Writes the line of a check of what a directory holds.
 pub fn write_check<K: Sink>(alloc: Global, loaded: &Loaded, out: &mut K) -> Result<Done, Refusal>
     ensures told { Ends (K.written out.old) (K.written out.new) (Ok (Done.Answered, check_line (loaded_view loaded.now))) result }
+    ensures fault { result ≢ Ok Done.Faulty }
     ensures silent { Silent (K.written out.old) (K.written out.new) result }
     ensures read { IsErrOf result Refusal.ReadFailed → ⊥ }
     ensures write { IsErrOf result Refusal.WriteFailed → Rose (K.faults out.old) (K.faults out.new) }
