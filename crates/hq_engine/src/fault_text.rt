@@ -1,7 +1,8 @@
 //! The texts of faults.
-ghost use Rattle.std.specs.Prelude.{◌≡◌, ◌++◌, IfOk, Some, OnOk, map, unwrap_or, option_map, codes, [], ◌∷◌};
+ghost use Rattle.std.specs.Prelude.{◌≡◌, ◌++◌, false, IfOk, IfSome, OnOk, map, unwrap_or, option_map, codes, [], ◌∷◌};
 ghost use Rattle.hq_base.specs.Json as tree;
 ghost use Rattle.hq_base.specs.Json.{json_view, member_view};
+ghost use Rattle.hq_base.specs.Text.{has_zero};
 ghost use Rattle.hq_gql_tree.specs.Rules.{rule_text};
 ghost use Rattle.hq_engine.specs.FaultTexts.{code_of, fixed_message, want_text, named_message, rule_message, body_message, message_of, place_json, extensions_json, error_json, fault_json};
 
@@ -13,7 +14,8 @@ use std::alloc::Global;
 
 #[tactic(auto, unfolding(crate::specs::FaultTexts::code_of))]
 fn code_of(rule: RuleId) -> &'static str
-    ensures { result.now ≡ code_of rule }
+    ensures text { result.now ≡ code_of rule }
+    ensures clean { has_zero result.now ≡ false }
 {
     match rule {
         RuleId::InvalidBody => "invalid-json",
@@ -28,7 +30,8 @@ fn code_of(rule: RuleId) -> &'static str
 // The message of a rule, where it is the same for each of its faults.
 #[tactic(auto, unfolding(crate::specs::FaultTexts::fixed_message))]
 fn fixed_message(rule: RuleId) -> Option<&'static str>
-    ensures { option_map (λ t. t.now) result ≡ fixed_message rule }
+    ensures text { option_map (λ t. t.now) result ≡ fixed_message rule }
+    ensures clean { IfSome result (λ t. has_zero t.now ≡ false) }
 {
     match rule {
         RuleId::InvalidBody => Some("body is not JSON"),
@@ -51,7 +54,8 @@ fn fixed_message(rule: RuleId) -> Option<&'static str>
 
 #[tactic(auto, unfolding(crate::specs::FaultTexts::want_text))]
 fn want_text(want: Option<Want>) -> &'static str
-    ensures { result.now ≡ want_text want }
+    ensures text { result.now ≡ want_text want }
+    ensures clean { has_zero result.now ≡ false }
 {
     match want {
         None => "",
@@ -64,7 +68,8 @@ fn want_text(want: Option<Want>) -> &'static str
 
 #[tactic(auto, unfolding(crate::specs::FaultTexts::body_message))]
 fn body_message(cause: BodyFault) -> &'static str
-    ensures { result.now ≡ body_message cause }
+    ensures text { result.now ≡ body_message cause }
+    ensures clean { has_zero result.now ≡ false }
 {
     match cause {
         BodyFault::NotJson => "body is not JSON",
@@ -73,17 +78,34 @@ fn body_message(cause: BodyFault) -> &'static str
     }
 }
 
+// The name of a session variable, where one is named.
 fn name_of(name: &Option<Txt>) -> &str
-    ensures { result.now ≡ unwrap_or name.now [] }
+    ensures text { result.now ≡ unwrap_or name.now [] }
+    ensures clean { has_zero result.now ≡ false }
 {
     match name {
-        Some(name) => name.as_str(),
+        Some(name) => {
+            name.is_text();
+            name.as_str()
+        }
         None => "",
     }
 }
 
+// The number of a rule.
+#[tactic(auto, using(crate::proofs::RuleTexts::has_no_zero))]
+fn number_of(rule: RuleId) -> &'static str
+    ensures text { result.now ≡ rule_text rule }
+    ensures clean { has_zero result.now ≡ false }
+{
+    rule.text()
+}
+
 // Three pieces, one behind the other.
 fn joined(alloc: Global, front: &str, middle: &str, back: &str) -> Result<Txt, Memory>
+    requires front { has_zero front.now ≡ false }
+    requires middle { has_zero middle.now ≡ false }
+    requires back { has_zero back.now ≡ false }
     ensures { IfOk result (λ text. text ≡ front.now ++ (middle.now ++ back.now)) }
 {
     let mut text = Txt::new(alloc);
@@ -94,6 +116,8 @@ fn joined(alloc: Global, front: &str, middle: &str, back: &str) -> Result<Txt, M
 }
 
 fn unreadable(alloc: Global, name: &str, want: &str) -> Result<Txt, Memory>
+    requires name { has_zero name.now ≡ false }
+    requires want { has_zero want.now ≡ false }
     ensures { IfOk result (λ text. text ≡ codes "session variable " ++ (name.now ++ (codes " is not of type " ++ want.now))) }
 {
     let mut text = joined(alloc, "session variable ", name, " is not of type ")?;
@@ -107,22 +131,23 @@ fn named_message(alloc: Global, fault: &Fault) -> Result<Txt, Memory>
     ensures { IfOk result (λ text. text ≡ named_message fault.now fault.now.rule) }
 {
     match fault.rule {
-        RuleId::MissingVariable => joined(
-            alloc,
-            "session variable ",
-            name_of(&fault.name),
-            " is missing",
-        ),
-        RuleId::UnreadableVariable => unreadable(
-            alloc,
-            name_of(&fault.name),
-            want_text(fault.want),
-        ),
-        _ => joined(alloc, "validation rule ", fault.rule.text(), " is violated"),
+        RuleId::MissingVariable => {
+            let name = name_of(&fault.name);
+            joined(alloc, "session variable ", name, " is missing")
+        }
+        RuleId::UnreadableVariable => {
+            let name = name_of(&fault.name);
+            unreadable(alloc, name, want_text(fault.want))
+        }
+        _ => {
+            let number = number_of(fault.rule);
+            joined(alloc, "validation rule ", number, " is violated")
+        }
     }
 }
 
 fn text_of(alloc: Global, piece: &str) -> Result<Txt, Memory>
+    requires { has_zero piece.now ≡ false }
     ensures { IfOk result (λ text. text ≡ piece.now) }
 {
     let mut text = Txt::new(alloc);
@@ -159,6 +184,7 @@ fn place_json(at: Option<u64>) -> Json
 
 // Adds a member behind the others.
 fn push_member(alloc: Global, members: &mut Members, name: &str, value: Json) -> Result<(), Memory>
+    requires { has_zero name.now ≡ false }
     ensures { OnOk result (map member_view members.new.items ≡ map member_view members.old.items ++ (name.now, json_view value) ∷ []) }
 {
     let name = text_of(alloc, name)?;
@@ -168,6 +194,8 @@ fn push_member(alloc: Global, members: &mut Members, name: &str, value: Json) ->
 
 // Adds a member that is a text.
 fn push_text(alloc: Global, members: &mut Members, name: &str, text: &str) -> Result<(), Memory>
+    requires name { has_zero name.now ≡ false }
+    requires text { has_zero text.now ≡ false }
     ensures { OnOk result (map member_view members.new.items ≡ map member_view members.old.items ++ (name.now, tree.str text.now) ∷ []) }
 {
     let value = Json::Str(text_of(alloc, text)?);
@@ -180,7 +208,7 @@ fn extensions_json(alloc: Global, rule: RuleId, at: Option<u64>) -> Result<Json,
     let mut members = Vec::new(alloc);
     push_text(alloc, &mut members, "path", "$")?;
     push_text(alloc, &mut members, "code", code_of(rule))?;
-    push_text(alloc, &mut members, "rule", rule.text())?;
+    push_text(alloc, &mut members, "rule", number_of(rule))?;
     push_member(alloc, &mut members, "at", place_json(at))?;
     Ok(Json::Obj(members))
 }
