@@ -1,11 +1,11 @@
 //! Pinning the tables of a statement.
 ghost use Rattle.std.specs.Prelude.{◌≡◌, ◌≤◌, ◌<◌, ℕ, true, length, IfErr, OnOk};
-ghost use Rattle.hq_sql_eval.specs.Named.{takes_from};
+ghost use Rattle.hq_sql_scans.specs.Scans.{scans};
 ghost use Rattle.hq_sql_tree.specs.View.{select_view};
 ghost use Rattle.hq_db.specs.Failures.{IsFailure, RoseFor};
 
 use hq_link::DbRefusal;
-use hq_sql_eval::tables_of;
+use hq_sql_scans::scanned;
 use hq_sql_tree::Select;
 use hq_tables::{StoreRefusal, Tables};
 use hq_terms::TableId;
@@ -35,16 +35,17 @@ pub fn pin_tables<T: Tables>(
     tables: &mut T,
     select: &Select,
 ) -> Result<(), DbRefusal>
-    ensures pinned { OnOk result ((t : ℕ) → takes_from (select_view select.now) (T.tables tables.old) t ≡ true → T.is_pinned tables.new t ≡ true) }
+    ensures pinned { OnOk result ((t : ℕ) → scans (select_view select.now) (T.tables tables.old) t ≡ true → T.is_pinned tables.new t ≡ true) }
+    ensures within { OnOk result ((t : ℕ) → scans (select_view select.now) (T.tables tables.old) t ≡ true → t < length (T.tables tables.old)) }
     ensures others { IfErr result IsFailure }
     ensures failed { IfErr result (RoseFor (T.faults tables.old) (T.faults tables.new)) }
     ensures tables { T.tables tables.new ≡ T.tables tables.old }
     ensures database { T.database tables.new ≡ T.database tables.old }
     ensures later { T.faults tables.old ≤ T.faults tables.new }
 {
-    let named = tables_of(alloc, select, tables.catalog().tables.as_slice())?;
-    for (at, is_named) in named.iter().enumerate() {
-        if *is_named {
+    let marks = scanned(alloc, select, tables.catalog().tables.as_slice())?;
+    for (at, is_scanned) in marks.iter().enumerate() {
+        if *is_scanned {
             pin(alloc, tables, TableId::new(at))?;
         }
     }
