@@ -82,9 +82,6 @@ write_failed (Err refusal.NotBuilt) h = absurd (omega (arith, h))
 pub status_two : (a : Answer) → IsErrOf a refusal.BadWords → status_of a ≡ 2
 status_two a h = rw h refl
 
-pub status_seven : (a : Answer) → IsErrOf a refusal.Memory → status_of a ≡ 7
-status_seven a h = rw h refl
-
 -- nothing was written at another status than 0 and 5
 pub silent_status : {A : Type 0} (old new : A) (a : Answer) → Silent old new a → (status_of a ≡ 0 → ⊥) → (status_of a ≡ 5 → ⊥) → new ≡ old
 silent_status old new (Ok x) h done failed = absurd (done refl)
@@ -117,19 +114,6 @@ refused_so (Some a) e h = absurd cc
 pub no_command : (given : List (List ℕ)) → (words.BadWords ≡ words.Memory) ⊎ (ok_or (command_of given) words.BadWords ≡ Err words.BadWords) → command_of given ≡ None
 no_command given (inl same) = absurd cc
 no_command given (inr h) = refused_so (command_of given) words.BadWords h
-
-not_bad : (a : Answer) → a ≡ Err refusal.Memory → IsErrOf a refusal.BadWords → ⊥
-not_bad a is bad = let same : Err refusal.Memory ≡ Err refusal.BadWords = sym is ∙ bad in cc
-
--- a refusal of the words under its name
-pub words_refused : (given : List (List ℕ)) (e : WordsRefusal) (a : Answer) → a ≡ Err (of_words e) → (e ≡ words.Memory) ⊎ (ok_or (command_of given) words.BadWords ≡ Err e)
-    → IsErrOf a refusal.BadWords → command_of given ≡ None
-words_refused given words.BadWords a is h bad = no_command given h
-words_refused given words.Memory a is h bad = absurd (not_bad a is bad)
-
-pub no_words_refused : (e : WordsRefusal) (a : Answer) → a ≡ Err (of_words e) → IsErrOf a refusal.BadWords ⊎ IsErrOf a refusal.Memory
-no_words_refused words.BadWords a is = inl is
-no_words_refused words.Memory a is = inr is
 
 pub the_command : (given : List (List ℕ)) (c : Command) → ok_or (command_of given) words.BadWords ≡ Ok c → command_of given ≡ Some c
 the_command given c h =

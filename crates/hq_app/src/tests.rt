@@ -170,13 +170,15 @@ fn headers_give_the_session(rt: HostRuntime) -> Result<(), Fail> {
 #[test]
 fn words_of_another_form_are_refused(rt: HostRuntime) -> Result<(), Fail> {
     let many = ["a: 1"; 67];
-    let cases: [&[&str]; 9] = [
+    let cases: [&[&str]; 11] = [
         &[],
         &["query"],
         &["fetch", "db"],
         &["db", "query", "X-Hasura-Role: user"],
         &["query", "X-Hasura-Role: user", "db"],
         &["query", "db", "X-Hasura-Role : user"],
+        &["query", "db", "a: 1", "b: 2", "user"],
+        &["query", "db", "a: 1", "b: 2", "c d: 3"],
         &["check"],
         &["check", "db", "X-Hasura-Role: user"],
         &many,

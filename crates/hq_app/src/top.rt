@@ -1,4 +1,4 @@
-ghost use Rattle.std.specs.Prelude.{◌≡◌, ◌≢◌, ◌⊎◌, ◌≤◌, IsErrOf, IfErr, IfSome, None, true};
+ghost use Rattle.std.specs.Prelude.{◌≡◌, ◌≢◌, ◌⊎◌, ◌≤◌, ◌↔◌, IsErrOf, IfErr, IfSome, None, true};
 ghost use Rattle.hq_outside.specs.Causes.{Rose};
 ghost use Rattle.hq_terms.specs.Meta.{meta_view};
 ghost use Rattle.hq_app.specs.Words.{command_of, is_check};
@@ -109,8 +109,7 @@ fn answered<F: Files, S: Source, K: Sink>(
     ensures told { IfSome (F.folder files.old) (λ folder. IfSome (S.left input.old) (λ left.
         Ends (K.written out.old) (K.written out.new) (due words.now folder left) result)) }
     ensures silent { Silent (K.written out.old) (K.written out.new) result }
-    ensures words { IsErrOf result Refusal.BadWords → command_of words.now ≡ None }
-    ensures no_words { command_of words.now ≡ None → IsErrOf result Refusal.BadWords ⊎ IsErrOf result Refusal.Memory }
+    ensures words { IsErrOf result Refusal.BadWords ↔ (command_of words.now ≡ None) }
     ensures check { is_check (command_of words.now) ≡ true → input.new ≡ input.old }
     ensures read { IsErrOf result Refusal.ReadFailed →
         Rose (F.faults files.old) (F.faults files.new) × (S.left input.new ≡ S.left input.old)
@@ -195,9 +194,8 @@ pub fn run<F: Files, D: Door, S: Source, K: Sink, E: Sink>(
     // Nothing is written at a status other than 0 and 5.
     ensures silent { result.status ≢ 0 → result.status ≢ 5 → K.written result.world.out ≡ K.written world.out }
 
-    // It ends with 2 exactly where the words ask for no command, unless memory is wanted.
-    ensures words { result.status ≡ 2 → command_of words.now ≡ None }
-    ensures no_words { command_of words.now ≡ None → (result.status ≡ 2) ⊎ (result.status ≡ 7) }
+    // It ends with 2 exactly where the words ask for no command.
+    ensures words { (result.status ≡ 2) ↔ (command_of words.now ≡ None) }
 
     // A check reads no input.
     ensures check { is_check (command_of words.now) ≡ true → result.world.input ≡ world.input }
