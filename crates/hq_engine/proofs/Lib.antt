@@ -1,1 +1,7 @@
+mod Dues
+mod Refusals
+mod Replies
+mod RuleTexts
+mod Selections
+mod Told
 pub mod Requests
