@@ -3,3 +3,4 @@ mod EachDue
 mod WrittenParts
 mod Fronts
 mod Endings
+mod Commands

@@ -4,12 +4,14 @@ use Rattle.std.specs.Io.KnownBytes.{Appends}
 use Rattle.hq_outside.specs.Causes.{Rose}
 use Rattle.hq_outside.specs.Streams.{AppendsPrefix}
 use Rattle.hq_app.specs.Line.{line_of}
+use Rattle.hq_app.specs.declared.done.Done.{Done}
+use Rattle.hq_app.specs.declared.done.Done.TheVariants.{Answered, Faulty}
 use Rattle.hq_app.specs.declared.refusal.Refusal.{Refusal}
 use Rattle.hq_app.specs.declared.refusal.Refusal.TheVariants as refusal
 
--- done, or refused
+-- what was written whole, or why not
 abbrev pub Answer : Type 0
-Answer = Result (Unit {0}) Refusal
+Answer = Result Done Refusal
 
 abbrev pub refusal_status : Refusal → ℕ
 refusal_status refusal.BadWords = 2
@@ -21,8 +23,12 @@ refusal_status refusal.Memory = 7
 refusal_status refusal.InputTooLong = 8
 refusal_status refusal.NotBuilt = 9
 
+abbrev pub done_status : Done → ℕ
+done_status Answered = 0
+done_status Faulty = 1
+
 abbrev pub status_of : Answer → ℕ
-status_of (Ok _) = 0
+status_of (Ok done) = done_status done
 status_of (Err r) = refusal_status r
 
 -- the line on standard error; nothing where all is done
@@ -32,9 +38,9 @@ told_line (Err r) = line_of r
 
 -- What an answer says of what was due, and of what was written. Want of memory, a failed read and a failed database say
 -- nothing of it; all other refusals are the due ones.
-abbrev pub Ends : (old new : Option (List ℕ)) → (due : Result (List ℕ) Refusal) → Answer → Type 0
-Ends old new due (Ok _) = (bytes : List ℕ) × (due ≡ Ok bytes) × Appends old new bytes
-Ends old new due (Err refusal.WriteFailed) = (bytes : List ℕ) × (due ≡ Ok bytes) × AppendsPrefix old new bytes
+abbrev pub Ends : (old new : Option (List ℕ)) → (due : Result (Done × List ℕ) Refusal) → Answer → Type 0
+Ends old new due (Ok done) = (bytes : List ℕ) × (due ≡ Ok (done, bytes)) × Appends old new bytes
+Ends old new due (Err refusal.WriteFailed) = (done : Done) × (bytes : List ℕ) × (due ≡ Ok (done, bytes)) × AppendsPrefix old new bytes
 Ends old new due (Err refusal.ReadFailed) = ⊤
 Ends old new due (Err refusal.Memory) = ⊤
 Ends old new due (Err (refusal.Database before after)) = ⊤

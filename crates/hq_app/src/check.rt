@@ -1,4 +1,4 @@
-ghost use Rattle.std.specs.Prelude.{◌≡◌, ◌≤◌, ◌++◌, ◌∷◌, [], ℕ, List as Items, Ok, map, length, IfOk, OnOk, IsErrOf, IfErr};
+ghost use Rattle.std.specs.Prelude.{◌≡◌, ◌≢◌, ◌≤◌, ◌++◌, ◌∷◌, [], ℕ, List as Items, Ok, map, length, IfOk, OnOk, IsErrOf, IfErr};
 ghost use Rattle.std.specs.List.{list_any};
 ghost use Rattle.std.specs.Prelude.{bytes_eq, flat_map};
 ghost use Rattle.hq_outside.specs.Causes.{Rose};
@@ -10,7 +10,7 @@ ghost use Rattle.hq_app.specs.Wrote.{Wrote};
 
 use crate::parts::{Part, write_parts};
 use crate::phrase::Phrase;
-use crate::{Loaded, Refusal};
+use crate::{Done, Loaded, Refusal};
 use hq_base::{List, Memory, Txt};
 use hq_outside::{Sink, WriteFailed};
 use hq_tables::Rows;
@@ -97,8 +97,9 @@ fn write_counts<K: Sink>(out: &mut K, tables: u64, roles: u64, rows: u64) -> Res
 }
 
 /// Writes the line of a check of what a directory holds.
-pub fn write_check<K: Sink>(alloc: Global, loaded: &Loaded, out: &mut K) -> Result<(), Refusal>
-    ensures told { Ends (K.written out.old) (K.written out.new) (Ok (check_line (loaded_view loaded.now))) result }
+pub fn write_check<K: Sink>(alloc: Global, loaded: &Loaded, out: &mut K) -> Result<Done, Refusal>
+    ensures told { Ends (K.written out.old) (K.written out.new) (Ok (Done.Answered, check_line (loaded_view loaded.now))) result }
+    ensures fault { result ≢ Ok Done.Faulty }
     ensures silent { Silent (K.written out.old) (K.written out.new) result }
     ensures read { IsErrOf result Refusal.ReadFailed → ⊥ }
     ensures write { IsErrOf result Refusal.WriteFailed → Rose (K.faults out.old) (K.faults out.new) }
@@ -110,5 +111,5 @@ pub fn write_check<K: Sink>(alloc: Global, loaded: &Loaded, out: &mut K) -> Resu
     let roles = count_roles(alloc, &loaded.meta)?;
     let rows = count_rows(loaded.rows.as_slice());
     write_counts(out, tables, roles, rows)?;
-    Ok(())
+    Ok(Done::Answered)
 }

@@ -3,6 +3,7 @@
 
 mod check;
 mod directory;
+mod done;
 mod line;
 mod loaded;
 mod loading;
@@ -15,6 +16,7 @@ mod top;
 mod words;
 mod world;
 
+pub use done::Done;
 pub use loaded::Loaded;
 pub use loading::load;
 pub use refusal::{FileFault, LoadingRefusal, Refusal};

@@ -57,6 +57,9 @@ const LIST: &[u8] = br#"{"query":"{ author { id name } }"}"#;
 const REPLY: &[u8] =
     br#"{"data":{"author":[{"id":1,"name":"Ann"},{"id":2,"name":"Bob"},{"id":3,"name":"O'Hara"}]}}"#;
 
+const NOT_JSON: &[u8] =
+    br#"{"errors":[{"message":"body is not JSON","extensions":{"path":"$","code":"invalid-json","rule":"F1","at":null}}]}"#;
+
 fn text(alloc: Global, text: &str) -> Result<Txt, Fail> {
     Ok(Txt::of(alloc, text.as_bytes())?)
 }
@@ -170,13 +173,15 @@ fn headers_give_the_session(rt: HostRuntime) -> Result<(), Fail> {
 #[test]
 fn words_of_another_form_are_refused(rt: HostRuntime) -> Result<(), Fail> {
     let many = ["a: 1"; 67];
-    let cases: [&[&str]; 9] = [
+    let cases: [&[&str]; 11] = [
         &[],
         &["query"],
         &["fetch", "db"],
         &["db", "query", "X-Hasura-Role: user"],
         &["query", "X-Hasura-Role: user", "db"],
         &["query", "db", "X-Hasura-Role : user"],
+        &["query", "db", "a: 1", "b: 2", "user"],
+        &["query", "db", "a: 1", "b: 2", "c d: 3"],
         &["check"],
         &["check", "db", "X-Hasura-Role: user"],
         &many,
@@ -286,24 +291,6 @@ fn a_refused_file_is_told(rt: HostRuntime) -> Result<(), Fail> {
 }
 
 #[test]
-fn what_is_not_built_is_told(rt: HostRuntime) -> Result<(), Fail> {
-    let cases: [&[u8]; 5] = [
-        b"{ author { id } }",
-        br#"{"query":"{ author { email } }"}"#,
-        br#"{"query":"{ author { id age } }"}"#,
-        br#"{"query":"{ article { id } }"}"#,
-        b"",
-    ];
-    for input in cases {
-        let (status, out, err) = outcome(rt.alloc(), WORDS, DIRECTORY, input, [&[], &[], &[]])?;
-        assert_eq!(rt; status, 9);
-        assert_eq!(rt; out.bytes(), b"".as_slice());
-        assert_eq!(rt; err.bytes(), b"hq: not built\n".as_slice());
-    }
-    Ok(())
-}
-
-#[test]
 fn each_object_fails_in_turn(rt: HostRuntime) -> Result<(), Fail> {
     let cases: [([&[u64]; 3], u8, &str); 7] = [
         ([&[1], &[], &[]], 4, "hq: read failed\n"),
@@ -331,14 +318,15 @@ fn spaces(alloc: Global, count: usize) -> Result<Vec<u8>, Fail> {
 #[test]
 fn an_input_beyond_the_limit_is_too_long(rt: HostRuntime) -> Result<(), Fail> {
     let alloc = rt.alloc();
-    for (count, want, line) in [
-        (INPUT_LIMIT, 9, "hq: not built\n"),
-        (INPUT_LIMIT + 1, 8, "hq: input too long\n"),
-    ] {
+    let cases: [(usize, u8, &[u8], &str); 2] = [
+        (INPUT_LIMIT, 1, NOT_JSON, ""),
+        (INPUT_LIMIT + 1, 8, b"", "hq: input too long\n"),
+    ];
+    for (count, want, reply, line) in cases {
         let input = spaces(alloc, count)?;
         let (status, out, err) = outcome(alloc, WORDS, DIRECTORY, &input, [&[], &[], &[]])?;
         assert_eq!(rt; status, want);
-        assert_eq!(rt; out.bytes(), b"".as_slice());
+        assert_eq!(rt; out.bytes(), reply);
         assert_eq!(rt; err.bytes(), line.as_bytes());
     }
     Ok(())
@@ -379,7 +367,11 @@ fn one_request_is_answered_over_an_engine(rt: HostRuntime) -> Result<(), Fail> {
     assert_eq!(rt; status, 0);
     assert_eq!(rt; out.bytes(), REPLY);
     assert_eq!(rt; err.bytes(), b"".as_slice());
-    let (status, out, err) = answered_one(rt.alloc(), b"{}")?;
+    let (status, out, err) = answered_one(rt.alloc(), b"not JSON")?;
+    assert_eq!(rt; status, 1);
+    assert_eq!(rt; out.bytes(), NOT_JSON);
+    assert_eq!(rt; err.bytes(), b"".as_slice());
+    let (status, out, err) = answered_one(rt.alloc(), br#"{"query":"{article{id}}"}"#)?;
     assert_eq!(rt; status, 9);
     assert_eq!(rt; out.bytes(), b"".as_slice());
     assert_eq!(rt; err.bytes(), b"hq: not built\n".as_slice());
@@ -416,3 +408,5 @@ fn sure_objects_never_fail(rt: HostRuntime) -> Result<(), Fail> {
     assert_eq!(rt; run_sure(alloc, words.as_slice(), world), 0);
     Ok(())
 }
+
+mod requests;

@@ -1,6 +1,7 @@
-ghost use Rattle.std.specs.Prelude.{◌≡◌, ◌≢◌, ◌⊎◌, ◌≤◌, IsErrOf, IfErr, IfSome, None, true};
+ghost use Rattle.std.specs.Prelude.{◌≡◌, ◌≢◌, ◌⊎◌, ◌≤◌, ◌↔◌, IsErrOf, IfErr, IsSome, IfSome, None, Ok, true, false};
 ghost use Rattle.hq_outside.specs.Causes.{Rose};
 ghost use Rattle.hq_terms.specs.Meta.{meta_view};
+ghost use Rattle.hq_engine.specs.Reading.{first_fault};
 ghost use Rattle.hq_app.specs.Words.{command_of, is_check};
 ghost use Rattle.hq_app.specs.Loading.{contents, loaded_view};
 ghost use Rattle.hq_app.specs.Due.{check_due, due, query_due, reply_due};
@@ -9,7 +10,7 @@ ghost use Rattle.hq_app.specs.Ending.{Answer, Ends, Silent, Tells, NotDatabase, 
 use crate::check::write_check;
 use crate::line::write_line;
 use crate::reply::reply_to;
-use crate::{Command, Loaded, Ran, Refusal, World, load};
+use crate::{Command, Done, Loaded, Ran, Refusal, World, load};
 use hq_base::Txt;
 use hq_engine::Engine;
 use hq_link::Database;
@@ -27,9 +28,11 @@ fn respond<S: Source, K: Sink>(
     session: &Session,
     input: &mut S,
     out: &mut K,
-) -> Result<(), Refusal>
+) -> Result<Done, Refusal>
     ensures told { IfSome (S.left input.old) (λ left.
         Ends (K.written out.old) (K.written out.new) (reply_due (loaded_view loaded) session.now left) result) }
+    ensures fault { result ≡ Ok Done.Faulty → IfSome (S.left input.old) (λ left. IsSome (first_fault left)) }
+    ensures data { result ≡ Ok Done.Answered → IfSome (S.left input.old) (λ left. first_fault left ≡ None) }
     ensures silent { Silent (K.written out.old) (K.written out.new) result }
     ensures read { IsErrOf result Refusal.ReadFailed → Rose (S.faults input.old) (S.faults input.new) }
     ensures write { IsErrOf result Refusal.WriteFailed → Rose (K.faults out.old) (K.faults out.new) }
@@ -56,9 +59,11 @@ fn query<F: Files, S: Source, K: Sink>(
     files: &mut F,
     input: &mut S,
     out: &mut K,
-) -> Result<(), Refusal>
+) -> Result<Done, Refusal>
     ensures told { IfSome (F.folder files.old) (λ folder. IfSome (S.left input.old) (λ left.
         Ends (K.written out.old) (K.written out.new) (query_due dir.now headers.now folder left) result)) }
+    ensures fault { result ≡ Ok Done.Faulty → IfSome (S.left input.old) (λ left. IsSome (first_fault left)) }
+    ensures data { result ≡ Ok Done.Answered → IfSome (S.left input.old) (λ left. first_fault left ≡ None) }
     ensures silent { Silent (K.written out.old) (K.written out.new) result }
     ensures words { IsErrOf result Refusal.BadWords → ⊥ }
     ensures read { IsErrOf result Refusal.ReadFailed →
@@ -82,9 +87,10 @@ fn check<F: Files, K: Sink>(
     dir: &Txt,
     files: &mut F,
     out: &mut K,
-) -> Result<(), Refusal>
+) -> Result<Done, Refusal>
     ensures told { IfSome (F.folder files.old) (λ folder.
         Ends (K.written out.old) (K.written out.new) (check_due dir.now folder) result) }
+    ensures fault { result ≢ Ok Done.Faulty }
     ensures silent { Silent (K.written out.old) (K.written out.new) result }
     ensures words { IsErrOf result Refusal.BadWords → ⊥ }
     ensures read { IsErrOf result Refusal.ReadFailed → Rose (F.faults files.old) (F.faults files.new) }
@@ -105,13 +111,15 @@ fn answered<F: Files, S: Source, K: Sink>(
     files: &mut F,
     input: &mut S,
     out: &mut K,
-) -> Result<(), Refusal>
+) -> Result<Done, Refusal>
     ensures told { IfSome (F.folder files.old) (λ folder. IfSome (S.left input.old) (λ left.
         Ends (K.written out.old) (K.written out.new) (due words.now folder left) result)) }
+    ensures fault { result ≡ Ok Done.Faulty → IfSome (S.left input.old) (λ left. IsSome (first_fault left)) }
+    ensures data { is_check (command_of words.now) ≡ false → result ≡ Ok Done.Answered → IfSome (S.left input.old) (λ left. first_fault left ≡ None) }
     ensures silent { Silent (K.written out.old) (K.written out.new) result }
-    ensures words { IsErrOf result Refusal.BadWords → command_of words.now ≡ None }
-    ensures no_words { command_of words.now ≡ None → IsErrOf result Refusal.BadWords ⊎ IsErrOf result Refusal.Memory }
+    ensures words { IsErrOf result Refusal.BadWords ↔ (command_of words.now ≡ None) }
     ensures check { is_check (command_of words.now) ≡ true → input.new ≡ input.old }
+    ensures no_fault { is_check (command_of words.now) ≡ true → result ≢ Ok Done.Faulty }
     ensures read { IsErrOf result Refusal.ReadFailed →
         Rose (F.faults files.old) (F.faults files.new) × (S.left input.new ≡ S.left input.old)
         ⊎ Rose (S.faults input.old) (S.faults input.new) }
@@ -129,12 +137,12 @@ fn answered<F: Files, S: Source, K: Sink>(
 }
 
 // Tells a refusal on standard error. Gives the status of the answer.
-fn tell<E: Sink>(err: &mut E, answer: Result<(), Refusal>) -> u8
+fn tell<E: Sink>(err: &mut E, answer: Result<Done, Refusal>) -> u8
     ensures status { result ≡ status_of answer }
     ensures line { Tells (E.written err.old) (E.written err.new) (E.faults err.old) (E.faults err.new) (told_line answer) }
 {
     match answer {
-        Ok(()) => 0,
+        Ok(done) => done.status(),
         Err(refusal) => {
             let _ = write_line(err, &refusal);
             refusal.status()
@@ -143,7 +151,8 @@ fn tell<E: Sink>(err: &mut E, answer: Result<(), Refusal>) -> u8
 }
 
 /// Answers one request over a database of the engine's catalog: reads it from the input to its end, writes the reply's body,
-/// and tells a refusal on standard error. Gives the status that the program ends with: 0, 4, 5, 6, 7, 8 or 9.
+/// and tells a refusal on standard error. Gives the status that the program ends with: 0, 1 where the reply tells a fault, or
+/// 4, 5, 6, 7, 8 or 9.
 pub fn answer_one<T: Tables, S: Source, K: Sink, E: Sink>(
     alloc: Global,
     engine: &Engine,
@@ -162,8 +171,12 @@ pub fn answer_one<T: Tables, S: Source, K: Sink, E: Sink>(
         × IfSome (⟦<ListDb<T> as Database>⟧.database db.old) (λ rows. IfSome (S.left input.old) (λ left.
         Ends (K.written out.old) (K.written out.new) (reply_due (contents engine.now.catalog.tables (meta_view engine.now.meta) rows) session.now left) answer)) }
 
-    // Nothing is written at a status other than 0 and 5.
-    ensures silent { result ≢ 0 → result ≢ 5 → K.written out.new ≡ K.written out.old }
+    // A fault is told exactly where the request has one.
+    ensures fault { result ≡ 1 → IfSome (S.left input.old) (λ left. IsSome (first_fault left)) }
+    ensures data { result ≡ 0 → IfSome (S.left input.old) (λ left. first_fault left ≡ None) }
+
+    // Nothing is written at a status other than 0, 1 and 5.
+    ensures silent { result ≢ 0 → result ≢ 1 → result ≢ 5 → K.written out.new ≡ K.written out.old }
 
     // A failure is told only where the count of that object rose.
     ensures read { result ≡ 4 → Rose (S.faults input.old) (S.faults input.new) }
@@ -192,15 +205,19 @@ pub fn run<F: Files, D: Door, S: Source, K: Sink, E: Sink>(
         × IfSome (F.folder world.files) (λ folder. IfSome (S.left world.input) (λ left.
         Ends (K.written world.out) (K.written result.world.out) (due words.now folder left) answer)) }
 
-    // Nothing is written at a status other than 0 and 5.
-    ensures silent { result.status ≢ 0 → result.status ≢ 5 → K.written result.world.out ≡ K.written world.out }
+    // A fault is told exactly where the request has one.
+    ensures fault { result.status ≡ 1 → IfSome (S.left world.input) (λ left. IsSome (first_fault left)) }
+    ensures data { is_check (command_of words.now) ≡ false → result.status ≡ 0 → IfSome (S.left world.input) (λ left. first_fault left ≡ None) }
 
-    // It ends with 2 exactly where the words ask for no command, unless memory is wanted.
-    ensures words { result.status ≡ 2 → command_of words.now ≡ None }
-    ensures no_words { command_of words.now ≡ None → (result.status ≡ 2) ⊎ (result.status ≡ 7) }
+    // Nothing is written at a status other than 0, 1 and 5.
+    ensures silent { result.status ≢ 0 → result.status ≢ 1 → result.status ≢ 5 → K.written result.world.out ≡ K.written world.out }
 
-    // A check reads no input.
+    // It ends with 2 exactly where the words ask for no command.
+    ensures words { (result.status ≡ 2) ↔ (command_of words.now ≡ None) }
+
+    // A check reads no input, and tells no fault.
     ensures check { is_check (command_of words.now) ≡ true → result.world.input ≡ world.input }
+    ensures no_fault { is_check (command_of words.now) ≡ true → result.status ≢ 1 }
 
     // A failure is told only where the count of that object rose; a failed load comes before anything is read.
     ensures read { result.status ≡ 4 →

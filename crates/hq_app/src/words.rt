@@ -1,9 +1,11 @@
-ghost use Rattle.std.specs.Prelude.{◌≡◌, IfOk, None, Some, ok_or, cond, nat_le, length};
+ghost use Rattle.std.specs.Prelude.{◌≡◌, ◌↔◌, IfOk, IsErrOf, None, Some, is_some, ok_or, cond, nat_le, length};
+ghost use Rattle.std.specs.List.{list_all};
 ghost use Rattle.hq_base.specs.Due.{Gives};
+ghost use Rattle.hq_session.specs.Fields.{header_in};
 ghost use Rattle.hq_app.specs.Words.{headers_of, headers_in, query_of, command_of};
 
 use hq_base::{Memory, Txt};
-use hq_session::{Header, Headers, HeadersRefusal};
+use hq_session::{HEADERS_LIMIT, Header, Headers, HeadersRefusal};
 use std::alloc::Global;
 use thiserror::Error;
 
@@ -48,6 +50,20 @@ impl From<HeadersRefusal> for WordsRefusal {
     }
 }
 
+// Whether each of these words writes a header.
+fn each_is_header(words: &[Txt]) -> bool
+    ensures { result ≡ list_all (λ w. is_some (header_in w)) words.now }
+{
+    words.iter().all(|word| Header::is_one(word))
+}
+
+// Whether these words are the headers of a request: each is one, and there are at most 64. Takes no memory.
+fn are_headers(words: &[Txt]) -> bool
+    ensures { result ≡ is_some (headers_of words.now) }
+{
+    words.len() <= HEADERS_LIMIT && each_is_header(words)
+}
+
 // The headers of these words.
 fn headers(alloc: Global, words: &[Txt]) -> Result<Headers, WordsRefusal>
     ensures { Gives (λ headers. headers) WordsRefusal.Memory (ok_or (headers_of words.now) WordsRefusal.BadWords) result }
@@ -64,12 +80,13 @@ fn headers(alloc: Global, words: &[Txt]) -> Result<Headers, WordsRefusal>
 
 impl Command {
     /// What these words ask, which are those behind the program's name. BadWords exactly where they are neither `query`, a
-    /// directory and at most 64 headers, each `name: value`, nor `check` and a directory.
+    /// directory and at most 64 headers, each `name: value`, nor `check` and a directory: this is told before memory is taken.
     pub fn read(alloc: Global, words: &[Txt]) -> Result<Command, WordsRefusal>
-        ensures { Gives (λ command. command) WordsRefusal.Memory (ok_or (command_of words.now) WordsRefusal.BadWords) result }
+        ensures bad { IsErrOf result WordsRefusal.BadWords ↔ (command_of words.now ≡ None) }
+        ensures told { Gives (λ command. command) WordsRefusal.Memory (ok_or (command_of words.now) WordsRefusal.BadWords) result }
     {
         match words {
-            [name, dir, words @ ..] if name.as_str() == "query" => {
+            [name, dir, words @ ..] if name.as_str() == "query" && are_headers(words) => {
                 let headers = headers(alloc, words)?;
                 let dir = dir.copy(alloc)?;
                 Ok(Command::Query { dir, headers })

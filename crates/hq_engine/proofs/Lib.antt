@@ -1,1 +1,6 @@
+mod Dues
+mod Refusals
+mod RuleTexts
+mod Selections
+mod Told
 pub mod Requests

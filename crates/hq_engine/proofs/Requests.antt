@@ -1,12 +1,12 @@
 -- What a request that a body makes is: a list of columns of a table of the catalog, on which the session has a plain permission.
-use Rattle.std.proofs.Common.{◌≡◌, ℕ, zero, suc, ◌+◌, ◌<◌, List, [], ◌∷◌, length, find, Bool, true, false, cond, ◌&&◌, ◌==◌, Option, Some, None, is_none, option_and_then, option_map, unwrap_or, refl, sym, ap, subst, ◌∙◌, bytes_eq, arith}
+use Rattle.std.proofs.Common.{◌≡◌, ℕ, zero, suc, ◌+◌, ◌<◌, List, [], ◌∷◌, length, find, Bool, true, false, cond, ◌&&◌, ◌==◌, Option, Some, None, is_none, option_and_then, option_map, unwrap_or, Result, Ok, Err, refl, sym, ap, subst, ◌∙◌, bytes_eq, arith}
 use Rattle.std.specs.Prelude.{nat_lt, slice_index_or}
 use Rattle.std.specs.List.{list_all, list_any, position}
 use Rattle.std.specs.Result.{result_ok}
 use Rattle.std.proofs.lemmas.Bool.{ltb-true, lt-ltb, eqb-true}
 use Rattle.std.proofs.lemmas.List.Quantifiers.{position-Some}
 use Rattle.std.proofs.lemmas.Option.{option_and_then_some}
-use Rattle.hq_base.specs.Body.{body_of}
+use Rattle.hq_base.specs.Json.{JsonTree}
 use Rattle.hq_terms.specs.Bexp.{BexpTree, always, and_of, or_of, not_of, comparison, within, is_null, like, through}
 use Rattle.hq_terms.specs.Binding.{bound_permission}
 use Rattle.hq_terms.specs.Fits.{fits, fits_tracked}
@@ -24,9 +24,17 @@ use Rattle.hq_ask_tree.specs.declared.ask.AskColumn.{AskColumn}
 use Rattle.hq_sql_compile.specs.Compiled.{table_at}
 use Rattle.hq_sql_compile.specs.Correct.{IsPlain}
 use Rattle.hq_link.specs.Typed.{IsList}
-use Rattle.hq_engine.specs.ListBody.{list_of}
-use Rattle.hq_engine.specs.ListRequest.{is_always, has_no_mask, is_plain, permitted_place, column_named, ask_column, columns_named, ask_under, list_request, request_of}
-use Rattle.hq_engine.specs.declared.list_body.ListBody.{ListBody}
+use Rattle.hq_gql_tree.specs.Documents.{DocumentTree}
+use Rattle.hq_engine.specs.Due.{due_as, due_of}
+use Rattle.hq_engine.specs.PlainList.{list_of}
+use Rattle.hq_engine.specs.Reading.{reading_due}
+use Rattle.hq_engine.specs.RequestForm.{names_operation}
+use Rattle.hq_engine.specs.declared.due.Due.TheVariants.{Asks}
+use Rattle.hq_engine.specs.declared.reading.RequestRefusal.{RequestRefusal}
+use Rattle.hq_engine.specs.declared.reading.RequestRefusal.TheVariants.{Fault, Memory}
+use Rattle.hq_engine.proofs.Dues.{is_wanted}
+use Rattle.hq_engine.specs.ListRequest.{is_always, has_no_mask, is_plain, permitted_place, column_named, ask_column, columns_named, ask_under, list_request, document_request}
+use Rattle.hq_engine.specs.declared.document.ListBody.{ListBody}
 
 both : (a b : Bool) → (a && b) ≡ true → (a ≡ true) × (b ≡ true)
 both true b e = (refl, e)
@@ -104,10 +112,22 @@ made_list tables m role list ask fit e =
       columns = parts.2;
     }))
 
-made : (tables : List Table) (m : MetaTree) (session : Session) (body : List ℕ) (ask : Ask) → fits tables m ≡ true → request_of m session body ≡ Some ask → Made tables m (role_of session.role) ask
-made tables m session body ask fit e =
-    option_and_then_some _ (option_and_then list_of (result_ok (body_of body))) _ e
-    (λ list asked listed. made_list tables m (role_of session.role) list ask fit listed)
+made_document : (tables : List Table) (m : MetaTree) (session : Session) (read : JsonTree × DocumentTree) (ask : Ask) → fits tables m ≡ true → document_request m session read ≡ Some ask → Made tables m (role_of session.role) ask
+made_document tables m session read ask fit e =
+    let go : (b : Bool) → cond b None (option_and_then (list_request m (role_of session.role)) (list_of read.1)) ≡ Some ask → Made tables m (role_of session.role) ask =
+    elim [
+      | true ↦ λ h. absurd cc
+      | false ↦ λ h. option_and_then_some _ (list_of read.1) _ h (λ list listed is. made_list tables m (role_of session.role) list ask fit is)
+    ] in
+    go (names_operation read.0) e
+
+made_due : (tables : List Table) (m : MetaTree) (session : Session) (r : Result (JsonTree × DocumentTree) RequestRefusal) (ask : Ask) → fits tables m ≡ true → due_as m session r ≡ Asks ask → Made tables m (role_of session.role) ask
+made_due tables m session (Ok read) ask fit e = made_document tables m session read ask fit (is_wanted (document_request m session read) ask e)
+made_due tables m session (Err (Fault f)) ask fit e = absurd cc
+made_due tables m session (Err Memory) ask fit e = absurd cc
+
+made : (tables : List Table) (m : MetaTree) (session : Session) (body : List ℕ) (ask : Ask) → fits tables m ≡ true → due_of m session body ≡ Asks ask → Made tables m (role_of session.role) ask
+made tables m session body ask fit e = made_due tables m session (reading_due body) ask fit e
 
 -- ---- its table and its columns are of the catalog
 
@@ -200,8 +220,8 @@ made_is_plain tables m session ask by =
 
 -- ---- both, of the request that a body makes
 
-pub request_is_list : (tables : List Table) (m : MetaTree) (session : Session) (body : List ℕ) (ask : Ask) → fits tables m ≡ true → request_of m session body ≡ Some ask → IsList tables ask
+pub request_is_list : (tables : List Table) (m : MetaTree) (session : Session) (body : List ℕ) (ask : Ask) → fits tables m ≡ true → due_of m session body ≡ Asks ask → IsList tables ask
 request_is_list tables m session body ask fit e = made_is_list tables m (role_of session.role) ask (made tables m session body ask fit e)
 
-pub request_is_plain : (tables : List Table) (m : MetaTree) (session : Session) (body : List ℕ) (ask : Ask) → fits tables m ≡ true → request_of m session body ≡ Some ask → IsPlain (grant (grants_of session tables m) ask.table)
+pub request_is_plain : (tables : List Table) (m : MetaTree) (session : Session) (body : List ℕ) (ask : Ask) → fits tables m ≡ true → due_of m session body ≡ Asks ask → IsPlain (grant (grants_of session tables m) ask.table)
 request_is_plain tables m session body ask fit e = made_is_plain tables m session ask (made tables m session body ask fit e)

@@ -1,5 +1,5 @@
 -- What the engine asks of its database, and what it answers.
-use Rattle.std.specs.Prelude.{◌≡◌, ◌⊎◌, ℕ, List, true, Option, Some, None, Result, Ok, Err, ⊤}
+use Rattle.std.specs.Prelude.{◌≡◌, ◌⊎◌, ℕ, List, true, Option, Result, Ok, Err, ⊤}
 use Rattle.hq_base.specs.declared.reply.Reply.{Reply}
 use Rattle.hq_outside.specs.Causes.{Rose}
 use Rattle.hq_terms.specs.Database.{Row, is_database}
@@ -16,6 +16,8 @@ use Rattle.hq_sql_text.specs.Readable.{Spells}
 use Rattle.hq_sql_compile.specs.Compiled.{statement}
 use Rattle.hq_link.specs.Asked.{Asked, NotAsked}
 use Rattle.hq_engine.specs.Due.{resolved_for}
+use Rattle.hq_engine.specs.declared.due.Due.{Due}
+use Rattle.hq_engine.specs.declared.due.Due.TheVariants as due
 use Rattle.hq_engine.specs.declared.refusal.EngineRefusal.{EngineRefusal}
 use Rattle.hq_engine.specs.declared.refusal.EngineRefusal.TheVariants.{Database, Memory, NotBuilt}
 
@@ -49,17 +51,35 @@ pub record Counts : Type 0 where
   pub last : Option (List ℕ)
 
 -- exactly one text was asked, and it is that of the request
-abbrev pub AskedOne : (Ask → List ℕ) → Option Ask → (before now : Counts) → Type 0
-AskedOne text None before now = ⊥
-AskedOne text (Some ask) before now = Asked before.asks now.asks now.last (text ask)
+abbrev pub AskedOne : (Ask → List ℕ) → Ask → (before now : Counts) → Type 0
+AskedOne text ask before now = Asked before.asks now.asks now.last (text ask)
 
 abbrev pub AskedNone : (before now : Counts) → Type 0
 AskedNone before now = NotAsked before.asks now.asks before.last now.last
 
--- A reply and a failure come where exactly one text was asked. NotBuilt comes exactly where the body makes no request
--- that is built so far, and nothing was asked then. Before Memory at most that one text was asked.
-abbrev pub Asks : (Ask → List ℕ) → Option Ask → (before now : Counts) → Result Reply EngineRefusal → Type 0
-Asks text request before now (Ok reply) = AskedOne text request before now
-Asks text request before now (Err NotBuilt) = (request ≡ None) × AskedNone before now
-Asks text request before now (Err (Database b a)) = AskedOne text request before now
-Asks text request before now (Err Memory) = AskedNone before now ⊎ AskedOne text request before now
+-- a database is asked for a request alone
+abbrev pub AskedFor : (Ask → List ℕ) → Due → (before now : Counts) → Type 0
+AskedFor text (due.Faulty f) before now = ⊥
+AskedFor text (due.Asks ask) before now = AskedOne text ask before now
+AskedFor text due.NotBuilt before now = ⊥
+
+-- for a request one text was asked, and none for a fault
+abbrev pub Replied : (Ask → List ℕ) → Due → (before now : Counts) → Type 0
+Replied text (due.Faulty f) before now = AskedNone before now
+Replied text (due.Asks ask) before now = AskedOne text ask before now
+Replied text due.NotBuilt before now = ⊥
+
+-- A reply comes where a request was asked, or for a fault, which asks nothing; a failure where a request was asked. NotBuilt
+-- comes exactly where the body makes no request that is built so far and has no fault, and nothing was asked then. Before
+-- Memory at most the one text of a request was asked.
+abbrev pub Asks : (Ask → List ℕ) → Due → (before now : Counts) → Result Reply EngineRefusal → Type 0
+Asks text what before now (Ok reply) = Replied text what before now
+Asks text what before now (Err NotBuilt) = (what ≡ due.NotBuilt) × AskedNone before now
+Asks text what before now (Err (Database b a)) = AskedFor text what before now
+Asks text what before now (Err Memory) = AskedNone before now ⊎ AskedFor text what before now
+
+-- a statement was printed for a request alone
+abbrev pub States : List Table → MetaTree → Session → Due → Type 0
+States tables meta session (due.Faulty f) = ⊤
+States tables meta session (due.Asks ask) = IsStatement tables meta session ask
+States tables meta session due.NotBuilt = ⊤

@@ -1,8 +1,7 @@
 -- The typed request of a list of plain columns.
 use Rattle.std.specs.Prelude.{ℕ, List, [], ◌∷◌, find, position, Bool, true, false, ◌&&◌, ◌==◌, cond, Option, Some, None, is_none, option_map, option_and_then, bytes_eq, slice_index_or}
 use Rattle.std.specs.List.{list_any}
-use Rattle.std.specs.Result.{result_ok}
-use Rattle.hq_base.specs.Body.{body_of}
+use Rattle.hq_base.specs.Json.{JsonTree}
 use Rattle.hq_terms.specs.Bexp.{BexpTree, always}
 use Rattle.hq_terms.specs.Meta.{TrackedTree, MetaTree}
 use Rattle.hq_terms.specs.Permission.{Permission, Mask, permission, role_of}
@@ -10,8 +9,10 @@ use Rattle.hq_terms.specs.declared.role.Role.{Role}
 use Rattle.hq_terms.specs.declared.session.Session.{Session}
 use Rattle.hq_ask_tree.specs.declared.ask.Ask.{Ask}
 use Rattle.hq_ask_tree.specs.declared.ask.AskColumn.{AskColumn}
-use Rattle.hq_engine.specs.ListBody.{list_of}
-use Rattle.hq_engine.specs.declared.list_body.ListBody.{ListBody}
+use Rattle.hq_gql_tree.specs.Documents.{DocumentTree}
+use Rattle.hq_engine.specs.PlainList.{list_of}
+use Rattle.hq_engine.specs.RequestForm.{names_operation}
+use Rattle.hq_engine.specs.declared.document.ListBody.{ListBody}
 
 -- a permission on all rows, without a limit
 abbrev pub is_always : BexpTree → Bool
@@ -53,7 +54,7 @@ ask_of_table m role body k = option_and_then (λ p. ask_under k p body) (permiss
 abbrev pub list_request : MetaTree → Role → ListBody → Option Ask
 list_request m role body = option_and_then (ask_of_table m role body) (find (λ k. bytes_eq k.roots.select body.root) m.tracked)
 
--- the request that a body makes, where it is built so far
-abbrev pub request_of : MetaTree → Session → (body : List ℕ) → Option Ask
-request_of m session body =
-    option_and_then (list_request m (role_of session.role)) (option_and_then list_of (result_ok (body_of body)))
+-- the request that a document makes, where the operation is not named and it is built so far
+abbrev pub document_request : MetaTree → Session → JsonTree × DocumentTree → Option Ask
+document_request m session read =
+    cond (names_operation read.0) None (option_and_then (list_request m (role_of session.role)) (list_of read.1))

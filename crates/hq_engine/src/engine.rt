@@ -1,4 +1,4 @@
-ghost use Rattle.std.specs.Prelude.{◌≡◌, ◌⊎◌, ◌≤◌, true, length, IfOk, IfErr, IfSome, OnOk, Err, Some};
+ghost use Rattle.std.specs.Prelude.{◌≡◌, ◌⊎◌, ◌≤◌, true, false, is_some, length, IfOk, IfErr, IfSome, OnOk, Err, Some};
 ghost use Rattle.hq_base.specs.Json.{json_view};
 ghost use Rattle.hq_link.specs.Asked.{Asked, NotAsked};
 ghost use Rattle.hq_link.specs.Typed.{IsList, IsTyped};
@@ -9,13 +9,14 @@ ghost use Rattle.hq_sql_compile.specs.Correct.{IsPlain};
 ghost use Rattle.hq_terms.specs.Fits.{fits};
 ghost use Rattle.hq_terms.specs.Grants.{grant, grants_of};
 ghost use Rattle.hq_terms.specs.Meta.{meta_view};
-ghost use Rattle.hq_engine.specs.Answer.{Asks, IsStatement, TellsDatabase, TellsFault, asked_text, compiled};
-ghost use Rattle.hq_engine.specs.Due.{due_reply};
-ghost use Rattle.hq_engine.specs.ListRequest.{request_of};
+ghost use Rattle.hq_engine.specs.Answer.{Asks, IsStatement, States, TellsDatabase, TellsFault, asked_text, compiled};
+ghost use Rattle.hq_engine.specs.Due.{data_text, resolved_for, due_of, due_reply};
+ghost use Rattle.hq_engine.specs.FaultTexts.{fault_text, tells_fault};
+ghost use Rattle.hq_engine.specs.Reading.{first_fault};
 
 use crate::EngineRefusal;
-use crate::list_request::request_of;
-use crate::reply::data_reply;
+use crate::due::{Due, due_of};
+use crate::reply::{data_reply, fault_reply};
 use hq_ask_tree::Ask;
 use hq_base::{Bytes, Json, Memory, Reply};
 use hq_link::{Database, DbRefusal};
@@ -54,8 +55,36 @@ impl Engine {
         print(alloc, &select)
     }
 
+    // The reply to a request for a list of columns, of a table on which the session has a plain permission.
+    fn data<D: Database>(
+        &self,
+        alloc: Global,
+        session: &Session,
+        request: &Ask,
+        db: &mut D,
+    ) -> Result<Reply, EngineRefusal>
+        requires list { IsList self.now.catalog.tables request.now }
+        requires plain { IsPlain (grant (grants_of session.now self.now.catalog.tables (meta_view self.now.meta)) request.now.table) }
+        requires catalog { D.tables db.old ≡ self.now.catalog.tables }
+        ensures status { IfOk result (λ reply. reply.status ≡ 200) }
+        ensures reply { IfOk result (λ reply. IfSome (D.database db.old) (λ d.
+            reply.body ≡ data_text (resolved_for self.now.catalog.tables (meta_view self.now.meta) session.now d request.now))) }
+        ensures kind { IfOk result (λ reply. tells_fault reply.body ≡ false) }
+        ensures asks { Asks (asked_text self.now.catalog.tables (meta_view self.now.meta)) (Due.Asks request.now)
+            (record { asks = D.asks db.old; last = D.last db.old }) (record { asks = D.asks db.new; last = D.last db.new }) result }
+        ensures statement { OnOk result (IsStatement self.now.catalog.tables (meta_view self.now.meta) session.now request.now) }
+        ensures failed { IfErr result (λ e. TellsDatabase (D.faults db.old) (D.faults db.new) e) }
+        ensures tables { D.tables db.new ≡ D.tables db.old }
+        ensures database { D.database db.new ≡ D.database db.old }
+        ensures later { D.faults db.old ≤ D.faults db.new }
+    {
+        let text = self.text(alloc, session, request)?;
+        let data = ask(alloc, db, text.as_slice())?;
+        Ok(data_reply(alloc, data)?)
+    }
+
     /// The reply to a request of a session, over a database of the engine's catalog. The body has at most 1,048,576 bytes.
-    /// A request that is answered asks the database exactly one text.
+    /// A request that is answered asks the database exactly one text; a fault is told without asking.
     pub fn answer<D: Database>(
         &self,
         alloc: Global,
@@ -71,13 +100,16 @@ impl Engine {
         ensures reply { IfOk result (λ reply. IfSome (D.database db.old) (λ d.
             due_reply self.now.catalog.tables (meta_view self.now.meta) d session.now body.now ≡ Some reply.body)) }
 
-        // One text is asked for a request, and none for a body that makes none.
-        ensures asks { Asks (asked_text self.now.catalog.tables (meta_view self.now.meta)) (request_of (meta_view self.now.meta) session.now body.now)
+        // A reply tells a fault exactly where the request has one, and then the first.
+        ensures kind { IfOk result (λ reply. tells_fault reply.body ≡ is_some (first_fault body.now)) }
+        ensures fault { IfOk result (λ reply. IfSome (first_fault body.now) (λ f. reply.body ≡ fault_text f)) }
+
+        // One text is asked for a request, and none for a fault or a body that is not built so far.
+        ensures asks { Asks (asked_text self.now.catalog.tables (meta_view self.now.meta)) (due_of (meta_view self.now.meta) session.now body.now)
             (record { asks = D.asks db.old; last = D.last db.old }) (record { asks = D.asks db.new; last = D.last db.new }) result }
 
         // The text that is asked spells the compiled statement, and this means the object of the root fields.
-        ensures statement { OnOk result (IfSome (request_of (meta_view self.now.meta) session.now body.now) (λ ask.
-            IsStatement self.now.catalog.tables (meta_view self.now.meta) session.now ask)) }
+        ensures statement { OnOk result (States self.now.catalog.tables (meta_view self.now.meta) session.now (due_of (meta_view self.now.meta) session.now body.now)) }
 
         // The database fails only where its count of faults rose in this call.
         ensures failed { IfErr result (λ e. TellsFault (D.faults db.old) (D.faults db.new) e) }
@@ -87,12 +119,11 @@ impl Engine {
         ensures database { D.database db.new ≡ D.database db.old }
         ensures later { D.faults db.old ≤ D.faults db.new }
     {
-        let Some(request) = request_of(alloc, &self.meta, session, body)? else {
-            return Err(EngineRefusal::NotBuilt);
-        };
-        let text = self.text(alloc, session, &request)?;
-        let data = ask(alloc, db, text.as_slice())?;
-        Ok(data_reply(alloc, data)?)
+        match due_of(alloc, &self.meta, session, body)? {
+            Due::Faulty(fault) => Ok(fault_reply(alloc, &fault)?),
+            Due::Asks(request) => self.data(alloc, session, &request, db),
+            Due::NotBuilt => Err(EngineRefusal::NotBuilt),
+        }
     }
 }
 

@@ -1,15 +1,16 @@
 ghost use Rattle.std.specs.Prelude.{◌≡◌, ◌==◌, ◌∷◌, map, find, position, true, false, IfOk, MatchOption, Some, None, bytes_eq, option_map, option_copied, ok_or, slice_index_or, []};
 ghost use Rattle.std.specs.List.{list_any};
-ghost use Rattle.std.specs.Result.{result_ok};
-ghost use Rattle.hq_base.specs.Body.{body_of};
 ghost use Rattle.hq_base.specs.Json.{json_view};
+ghost use Rattle.hq_gql_tree.specs.View.{document_view};
 ghost use Rattle.hq_terms.specs.Meta.{tracked_view, meta_view};
 ghost use Rattle.hq_terms.specs.PermView.{permission_view};
-ghost use Rattle.hq_engine.specs.ListRequest.{is_plain, column_named, ask_column, columns_named, ask_under, ask_of_table, list_request, request_of};
+ghost use Rattle.hq_engine.specs.ListRequest.{is_plain, column_named, ask_column, columns_named, ask_under, ask_of_table, list_request, document_request};
 
-use crate::list_body::{ListBody, list_body};
+use crate::body::names_operation;
+use crate::document::{ListBody, list_of};
 use hq_ask_tree::{Ask, AskColumn};
-use hq_base::{Bytes, Json, JsonRefusal, List, Memory, Txt};
+use hq_base::{Json, List, Memory, Txt};
+use hq_gql_tree::Document;
 use hq_terms::{Bexp, ColId, ColList, Meta, PermView, Role, Session, Tracked};
 use std::alloc::Global;
 
@@ -24,11 +25,11 @@ fn allows_all_rows(view: &PermView) -> bool
 }
 
 // The tracked table of this root field.
-fn root_table<'a>(tracked: &'a [Tracked], root: &Bytes) -> Option<&'a Tracked>
+fn root_table<'a>(tracked: &'a [Tracked], root: &Txt) -> Option<&'a Tracked>
     ensures { option_map (λ k. tracked_view k.now) result ≡ find (λ k. bytes_eq k.roots.select root.now) (map tracked_view tracked.now) }
 {
     for entry in tracked {
-        if entry.roots.select.as_bytes() == root.as_slice() {
+        if entry.roots.select.as_bytes() == root.as_bytes() {
             return Some(entry);
         }
     }
@@ -41,14 +42,14 @@ fn has_column(columns: &ColList, column: usize) -> bool
     columns.as_slice().iter().any(|c| c.at() == column)
 }
 
-fn place_of(names: &[Txt], name: &Bytes) -> Option<usize>
+fn place_of(names: &[Txt], name: &Txt) -> Option<usize>
     ensures { result ≡ position (λ n. bytes_eq n name.now) names.now }
 {
-    names.iter().position(|n| n.as_bytes() == name.as_slice())
+    names.iter().position(|n| n.as_bytes() == name.as_bytes())
 }
 
 // The permitted column of this GraphQL name.
-fn column_named(names: &[Txt], columns: &ColList, name: &Bytes) -> Option<usize>
+fn column_named(names: &[Txt], columns: &ColList, name: &Txt) -> Option<usize>
     ensures { result ≡ column_named names.now columns.now name.now }
 {
     match place_of(names, name) {
@@ -75,7 +76,7 @@ fn columns_named(
     alloc: Global,
     names: &[Txt],
     columns: &ColList,
-    wanted: &[Bytes],
+    wanted: &[Txt],
 ) -> Result<Option<List<AskColumn>>, Memory>
     ensures { IfOk result (λ found. found ≡ columns_named names.now columns.now wanted.now) }
 {
@@ -145,31 +146,21 @@ fn list_request(
     }
 }
 
-// A body as JSON, where it is JSON.
-fn json_of(alloc: Global, body: &[u8]) -> Result<Option<Json>, Memory>
-    ensures { IfOk result (λ json. option_map json_view json ≡ result_ok (body_of body.now)) }
-{
-    match Json::from_body(alloc, body) {
-        Ok(json) => Ok(Some(json)),
-        Err(JsonRefusal::Memory) => Err(Memory),
-        Err(_) => Ok(None),
-    }
-}
-
-/// The request that a body makes for a session, where it is built so far: one list of plain columns on which the role may
-/// see all rows.
-pub(crate) fn request_of(
+/// The request that a document makes for a session, where it is built so far: one list of plain columns on which the role
+/// may see all rows.
+pub(crate) fn document_request(
     alloc: Global,
     meta: &Meta,
     session: &Session,
-    body: &[u8],
+    json: &Json,
+    document: &Document,
 ) -> Result<Option<Ask>, Memory>
-    ensures { IfOk result (λ ask. ask ≡ request_of (meta_view meta.now) session.now body.now) }
+    ensures { IfOk result (λ ask. ask ≡ document_request (meta_view meta.now) session.now (json_view json.now, document_view document.now)) }
 {
-    let Some(json) = json_of(alloc, body)? else {
+    if names_operation(json) {
         return Ok(None);
-    };
-    let Some(list) = list_body(alloc, &json)? else {
+    }
+    let Some(list) = list_of(alloc, document)? else {
         return Ok(None);
     };
     let role = Role::of(alloc, session)?;

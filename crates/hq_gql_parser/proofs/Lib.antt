@@ -18,3 +18,4 @@ mod NestLaws
 mod Splits
 mod DocumentLaws
 mod Views
+mod AnsweredLaws

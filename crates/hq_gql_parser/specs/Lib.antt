@@ -10,3 +10,4 @@ pub mod ParsingValues
 pub mod ParsingTypes
 pub mod ParsingSelections
 pub mod ParsingOperations
+pub mod Answered

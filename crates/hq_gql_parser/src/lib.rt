@@ -15,7 +15,7 @@ mod values;
 mod variables;
 mod word;
 
-pub use parsing::{one_answer, one_document, parse};
+pub use parsing::{one_answer, one_document, parse, parsed_is_due};
 pub use refusal::ParseRefusal;
 
 #[cfg(test)]

@@ -6,6 +6,7 @@ ghost use Rattle.hq_gql_tree.specs.Documents.{DocumentTree};
 ghost use Rattle.hq_gql_tree.specs.View.{document_view};
 ghost use Rattle.hq_gql_parser.specs.declared.refusal.ParseRefusal.{ParseRefusal};
 ghost use Rattle.hq_gql_parser.specs.Operations.{IsDocument};
+ghost use Rattle.hq_gql_parser.specs.Answered.{parsed};
 ghost use Rattle.hq_gql_parser.specs.Documents.{place, Parses};
 
 use crate::ParseRefusal;
@@ -39,6 +40,8 @@ pub fn parse(alloc: Global, tokens: &Tokens, end: u64) -> Result<Document, Parse
     ensures refused { (e : ParseRefusal) → result ≡ Err e → (e ≡ ParseRefusal.Memory) ⊎ Parses end tokens.now (Err e) }
     // What is due is answered, unless memory is wanted.
     ensures only { (due : Result DocumentTree ParseRefusal) → Parses end tokens.now due → Gives document_view ParseRefusal.Memory due result }
+    // It is the one that is computed.
+    ensures exact { Gives document_view ParseRefusal.Memory (parsed end tokens.now) result }
 {
     let tokens = tokens.as_slice();
     if tokens.is_empty() {
@@ -64,4 +67,9 @@ pub fn one_document()
 /// At most one answer is due.
 pub fn one_answer()
     ensures { (end : ℕ) (ts : List Token) (a b : Result DocumentTree ParseRefusal) → Parses end ts a → Parses end ts b → a ≡ b }
+{}
+
+/// The answer that is computed is due, whatever the tokens.
+pub fn parsed_is_due()
+    ensures { (end : ℕ) (ts : List Token) → Parses end ts (parsed end ts) }
 {}

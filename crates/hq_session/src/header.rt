@@ -1,4 +1,4 @@
-ghost use Rattle.std.specs.Prelude.{◌≡◌, IfOk, MatchOption, None, Some, true, false, map};
+ghost use Rattle.std.specs.Prelude.{◌≡◌, IfOk, MatchOption, None, Some, true, false, map, is_some};
 ghost use Rattle.std.specs.List.{list_all, before_first, after_first, list_any};
 ghost use Rattle.hq_base.specs.Text.{has_zero};
 ghost use Rattle.hq_session.specs.Fields.{is_token_byte, is_token, is_colon, header_of, header_in, lowered, trimmed};
@@ -54,6 +54,17 @@ fn lowered(alloc: Global, name: &str) -> Result<Txt, Memory>
 }
 
 impl Header {
+    /// Whether a text writes a header, `name: value`: it has a colon, and what stands before the first one is a token of HTTP.
+    /// Takes no memory.
+    pub fn is_one(text: &Txt) -> bool
+        ensures { result ≡ is_some (header_in text.now) }
+    {
+        match split(text.as_str()) {
+            Some((name, _)) => is_token(name),
+            None => false,
+        }
+    }
+
     /// The header that a text writes, `name: value`, split at its first colon. None exactly where there is no colon, or
     /// where what stands before it is no token of HTTP. The name is kept in lower case, and the value without the spaces
     /// and tabs around it.

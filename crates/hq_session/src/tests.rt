@@ -32,6 +32,7 @@ fn a_header_is_split_at_its_first_colon(rt: HostRuntime) -> Result<(), Fail> {
         };
         assert_eq!(rt; header.0.as_str(), name);
         assert_eq!(rt; header.1.as_str(), value);
+        assert!(rt; Header::is_one(&text(alloc, word)?));
     }
     for word in [
         "",
@@ -44,6 +45,7 @@ fn a_header_is_split_at_its_first_colon(rt: HostRuntime) -> Result<(), Fail> {
         "(a): 1",
     ] {
         assert!(rt; read(alloc, word)?.is_none());
+        assert!(rt; !Header::is_one(&text(alloc, word)?));
     }
     Ok(())
 }

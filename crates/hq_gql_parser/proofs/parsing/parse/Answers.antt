@@ -6,8 +6,10 @@ use Rattle.hq_gql_parser.specs.declared.refusal.ParseRefusal.{ParseRefusal}
 use Rattle.hq_gql_parser.specs.declared.refusal.ParseRefusal.TheVariants as refusal
 use Rattle.hq_gql_parser.specs.declared.stop.Stop.{Stop}
 use Rattle.hq_gql_parser.specs.declared.stop.Stop.TheVariants as stop
+use Rattle.hq_gql_parser.specs.Answered.{parsed}
 use Rattle.hq_gql_parser.specs.Operations.{IsDocument}
 use Rattle.hq_gql_parser.specs.Documents.{most, IsUnexpected, IsTooDeep, Parses}
+use Rattle.hq_gql_parser.proofs.AnsweredLaws.{parsed_due, none_parsed}
 use Rattle.hq_gql_parser.proofs.DocumentLaws.{only_ok, only_err, found, unexpected, too_deep, unexpected_fits, too_deep_fits}
 use Rattle.hq_gql_parser.proofs.parsing.parse.Goals as goal
 
@@ -95,3 +97,17 @@ returns-in-Err-TooDeep-clause-only c =
     let stopped = at_bracket u.field-0 u.left _ u.field-0-is u.ensures in
     let r = c.place-in-Err-TooDeep.result in
     only_err c.args.end c.args.tokens.now (refusal.TooDeep r) (too_deep_at r ts c.args.tokens.now c.as_slice-tokens.ensures _ c.place-in-Err-TooDeep.ensures (too_deep c.args.end u.left ts stopped))
+
+-- what is computed is due
+
+pub returns-then-is_empty-clause-exact : goal.returns-then-is_empty-clause-exact
+returns-then-is_empty-clause-exact c = inr (none_parsed c.args.end c.as_slice-tokens.result.now c.args.tokens.now c.as_slice-tokens.ensures c.if-is_empty.ensures)
+
+pub returns-in-Ok-clause-exact : goal.returns-in-Ok-clause-exact
+returns-in-Ok-clause-exact c = returns-in-Ok-clause-only c (parsed c.args.end c.args.tokens.now) (parsed_due c.args.end c.args.tokens.now)
+
+pub returns-in-Err-Unexpected-clause-exact : goal.returns-in-Err-Unexpected-clause-exact
+returns-in-Err-Unexpected-clause-exact c = returns-in-Err-Unexpected-clause-only c (parsed c.args.end c.args.tokens.now) (parsed_due c.args.end c.args.tokens.now)
+
+pub returns-in-Err-TooDeep-clause-exact : goal.returns-in-Err-TooDeep-clause-exact
+returns-in-Err-TooDeep-clause-exact c = returns-in-Err-TooDeep-clause-only c (parsed c.args.end c.args.tokens.now) (parsed_due c.args.end c.args.tokens.now)

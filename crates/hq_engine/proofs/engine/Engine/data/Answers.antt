@@ -1,0 +1,42 @@
+use Rattle.std.proofs.Common.{◌≡◌, ℕ, List, Option, Some, None, true, ap, subst, ◌∙◌}
+use Rattle.std.specs.Prelude.{IfSome}
+use Rattle.hq_base.specs.Json.{JsonTree, json_view}
+use Rattle.hq_terms.specs.Database.{Row, is_database}
+use Rattle.hq_terms.specs.Meta.{MetaTree, meta_view}
+use Rattle.hq_terms.specs.declared.session.Session.{Session}
+use Rattle.hq_terms.specs.declared.table.Table.{Table}
+use Rattle.hq_ask_tree.specs.declared.ask.Ask.{Ask}
+use Rattle.hq_sql_tree.specs.Meaning.{meaning}
+use Rattle.hq_sql_tree.specs.Tree.{SelectTree}
+use Rattle.hq_sql_text.specs.Readable.{Spells}
+use Rattle.hq_engine.specs.Answer.{IsStatement, asked_text, compiled}
+use Rattle.hq_engine.specs.Due.{data_text, resolved_for}
+use Rattle.hq_engine.proofs.engine.Engine.data.Goals as goal
+
+-- every statement that the text spells has this value
+abbrev Has : (tables : List Table) (text : List ℕ) (value : JsonTree) → List (List Row) → Type 0
+Has tables text value d = (s : SelectTree) → Spells text s → value ≡ meaning s (record { tables = tables; database = d })
+
+-- the reply of a statement's value is what resolvers give
+resolves : (tables : List Table) (meta : MetaTree) (session : Session) (ask : Ask) (database : Option (List (List Row))) (reply : List ℕ) (value : JsonTree)
+    → IsStatement tables meta session ask → IfSome database (λ d. is_database tables d ≡ true)
+    → IfSome database (Has tables (asked_text tables meta ask) value) → reply ≡ data_text value → IfSome database (λ d. reply ≡ data_text (resolved_for tables meta session d ask))
+resolves tables meta session ask None reply value is fits has told = tt
+resolves tables meta session ask (Some d) reply value is fits has told =
+    let meant : value ≡ resolved_for tables meta session d ask = has (compiled tables meta ask) is.spelled ∙ is.means d fits in told ∙ ap data_text meant
+
+-- the same over the tables of the database, and the text as it was asked
+resolves_over : (tables own : List Table) (meta : MetaTree) (session : Session) (text : List ℕ) (ask : Ask) (database : Option (List (List Row))) (reply : List ℕ) (value : JsonTree)
+    → own ≡ tables → text ≡ asked_text tables meta ask → IsStatement tables meta session ask → IfSome database (λ d. is_database own d ≡ true)
+    → IfSome database (Has own text value) → reply ≡ data_text value → IfSome database (λ d. reply ≡ data_text (resolved_for tables meta session d ask))
+resolves_over tables own meta session text ask database reply value same spelled is fits has told =
+    resolves tables meta session ask database reply value is
+    (subst (λ ts. IfSome database (λ d. is_database ts d ≡ true)) same fits)
+    (subst (λ t. IfSome database (Has tables t value)) spelled (subst (λ ts. IfSome database (Has ts text value)) same has)) told
+
+pub returns-clause-reply : goal.returns-clause-reply
+returns-clause-reply g c =
+    resolves_over c.args.self.now.catalog.tables (g.D.Database.tables c.args.db.now) (meta_view c.args.self.now.meta) c.args.session.now c.as_slice.result.now c.args.request.now
+    (g.D.Database.database c.args.db.now) c.in_ok-data_reply.field-0.body (json_view c.in_ok-data.data)
+    c.requires.catalog (c.as_slice.ensures ∙ c.in_ok-text.ensures.text) c.in_ok-text.ensures.statement (g.met.D.Database.database_fits c.args.db.now)
+    c.in_ok-data.ensures.answered c.in_ok-data_reply.ensures.body
