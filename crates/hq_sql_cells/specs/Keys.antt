@@ -17,7 +17,7 @@ other_cells (c ∷ cs) = cs
 -- the order of rows of keys: the first key that differs decides. Where a row has fewer keys than there are directions,
 -- NULLs stand for the rest
 abbrev pub keys_cmp : List Direction → List CellTree → List CellTree → Ordering
-keys_cmp [] xs ys = Equal
+keys_cmp [] = λ xs ys. Equal
 keys_cmp (d ∷ ds) = then_cmp (on first_cell (key_cmp d.desc d.nulls_first)) (on other_cells (keys_cmp ds))
 
 -- two rows of values are not distinct: they are as long, and so is no value from the one at its place, NULL being like

@@ -1,10 +1,13 @@
 //! Aggregates (PostgreSQL, aggregate functions). Each passes over NULL, and over JSON, which has no order.
-ghost use Rattle.std.specs.Prelude.{◌≡◌, map, filter, IfOk, cond};
-ghost use Rattle.std.specs.Ordering.{flip_args};
-ghost use Rattle.hq_base.specs.Cells.{cell_cmp, int_in};
-ghost use Rattle.hq_base.specs.Lists.{sort};
+ghost use Rattle.std.specs.Prelude.{◌≡◌, ◌&&◌, ◌||◌, map, filter, length, IfOk, OnOk, option_map};
+ghost use Rattle.std.specs.Ordering.{on, is_gt};
+ghost use Rattle.hq_base.specs.Cells.{cell_cmp, same_cell, int_in};
+ghost use Rattle.hq_base.specs.Lists.{Ascends, firsts, sort};
 ghost use Rattle.hq_base.specs.Aggregates.{is_taken, first_cell, counted, summed, least, greatest};
+ghost use Rattle.hq_terms.specs.Logic.{null_test};
 ghost use Rattle.hq_sql_cells.specs.View.{cell_view};
+ghost use Rattle.hq_sql_cells.specs.Best.{best_cmp};
+ghost use Rattle.hq_sql_cells.specs.Totals.{total_after, starts_group};
 
 use crate::Cell;
 use crate::order::cell_cmp;
@@ -33,7 +36,9 @@ pub fn counted<'d>(distinct: bool, cells: Vec<Cell<'d>>) -> Result<Cell<'d>, Mem
     Ok(Cell::Int(count as i128))
 }
 
-fn number_taken(cells: &[Cell<'_>]) -> usize {
+fn number_taken(cells: &[Cell<'_>]) -> usize
+    ensures { result ≡ length (filter is_taken (map cell_view cells.now)) }
+{
     let mut number = 0;
     for cell in cells {
         if is_taken(cell) {
@@ -44,21 +49,45 @@ fn number_taken(cells: &[Cell<'_>]) -> usize {
 }
 
 // Equal cells stand side by side once they are sorted.
-fn number_of_different(mut cells: Vec<Cell<'_>>) -> Result<usize, Memory> {
-    cells.sort_by(|left, right| cell_cmp(left, right))?;
-    Ok(number_of_runs(&cells))
+fn number_of_different(cells: Vec<Cell<'_>>) -> Result<usize, Memory>
+    ensures { IfOk result (λ number. number ≡ length (firsts same_cell (sort cell_cmp (filter is_taken (map cell_view cells.items))))) }
+{
+    let mut sorted = cells;
+    sort_cells(&mut sorted)?;
+    Ok(number_of_groups(&sorted))
 }
 
-fn number_of_runs(cells: &[Cell<'_>]) -> usize {
+fn sort_cells<'d>(cells: &mut Vec<Cell<'d>>) -> Result<(), Memory>
+    ensures { OnOk result (cells.new.items ≡ sort (on cell_view cell_cmp) cells.old.items) }
+{
+    cells.sort_by(|left, right| cell_cmp(left, right))?;
+    Ok(())
+}
+
+// How many different cells are taken, where the cells ascend.
+fn number_of_groups<'s, 'd>(cells: &'s [Cell<'d>]) -> usize
+    requires { Ascends cell_cmp (map cell_view cells.now) }
+    ensures { result ≡ length (firsts same_cell (filter is_taken (map cell_view cells.now))) }
+{
     let mut number = 0;
-    let mut last = &Cell::Null;
+    let mut last: Option<&'s Cell<'d>> = None;
     for cell in cells {
-        if is_taken(cell) && cell_cmp(last, cell) != Ordering::Equal {
+        if starts_group(last, cell) {
             number += 1;
-            last = cell;
+            last = Some(cell);
         }
     }
     number
+}
+
+// Whether a cell is taken and another one than the last that was taken.
+fn starts_group(last: Option<&Cell<'_>>, cell: &Cell<'_>) -> bool
+    ensures { result ≡ (is_taken (cell_view cell.now) && starts_group (option_map (λ c. cell_view c.now) last) (cell_view cell.now)) }
+{
+    match last {
+        Some(last) => is_taken(cell) && cell_cmp(last, cell) != Ordering::Equal,
+        None => is_taken(cell),
+    }
 }
 
 fn int_in(cell: &Cell<'_>) -> i128
@@ -77,7 +106,7 @@ pub fn summed<'d>(cells: &[Cell<'d>]) -> Result<Cell<'d>, Memory>
     let mut sum = None;
     for cell in cells {
         if is_taken(cell) {
-            sum = Some(added(sum, int_in(cell))?);
+            sum = Some(total_after(sum, int_in(cell))?);
         }
     }
     Ok(match sum {
@@ -86,30 +115,35 @@ pub fn summed<'d>(cells: &[Cell<'d>]) -> Result<Cell<'d>, Memory>
     })
 }
 
-fn added(sum: Option<i128>, n: i128) -> Result<i128, Memory> {
+// The sum after one more number.
+fn total_after(sum: Option<i128>, n: i128) -> Result<i128, Memory>
+    ensures { IfOk result (λ total. total ≡ total_after sum n) }
+{
     match sum {
         Some(sum) => sum.checked_add(n).ok_or(Memory),
         None => Ok(n),
     }
 }
 
-// Whether a cell stands before the best one so far.
-fn is_better(greatest: bool, cell: &Cell<'_>, best: &Cell<'_>) -> bool {
-    let wanted = if greatest {
-        Ordering::Greater
+// Whether a cell takes the place of the best one so far; NULL stands for none.
+fn is_better(greatest: bool, best: &Cell<'_>, cell: &Cell<'_>) -> bool
+    ensures { result ≡ (null_test (cell_view best.now) || is_gt (best_cmp greatest (cell_view best.now) (cell_view cell.now))) }
+{
+    let order = if greatest {
+        cell_cmp(cell, best)
     } else {
-        Ordering::Less
+        cell_cmp(best, cell)
     };
-    best.is_null() || cell_cmp(cell, best) == wanted
+    best.is_null() || order == Ordering::Greater
 }
 
 // The first one of the least, or of the greatest.
 fn best_of<'d>(greatest: bool, cells: Vec<Cell<'d>>) -> Cell<'d>
-    ensures { cell_view result ≡ first_cell (sort (cond greatest (flip_args cell_cmp) cell_cmp) (filter is_taken (map cell_view cells.items))) }
+    ensures { cell_view result ≡ first_cell (sort (best_cmp greatest) (filter is_taken (map cell_view cells.items))) }
 {
     let mut best = Cell::Null;
     for cell in cells {
-        if is_taken(&cell) && is_better(greatest, &cell, &best) {
+        if is_taken(&cell) && is_better(greatest, &best, &cell) {
             best = cell;
         }
     }

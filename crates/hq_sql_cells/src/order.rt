@@ -1,7 +1,8 @@
 //! The orders of cells and of sort keys (PostgreSQL, ORDER BY, with COLLATE "C").
-ghost use Rattle.std.specs.Prelude.{◌≡◌, map};
+ghost use Rattle.std.specs.Prelude.{◌≡◌, map, drop};
 ghost use Rattle.hq_base.specs.Cells.{kind_of, cell_cmp, null_rank, key_cmp};
 ghost use Rattle.hq_base.specs.Aggregates.{first_cell};
+ghost use Rattle.hq_terms.specs.Logic.{order_between};
 ghost use Rattle.hq_sql_cells.specs.View.{cell_view};
 ghost use Rattle.hq_sql_cells.specs.Keys.{keys_cmp};
 
@@ -28,15 +29,26 @@ fn kind(cell: &Cell<'_>) -> u8
     }
 }
 
+/// How two cells of one kind are ordered; None where one is NULL, or JSON, or the kinds differ.
+pub fn order_between(left: &Cell<'_>, right: &Cell<'_>) -> Option<Ordering>
+    ensures { result ≡ order_between (cell_view left.now) (cell_view right.now) }
+{
+    match (left, right) {
+        (Cell::Int(left), Cell::Int(right)) => Some(left.cmp(right)),
+        (Cell::Text(left), Cell::Text(right)) => Some(left.as_bytes().cmp(right.as_bytes())),
+        (Cell::Bool(left), Cell::Bool(right)) => Some(left.cmp(right)),
+        _ => None,
+    }
+}
+
 /// The order of cells, by kind and then by value: whole numbers by value, texts by their bytes, false before true.
+#[tactic(auto, using(crate::proofs::Orders::cell_cmp_between, crate::proofs::Orders::cell_cmp_kinds))]
 pub fn cell_cmp(left: &Cell<'_>, right: &Cell<'_>) -> Ordering
     ensures { result ≡ cell_cmp (cell_view left.now) (cell_view right.now) }
 {
-    match (left, right) {
-        (Cell::Int(left), Cell::Int(right)) => left.cmp(right),
-        (Cell::Text(left), Cell::Text(right)) => left.as_bytes().cmp(right.as_bytes()),
-        (Cell::Bool(left), Cell::Bool(right)) => left.cmp(right),
-        (left, right) => kind(left).cmp(&kind(right)),
+    match order_between(left, right) {
+        Some(order) => order,
+        None => kind(left).cmp(&kind(right)),
     }
 }
 
@@ -61,7 +73,9 @@ fn key_cmp(direction: Direction, left: &Cell<'_>, right: &Cell<'_>) -> Ordering
 }
 
 // The order by the key at a place. A row that has no such key has NULL there.
-fn key_cmp_at(direction: Direction, left: &[Cell<'_>], right: &[Cell<'_>], at: usize) -> Ordering {
+fn key_cmp_at(direction: Direction, left: &[Cell<'_>], right: &[Cell<'_>], at: usize) -> Ordering
+    ensures { result ≡ key_cmp direction.desc direction.nulls_first (first_cell (drop at (map cell_view left.now))) (first_cell (drop at (map cell_view right.now))) }
+{
     let null = Cell::Null;
     match (left.get(at), right.get(at)) {
         (Some(left), Some(right)) => key_cmp(direction, left, right),

@@ -1,12 +1,6 @@
-use crate::*;
-use hq_base::Val;
-use std::test::Fail;
-
-#[test]
-fn cells_of_values(rt: HostRuntime) -> Result<(), Fail> {
-    let _ = &rt;
-    let value = Val::Int(3);
-    let cell = Cell::of(&value);
-    assert!(rt; !cell.is_null());
-    Ok(())
-}
+mod aggregates;
+mod cells;
+mod fixture;
+mod pages;
+mod sorts;
+mod truths;

@@ -2,10 +2,11 @@
 //! matching).
 ghost use Rattle.std.specs.Prelude.{◌≡◌, map, IfOk};
 ghost use Rattle.hq_base.specs.Patterns.{like};
-ghost use Rattle.hq_terms.specs.Logic.{op_test, order_between, compared, among, matched};
+ghost use Rattle.hq_terms.specs.Logic.{op_test, compared, among, matched};
 ghost use Rattle.hq_sql_cells.specs.View.{cell_view};
 
 use crate::Cell;
+use crate::order::order_between;
 use hq_base::{Memory, Pattern, PatternRefusal, Txt};
 use hq_terms::{Op, Truth};
 use std::alloc::Global;
@@ -22,18 +23,6 @@ fn op_test(op: Op, order: Ordering) -> bool
         Op::Le => order != Ordering::Greater,
         Op::Gt => order == Ordering::Greater,
         Op::Ge => order != Ordering::Less,
-    }
-}
-
-// How two cells of one kind are ordered; None where one is NULL, or JSON, or the kinds differ.
-fn order_between(left: &Cell<'_>, right: &Cell<'_>) -> Option<Ordering>
-    ensures { result ≡ order_between (cell_view left.now) (cell_view right.now) }
-{
-    match (left, right) {
-        (Cell::Int(left), Cell::Int(right)) => Some(left.cmp(right)),
-        (Cell::Text(left), Cell::Text(right)) => Some(left.as_bytes().cmp(right.as_bytes())),
-        (Cell::Bool(left), Cell::Bool(right)) => Some(left.cmp(right)),
-        _ => None,
     }
 }
 
