@@ -1,5 +1,5 @@
 -- The first cell of a sorted list, found in one pass.
-use Rattle.std.proofs.Common.{◌≡◌, ◌×◌, List, [], ◌∷◌, filter, Bool, true, false, cond, ◌&&◌, ◌||◌, refl, sym, ap, ◌∙◌, Ordering, is_gt}
+use Rattle.std.proofs.Common.{◌≡◌, List, [], ◌∷◌, filter, Bool, true, false, cond, ◌&&◌, ◌||◌, refl, sym, ap, ◌∙◌, Ordering, is_gt}
 use Rattle.std.specs.Cmp.{IsTotalOrder}
 use Rattle.std.proofs.lemmas.Cmp.{upto, back_total}
 use Rattle.hq_base.specs.Aggregates.{is_taken, first_cell}

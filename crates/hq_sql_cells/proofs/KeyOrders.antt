@@ -1,8 +1,8 @@
 -- The order of rows of keys: it is total, it is found key by key, and std's sort by it is the sort of the definitions.
-use Rattle.std.proofs.Common.{Result, Ok, Err, OnOk, ◌≡◌, ℕ, zero, suc, length, map, drop, drop-cons, get_or, add-one, ◌<◌, arith, ◌+◌, List, [], ◌∷◌, Bool, true, false, refl, sym, ap, ◌∙◌, Ordering, Less, Equal, Greater, is_lt, is_eq}
+use Rattle.std.proofs.Common.{◌≡◌, ℕ, zero, suc, length, map, drop, drop-cons, get_or, add-one, ◌<◌, arith, ◌+◌, List, [], ◌∷◌, Bool, true, false, refl, sym, ap, ap₂, ◌∙◌, Ordering, Less, Equal, Greater, is_lt, is_eq}
 use Rattle.std.specs.Cmp.{IsTotalOrder, IsStrictWeakOrder}
 use Rattle.std.specs.Fn.{ComparesAs, Called}
-use Rattle.std.specs.List.Sorted.{IsSortedBy, IsStableBy, IsSortedByClosure, IsStableByClosure}
+use Rattle.std.specs.List.Sorted.{IsSortedBy, IsStableBy}
 use Rattle.std.specs.Ordering.{on, then_cmp, ordering_then}
 use Rattle.std.proofs.lemmas.Fn.{always_returns_same}
 use Rattle.std.proofs.lemmas.List.Sorted.{ranks_by}
@@ -10,7 +10,10 @@ use Rattle.std.proofs.lemmas.Cmp.{then_total, on_total}
 use denote.Ref.{Bor}
 use denote.Param.Members.{Mut}
 use Rattle.hq_base.specs.Aggregates.{first_cell}
-use Rattle.hq_base.specs.Cells.{CellTree, key_cmp}
+use Rattle.hq_base.specs.Cells.{CellTree, null, key_cmp}
+use Rattle.std.specs.Prelude.{slice_get, Option, Some, None}
+use Rattle.hq_sql_cells.specs.View.{cell_view}
+use Rattle.hq_sql_cells.specs.declared.cell.Cell.{Cell}
 use Rattle.hq_base.specs.Lists.{sort}
 use Rattle.hq_base.proofs.Orders.{key_cmp_total}
 use Rattle.hq_base.proofs.StableSorts.{std_sort}
@@ -31,8 +34,21 @@ keys_cmp_total (d ∷ ds) = then_total (on_total first_cell (key_cmp_total d.des
 pub other_drop : (i : ℕ) (cs : List CellTree) → other_cells (drop i cs) ≡ drop (i + 1) cs
 other_drop zero [] = refl
 other_drop zero (c ∷ cs) = refl
-other_drop (suc i) [] = refl
+other_drop (suc i) [] = let s : suc i + 1 ≡ suc (i + 1) = omega arith in rw s refl
 other_drop (suc i) (c ∷ cs) = let s : suc i + 1 ≡ suc (i + 1) = omega arith in rw s (other_drop i cs)
+
+-- the cell at a place
+pub cell_at : (xs : List Cell) (i : ℕ) (c : Cell) → slice_get xs i ≡ Some c → first_cell (drop i (map cell_view xs)) ≡ cell_view c
+cell_at [] i c h = cc
+cell_at (x ∷ xs) zero c h = let is : x ≡ c = cc in ap cell_view is
+cell_at (x ∷ xs) (suc i) c h = cell_at xs i c h
+
+-- and beyond the last one
+pub no_cell_at : (xs : List Cell) (i : ℕ) → slice_get xs i ≡ None → first_cell (drop i (map cell_view xs)) ≡ null
+no_cell_at [] zero h = refl
+no_cell_at [] (suc i) h = refl
+no_cell_at (x ∷ xs) zero h = cc
+no_cell_at (x ∷ xs) (suc i) h = no_cell_at xs i h
 
 -- the order from the i-th key on begins with that key
 keys_from : (ds : List Direction) (i : ℕ) (d : Direction) (xs ys : List CellTree) → i < length ds
@@ -40,7 +56,8 @@ keys_from : (ds : List Direction) (i : ℕ) (d : Direction) (xs ys : List CellTr
     ≡ ordering_then (key_cmp (get_or ds i d).desc (get_or ds i d).nulls_first (first_cell (drop i xs)) (first_cell (drop i ys))) (keys_cmp (drop (i + 1) ds) (drop (i + 1) xs) (drop (i + 1) ys))
 keys_from ds i d xs ys h =
     let s : drop i ds ≡ get_or ds i d ∷ drop (i + 1) ds = rw add-one (drop-cons ds i d h) in
-    rw s (rw (other_drop i xs, other_drop i ys) refl)
+    let first : Ordering = key_cmp (get_or ds i d).desc (get_or ds i d).nulls_first (first_cell (drop i xs)) (first_cell (drop i ys)) in
+    rw s (ap₂ (λ us vs. ordering_then first (keys_cmp (drop (i + 1) ds) us vs)) (other_drop i xs) (other_drop i ys))
 
 -- an equal key leads on to the next
 pub keys_step : (ds : List Direction) (i : ℕ) (d : Direction) (xs ys : List CellTree) → i < length ds
@@ -58,19 +75,12 @@ keys_other ds i d xs ys h e =
 
 -- ---- std's sort by a closure that compares by a total order of what n takes of each item
 
-from_sort_by : {X K F : Type 0} {R : K → K → Ordering} (o : IsTotalOrder R) (n : X → K) {g : Mut F (Bor X × (Bor X × Unit {0})) Ordering} {f : F} (xs ys : List X)
+pub sorted_by_closure : {X K F : Type 0} {R : K → K → Ordering} (o : IsTotalOrder R) (n : X → K) {g : Mut F (Bor X × (Bor X × Unit {0})) Ordering} {f : F} (xs ys : List X)
     → ((lt : X → X → Bool) → IsStrictWeakOrder lt → ComparesAs g lt f → IsSortedBy lt ys)
     → ((lt : X → X → Bool) → IsStrictWeakOrder lt → ComparesAs g lt f → IsStableBy lt xs ys)
     → ((a : Bor X × (Bor X × Unit {0})) (r : Ordering) (f' : F) → Called g f a r f' → (r ≡ R (n a.0.now) (n a.1.0.now)) × (f' ≡ f))
     → ys ≡ sort (on n R) xs
-from_sort_by {X = X} {R = R} o n {g = g} {f = f} xs ys sorted stable h =
+sorted_by_closure {X = X} {R = R} o n {g = g} {f = f} xs ys sorted stable h =
     let lt : X → X → Bool = λ x y. is_lt (R (n x) (n y)) in
     let same : ComparesAs g lt f = always_returns_same g (λ a r. is_lt r ≡ is_lt (R (n a.0.now) (n a.1.0.now))) f (λ a r f' k. (ap is_lt (h a r f' k).0, (h a r f' k).1)) in
     std_sort (on_total n o) xs ys (sorted lt (ranks_by o n) same) (stable lt (ranks_by o n) same)
-
-pub sorted_by_closure : {X K F T E : Type 0} {R : K → K → Ordering} (o : IsTotalOrder R) (n : X → K) {g : Mut F (Bor X × (Bor X × Unit {0})) Ordering} {f : F} (r : Result T E) (xs ys : List X)
-    → OnOk r (IsSortedByClosure g f ys) → IsStableByClosure g f xs ys
-    → ((a : Bor X × (Bor X × Unit {0})) (r : Ordering) (f' : F) → Called g f a r f' → (r ≡ R (n a.0.now) (n a.1.0.now)) × (f' ≡ f))
-    → OnOk r (ys ≡ sort (on n R) xs)
-sorted_by_closure o n (Ok x) xs ys up ties h = from_sort_by o n xs ys up ties h
-sorted_by_closure o n (Err e) xs ys up ties h = tt

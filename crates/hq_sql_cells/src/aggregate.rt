@@ -26,7 +26,7 @@ fn is_taken(cell: &Cell<'_>) -> bool
 
 /// `count(e)`: how many cells are taken, or with `distinct` how many different ones, in n log n comparisons.
 pub fn counted<'d>(distinct: bool, cells: Vec<Cell<'d>>) -> Result<Cell<'d>, Memory>
-    ensures { IfOk result (λ count. cell_view count ≡ counted distinct (map cell_view cells.items)) }
+    ensures { IfOk result (λ count. cell_view count ≡ counted distinct (map cell_view cells.entry.items)) }
 {
     let count = if distinct {
         number_of_different(cells)?
@@ -50,7 +50,7 @@ fn number_taken(cells: &[Cell<'_>]) -> usize
 
 // Equal cells stand side by side once they are sorted.
 fn number_of_different(cells: Vec<Cell<'_>>) -> Result<usize, Memory>
-    ensures { IfOk result (λ number. number ≡ length (firsts same_cell (sort cell_cmp (filter is_taken (map cell_view cells.items))))) }
+    ensures { IfOk result (λ number. number ≡ length (firsts same_cell (sort cell_cmp (filter is_taken (map cell_view cells.entry.items))))) }
 {
     let mut sorted = cells;
     sort_cells(&mut sorted)?;
@@ -82,7 +82,7 @@ fn number_of_groups<'s, 'd>(cells: &'s [Cell<'d>]) -> usize
 
 // Whether a cell is taken and another one than the last that was taken.
 fn starts_group(last: Option<&Cell<'_>>, cell: &Cell<'_>) -> bool
-    ensures { result ≡ (is_taken (cell_view cell.now) && starts_group (option_map (λ c. cell_view c.now) last) (cell_view cell.now)) }
+    ensures { result ≡ (is_taken (cell_view cell.now) && starts_group (option_map (λ c. cell_view c.now) last.entry) (cell_view cell.now)) }
 {
     match last {
         Some(last) => is_taken(cell) && cell_cmp(last, cell) != Ordering::Equal,
@@ -139,7 +139,7 @@ fn is_better(greatest: bool, best: &Cell<'_>, cell: &Cell<'_>) -> bool
 
 // The first one of the least, or of the greatest.
 fn best_of<'d>(greatest: bool, cells: Vec<Cell<'d>>) -> Cell<'d>
-    ensures { cell_view result ≡ first_cell (sort (best_cmp greatest) (filter is_taken (map cell_view cells.items))) }
+    ensures { cell_view result ≡ first_cell (sort (best_cmp greatest) (filter is_taken (map cell_view cells.entry.items))) }
 {
     let mut best = Cell::Null;
     for cell in cells {
@@ -152,14 +152,14 @@ fn best_of<'d>(greatest: bool, cells: Vec<Cell<'d>>) -> Cell<'d>
 
 /// `min(e)`: the least cell, NULL over none. Takes one pass.
 pub fn least<'d>(cells: Vec<Cell<'d>>) -> Cell<'d>
-    ensures { cell_view result ≡ least (map cell_view cells.items) }
+    ensures { cell_view result ≡ least (map cell_view cells.entry.items) }
 {
     best_of(false, cells)
 }
 
 /// `max(e)`: the greatest cell, NULL over none. Takes one pass.
 pub fn greatest<'d>(cells: Vec<Cell<'d>>) -> Cell<'d>
-    ensures { cell_view result ≡ greatest (map cell_view cells.items) }
+    ensures { cell_view result ≡ greatest (map cell_view cells.entry.items) }
 {
     best_of(true, cells)
 }

@@ -45,7 +45,7 @@ impl<'d> Cell<'d> {
 
     /// The JSON of the cell.
     pub fn into_json(self, alloc: Global) -> Result<Json, Memory>
-        ensures { IfOk result (λ json. json_view json ≡ json_of (cell_view self)) }
+        ensures { IfOk result (λ json. json_view json ≡ json_of (cell_view self.entry)) }
     {
         match self {
             Cell::Null => Ok(Json::Null),

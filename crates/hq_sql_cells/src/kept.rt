@@ -32,7 +32,7 @@ pub fn first_kept<'d, T: Drop>(
     alloc: Global,
     rows: Vec<Kept<'d, T>>,
 ) -> Result<Vec<Kept<'d, T>>, Memory>
-    ensures { IfOk result (λ kept. kept.items ≡ firsts same_group rows.items) }
+    ensures { IfOk result (λ kept. kept.items ≡ firsts same_group rows.entry.items) }
 {
     let mut groups: BTreeSet<Vec<SeenCell<'d>>> = BTreeSet::new(alloc);
     let mut kept = Vec::new(alloc);

@@ -73,6 +73,7 @@ fn key_cmp(direction: Direction, left: &Cell<'_>, right: &Cell<'_>) -> Ordering
 }
 
 // The order by the key at a place. A row that has no such key has NULL there.
+#[tactic(auto, using(crate::proofs::KeyOrders::cell_at, crate::proofs::KeyOrders::no_cell_at))]
 fn key_cmp_at(direction: Direction, left: &[Cell<'_>], right: &[Cell<'_>], at: usize) -> Ordering
     ensures { result ≡ key_cmp direction.desc direction.nulls_first (first_cell (drop at (map cell_view left.now))) (first_cell (drop at (map cell_view right.now))) }
 {
@@ -87,6 +88,7 @@ fn key_cmp_at(direction: Direction, left: &[Cell<'_>], right: &[Cell<'_>], at: u
 
 /// The order of two rows of sort keys: the first key that differs decides. Where a row has fewer keys than there are
 /// directions, NULLs stand for the rest.
+#[tactic(auto, using(crate::proofs::KeyOrders::keys_step, crate::proofs::KeyOrders::keys_other))]
 pub fn keys_cmp(order: &[Direction], left: &[Cell<'_>], right: &[Cell<'_>]) -> Ordering
     ensures { result ≡ keys_cmp order.now (map cell_view left.now) (map cell_view right.now) }
 {

@@ -10,7 +10,7 @@ pub fn paged<T: Drop>(rows: Vec<T>, offset: Option<u64>, limit: Option<u64>) -> 
 }
 
 fn from_offset<T: Drop>(mut rows: Vec<T>, offset: Option<u64>) -> Vec<T>
-    ensures { result.items ≡ offset_by offset rows.entry.items }
+    ensures { result.items ≡ offset_by offset rows.items }
 {
     match offset {
         Some(n) if (n as usize) < rows.len() => {
@@ -23,7 +23,7 @@ fn from_offset<T: Drop>(mut rows: Vec<T>, offset: Option<u64>) -> Vec<T>
 }
 
 fn up_to<T: Drop>(mut rows: Vec<T>, limit: Option<u64>) -> Vec<T>
-    ensures { result.items ≡ limited limit rows.entry.items }
+    ensures { result.items ≡ limited limit rows.items }
 {
     if let Some(n) = limit {
         rows.truncate(n as usize);
