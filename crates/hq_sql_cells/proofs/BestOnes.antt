@@ -1,14 +1,16 @@
 -- The first cell of a sorted list, found in one pass.
-use Rattle.std.proofs.Common.{◌≡◌, List, [], ◌∷◌, filter, Bool, true, false, cond, ◌&&◌, ◌||◌, refl, sym, ap, ◌∙◌, Ordering, is_gt}
+use Rattle.std.proofs.Common.{◌≡◌, List, [], ◌∷◌, map, filter, Bool, true, false, cond, ◌&&◌, ◌||◌, refl, sym, ap, ◌∙◌, Ordering, is_gt}
 use Rattle.std.specs.Cmp.{IsTotalOrder}
 use Rattle.std.proofs.lemmas.Cmp.{upto, back_total}
 use Rattle.hq_base.specs.Aggregates.{is_taken, first_cell}
-use Rattle.hq_base.specs.Cells.{CellTree, null, int, text, bool, json, cell_cmp}
-use Rattle.hq_base.specs.Lists.{Before, put, sort}
+use Rattle.hq_base.specs.Cells.{CellTree, null, int, text, bool, json}
+use Rattle.hq_base.specs.Lists.{put, sort}
 use Rattle.hq_base.proofs.Orders.{cell_cmp_total}
 use Rattle.hq_base.proofs.Sorts.{turned}
 use Rattle.hq_terms.specs.Logic.{null_test}
-use Rattle.hq_sql_cells.specs.Best.{best_cmp}
+use Rattle.hq_sql_cells.specs.declared.cell.Cell.{Cell}
+use Rattle.hq_sql_cells.specs.View.{cell_view}
+use Rattle.hq_sql_cells.specs.Best.{best_cmp, is_better}
 
 best_cmp_total : (greatest : Bool) → IsTotalOrder (best_cmp greatest)
 best_cmp_total true = back_total cell_cmp_total
@@ -50,7 +52,7 @@ taken_step g b x cs tb tx =
     rw (tb, tx) (first_two (best_cmp_total g) b x (sort (best_cmp g) (filter is_taken cs)) ∙ go (is_gt (best_cmp g b x)))
 
 other_step : (greatest : Bool) (b x : CellTree) (cs : List CellTree) → is_taken b ≡ true → null_test b ≡ false
-    → best_in greatest (b ∷ (x ∷ cs)) ≡ best_in greatest (cond (is_taken x && (null_test b || is_gt (best_cmp greatest b x))) x b ∷ cs)
+    → best_in greatest (b ∷ (x ∷ cs)) ≡ best_in greatest (cond (is_better greatest b x) x b ∷ cs)
 other_step g b x cs tb nb =
     let go : (t : Bool) → is_taken x ≡ t → best_in g (b ∷ (x ∷ cs)) ≡ best_in g (cond (t && is_gt (best_cmp g b x)) x b ∷ cs) =
     elim [ true ↦ λ e. taken_step g b x cs tb e | false ↦ λ e. rw e refl ] in
@@ -58,7 +60,7 @@ other_step g b x cs tb nb =
 
 -- a cell that is better takes the place of the best one so far
 pub best_step : (greatest : Bool) (b x : CellTree) (cs : List CellTree) → may_be_best b ≡ true
-    → best_in greatest (b ∷ (x ∷ cs)) ≡ best_in greatest (cond (is_taken x && (null_test b || is_gt (best_cmp greatest b x))) x b ∷ cs)
+    → best_in greatest (b ∷ (x ∷ cs)) ≡ best_in greatest (cond (is_better greatest b x) x b ∷ cs)
 best_step g null x cs ready =
     let go : (t : Bool) → is_taken x ≡ t → best_in g (x ∷ cs) ≡ best_in g (cond (t && true) x null ∷ cs) = elim [ true ↦ λ e. refl | false ↦ λ e. rw e refl ] in
     go (is_taken x) refl
@@ -66,6 +68,29 @@ best_step g (int n) x cs ready = other_step g (int n) x cs refl refl
 best_step g (text t) x cs ready = other_step g (text t) x cs refl refl
 best_step g (bool c) x cs ready = other_step g (bool c) x cs refl refl
 best_step g (json j) x cs ready = cc
+
+taken_may_be_best : (g : Bool) (b x : CellTree) → is_better g b x ≡ true → may_be_best x ≡ true
+taken_may_be_best g b null e = cc
+taken_may_be_best g b (int n) e = refl
+taken_may_be_best g b (text t) e = refl
+taken_may_be_best g b (bool c) e = refl
+taken_may_be_best g b (json j) e = cc
+
+-- one step of the pass, where the cell is better
+pub best_replaced : (g : Bool) (b : CellTree) (x : Cell) (old new : List Cell) (best : CellTree) → old ≡ x ∷ new → is_better g b (cell_view x) ≡ true
+    → (best_in g (b ∷ map cell_view old) ≡ best) × (may_be_best b ≡ true) → (best_in g (cell_view x ∷ map cell_view new) ≡ best) × (may_be_best (cell_view x) ≡ true)
+best_replaced g b x old new best is better h =
+    let step : best_in g (b ∷ (cell_view x ∷ map cell_view new)) ≡ best_in g (cond true (cell_view x) b ∷ map cell_view new) =
+    best_step g b (cell_view x) (map cell_view new) h.1 ∙ ap (λ t. best_in g (cond t (cell_view x) b ∷ map cell_view new)) better in
+    (sym step ∙ ap (λ cs. best_in g (b ∷ map cell_view cs)) (sym is) ∙ h.0, taken_may_be_best g b (cell_view x) better)
+
+-- and where it is not
+pub best_stays : (g : Bool) (b : CellTree) (x : Cell) (old new : List Cell) (best : CellTree) → old ≡ x ∷ new → is_better g b (cell_view x) ≡ false
+    → (best_in g (b ∷ map cell_view old) ≡ best) × (may_be_best b ≡ true) → (best_in g (b ∷ map cell_view new) ≡ best) × (may_be_best b ≡ true)
+best_stays g b x old new best is worse h =
+    let step : best_in g (b ∷ (cell_view x ∷ map cell_view new)) ≡ best_in g (cond false (cell_view x) b ∷ map cell_view new) =
+    best_step g b (cell_view x) (map cell_view new) h.1 ∙ ap (λ t. best_in g (cond t (cell_view x) b ∷ map cell_view new)) worse in
+    (sym step ∙ ap (λ cs. best_in g (b ∷ map cell_view cs)) (sym is) ∙ h.0, h.1)
 
 -- at the end of the list it is the best of all
 pub best_last : (greatest : Bool) (b : CellTree) → may_be_best b ≡ true → best_in greatest (b ∷ []) ≡ b

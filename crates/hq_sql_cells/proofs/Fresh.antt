@@ -1,5 +1,5 @@
 -- The first of each group, found with a set of those that were seen.
-use Rattle.std.proofs.Common.{◌≡◌, List, [], ◌∷◌, ◌++◌, filter, Bool, true, false, cond, not, ◌&&◌, ◌||◌, refl, sym, ap, ◌∙◌}
+use Rattle.std.proofs.Common.{◌≡◌, List, [], ◌∷◌, filter, Bool, true, false, cond, not, ◌&&◌, ◌||◌, refl, sym, ap, ◌∙◌}
 use Rattle.hq_base.specs.Lists.{firsts}
 use Rattle.hq_base.proofs.Lists.{filter_filter}
 

@@ -1,9 +1,18 @@
 -- The first of each group in one pass, where the list ascends by what the groups share.
-use Rattle.std.proofs.Common.{◌≡◌, List, [], ◌∷◌, filter, Bool, true, false, cond, not, ◌&&◌, Option, Some, None, refl, sym, ap, ◌∙◌, Ordering, Less, Equal, Greater, is_eq, is_gt}
+use Rattle.std.proofs.Common.{◌≡◌, ◌+◌, ◌≤◌, arith, length, map, drop, List, [], ◌∷◌, filter, Bool, true, false, cond, not, Option, Some, None, refl, sym, ap, ◌∙◌, Ordering, Less, Equal, Greater, is_eq, is_gt}
 use Rattle.std.specs.Cmp.{IsTotalOrder}
 use Rattle.std.proofs.lemmas.Cmp.{alike_right}
-use Rattle.hq_base.specs.Lists.{Each, Before, Ascends, firsts}
-use Rattle.hq_base.proofs.Lists.{each_filter, each_firsts, filter_filter}
+use Rattle.std.specs.Prelude.{ℕ}
+use Rattle.std.specs.Ordering.{on}
+use Rattle.std.proofs.Math.ListN.{drop_of_length-le}
+use Rattle.hq_base.specs.Aggregates.{is_taken}
+use Rattle.hq_base.specs.Cells.{CellTree, cell_cmp, same_cell}
+use Rattle.hq_base.specs.Lists.{Each, Before, Ascends, firsts, sort}
+use Rattle.hq_base.proofs.Lists.{each_filter, each_firsts}
+use Rattle.hq_base.proofs.Orders.{cell_cmp_total}
+use Rattle.hq_base.proofs.Sorts.{ascends_filter, sort_map}
+use Rattle.hq_sql_cells.specs.View.{cell_view}
+use Rattle.hq_sql_cells.specs.declared.cell.Cell.{Cell}
 
 -- what a test keeps of the items that a weaker test keeps is what it keeps of all
 filter_weaker : {A : Type 0} (p q : A → Bool) → ((x : A) → p x ≡ true → q x ≡ true) → (xs : List A) → filter p (filter q xs) ≡ filter p xs
@@ -63,3 +72,20 @@ module _ {A : Type 0} {R : A → A → Ordering} (o : IsTotalOrder R) where
   pub firsts_in_one_pass : (xs : List A) → Ascends R xs → firsts same xs ≡ pass_from same None xs
   firsts_in_one_pass [] a = refl
   firsts_in_one_pass (x ∷ xs) a = ap (λ l. x ∷ l) (pass_is x xs a.0 a.1)
+
+-- ---- cells that aggregates take
+
+-- cells that are sorted by what they are seen as are the sort of what they are seen as
+pub sorted_cells : (xs ys : List Cell) → ys ≡ sort (on cell_view cell_cmp) xs → map cell_view ys ≡ sort cell_cmp (map cell_view xs)
+sorted_cells xs ys is = ap (map cell_view) is ∙ sym (sort_map cell_view cell_cmp xs)
+
+-- the number of groups, once the pass has come to the end
+pub groups_end : (n i : ℕ) (last : Option CellTree) (cs : List Cell) → length cs ≤ i
+    → n + length (pass_from same_cell last (filter is_taken (map cell_view (drop i cs)))) ≡ length (pass_from same_cell None (filter is_taken (map cell_view cs)))
+    → Ascends cell_cmp (map cell_view cs) → n ≡ length (firsts same_cell (filter is_taken (map cell_view cs)))
+groups_end n i last cs over h up =
+    let none : (l : Option CellTree) → length (pass_from same_cell l []) ≡ 0 = elim [ None ↦ refl | Some x ↦ refl ] in
+    let at_end : n ≡ length (pass_from same_cell None (filter is_taken (map cell_view cs))) =
+    let g : n + length (pass_from same_cell last (filter is_taken (map cell_view (drop i cs)))) ≡ n = rw (drop_of_length-le cs over) (rw (none last) (omega arith)) in
+    sym g ∙ h in
+    at_end ∙ ap length (sym (firsts_in_one_pass cell_cmp_total (filter is_taken (map cell_view cs)) (ascends_filter cell_cmp is_taken (map cell_view cs) up)))

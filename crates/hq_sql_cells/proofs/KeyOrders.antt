@@ -1,9 +1,9 @@
 -- The order of rows of keys: it is total, it is found key by key, and std's sort by it is the sort of the definitions.
-use Rattle.std.proofs.Common.{◌≡◌, ℕ, zero, suc, length, map, drop, drop-cons, get_or, add-one, ◌<◌, arith, ◌+◌, List, [], ◌∷◌, Bool, true, false, refl, sym, ap, ap₂, ◌∙◌, Ordering, Less, Equal, Greater, is_lt, is_eq}
+use Rattle.std.proofs.Common.{◌≡◌, ℕ, zero, suc, length, map, drop, drop-cons, get_or, add-one, ◌<◌, ◌≤◌, arith, ◌+◌, List, [], ◌∷◌, Bool, false, refl, ap, ap₂, ◌∙◌, Ordering, Less, Equal, Greater, is_lt, is_eq}
 use Rattle.std.specs.Cmp.{IsTotalOrder, IsStrictWeakOrder}
 use Rattle.std.specs.Fn.{ComparesAs, Called}
 use Rattle.std.specs.List.Sorted.{IsSortedBy, IsStableBy}
-use Rattle.std.specs.Ordering.{on, then_cmp, ordering_then}
+use Rattle.std.specs.Ordering.{on, ordering_then}
 use Rattle.std.proofs.lemmas.Fn.{always_returns_same}
 use Rattle.std.proofs.lemmas.List.Sorted.{ranks_by}
 use Rattle.std.proofs.lemmas.Cmp.{then_total, on_total}
@@ -11,7 +11,6 @@ use denote.Ref.{Bor}
 use denote.Param.Members.{Mut}
 use Rattle.hq_base.specs.Aggregates.{first_cell}
 use Rattle.hq_base.specs.Cells.{CellTree, null, key_cmp}
-use Rattle.std.specs.Prelude.{slice_get, Option, Some, None}
 use Rattle.hq_sql_cells.specs.View.{cell_view}
 use Rattle.hq_sql_cells.specs.declared.cell.Cell.{Cell}
 use Rattle.hq_base.specs.Lists.{sort}
@@ -38,17 +37,17 @@ other_drop (suc i) [] = let s : suc i + 1 ≡ suc (i + 1) = omega arith in rw s 
 other_drop (suc i) (c ∷ cs) = let s : suc i + 1 ≡ suc (i + 1) = omega arith in rw s (other_drop i cs)
 
 -- the cell at a place
-pub cell_at : (xs : List Cell) (i : ℕ) (c : Cell) → slice_get xs i ≡ Some c → first_cell (drop i (map cell_view xs)) ≡ cell_view c
-cell_at [] i c h = cc
-cell_at (x ∷ xs) zero c h = let is : x ≡ c = cc in ap cell_view is
-cell_at (x ∷ xs) (suc i) c h = cell_at xs i c h
+pub cell_at : (xs : List Cell) (i : ℕ) (c : Cell) → i < length xs → c ≡ get_or xs i c → cell_view c ≡ first_cell (drop i (map cell_view xs))
+cell_at [] i c h is = absurd (omega arith)
+cell_at (x ∷ xs) zero c h is = ap cell_view is
+cell_at (x ∷ xs) (suc i) c h is = cell_at xs i c (omega arith) is
 
 -- and beyond the last one
-pub no_cell_at : (xs : List Cell) (i : ℕ) → slice_get xs i ≡ None → first_cell (drop i (map cell_view xs)) ≡ null
+pub no_cell_at : (xs : List Cell) (i : ℕ) → length xs ≤ i → null ≡ first_cell (drop i (map cell_view xs))
 no_cell_at [] zero h = refl
 no_cell_at [] (suc i) h = refl
-no_cell_at (x ∷ xs) zero h = cc
-no_cell_at (x ∷ xs) (suc i) h = no_cell_at xs i h
+no_cell_at (x ∷ xs) zero h = absurd (omega arith)
+no_cell_at (x ∷ xs) (suc i) h = no_cell_at xs i (omega arith)
 
 -- the order from the i-th key on begins with that key
 keys_from : (ds : List Direction) (i : ℕ) (d : Direction) (xs ys : List CellTree) → i < length ds

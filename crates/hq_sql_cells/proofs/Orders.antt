@@ -1,5 +1,5 @@
 -- How cells of one kind, and of two kinds, are ordered.
-use Rattle.std.proofs.Common.{◌≡◌, refl, sym, ◌∙◌, Option, Some, None, Ordering, Less, Equal, Greater}
+use Rattle.std.proofs.Common.{◌≡◌, refl, ◌∙◌, Some, None, Ordering, Less, Equal, Greater}
 use Rattle.std.specs.Cmp.Lexicographic.{slice_cmp}
 use Rattle.std.specs.Ordering.{nat_cmp, int_cmp, bool_cmp, ordering_then}
 use Rattle.hq_base.specs.Cells.{CellTree, null, int, text, bool, json, kind_of, cell_cmp}

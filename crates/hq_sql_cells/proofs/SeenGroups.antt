@@ -1,6 +1,5 @@
 -- A set of the values that were seen tells groups apart as DISTINCT ON does.
-use Rattle.std.proofs.Common.{◌≡◌, List, [], ◌∷◌, map, Bool, true, false, ◌&&◌, ◌||◌, refl, sym, ap, ap₂, ◌∙◌, Ordering, Less, Equal, Greater, is_eq}
-use Rattle.std.specs.Prelude.{ℕ, ℤ}
+use Rattle.std.proofs.Common.{◌≡◌, List, [], ◌∷◌, ◌++◌, map, cond, not, Bool, true, false, ◌&&◌, ◌||◌, refl, sym, ap, ap₂, ◌∙◌, Ordering, Less, Equal, Greater, is_eq}
 use Rattle.std.specs.Cmp.{IsTotalOrder}
 use Rattle.std.specs.Cmp.Lexicographic.{slice_cmp}
 use Rattle.std.specs.List.{list_any}
@@ -8,7 +7,7 @@ use Rattle.std.specs.Ordering.{nat_cmp, int_cmp, ordering_then, ordering_reverse
 use Rattle.std.specs.BTreeSet.{insert_key}
 use Rattle.std.specs.Global.{Vec}
 use Rattle.hq_sql_cells.specs.declared.kept.Kept.{Kept}
-use Rattle.hq_base.specs.Cells.{same_cell, cell_cmp}
+use Rattle.hq_base.specs.Cells.{cell_cmp}
 use Rattle.hq_sql_cells.specs.contracts.seen.SeenCellOrd.TheImpl as seen_ord
 use Rattle.hq_sql_cells.specs.declared.cell.Cell.{Cell}
 use Rattle.hq_sql_cells.specs.declared.cell.Cell.TheVariants.{Null, Int, Text, Bool as Flag, Json}
@@ -20,7 +19,10 @@ use Rattle.std.proofs.lemmas.Cmp.{lists_total}
 use Rattle.hq_sql_cells.specs.Keys.{same_cells, same_group}
 use Rattle.hq_sql_cells.specs.Seen.{seen_of}
 use Rattle.hq_sql_cells.specs.View.{cell_view}
+use Rattle.hq_base.specs.Lists.{firsts}
+use Rattle.hq_base.proofs.Lists.{filter_all, each_all}
 use Rattle.hq_sql_cells.proofs.Orders.{then_equal}
+use Rattle.hq_sql_cells.proofs.Fresh.{fresh, fresh_step}
 
 -- cells of a set stand in the order of the cells that they were taken from
 seen_cmp_is : (a b : Cell) → seen_ord.ghosts.cmp (seen_of a) (seen_of b) ≡ cell_cmp (cell_view a) (cell_view b)
@@ -141,3 +143,44 @@ seen_grows keys key x is y =
     let test : Vec SeenCell → Bool = λ k. is_eq (rows_cmp k.items (map seen_of y.distinct.items)) in
     any_inserted (λ j k. rows_cmp j.items k.items) test (λ j k e. ap is_eq (rows_cmp_total.congr j.items k.items (map seen_of y.distinct.items) e)) key keys
     ∙ ap (λ b. b || list_any test keys) (ap (λ ks. is_eq (rows_cmp ks (map seen_of y.distinct.items))) is ∙ same_rows x.distinct.items y.distinct.items)
+
+-- whether the set has the values of a row
+seen_found : {T : Type 0} (keys : List (Vec SeenCell)) (key : Vec SeenCell) (x : Kept T) → key.items ≡ map seen_of x.distinct.items → list_any (λ k. is_eq (rows_cmp key.items k.items)) keys ≡ seen_in keys x
+seen_found [] key x is = refl
+seen_found (k ∷ keys) key x is =
+    ap₂ (λ a b. a || b) (flip_is_eq key.items k.items ∙ ap (λ ks. is_eq (rows_cmp k.items ks)) is) (seen_found keys key x is)
+
+append_assoc : {A : Type 0} (xs ys zs : List A) → (xs ++ ys) ++ zs ≡ xs ++ (ys ++ zs)
+append_assoc [] ys zs = refl
+append_assoc (x ∷ xs) ys zs = ap (λ l. x ∷ l) (append_assoc xs ys zs)
+
+-- no row was seen by the empty set
+pub fresh_begin : {T : Type 0} (keys : List (Vec SeenCell)) (kept old rows : List (Kept T)) → keys ≡ [] → kept ≡ [] → old ≡ rows → kept ++ fresh same_group (seen_in keys) old ≡ firsts same_group rows
+fresh_begin {T} keys kept old rows k e is =
+    let none : fresh same_group (seen_in []) rows ≡ firsts same_group rows = filter_all (λ x. not (seen_in [] x)) (firsts same_group rows) (each_all (λ (x : Kept T). not (seen_in [] x) ≡ true) (λ x. refl) (firsts same_group rows)) in
+    rw (k, e, is) none
+
+abbrev inserted : List (Vec SeenCell) → Vec SeenCell → List (Vec SeenCell)
+inserted keys key = insert_key (λ j k. rows_cmp j.items k.items) keys key
+
+module _ {T : Type 0} (keys later : List (Vec SeenCell)) (key : Vec SeenCell) (x : Kept T) (kept old new all : List (Kept T)) (is : key.items ≡ map seen_of x.distinct.items) (puts : later ≡ inserted keys key) (next : old ≡ x ∷ new) (before : kept ++ fresh same_group (seen_in keys) old ≡ all) where
+  step : kept ++ cond (seen_in keys x) (fresh same_group (seen_in later) new) (x ∷ fresh same_group (seen_in later) new) ≡ all
+  step =
+      let grows : (y : Kept T) → seen_in later y ≡ (same_group x y || seen_in keys y) = λ y. ap (λ ks. seen_in ks y) puts ∙ seen_grows keys key x is y in
+      ap (λ l. kept ++ l) (sym (fresh_step same_group (seen_in keys) (seen_in later) x grows new)) ∙ ap (λ l. kept ++ fresh same_group (seen_in keys) l) (sym next) ∙ before
+
+  -- a row whose group is new is kept
+  pub fresh_kept : (more : List (Kept T)) → not (list_any (λ k. is_eq (rows_cmp key.items k.items)) keys) ≡ true → more ≡ kept ++ x ∷ [] → more ++ fresh same_group (seen_in later) new ≡ all
+  fresh_kept more found grown =
+      let unseen : not (seen_in keys x) ≡ true = ap not (sym (seen_found keys key x is)) ∙ found in
+      let go : (b : Bool) → not b ≡ true → kept ++ cond b (fresh same_group (seen_in later) new) (x ∷ fresh same_group (seen_in later) new) ≡ all → more ++ fresh same_group (seen_in later) new ≡ all =
+      elim [ true ↦ λ e h. cc | false ↦ λ e h. ap (λ l. l ++ fresh same_group (seen_in later) new) grown ∙ append_assoc kept (x ∷ []) (fresh same_group (seen_in later) new) ∙ h ] in
+      go (seen_in keys x) unseen step
+
+  -- another one is passed over
+  pub fresh_passed : not (list_any (λ k. is_eq (rows_cmp key.items k.items)) keys) ≡ false → kept ++ fresh same_group (seen_in later) new ≡ all
+  fresh_passed found =
+      let seen : not (seen_in keys x) ≡ false = ap not (sym (seen_found keys key x is)) ∙ found in
+      let go : (b : Bool) → not b ≡ false → kept ++ cond b (fresh same_group (seen_in later) new) (x ∷ fresh same_group (seen_in later) new) ≡ all → kept ++ fresh same_group (seen_in later) new ≡ all =
+      elim [ true ↦ λ e h. h | false ↦ λ e h. cc ] in
+      go (seen_in keys x) seen step

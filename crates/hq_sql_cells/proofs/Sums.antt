@@ -1,5 +1,5 @@
 -- A sum that has begun.
-use Rattle.std.proofs.Common.{◌≡◌, refl, List, [], ◌∷◌, Option, Some, None, fold, ◌+ℤ◌}
+use Rattle.std.proofs.Common.{◌≡◌, refl, List, ◌∷◌, Option, Some, None, fold, ◌+ℤ◌}
 use Rattle.std.specs.Prelude.{ℤ}
 use Rattle.hq_base.specs.Aggregates.{sum_of}
 use Rattle.hq_base.specs.Cells.{CellTree, int, int_in}

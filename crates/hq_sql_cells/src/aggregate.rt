@@ -1,12 +1,11 @@
 //! Aggregates (PostgreSQL, aggregate functions). Each passes over NULL, and over JSON, which has no order.
-ghost use Rattle.std.specs.Prelude.{◌≡◌, ◌&&◌, ◌||◌, map, filter, length, IfOk, OnOk, option_map};
-ghost use Rattle.std.specs.Ordering.{on, is_gt};
+ghost use Rattle.std.specs.Prelude.{◌≡◌, ◌&&◌, map, filter, length, IfOk, OnOk, option_map};
+ghost use Rattle.std.specs.Ordering.{on};
 ghost use Rattle.hq_base.specs.Cells.{cell_cmp, same_cell, int_in};
 ghost use Rattle.hq_base.specs.Lists.{Ascends, firsts, sort};
 ghost use Rattle.hq_base.specs.Aggregates.{is_taken, first_cell, counted, summed, least, greatest};
-ghost use Rattle.hq_terms.specs.Logic.{null_test};
 ghost use Rattle.hq_sql_cells.specs.View.{cell_view};
-ghost use Rattle.hq_sql_cells.specs.Best.{best_cmp};
+ghost use Rattle.hq_sql_cells.specs.Best.{best_cmp, is_better};
 ghost use Rattle.hq_sql_cells.specs.Totals.{total_after, starts_group};
 
 use crate::Cell;
@@ -125,25 +124,26 @@ fn total_after(sum: Option<i128>, n: i128) -> Result<i128, Memory>
     }
 }
 
-// Whether a cell takes the place of the best one so far; NULL stands for none.
+// Whether a cell is taken and stands before the best one so far; NULL stands for none.
 fn is_better(greatest: bool, best: &Cell<'_>, cell: &Cell<'_>) -> bool
-    ensures { result ≡ (null_test (cell_view best.now) || is_gt (best_cmp greatest (cell_view best.now) (cell_view cell.now))) }
+    ensures { result ≡ is_better greatest (cell_view best.now) (cell_view cell.now) }
 {
     let order = if greatest {
         cell_cmp(cell, best)
     } else {
         cell_cmp(best, cell)
     };
-    best.is_null() || order == Ordering::Greater
+    is_taken(cell) && (best.is_null() || order == Ordering::Greater)
 }
 
 // The first one of the least, or of the greatest.
+#[tactic(auto, using(crate::proofs::BestOnes::best_last))]
 fn best_of<'d>(greatest: bool, cells: Vec<Cell<'d>>) -> Cell<'d>
     ensures { cell_view result ≡ first_cell (sort (best_cmp greatest) (filter is_taken (map cell_view cells.entry.items))) }
 {
     let mut best = Cell::Null;
     for cell in cells {
-        if is_taken(&cell) && is_better(greatest, &best, &cell) {
+        if is_better(greatest, &best, &cell) {
             best = cell;
         }
     }
