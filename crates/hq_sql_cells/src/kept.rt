@@ -1,5 +1,5 @@
 //! Rows that WHERE kept, beside their sort keys and their values of DISTINCT ON (PostgreSQL, SELECT).
-ghost use Rattle.std.specs.Prelude.{◌≡◌, IfOk, OnOk};
+ghost use Rattle.std.specs.Prelude.{◌≡◌, IfOk, OnOk, map};
 ghost use Rattle.std.specs.Ordering.{on};
 ghost use Rattle.hq_base.specs.Lists.{sort, firsts};
 ghost use Rattle.hq_sql_cells.specs.Keys.{keys_cmp, keys_of, same_group};
@@ -24,6 +24,17 @@ pub fn sort_kept<'d, T>(order: &[Direction], rows: &mut Vec<Kept<'d, T>>) -> Res
 {
     rows.sort_by(|left, right| keys_cmp(order, &left.keys, &right.keys))?;
     Ok(())
+}
+
+/// The rows alone, in the same order.
+pub fn rows_of<'d, T: Drop>(alloc: Global, kept: Vec<Kept<'d, T>>) -> Result<Vec<T>, Memory>
+    ensures { IfOk result (λ rows. rows.items ≡ map (λ k. k.row) kept.entry.items) }
+{
+    let mut rows = Vec::with_capacity(alloc, kept.len())?;
+    for Kept { row, .. } in kept {
+        rows.push(row)?;
+    }
+    Ok(rows)
 }
 
 /// DISTINCT ON: the first row of each group of those whose values are not distinct, in about n log n comparisons. NULL is

@@ -13,7 +13,7 @@ mod truth;
 
 pub use aggregate::{counted, greatest, least, summed};
 pub use cell::Cell;
-pub use kept::{Kept, first_kept, sort_kept};
+pub use kept::{Kept, first_kept, rows_of, sort_kept};
 pub use order::{Direction, keys_cmp};
 pub use page::paged;
 pub use truth::{among, compared, matched};

@@ -1,6 +1,6 @@
 use crate::tests::fixture::{cells, values};
 use crate::{Cell, counted, greatest, least, summed};
-use hq_base::{Bytes, Memory};
+use hq_base::{Bytes, Memory, Val};
 use std::alloc::Global;
 use std::test::Fail;
 
@@ -12,6 +12,15 @@ fn written(alloc: Global, cells: Vec<Cell<'_>>) -> Result<Bytes, Memory> {
         out.push(b' ')?;
     }
     Ok(out)
+}
+
+fn of_each_kind<'d>(alloc: Global, values: &'d [Val]) -> Result<Vec<Cell<'d>>, Memory> {
+    let mut all = Vec::new(alloc);
+    all.push(counted(false, cells(alloc, values)?)?)?;
+    all.push(counted(true, cells(alloc, values)?)?)?;
+    all.push(least(cells(alloc, values)?))?;
+    all.push(greatest(cells(alloc, values)?))?;
+    Ok(all)
 }
 
 // Cells, how many they are, how many different ones, the least and the greatest (PostgreSQL, aggregate functions).
@@ -34,12 +43,8 @@ fn counts_and_extremes(rt: HostRuntime) -> Result<(), Fail> {
     let alloc = rt.alloc();
     for (words, want) in &CASES {
         let values = values(alloc, words)?;
-        let mut all = Vec::new(alloc);
-        all.push(counted(false, cells(alloc, &values)?)?)?;
-        all.push(counted(true, cells(alloc, &values)?)?)?;
-        all.push(least(cells(alloc, &values)?))?;
-        all.push(greatest(cells(alloc, &values)?))?;
-        assert_eq!(rt; written(alloc, all)?.as_slice(), want.as_bytes(), "{words}");
+        let told = written(alloc, of_each_kind(alloc, &values)?)?;
+        assert_eq!(rt; told.as_slice(), want.as_bytes(), "{words}");
     }
     Ok(())
 }

@@ -1,5 +1,5 @@
 use crate::tests::fixture::{cells, values};
-use crate::{Direction, Kept, first_kept, keys_cmp, sort_kept};
+use crate::{Cell, Direction, Kept, first_kept, keys_cmp, rows_of, sort_kept};
 use hq_base::Val;
 use std::alloc::Global;
 use std::cmp::Ordering;
@@ -50,8 +50,8 @@ fn kept<'d>(alloc: Global, rows: &'d [Vec<Val>]) -> Result<Vec<Kept<'d, usize>>,
 // The places of rows as digits.
 fn places(alloc: Global, rows: Vec<Kept<'_, usize>>) -> Result<String, Fail> {
     let mut digits = String::new(alloc);
-    for row in rows {
-        let digit = "0123456789".chars().nth(row.row);
+    for row in rows_of(alloc, rows)? {
+        let digit = "0123456789".chars().nth(row);
         digits.push(digit.unwrap_or('?'))?;
     }
     Ok(digits)
@@ -117,9 +117,10 @@ fn a_row_without_keys_is_one_of_nulls(rt: HostRuntime) -> Result<(), Fail> {
     let alloc = rt.alloc();
     let values = values(alloc, "1 2")?;
     let row = cells(alloc, &values)?;
+    let first = [Cell::Int(1)];
     assert_eq!(rt; keys_cmp(&[ASC], &row, &[]), Ordering::Less);
     assert_eq!(rt; keys_cmp(&[ASC_NULLS_FIRST], &row, &[]), Ordering::Greater);
-    assert_eq!(rt; keys_cmp(&[DESC, ASC], &row[..1], &row), Ordering::Greater);
+    assert_eq!(rt; keys_cmp(&[DESC, ASC], &first, &row), Ordering::Greater);
     assert_eq!(rt; keys_cmp(&[ASC], &[], &[]), Ordering::Equal);
     Ok(())
 }

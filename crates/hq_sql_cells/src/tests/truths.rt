@@ -31,8 +31,10 @@ fn comparisons(rt: HostRuntime) -> Result<(), Fail> {
     let alloc = rt.alloc();
     for (op, sides, want) in &COMPARISONS {
         let values = values(alloc, sides)?;
-        let cells = cells(alloc, &values)?;
-        assert_eq!(rt; compared(*op, &cells[0], &cells[1]), *want, "{sides}");
+        match cells(alloc, &values)?.as_slice() {
+            [left, right] => assert_eq!(rt; compared(*op, left, right), *want, "{sides}"),
+            _ => assert!(rt; false, "{sides}"),
+        }
     }
     Ok(())
 }
@@ -54,8 +56,10 @@ fn members_of_lists(rt: HostRuntime) -> Result<(), Fail> {
     let alloc = rt.alloc();
     for (words, want) in &MEMBERS {
         let values = values(alloc, words)?;
-        let cells = cells(alloc, &values)?;
-        assert_eq!(rt; among(&cells[1..], &cells[0]), *want, "{words}");
+        match cells(alloc, &values)?.as_slice() {
+            [cell, items @ ..] => assert_eq!(rt; among(items, cell), *want, "{words}"),
+            [] => assert!(rt; false, "{words}"),
+        }
     }
     Ok(())
 }
@@ -80,9 +84,12 @@ fn texts_like_patterns(rt: HostRuntime) -> Result<(), Fail> {
     let alloc = rt.alloc();
     for (fold, words, want) in &PATTERNS {
         let values = values(alloc, words)?;
-        let cells = cells(alloc, &values)?;
-        let truth = matched(alloc, *fold, &cells[0], &cells[1])?;
-        assert_eq!(rt; truth, *want, "{words}");
+        match cells(alloc, &values)?.as_slice() {
+            [text, pattern] => {
+                assert_eq!(rt; matched(alloc, *fold, text, pattern)?, *want, "{words}")
+            }
+            _ => assert!(rt; false, "{words}"),
+        }
     }
     Ok(())
 }
