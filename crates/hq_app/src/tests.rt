@@ -3,7 +3,7 @@ ghost use Rattle.std.specs.Prelude.{◌≢◌};
 use super::*;
 use hq_base::{Bytes, List, Memory, Txt};
 use hq_engine::Engine;
-use hq_list_db::ListDb;
+use hq_db::SqlDb;
 use hq_memory::{MemFiles, MemSink, MemSource, SureDoor, SureFiles, SureSink, SureSource};
 use hq_outside::{File, FileList, NumList, names_differ};
 use hq_tables::MemTables;
@@ -347,7 +347,7 @@ fn answered_one(alloc: Global, input: &[u8]) -> Result<(u8, MemSink, MemSink), F
         rows,
     } = loaded;
     let engine = Engine::new(catalog.copy(alloc)?, meta);
-    let mut db = ListDb::new(MemTables::new(catalog, rows));
+    let mut db = SqlDb::new(MemTables::new(catalog, rows));
     let session = Session {
         role: text(alloc, "user")?,
         vars: List::new(alloc),

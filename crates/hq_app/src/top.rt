@@ -14,7 +14,7 @@ use crate::{Command, Done, Loaded, Ran, Refusal, World, load};
 use hq_base::Txt;
 use hq_engine::Engine;
 use hq_link::Database;
-use hq_list_db::ListDb;
+use hq_db::SqlDb;
 use hq_outside::{Door, Files, Sink, Source};
 use hq_session::Headers;
 use hq_tables::{MemTables, Tables};
@@ -47,7 +47,7 @@ fn respond<S: Source, K: Sink>(
         rows,
     } = loaded;
     let engine = Engine::new(catalog.copy(alloc)?, meta);
-    let mut db = ListDb::new(MemTables::new(catalog, rows));
+    let mut db = SqlDb::new(MemTables::new(catalog, rows));
     reply_to(alloc, &engine, session, &mut db, input, out)
 }
 
@@ -157,18 +157,18 @@ pub fn answer_one<T: Tables, S: Source, K: Sink, E: Sink>(
     alloc: Global,
     engine: &Engine,
     session: &Session,
-    db: &mut ListDb<T>,
+    db: &mut SqlDb<T>,
     input: &mut S,
     out: &mut K,
     err: &mut E,
 ) -> u8
-    requires catalog { ⟦<ListDb<T> as Database>⟧.tables db.old ≡ engine.now.catalog.tables }
+    requires catalog { ⟦<SqlDb<T> as Database>⟧.tables db.old ≡ engine.now.catalog.tables }
 
     // The status is that of an answer, which is the due one unless memory or an object of the outside failed; standard error
     // has its line.
     ensures ends { (answer : Answer) × (result ≡ status_of answer)
         × Tells (E.written err.old) (E.written err.new) (E.faults err.old) (E.faults err.new) (told_line answer)
-        × IfSome (⟦<ListDb<T> as Database>⟧.database db.old) (λ rows. IfSome (S.left input.old) (λ left.
+        × IfSome (⟦<SqlDb<T> as Database>⟧.database db.old) (λ rows. IfSome (S.left input.old) (λ left.
         Ends (K.written out.old) (K.written out.new) (reply_due (contents engine.now.catalog.tables (meta_view engine.now.meta) rows) session.now left) answer)) }
 
     // A fault is told exactly where the request has one.
@@ -181,7 +181,7 @@ pub fn answer_one<T: Tables, S: Source, K: Sink, E: Sink>(
     // A failure is told only where the count of that object rose.
     ensures read { result ≡ 4 → Rose (S.faults input.old) (S.faults input.new) }
     ensures write { result ≡ 5 → Rose (K.faults out.old) (K.faults out.new) }
-    ensures failed { result ≡ 6 → Rose (⟦<ListDb<T> as Database>⟧.faults db.old) (⟦<ListDb<T> as Database>⟧.faults db.new) }
+    ensures failed { result ≡ 6 → Rose (⟦<SqlDb<T> as Database>⟧.faults db.old) (⟦<SqlDb<T> as Database>⟧.faults db.new) }
 
     // No count falls.
     ensures input_later { S.faults input.old ≤ S.faults input.new }

@@ -1,11 +1,12 @@
 -- What a request that a body makes is: a list of columns of a table of the catalog, on which the session has a plain permission.
-use Rattle.std.proofs.Common.{◌≡◌, ℕ, zero, suc, ◌+◌, ◌<◌, List, [], ◌∷◌, length, find, Bool, true, false, cond, ◌&&◌, ◌==◌, Option, Some, None, is_none, option_and_then, option_map, unwrap_or, Result, Ok, Err, refl, sym, ap, subst, ◌∙◌, bytes_eq, arith}
+use Rattle.std.proofs.Common.{◌≡◌, ℕ, zero, suc, ◌+◌, ◌<◌, List, [], ◌∷◌, length, find, Bool, true, false, cond, ◌&&◌, ◌==◌, Option, Some, None, is_none, option_and_then, option_map, unwrap_or, Result, Ok, Err, refl, sym, ap, subst, ◌∙◌, bytes_eq, map, arith}
 use Rattle.std.specs.Prelude.{nat_lt, slice_index_or}
 use Rattle.std.specs.List.{list_all, list_any, position}
 use Rattle.std.specs.Result.{result_ok}
 use Rattle.std.proofs.lemmas.Bool.{ltb-true, lt-ltb, eqb-true}
 use Rattle.std.proofs.lemmas.List.Quantifiers.{position-Some}
 use Rattle.std.proofs.lemmas.Option.{option_and_then_some}
+use Rattle.std.proofs.lemmas.Slice.Eq.{bytes_eq-Decides}
 use Rattle.hq_base.specs.Json.{JsonTree}
 use Rattle.hq_terms.specs.Bexp.{BexpTree, always, and_of, or_of, not_of, comparison, within, is_null, like, through}
 use Rattle.hq_terms.specs.Binding.{bound_permission}
@@ -22,11 +23,12 @@ use Rattle.hq_terms.specs.declared.table.Table.{Table}
 use Rattle.hq_ask_tree.specs.declared.ask.Ask.{Ask}
 use Rattle.hq_ask_tree.specs.declared.ask.AskColumn.{AskColumn}
 use Rattle.hq_sql_compile.specs.Compiled.{table_at}
-use Rattle.hq_sql_compile.specs.Correct.{IsPlain}
-use Rattle.hq_link.specs.Typed.{IsList}
-use Rattle.hq_gql_tree.specs.Documents.{DocumentTree}
+use Rattle.hq_sql_compile.specs.Correct.{IsPlain, IsList}
+use Rattle.hq_base.specs.Lists.{all_differ}
+use Rattle.hq_gql_tree.specs.Documents.{OperationTree, DefinitionTree, DocumentTree, operation, fragment}
+use Rattle.hq_gql_tree.specs.Selections.{FieldHead, SelectionTree, field, spread, inline, selections_in}
 use Rattle.hq_engine.specs.Due.{due_as, due_of}
-use Rattle.hq_engine.specs.PlainList.{list_of}
+use Rattle.hq_engine.specs.PlainList.{is_plain_query, is_list, columns_of, list_with, list_of_columns, list_under, list_of_root, list_of_roots, list_of_operation, list_of_definition, list_of}
 use Rattle.hq_engine.specs.Reading.{reading_due}
 use Rattle.hq_engine.specs.RequestForm.{names_operation}
 use Rattle.hq_engine.specs.declared.due.Due.TheVariants.{Asks}
@@ -74,6 +76,7 @@ record Made (tables : List Table) (m : MetaTree) (role : Role) (ask : Ask) : Typ
   entry : TrackedTree
   under : Permission
   wanted : List (List ℕ)
+  differ : all_differ bytes_eq wanted ≡ true
   fit : fits_tracked (schema_of tables m) m entry ≡ true
   granted : permission role m entry.table ≡ Some under
   plain : is_plain under ≡ true
@@ -94,8 +97,45 @@ under_parts k p body ask e =
     elim [ true ↦ λ h. let q = asked_parts k columns ask h in (refl, q.0, q.1) | false ↦ λ h. absurd cc ] in
     go (is_plain p) e
 
-made_list : (tables : List Table) (m : MetaTree) (role : Role) (list : ListBody) (ask : Ask) → fits tables m ≡ true → list_request m role list ≡ Some ask → Made tables m role ask
-made_list tables m role list ask fit e =
+some_under : {X : Type 0} (b : Bool) (o : Option X) (x : X) → cond b o None ≡ Some x → o ≡ Some x
+some_under true o x e = e
+some_under false o x e = absurd cc
+
+-- ---- the columns of a plain list differ
+
+with_differs : (root : List ℕ) (columns : List (List ℕ)) (list : ListBody) → list_with root columns ≡ Some list → all_differ bytes_eq list.columns ≡ true
+with_differs root columns list e =
+    let go : (b : Bool) → all_differ bytes_eq columns ≡ b → cond b (Some (record { root = root; columns = columns })) None ≡ Some list → all_differ bytes_eq list.columns ≡ true =
+    elim [
+      | true ↦ λ is h. let same : record { root = root; columns = columns } ≡ list = cc in subst (λ (l : ListBody). all_differ bytes_eq l.columns ≡ true) same is
+      | false ↦ λ is h. absurd cc
+    ] in
+    go (all_differ bytes_eq columns) refl e
+
+root_differs : (root : SelectionTree) (list : ListBody) → list_of_root root ≡ Some list → all_differ bytes_eq list.columns ≡ true
+root_differs (field h below) list e =
+    option_and_then_some (list_with h.name) (columns_of (selections_in below)) _ (some_under (is_list h (selections_in below)) (list_of_columns h.name (selections_in below)) list e) (λ columns named is. with_differs h.name columns list is)
+root_differs (spread s) list e = absurd cc
+root_differs (inline h below) list e = absurd cc
+
+roots_differ : (roots : List SelectionTree) (list : ListBody) → list_of_roots roots ≡ Some list → all_differ bytes_eq list.columns ≡ true
+roots_differ [] list e = absurd cc
+roots_differ (s ∷ []) list e = root_differs s list e
+roots_differ (s ∷ (r ∷ rs)) list e = absurd cc
+
+definition_differs : (d : DefinitionTree) (list : ListBody) → list_of_definition d ≡ Some list → all_differ bytes_eq list.columns ≡ true
+definition_differs (operation o) list e = roots_differ (selections_in o.selections) list (some_under (is_plain_query o) (list_of_roots (selections_in o.selections)) list e)
+definition_differs (fragment f) list e = absurd cc
+
+document_differs : (d : DocumentTree) (list : ListBody) → list_of d ≡ Some list → all_differ bytes_eq list.columns ≡ true
+document_differs [] list e = absurd cc
+document_differs (d ∷ []) list e = definition_differs d list e
+document_differs (d ∷ (c ∷ ds)) list e = absurd cc
+
+-- ---- a request and what it is made of
+
+made_list : (tables : List Table) (m : MetaTree) (role : Role) (list : ListBody) (ask : Ask) → fits tables m ≡ true → all_differ bytes_eq list.columns ≡ true → list_request m role list ≡ Some ask → Made tables m role ask
+made_list tables m role list ask fit differ e =
     let entries = (both _ _ (both _ _ fit).0).1 in
     option_and_then_some _ (find (λ k. bytes_eq k.roots.select list.root) m.tracked) _ e
     (λ k found under. option_and_then_some _ (permission role m k.table) _ under
@@ -105,6 +145,7 @@ made_list tables m role list ask fit e =
       entry = k;
       under = p;
       wanted = list.columns;
+      differ = differ;
       fit = found_holds _ (fits_tracked (schema_of tables m) m) m.tracked k entries found;
       granted = granted;
       plain = parts.0;
@@ -117,7 +158,7 @@ made_document tables m session read ask fit e =
     let go : (b : Bool) → cond b None (option_and_then (list_request m (role_of session.role)) (list_of read.1)) ≡ Some ask → Made tables m (role_of session.role) ask =
     elim [
       | true ↦ λ h. absurd cc
-      | false ↦ λ h. option_and_then_some _ (list_of read.1) _ h (λ list listed is. made_list tables m (role_of session.role) list ask fit is)
+      | false ↦ λ h. option_and_then_some _ (list_of read.1) _ h (λ list listed is. made_list tables m (role_of session.role) list ask fit (document_differs read.1 list listed) is)
     ] in
     go (names_operation read.0) e
 
@@ -166,6 +207,27 @@ columns_within names columns (n ∷ ns) cs e =
     ] in
     go (columns_named names columns ns) refl rest)
 
+-- a column that is asked for stands under its own name
+column_key : (names : List (List ℕ)) (columns : List ℕ) (name : List ℕ) (c : ℕ) → column_named names columns name ≡ Some c → slice_index_or names c [] ≡ name
+column_key names columns name c e =
+    let placed : (o : Option ℕ) → permitted_place columns o ≡ Some c → o ≡ Some c =
+    elim [ None ↦ λ h. absurd cc | Some d ↦ λ h. some_under (list_any (λ x. x == d) columns) (Some d) c h ] in
+    (bytes_eq-Decides (slice_index_or names c []) name).0 ((position-Some (λ n. bytes_eq n name) names c [] (placed (position (λ n. bytes_eq n name) names) e)).1)
+
+keys_named : (names : List (List ℕ)) (columns : List ℕ) (wanted : List (List ℕ)) (cs : List AskColumn) → columns_named names columns wanted ≡ Some cs → map (λ c. c.key) cs ≡ wanted
+keys_named names columns [] cs e = let same : [] ≡ cs = cc in ap (map (λ c. c.key)) (sym same)
+keys_named names columns (n ∷ ns) cs e =
+    option_and_then_some _ (column_named names columns n) _ e
+    (λ c named rest.
+    let go : (o : Option (List AskColumn)) → columns_named names columns ns ≡ o → option_map (λ xs. ask_column names c ∷ xs) o ≡ Some cs → map (λ x. x.key) cs ≡ n ∷ ns =
+    elim [
+      | None ↦ λ h g. absurd cc
+      | Some xs ↦ λ h g.
+          let same : (ask_column names c ∷ xs) ≡ cs = cc in
+          ap (map (λ x. x.key)) (sym same) ∙ ap (λ k. k ∷ map (λ x. x.key) xs) (column_key names columns n c named) ∙ ap (λ ks. n ∷ ks) (keys_named names columns ns xs h)
+    ] in
+    go (columns_named names columns ns) refl rest)
+
 made_is_list : (tables : List Table) (m : MetaTree) (role : Role) (ask : Ask) → Made tables m role ask → IsList tables ask
 made_is_list tables m role ask by =
     let entry = entry_table tables m by.entry by.fit in
@@ -173,6 +235,7 @@ made_is_list tables m role ask by =
       table = subst (λ t. t < length tables) (sym by.table) entry.0;
       columns = subst (λ t. list_all (λ c. nat_lt c.column (length (table_at tables t).columns)) ask.columns ≡ true) (sym by.table)
           (subst (λ n. list_all (λ c. nat_lt c.column n) ask.columns ≡ true) entry.1 (columns_within by.entry.column_names by.under.columns by.wanted ask.columns by.columns));
+      keys = ap (all_differ bytes_eq) (keys_named by.entry.column_names by.under.columns by.wanted ask.columns by.columns) ∙ by.differ;
     }
 
 -- ---- the permission on it is plain

@@ -1,11 +1,11 @@
 ghost use Rattle.std.specs.Prelude.{◌≡◌, ◌⊎◌, ◌≤◌, true, false, is_some, length, IfOk, IfErr, IfSome, OnOk, Err, Some};
 ghost use Rattle.hq_base.specs.Json.{json_view};
 ghost use Rattle.hq_link.specs.Asked.{Asked, NotAsked};
-ghost use Rattle.hq_link.specs.Typed.{IsList, IsTyped};
+ghost use Rattle.hq_link.specs.Typed.{IsTyped};
 ghost use Rattle.hq_sql_tree.specs.Meaning.{meaning};
 ghost use Rattle.hq_sql_tree.specs.Tree.{SelectTree};
 ghost use Rattle.hq_sql_text.specs.Readable.{Spells};
-ghost use Rattle.hq_sql_compile.specs.Correct.{IsPlain};
+ghost use Rattle.hq_sql_compile.specs.Correct.{IsList, IsPlain};
 ghost use Rattle.hq_terms.specs.Fits.{fits};
 ghost use Rattle.hq_terms.specs.Grants.{grant, grants_of};
 ghost use Rattle.hq_terms.specs.Meta.{meta_view};

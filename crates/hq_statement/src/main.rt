@@ -11,7 +11,7 @@ use hq_link::{Database, DbRefusal};
 use hq_outside::{Files, InputRefusal, Sink, Source, WriteFailed, read_all, write_all};
 use hq_system::{DirFiles, StdSink, StdSource};
 use hq_tables::MemTables;
-use std::alloc::Global;
+use std::alloc::{AllocError, Global};
 use std::env;
 use std::fmt::Write;
 use std::process::ExitCode;

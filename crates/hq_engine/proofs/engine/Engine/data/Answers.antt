@@ -1,4 +1,5 @@
-use Rattle.std.proofs.Common.{◌≡◌, ℕ, List, Option, Some, None, true, ap, subst, ◌∙◌}
+use Rattle.std.proofs.Common.{◌≡◌, ℕ, List, Option, Some, None, true, sym, ap, subst, ◌∙◌}
+use Rattle.hq_link.specs.Typed.{IsTyped}
 use Rattle.std.specs.Prelude.{IfSome}
 use Rattle.hq_base.specs.Json.{JsonTree, json_view}
 use Rattle.hq_terms.specs.Database.{Row, is_database}
@@ -40,3 +41,10 @@ returns-clause-reply g c =
     (g.D.Database.database c.args.db.now) c.in_ok-data_reply.field-0.body (json_view c.in_ok-data.data)
     c.requires.catalog (c.as_slice.ensures ∙ c.in_ok-text.ensures.text) c.in_ok-text.ensures.statement (g.met.D.Database.database_fits c.args.db.now)
     c.in_ok-data.ensures.answered c.in_ok-data_reply.ensures.body
+
+-- the text is that of the compiled statement, which fits the catalog
+pub ask-requires : goal.ask-requires
+ask-requires g c =
+    let s = compiled c.args.self.now.catalog.tables (meta_view c.args.self.now.meta) c.args.request.now in
+    let spelled = c.in_ok-text.ensures.statement.spelled in
+    (s, (spelled.0, c.as_slice.ensures ∙ c.in_ok-text.ensures.text ∙ spelled.1), subst (λ ts. IsTyped ts s) (sym c.requires.catalog) c.in_ok-text.ensures.typed)
