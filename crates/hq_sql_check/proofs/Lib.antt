@@ -1,0 +1,10 @@
+pub mod Stacked
+pub mod Listed
+pub mod Plain
+pub mod AliasLists
+pub mod Fronts
+pub mod Sorted
+pub mod Views
+pub mod Next
+pub mod JoinSteps
+pub mod Whole

@@ -1,0 +1,3 @@
+pub mod Scopes
+pub mod Fronts
+pub mod Plain

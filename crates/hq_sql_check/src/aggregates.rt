@@ -1,0 +1,75 @@
+//! Outputs of a fold: where aggregates stand, and what they take.
+ghost use Rattle.std.specs.Prelude.{◌≡◌, IfOk, map};
+ghost use Rattle.hq_sql_tree.specs.Tree.{pairs_of, orders_of};
+ghost use Rattle.hq_sql_tree.specs.View.{agg_view, expr_view, pair_view, order_view};
+ghost use Rattle.hq_sql_tree.specs.WellFormed.{are_keys, is_taken, is_folded, are_folded};
+ghost use Rattle.hq_sql_check.specs.Scopes.{scope_view};
+
+use crate::differ::pairs_differ;
+use crate::scope::Scope;
+use crate::values::{has_extremes, is_collated, is_compared, is_summed, is_value, kind};
+use hq_base::Memory;
+use hq_sql_tree::{Agg, Expr, ExprPairList, OrderList};
+use std::alloc::Global;
+
+// The sort keys of json_agg.
+fn are_keys(alloc: Global, scope: &Scope<'_, '_>, orders: &OrderList) -> Result<bool, Memory>
+    ensures { IfOk result (λ well. well ≡ are_keys (scope_view scope.now) (orders_of (map order_view orders.now.items))) }
+{
+    for order in orders {
+        if !is_compared(alloc, scope, &order.value)? {
+            return Ok(false);
+        }
+    }
+    Ok(true)
+}
+
+// Whether an aggregate takes what it is given, in which no aggregate stands.
+fn is_taken(alloc: Global, scope: &Scope<'_, '_>, agg: &Agg) -> Result<bool, Memory>
+    ensures { IfOk result (λ well. well ≡ is_taken (scope_view scope.now) (agg_view agg.now)) }
+{
+    match agg {
+        Agg::CountAll => Ok(true),
+        Agg::Count { value, distinct } => {
+            if *distinct {
+                is_compared(alloc, scope, value)
+            } else {
+                is_value(alloc, scope, value)
+            }
+        }
+        Agg::Sum(value) => Ok(is_value(alloc, scope, value)? && is_summed(kind(scope, value))),
+        Agg::Min(value) | Agg::Max(value) => Ok(
+            is_value(alloc, scope, value)?
+                && has_extremes(kind(scope, value))
+                && is_collated(scope, value),
+        ),
+        Agg::JsonAgg { value, order } => {
+            Ok(is_value(alloc, scope, value)? && are_keys(alloc, scope, order)?)
+        }
+    }
+}
+
+/// Whether the expression is an output of a fold: its columns stand inside aggregates alone.
+#[cycle(is_folded)]
+pub(crate) fn is_folded(alloc: Global, scope: &Scope<'_, '_>, value: &Expr) -> Result<bool, Memory>
+    ensures { IfOk result (λ well. well ≡ is_folded (scope_view scope.now) (expr_view value.now)) }
+{
+    match value {
+        Expr::Column { .. } => Ok(false),
+        Expr::Object(pairs) => Ok(pairs_differ(alloc, pairs)? && are_folded(alloc, scope, pairs)?),
+        Expr::Agg(agg) => is_taken(alloc, scope, agg),
+        Expr::Int(_) | Expr::Text(_) | Expr::Bool(_) => Ok(true),
+    }
+}
+
+#[cycle(is_folded)]
+fn are_folded(alloc: Global, scope: &Scope<'_, '_>, pairs: &ExprPairList) -> Result<bool, Memory>
+    ensures { IfOk result (λ well. well ≡ are_folded (scope_view scope.now) (pairs_of (map pair_view pairs.now.items))) }
+{
+    for pair in pairs {
+        if !is_folded(alloc, scope, &pair.value)? {
+            return Ok(false);
+        }
+    }
+    Ok(true)
+}

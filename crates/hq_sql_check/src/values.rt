@@ -1,0 +1,169 @@
+//! Expressions without aggregates: their kinds, and what is in scope.
+ghost use Rattle.std.specs.Prelude.{◌≡◌, IfOk, map, option_map};
+ghost use Rattle.hq_sql_tree.specs.Tree.{pairs_of, orders_of};
+ghost use Rattle.hq_sql_tree.specs.View.{agg_view, expr_view, pair_view, order_view};
+ghost use Rattle.hq_sql_tree.specs.WellFormed.{not_of_column, kind, agg_kind, is_text_kind, has_order, has_extremes, is_summed, compare_kinds, pair_names, is_value, are_values, is_collated, is_compared, are_keys, is_item};
+ghost use Rattle.hq_sql_check.specs.Scopes.{kind_view, scope_view};
+
+use crate::differ::pairs_differ;
+use crate::scope::{Kind, Scope, kind_at};
+use hq_base::Memory;
+use hq_sql_tree::{Agg, Expr, ExprPairList, OrderList};
+use std::alloc::Global;
+
+// The kind without the column that it came from.
+fn not_of_column(kind: Option<Kind>) -> Option<Kind>
+    ensures { option_map kind_view result ≡ not_of_column (option_map kind_view kind) }
+{
+    match kind {
+        Some(Kind::Whole { .. }) => Some(Kind::Whole { of_column: false }),
+        other => other,
+    }
+}
+
+/// The kind of an expression; none where it has none.
+#[cycle(kind)]
+pub(crate) fn kind(scope: &Scope<'_, '_>, value: &Expr) -> Option<Kind>
+    ensures { option_map kind_view result ≡ kind (scope_view scope.now) (expr_view value.now) }
+{
+    match value {
+        Expr::Column { alias, name, .. } => kind_at(*scope, alias, name),
+        Expr::Int(_) => Some(Kind::Whole { of_column: false }),
+        Expr::Text(_) => Some(Kind::Text),
+        Expr::Bool(_) => Some(Kind::Truth),
+        Expr::Object(_) => Some(Kind::Json),
+        Expr::Agg(agg) => agg_kind(scope, agg),
+    }
+}
+
+// The kind of an aggregate.
+#[cycle(kind)]
+fn agg_kind(scope: &Scope<'_, '_>, agg: &Agg) -> Option<Kind>
+    ensures { option_map kind_view result ≡ agg_kind (scope_view scope.now) (agg_view agg.now) }
+{
+    match agg {
+        Agg::CountAll | Agg::Count { .. } | Agg::Sum(_) => Some(Kind::Whole { of_column: false }),
+        Agg::Min(value) | Agg::Max(value) => not_of_column(kind(scope, value)),
+        Agg::JsonAgg { .. } => Some(Kind::Json),
+    }
+}
+
+/// Whether the kind is that of texts.
+pub(crate) fn is_text(kind: Option<Kind>) -> bool
+    ensures { result ≡ is_text_kind (option_map kind_view kind) }
+{
+    matches!(kind, Some(Kind::Text))
+}
+
+/// Whether values of this kind are compared, sorted, grouped or counted distinct.
+pub(crate) fn has_order(kind: Option<Kind>) -> bool
+    ensures { result ≡ has_order (option_map kind_view kind) }
+{
+    matches!(
+        kind,
+        Some(Kind::Whole { .. }) | Some(Kind::Text) | Some(Kind::Truth)
+    )
+}
+
+/// Whether `min` and `max` take values of this kind.
+pub(crate) fn has_extremes(kind: Option<Kind>) -> bool
+    ensures { result ≡ has_extremes (option_map kind_view kind) }
+{
+    matches!(kind, Some(Kind::Whole { .. }) | Some(Kind::Text))
+}
+
+/// Whether `sum` takes values of this kind: whole numbers of a table's column.
+pub(crate) fn is_summed(kind: Option<Kind>) -> bool
+    ensures { result ≡ is_summed (option_map kind_view kind) }
+{
+    matches!(kind, Some(Kind::Whole { of_column: true }))
+}
+
+// Whether values of these kinds are compared with one another.
+fn can_compare(left: Option<Kind>, right: Option<Kind>) -> bool
+    ensures { result ≡ compare_kinds (option_map kind_view left) (option_map kind_view right) }
+{
+    match (left, right) {
+        (Some(Kind::Whole { .. }), Some(Kind::Whole { .. })) => true,
+        (Some(Kind::Text), Some(Kind::Text)) => true,
+        (Some(Kind::Truth), Some(Kind::Truth)) => true,
+        _ => false,
+    }
+}
+
+/// Whether no aggregate stands in the expression, its columns are in scope, COLLATE stands on text columns alone, and
+/// the names of each object differ.
+#[inline(never)]
+#[cycle(is_value)]
+pub(crate) fn is_value(alloc: Global, scope: &Scope<'_, '_>, value: &Expr) -> Result<bool, Memory>
+    ensures { IfOk result (λ well. well ≡ is_value (scope_view scope.now) (expr_view value.now)) }
+{
+    match value {
+        Expr::Column {
+            alias,
+            name,
+            collate,
+        } => {
+            let kind = kind_at(*scope, alias, name);
+            Ok(if *collate {
+                is_text(kind)
+            } else {
+                kind.is_some()
+            })
+        }
+        Expr::Object(pairs) => Ok(pairs_differ(alloc, pairs)? && are_values(alloc, scope, pairs)?),
+        Expr::Agg(_) => Ok(false),
+        Expr::Int(_) | Expr::Text(_) | Expr::Bool(_) => Ok(true),
+    }
+}
+
+#[cycle(is_value)]
+fn are_values(alloc: Global, scope: &Scope<'_, '_>, pairs: &ExprPairList) -> Result<bool, Memory>
+    ensures { IfOk result (λ well. well ≡ are_values (scope_view scope.now) (pairs_of (map pair_view pairs.now.items))) }
+{
+    for pair in pairs {
+        if !is_value(alloc, scope, &pair.value)? {
+            return Ok(false);
+        }
+    }
+    Ok(true)
+}
+
+/// Whether the expression is no text column without COLLATE.
+pub(crate) fn is_collated(scope: &Scope<'_, '_>, value: &Expr) -> bool
+    ensures { result ≡ is_collated (scope_view scope.now) (expr_view value.now) }
+{
+    match value {
+        Expr::Column {
+            alias,
+            name,
+            collate,
+        } => *collate || !is_text(kind_at(*scope, alias, name)),
+        _ => true,
+    }
+}
+
+/// Whether the expression is a value that is compared, sorted, grouped or counted distinct.
+#[inline(never)]
+pub(crate) fn is_compared(
+    alloc: Global,
+    scope: &Scope<'_, '_>,
+    value: &Expr,
+) -> Result<bool, Memory>
+    ensures { IfOk result (λ well. well ≡ is_compared (scope_view scope.now) (expr_view value.now)) }
+{
+    Ok(is_value(alloc, scope, value)? && has_order(kind(scope, value)) && is_collated(scope, value))
+}
+
+/// Whether the expression is one that is compared with this value.
+#[inline(never)]
+pub(crate) fn is_item(
+    alloc: Global,
+    scope: &Scope<'_, '_>,
+    value: &Expr,
+    item: &Expr,
+) -> Result<bool, Memory>
+    ensures { IfOk result (λ well. well ≡ is_item (scope_view scope.now) (expr_view value.now) (expr_view item.now)) }
+{
+    Ok(is_compared(alloc, scope, item)? && can_compare(kind(scope, value), kind(scope, item)))
+}
