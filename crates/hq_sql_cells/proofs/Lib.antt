@@ -1,0 +1,8 @@
+pub mod Orders
+pub mod Truths
+pub mod KeyOrders
+pub mod Groups
+pub mod Fresh
+pub mod SeenGroups
+pub mod BestOnes
+pub mod Sums

@@ -1,0 +1,5 @@
+pub mod View
+pub mod Keys
+pub mod Seen
+pub mod Best
+pub mod Totals

@@ -1,0 +1,170 @@
+//! Aggregates (PostgreSQL, aggregate functions). Each passes over NULL, and over JSON, which has no order.
+ghost use Rattle.std.specs.Prelude.{◌≡◌, ◌&&◌, map, filter, length, IfOk, OnOk, OnErr, FitsSigned, None, option_map, true};
+ghost use Rattle.std.specs.Int.{w128};
+ghost use Rattle.std.specs.Ordering.{on};
+ghost use Rattle.hq_base.specs.Cells.{cell_cmp, same_cell, int_in};
+ghost use Rattle.hq_base.specs.Lists.{Ascends, firsts, sort};
+ghost use Rattle.hq_base.specs.Aggregates.{is_taken, first_cell, counted, summed, least, greatest};
+ghost use Rattle.hq_sql_cells.specs.View.{cell_view};
+ghost use Rattle.hq_sql_cells.specs.Best.{best_cmp, is_better};
+ghost use Rattle.hq_sql_cells.specs.Totals.{total_after, SumsFit, starts_group};
+
+use crate::Cell;
+use crate::order::cell_cmp;
+use hq_base::Memory;
+use std::cmp::Ordering;
+
+// Whether aggregates take the cell.
+fn is_taken(cell: &Cell<'_>) -> bool
+    ensures { result ≡ is_taken (cell_view cell.now) }
+{
+    match cell {
+        Cell::Int(_) | Cell::Text(_) | Cell::Bool(_) => true,
+        Cell::Null | Cell::Json(_) => false,
+    }
+}
+
+/// `count(e)`: how many cells are taken, or with `distinct` how many different ones, in n log n comparisons; only that
+/// may want memory.
+pub fn counted<'d>(distinct: bool, cells: Vec<Cell<'d>>) -> Result<Cell<'d>, Memory>
+    ensures value { IfOk result (λ count. cell_view count ≡ counted distinct (map cell_view cells.entry.items)) }
+    ensures memory { OnErr result (distinct ≡ true) }
+{
+    let count = if distinct {
+        number_of_different(cells)?
+    } else {
+        number_taken(&cells)
+    };
+    Ok(Cell::Int(count as i128))
+}
+
+fn number_taken(cells: &[Cell<'_>]) -> usize
+    ensures { result ≡ length (filter is_taken (map cell_view cells.now)) }
+{
+    let mut number = 0;
+    for cell in cells {
+        if is_taken(cell) {
+            number += 1;
+        }
+    }
+    number
+}
+
+// Equal cells stand side by side once they are sorted.
+fn number_of_different(cells: Vec<Cell<'_>>) -> Result<usize, Memory>
+    ensures { IfOk result (λ number. number ≡ length (firsts same_cell (sort cell_cmp (filter is_taken (map cell_view cells.entry.items))))) }
+{
+    let mut sorted = cells;
+    sort_cells(&mut sorted)?;
+    Ok(number_of_groups(&sorted))
+}
+
+fn sort_cells<'d>(cells: &mut Vec<Cell<'d>>) -> Result<(), Memory>
+    ensures { OnOk result (cells.new.items ≡ sort (on cell_view cell_cmp) cells.old.items) }
+{
+    cells.sort_by(|left, right| cell_cmp(left, right))?;
+    Ok(())
+}
+
+// How many different cells are taken, where the cells ascend.
+fn number_of_groups<'s, 'd>(cells: &'s [Cell<'d>]) -> usize
+    requires { Ascends cell_cmp (map cell_view cells.now) }
+    ensures { result ≡ length (firsts same_cell (filter is_taken (map cell_view cells.now))) }
+{
+    let mut number = 0;
+    let mut last: Option<&'s Cell<'d>> = None;
+    for cell in cells {
+        if starts_group(last, cell) {
+            number += 1;
+            last = Some(cell);
+        }
+    }
+    number
+}
+
+// Whether a cell is taken and another one than the last that was taken.
+fn starts_group(last: Option<&Cell<'_>>, cell: &Cell<'_>) -> bool
+    ensures { result ≡ (is_taken (cell_view cell.now) && starts_group (option_map (λ c. cell_view c.now) last.entry) (cell_view cell.now)) }
+{
+    match last {
+        Some(last) => is_taken(cell) && cell_cmp(last, cell) != Ordering::Equal,
+        None => is_taken(cell),
+    }
+}
+
+fn int_in(cell: &Cell<'_>) -> i128
+    ensures { result ≡ int_in (cell_view cell.now) }
+{
+    match cell {
+        Cell::Int(n) => *n,
+        _ => 0,
+    }
+}
+
+/// `sum(e)`: the exact sum of whole numbers, NULL over none. Memory only where a sum on the way does not fit 128 bits.
+pub fn summed<'d>(cells: &[Cell<'d>]) -> Result<Cell<'d>, Memory>
+    ensures value { IfOk result (λ sum. cell_view sum ≡ summed (map cell_view cells.now)) }
+    ensures past { OnErr result (SumsFit None (filter is_taken (map cell_view cells.now)) → ⊥) }
+{
+    let mut sum = None;
+    for cell in cells {
+        if is_taken(cell) {
+            sum = Some(total_after(sum, int_in(cell))?);
+        }
+    }
+    Ok(match sum {
+        Some(sum) => Cell::Int(sum),
+        None => Cell::Null,
+    })
+}
+
+// The sum after one more number.
+fn total_after(sum: Option<i128>, n: i128) -> Result<i128, Memory>
+    ensures value { IfOk result (λ total. total ≡ total_after sum n) }
+    ensures past { OnErr result (FitsSigned w128 (total_after sum n) → ⊥) }
+{
+    match sum {
+        Some(sum) => sum.checked_add(n).ok_or(Memory),
+        None => Ok(n),
+    }
+}
+
+// Whether a cell is taken and stands before the best one so far; NULL stands for none.
+fn is_better(greatest: bool, best: &Cell<'_>, cell: &Cell<'_>) -> bool
+    ensures { result ≡ is_better greatest (cell_view best.now) (cell_view cell.now) }
+{
+    let order = if greatest {
+        cell_cmp(cell, best)
+    } else {
+        cell_cmp(best, cell)
+    };
+    is_taken(cell) && (best.is_null() || order == Ordering::Greater)
+}
+
+// The first one of the least, or of the greatest.
+#[tactic(auto, using(crate::proofs::BestOnes::best_last))]
+fn best_of<'d>(greatest: bool, cells: Vec<Cell<'d>>) -> Cell<'d>
+    ensures { cell_view result ≡ first_cell (sort (best_cmp greatest) (filter is_taken (map cell_view cells.entry.items))) }
+{
+    let mut best = Cell::Null;
+    for cell in cells {
+        if is_better(greatest, &best, &cell) {
+            best = cell;
+        }
+    }
+    best
+}
+
+/// `min(e)`: the least cell, NULL over none. Takes one pass.
+pub fn least<'d>(cells: Vec<Cell<'d>>) -> Cell<'d>
+    ensures { cell_view result ≡ least (map cell_view cells.entry.items) }
+{
+    best_of(false, cells)
+}
+
+/// `max(e)`: the greatest cell, NULL over none. Takes one pass.
+pub fn greatest<'d>(cells: Vec<Cell<'d>>) -> Cell<'d>
+    ensures { cell_view result ≡ greatest (map cell_view cells.entry.items) }
+{
+    best_of(true, cells)
+}

@@ -1,0 +1,19 @@
+//! The cells that the evaluation of a statement works with: comparisons, sorts, groups, pages and aggregates.
+#![tactic(auto)]
+
+mod aggregate;
+mod cell;
+mod kept;
+mod order;
+mod page;
+mod seen;
+#[cfg(test)]
+mod tests;
+mod truth;
+
+pub use aggregate::{counted, greatest, least, summed};
+pub use cell::Cell;
+pub use kept::{Kept, first_kept, rows_of, sort_kept};
+pub use order::{Direction, keys_cmp};
+pub use page::paged;
+pub use truth::{among, compared, matched};

@@ -1,0 +1,6 @@
+mod aggregates;
+mod cells;
+mod fixture;
+mod pages;
+mod sorts;
+mod truths;

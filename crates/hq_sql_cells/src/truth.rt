@@ -1,0 +1,80 @@
+//! Comparisons in three values (PostgreSQL, comparison functions and operators, row and array comparisons, pattern
+//! matching).
+ghost use Rattle.std.specs.Prelude.{◌≡◌, map, IfOk};
+ghost use Rattle.hq_base.specs.Patterns.{like};
+ghost use Rattle.hq_terms.specs.Logic.{op_test, compared, among, matched};
+ghost use Rattle.hq_sql_cells.specs.View.{cell_view};
+
+use crate::Cell;
+use crate::order::order_between;
+use hq_base::{Memory, Pattern, PatternRefusal, Txt};
+use hq_terms::{Op, Truth};
+use std::alloc::Global;
+use std::cmp::Ordering;
+
+// Whether the order is one that the comparison asks for.
+fn op_test(op: Op, order: Ordering) -> bool
+    ensures { result ≡ op_test op order }
+{
+    match op {
+        Op::Eq => order == Ordering::Equal,
+        Op::Ne => order != Ordering::Equal,
+        Op::Lt => order == Ordering::Less,
+        Op::Le => order != Ordering::Greater,
+        Op::Gt => order == Ordering::Greater,
+        Op::Ge => order != Ordering::Less,
+    }
+}
+
+/// A comparison of two cells: Unknown where one is NULL.
+pub fn compared(op: Op, left: &Cell<'_>, right: &Cell<'_>) -> Truth
+    ensures { result ≡ compared op (cell_view left.now) (cell_view right.now) }
+{
+    match order_between(left, right) {
+        Some(order) => Truth::of(op_test(op, order)),
+        None => Truth::Unknown,
+    }
+}
+
+/// IN: whether a cell equals one of the items. It is No of the empty list, and Unknown where no item equals the cell but
+/// one of them, or the cell, is NULL.
+pub fn among(items: &[Cell<'_>], value: &Cell<'_>) -> Truth
+    ensures { result ≡ among (map cell_view items.now) (cell_view value.now) }
+{
+    let mut found = Truth::No;
+    for item in items {
+        found = found.or(compared(Op::Eq, value, item));
+        if found == Truth::Yes {
+            return Truth::Yes;
+        }
+    }
+    found
+}
+
+// Whether a text is like a pattern. None is like a text that is no pattern.
+fn text_matched(alloc: Global, fold: bool, text: &Txt, pattern: &Txt) -> Result<bool, Memory>
+    ensures { IfOk result (λ b. b ≡ like fold pattern.now text.now) }
+{
+    match Pattern::new(alloc, pattern) {
+        Ok(pattern) => Ok(pattern.matches(text, fold)),
+        Err(PatternRefusal::EndsInEscape) => Ok(false),
+        Err(PatternRefusal::Memory) => Err(Memory),
+    }
+}
+
+/// LIKE, and ILIKE where `fold`: Unknown where one side is NULL.
+pub fn matched(
+    alloc: Global,
+    fold: bool,
+    text: &Cell<'_>,
+    pattern: &Cell<'_>,
+) -> Result<Truth, Memory>
+    ensures { IfOk result (λ t. t ≡ matched fold (cell_view text.now) (cell_view pattern.now)) }
+{
+    match (text, pattern) {
+        (Cell::Text(text), Cell::Text(pattern)) => {
+            Ok(Truth::of(text_matched(alloc, fold, text, pattern)?))
+        }
+        _ => Ok(Truth::Unknown),
+    }
+}
