@@ -1,0 +1,3 @@
+pub mod NamedRows
+pub mod Alike
+pub mod Within
