@@ -1,12 +1,13 @@
 //! Aggregates (PostgreSQL, aggregate functions). Each passes over NULL, and over JSON, which has no order.
-ghost use Rattle.std.specs.Prelude.{◌≡◌, ◌&&◌, map, filter, length, IfOk, OnOk, option_map};
+ghost use Rattle.std.specs.Prelude.{◌≡◌, ◌&&◌, map, filter, length, IfOk, OnOk, OnErr, FitsSigned, None, option_map, true};
+ghost use Rattle.std.specs.Int.{w128};
 ghost use Rattle.std.specs.Ordering.{on};
 ghost use Rattle.hq_base.specs.Cells.{cell_cmp, same_cell, int_in};
 ghost use Rattle.hq_base.specs.Lists.{Ascends, firsts, sort};
 ghost use Rattle.hq_base.specs.Aggregates.{is_taken, first_cell, counted, summed, least, greatest};
 ghost use Rattle.hq_sql_cells.specs.View.{cell_view};
 ghost use Rattle.hq_sql_cells.specs.Best.{best_cmp, is_better};
-ghost use Rattle.hq_sql_cells.specs.Totals.{total_after, starts_group};
+ghost use Rattle.hq_sql_cells.specs.Totals.{total_after, SumsFit, starts_group};
 
 use crate::Cell;
 use crate::order::cell_cmp;
@@ -23,9 +24,11 @@ fn is_taken(cell: &Cell<'_>) -> bool
     }
 }
 
-/// `count(e)`: how many cells are taken, or with `distinct` how many different ones, in n log n comparisons.
+/// `count(e)`: how many cells are taken, or with `distinct` how many different ones, in n log n comparisons; only that
+/// may want memory.
 pub fn counted<'d>(distinct: bool, cells: Vec<Cell<'d>>) -> Result<Cell<'d>, Memory>
-    ensures { IfOk result (λ count. cell_view count ≡ counted distinct (map cell_view cells.entry.items)) }
+    ensures value { IfOk result (λ count. cell_view count ≡ counted distinct (map cell_view cells.entry.items)) }
+    ensures memory { OnErr result (distinct ≡ true) }
 {
     let count = if distinct {
         number_of_different(cells)?
@@ -98,9 +101,10 @@ fn int_in(cell: &Cell<'_>) -> i128
     }
 }
 
-/// `sum(e)`: the exact sum of whole numbers, NULL over none. Memory where a number does not fit 128 bits.
+/// `sum(e)`: the exact sum of whole numbers, NULL over none. Memory only where a sum on the way does not fit 128 bits.
 pub fn summed<'d>(cells: &[Cell<'d>]) -> Result<Cell<'d>, Memory>
-    ensures { IfOk result (λ sum. cell_view sum ≡ summed (map cell_view cells.now)) }
+    ensures value { IfOk result (λ sum. cell_view sum ≡ summed (map cell_view cells.now)) }
+    ensures past { OnErr result (SumsFit None (filter is_taken (map cell_view cells.now)) → ⊥) }
 {
     let mut sum = None;
     for cell in cells {
@@ -116,7 +120,8 @@ pub fn summed<'d>(cells: &[Cell<'d>]) -> Result<Cell<'d>, Memory>
 
 // The sum after one more number.
 fn total_after(sum: Option<i128>, n: i128) -> Result<i128, Memory>
-    ensures { IfOk result (λ total. total ≡ total_after sum n) }
+    ensures value { IfOk result (λ total. total ≡ total_after sum n) }
+    ensures past { OnErr result (FitsSigned w128 (total_after sum n) → ⊥) }
 {
     match sum {
         Some(sum) => sum.checked_add(n).ok_or(Memory),

@@ -56,6 +56,7 @@ fn column_names<'d>(alloc: Global, table: &'d Table) -> Result<Vec<Name<'d>>, Me
 }
 
 /// The columns of the table of this name, where the catalog has it.
+#[inline(never)]
 pub(crate) fn table_names<'d>(
     alloc: Global,
     tables: &'d [Table],
@@ -76,6 +77,7 @@ pub(crate) fn table_names<'d>(
 const TRUTH: &str = "u";
 
 /// The column of the one row without a table.
+#[inline(never)]
 pub(crate) fn one_names<'d>(alloc: Global) -> Result<Vec<Name<'d>>, Memory>
     ensures { IfOk result (λ names. map name_view names.items ≡ (codes "u", Some well.truth) ∷ []) }
 {

@@ -16,3 +16,6 @@ mod values;
 mod well;
 
 pub use well::well_formed;
+
+#[cfg(test)]
+mod tests;

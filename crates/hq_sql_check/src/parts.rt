@@ -47,6 +47,7 @@ fn are_outputs(alloc: Global, scope: &Scope<'_, '_>, outs: &OutList) -> Result<b
 }
 
 /// Whether DISTINCT ON, the outputs and the sort keys have their types in scope.
+#[inline(never)]
 pub(crate) fn are_parts(
     alloc: Global,
     scope: &Scope<'_, '_>,
@@ -66,6 +67,7 @@ pub(crate) fn are_parts(
 }
 
 /// Whether all members of IN are compared with the value.
+#[inline(never)]
 pub(crate) fn are_items(
     alloc: Global,
     scope: &Scope<'_, '_>,
@@ -83,6 +85,7 @@ pub(crate) fn are_items(
 }
 
 /// The names of outputs, with their kinds.
+#[inline(never)]
 pub(crate) fn out_names<'d>(
     alloc: Global,
     scope: &Scope<'_, 'd>,

@@ -67,6 +67,7 @@ pub(crate) fn select_names<'d>(
 }
 
 // The one output of a fold over rows of these columns.
+#[inline(never)]
 fn fold_names<'d>(
     alloc: Global,
     out: &'d Out,
@@ -136,6 +137,7 @@ fn named<'d>(alias: &'d str, names: Option<Vec<Name<'d>>>) -> Option<Alias<'d>>
 }
 
 // Adds an alias with its columns.
+#[inline(never)]
 fn push_alias<'d>(
     aliases: &mut Vec<Alias<'d>>,
     alias: &'d Txt,
@@ -192,6 +194,7 @@ fn is_typed_filter<'d>(
 }
 
 // Whether the expression is a pattern whose escapes are whole.
+#[inline(never)]
 fn is_pattern(alloc: Global, value: &Expr) -> Result<bool, Memory>
     ensures { IfOk result (λ well. well ≡ is_pattern (expr_view value.now)) }
 {
@@ -206,6 +209,7 @@ fn is_pattern(alloc: Global, value: &Expr) -> Result<bool, Memory>
 }
 
 // Whether a text is compared with a pattern.
+#[inline(never)]
 fn is_like(alloc: Global, scope: &Scope<'_, '_>, left: &Expr, right: &Expr) -> Result<bool, Memory>
     ensures { IfOk result (λ well. well ≡ (is_compared (scope_view scope.now) (expr_view left.now) && is_text_kind (kind (scope_view scope.now) (expr_view left.now)) && is_pattern (expr_view right.now))) }
 {

@@ -93,6 +93,7 @@ fn can_compare(left: Option<Kind>, right: Option<Kind>) -> bool
 
 /// Whether no aggregate stands in the expression, its columns are in scope, COLLATE stands on text columns alone, and
 /// the names of each object differ.
+#[inline(never)]
 #[cycle(is_value)]
 pub(crate) fn is_value(alloc: Global, scope: &Scope<'_, '_>, value: &Expr) -> Result<bool, Memory>
     ensures { IfOk result (λ well. well ≡ is_value (scope_view scope.now) (expr_view value.now)) }
@@ -143,6 +144,7 @@ pub(crate) fn is_collated(scope: &Scope<'_, '_>, value: &Expr) -> bool
 }
 
 /// Whether the expression is a value that is compared, sorted, grouped or counted distinct.
+#[inline(never)]
 pub(crate) fn is_compared(
     alloc: Global,
     scope: &Scope<'_, '_>,
@@ -154,6 +156,7 @@ pub(crate) fn is_compared(
 }
 
 /// Whether the expression is one that is compared with this value.
+#[inline(never)]
 pub(crate) fn is_item(
     alloc: Global,
     scope: &Scope<'_, '_>,

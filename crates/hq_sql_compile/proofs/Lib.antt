@@ -8,4 +8,3 @@ pub mod ListMeans
 pub mod Meaning
 pub mod Statements
 pub mod Readable
-pub mod WellTyped
