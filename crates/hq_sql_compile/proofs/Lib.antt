@@ -8,3 +8,4 @@ pub mod ListMeans
 pub mod Meaning
 pub mod Statements
 pub mod Readable
+pub mod WellTyped

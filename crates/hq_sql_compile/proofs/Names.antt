@@ -24,7 +24,7 @@ other_text a b ne =
 pub equal_text : (a b : List ℕ) → bytes_eq a b ≡ true → a ≡ b
 equal_text a b e = (bytes_eq-Decides a b).0 e
 
-head_differs : (m n : ℕ) → m < n → n < 2 ^ 64 → bytes_eq (decimal m) (decimal n) ≡ false
+pub head_differs : (m n : ℕ) → m < n → n < 2 ^ 64 → bytes_eq (decimal m) (decimal n) ≡ false
 head_differs m n lt bound =
     other_text (decimal m) (decimal n) (λ e. let f = decimal_injective m n (lt_trans lt bound) bound e in absurd (omega arith))
 

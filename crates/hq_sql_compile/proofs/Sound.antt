@@ -1,10 +1,10 @@
 -- What a catalog and a database of it give: a table's rows stand under its name, and each column's cell under its own.
 use Rattle.std.proofs.Common.{◌≡◌, ℕ, zero, suc, ◌<◌, ◌≤◌, List, [], ◌∷◌, ◌++◌, length, map, Bool, true, false, not, ◌&&◌, ◌||◌, bytes_eq, refl, sym, ap, ap₂, subst, ◌∙◌, arith}
-use Rattle.std.specs.Prelude.{slice_index_or, nat_lt, nat_le, codes}
+use Rattle.std.specs.Prelude.{slice_get, slice_index_or, nat_lt, nat_le, codes}
 use Rattle.std.specs.List.{list_all, list_any}
 use Rattle.std.proofs.lemmas.Bool.{ltb-true}
 use Rattle.hq_base.specs.Lists.{all_differ}
-use Rattle.hq_terms.specs.Catalog.{is_catalog, is_table, is_catalog_name, full_name}
+use Rattle.hq_terms.specs.Catalog.{is_catalog, is_table, is_catalog_name, full_name, holds_no_null}
 use Rattle.hq_terms.specs.Database.{Row, row_fits, value_fits, are_rows, is_database}
 use Rattle.hq_terms.specs.Meta.{MetaTree}
 use Rattle.hq_terms.specs.Schema.{Schema, SchemaTable, schema_of, schema_table, numbered, table, no_table, no_column}
@@ -29,7 +29,7 @@ neither : (a b : Bool) → (a || b) ≡ false → (a ≡ false) × (b ≡ false)
 neither true b e = absurd cc
 neither false b e = (refl, e)
 
-negated : (b : Bool) → not b ≡ true → b ≡ false
+pub negated : (b : Bool) → not b ≡ true → b ≡ false
 negated true e = absurd cc
 negated false e = refl
 
@@ -76,11 +76,25 @@ catalog_table meta k [] t x lt e = absurd (omega arith)
 catalog_table meta k (y ∷ tables) zero x lt e = record { schema = ap (λ z. z.schema) (sym e); name = ap (λ z. z.name) (sym e); columns = ap (λ z. z.columns) (sym e); key = ap (λ z. z.key) (sym e) }
 catalog_table meta k (y ∷ tables) (suc t) x lt e = catalog_table meta (suc k) tables t x (omega arith) e
 
+-- a column that holds no NULL is one of the table
+column_within : (columns : List Column) (c : ℕ) → holds_no_null (slice_get columns c) ≡ true → c < length columns
+column_within [] c h = cc
+column_within (x ∷ xs) zero h = omega arith
+column_within (x ∷ xs) (suc c) h = let rest = column_within xs c h in omega arith
+
+-- the columns of a key are those of its table
+key_within : (columns : List Column) (key : List ℕ) → list_all (λ c. holds_no_null (slice_get columns c)) key ≡ true → Each (λ c. c < length columns) key
+key_within columns [] h = tt
+key_within columns (c ∷ cs) h =
+    let parts = both (holds_no_null (slice_get columns c)) (list_all (λ d. holds_no_null (slice_get columns d)) cs) h in
+    (column_within columns c parts.0, key_within columns cs parts.1)
+
 -- the parts of what a catalog says of a table
-record IsNamed (t : Table) : Type 0 where
-  schema : is_catalog_name t.schema ≡ true
-  name : is_catalog_name t.name ≡ true
-  columns : Differ t.columns
+pub record IsNamed (t : Table) : Type 0 where
+  pub schema : is_catalog_name t.schema ≡ true
+  pub name : is_catalog_name t.name ≡ true
+  pub columns : Differ t.columns
+  pub key : Each (λ c. c < length t.columns) t.key
 
 named_table : (all : List Table) (t : Table) → is_table all t ≡ true → IsNamed t
 named_table all t h =
@@ -96,9 +110,10 @@ named_table all t h =
       schema = (both _ _ two).0;
       name = (both _ _ two).1;
       columns = columns_differ t.columns (both _ _ six).1 (both _ _ five).1;
+      key = key_within t.columns t.key (both _ _ nine).1;
     }
 
-named_tables : (all tables : List Table) → list_all (is_table all) tables ≡ true → Each IsNamed tables
+pub named_tables : (all tables : List Table) → list_all (is_table all) tables ≡ true → Each IsNamed tables
 named_tables all [] h = tt
 named_tables all (t ∷ ts) h = let parts = both (is_table all t) (list_all (is_table all) ts) h in (named_table all t parts.0, named_tables all ts parts.1)
 
@@ -121,10 +136,10 @@ names_differ t u ne =
     ] in
     go (bytes_eq t.schema u.schema && bytes_eq t.name u.name) refl
 
-abbrev same_full : Table → Table → Bool
+abbrev pub same_full : Table → Table → Bool
 same_full t u = bytes_eq (full_name t) (full_name u)
 
-other_table : (x : Table) (tables : List Table) (t : ℕ) → IsNamed x → list_any (same_full x) tables ≡ false → (bytes_eq x.schema (table_at tables t).schema && bytes_eq x.name (table_at tables t).name) ≡ false
+pub other_table : (x : Table) (tables : List Table) (t : ℕ) → IsNamed x → list_any (same_full x) tables ≡ false → (bytes_eq x.schema (table_at tables t).schema && bytes_eq x.name (table_at tables t).name) ≡ false
 other_table x [] t n h = rw (not_empty x.schema n.schema) refl
 other_table x (u ∷ tables) zero n h = names_differ x u (neither (same_full x u) (list_any (same_full x) tables) h).0
 other_table x (u ∷ tables) (suc t) n h = other_table x tables t n (neither (same_full x u) (list_any (same_full x) tables) h).1

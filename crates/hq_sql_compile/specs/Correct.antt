@@ -1,5 +1,7 @@
 -- What it means that the compiled statement is right.
-use Rattle.std.specs.Prelude.{◌≡◌, ◌+◌, ◌≤◌, ◌^◌, List, [], length, true, None}
+use Rattle.std.specs.Prelude.{◌≡◌, ◌+◌, ◌<◌, ◌≤◌, ◌^◌, List, [], length, map, true, None, nat_lt, bytes_eq}
+use Rattle.std.specs.List.{list_all}
+use Rattle.hq_base.specs.Lists.{all_differ}
 use Rattle.hq_terms.specs.Bexp.{always}
 use Rattle.hq_terms.specs.Catalog.{is_catalog}
 use Rattle.hq_terms.specs.Database.{Row, is_database}
@@ -8,16 +10,23 @@ use Rattle.hq_terms.specs.Meta.{MetaTree}
 use Rattle.hq_terms.specs.Permission.{Permission}
 use Rattle.hq_terms.specs.Schema.{Schema, schema_of, table}
 use Rattle.hq_terms.specs.declared.table.Table.{Table}
+use Rattle.hq_ask_tree.specs.declared.ask.Ask.{Ask}
 use Rattle.hq_ask_tree.specs.Request.{FieldTrees, no_field, field, FieldTree, column, list}
 use Rattle.hq_ask_tree.specs.Resolve.{resolved}
 use Rattle.hq_sql_tree.specs.Meaning.{meaning}
-use Rattle.hq_sql_compile.specs.Compiled.{numbers_all, statement}
+use Rattle.hq_sql_compile.specs.Compiled.{numbers_all, statement, table_at}
 
 -- a permission without a filter, masks and a limit
 pub record IsPlain (p : Permission) : Type 0 where
   pub filter : p.filter ≡ always
   pub masks : p.masks ≡ []
   pub limit : p.limit ≡ None
+
+-- a list of columns of a table of the catalog, under response keys that differ
+pub record IsList (tables : List Table) (a : Ask) : Type 0 where
+  pub table : a.table < length tables
+  pub columns : list_all (λ c. nat_lt c.column (length (table_at tables a.table).columns)) a.columns ≡ true
+  pub keys : all_differ bytes_eq (map (λ c. c.key) a.columns) ≡ true
 
 -- each list is of a table on which the permission is plain, and whose key has fewer than 2 ^ 64 columns
 abbrev mutual

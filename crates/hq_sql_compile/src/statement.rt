@@ -8,10 +8,11 @@ ghost use Rattle.hq_ask_tree.specs.Request.{ask_view};
 ghost use Rattle.hq_ask_tree.specs.Resolve.{resolved};
 ghost use Rattle.hq_sql_tree.specs.Tree as tree;
 ghost use Rattle.hq_sql_tree.specs.Meaning.{meaning};
+ghost use Rattle.hq_sql_tree.specs.WellFormed.{is_statement};
 ghost use Rattle.hq_sql_tree.specs.View.{out_view, select_view, join_view};
 ghost use Rattle.hq_sql_text.specs.Readable.{is_readable};
 ghost use Rattle.hq_sql_compile.specs.Compiled.{table_alias, join_alias, value_name, statement, list_statement, list_over};
-ghost use Rattle.hq_sql_compile.specs.Correct.{IsPlain};
+ghost use Rattle.hq_sql_compile.specs.Correct.{IsPlain, IsList};
 
 use crate::alias::{join_alias, table_alias, value_name};
 use crate::list::list_join;
@@ -83,6 +84,10 @@ pub fn compile(alloc: Global, ask: &Ask, catalog: &Catalog, meta: &Meta) -> Resu
 
     // It has a text that is read back.
     ensures readable { OnOk result (is_readable (statement (ask_view ask.now) (schema_of catalog.now.tables (meta_view meta.now))) ≡ true) }
+
+    // A list of columns of a table, under response keys that differ, is asked for by a statement that is well-formed for
+    // the catalog.
+    ensures well_formed { OnOk result (IsList catalog.now.tables ask.now → is_statement (list_over catalog.now.tables ask.now) catalog.now.tables ≡ true) }
 
     // Over every database of the catalog the statement means what nested resolvers give over the permitted rows.
     ensures means { OnOk result ((g : Grants) (d : Items (Items Row)) → is_database catalog.now.tables d ≡ true → IsPlain (grant g ask.now.table) →

@@ -10,6 +10,7 @@ use Rattle.hq_sql_compile.specs.Compiled.{list_statement, table_at}
 use Rattle.hq_sql_compile.proofs.Readable.{list_is_readable, has_key}
 use Rattle.hq_sql_compile.proofs.Sound.{IsOf, catalog_table}
 use Rattle.hq_sql_compile.proofs.Statements.{catalog_statement, list_resolved}
+use Rattle.hq_sql_compile.proofs.WellTyped.{list_is_statement}
 use Rattle.hq_sql_compile.proofs.statement.compile.Goals as goal
 
 -- the table at the request's place
@@ -48,3 +49,16 @@ returns-clause-means c g d database plain =
     catalog_table (meta_view c.args.meta.now) 0 tables c.args.ask.now.table c.index-as_slice-at.result c.requires (cc) in
     let few : length c.index-as_slice-at.result.key ≤ 2 ^ 64 = omega arith in
     list_resolved c.args.ask.now tables (meta_view c.args.meta.now) g d c.index-as_slice-at.result of few c.args.catalog.now.valid database plain
+
+pub returns-clause-well_formed : goal.returns-clause-well_formed
+returns-clause-well_formed c list =
+    let tables = c.args.catalog.now.tables in
+    let x = c.index-as_slice-at.result in
+    let a = c.args.ask.now in
+    let is : x ≡ table_at tables a.table = here tables a.table x c.requires (cc) in
+    let some = has_key tables a.table x c.args.catalog.now.valid c.requires (cc) in
+    let fits : select_fits (list_statement a.key x.schema x.name x.columns x.key a.columns) ≡ true = subst (λ (s : SelectTree). select_fits s ≡ true) c.in_ok-select.ensures c.fits.ensures in
+    let readable : is_readable (list_statement a.key x.schema x.name x.columns x.key a.columns) ≡ true = list_is_readable a.key x.schema x.name x.columns x.key a.columns some fits in
+    let few : length x.key ≤ 2 ^ 64 = omega arith in
+    list_is_statement tables a c.args.catalog.now.valid list (subst (λ (t : Table). length t.key ≤ 2 ^ 64) is few)
+    (subst (λ (t : Table). is_readable (list_statement a.key t.schema t.name t.columns t.key a.columns) ≡ true) is readable)
