@@ -1,0 +1,1 @@
+SELECT json_build_object() AS "v" FROM (SELECT TRUE AS "u") AS "t0"
