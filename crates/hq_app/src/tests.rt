@@ -2,8 +2,8 @@ ghost use Rattle.std.specs.Prelude.{◌≢◌};
 
 use super::*;
 use hq_base::{Bytes, List, Memory, Txt};
-use hq_engine::Engine;
 use hq_db::SqlDb;
+use hq_engine::Engine;
 use hq_memory::{MemFiles, MemSink, MemSource, SureDoor, SureFiles, SureSink, SureSource};
 use hq_outside::{File, FileList, NumList, names_differ};
 use hq_tables::MemTables;
@@ -410,3 +410,4 @@ fn sure_objects_never_fail(rt: HostRuntime) -> Result<(), Fail> {
 }
 
 mod requests;
+mod statements;
