@@ -1,6 +1,5 @@
 mod Dues
 mod Refusals
-mod Replies
 mod RuleTexts
 mod Selections
 mod Told

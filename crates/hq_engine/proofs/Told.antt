@@ -6,16 +6,20 @@ use Rattle.hq_engine.specs.Due.{data_text}
 use Rattle.hq_engine.specs.FaultTexts.{fault_text, tells_fault}
 use Rattle.hq_engine.specs.declared.faults.RequestFault.{RequestFault}
 
+-- the text of a fault tells one
 fault_tells : (f : RequestFault) → tells_fault (fault_text f) ≡ true
 unfolding escaped
 fault_tells f = refl
 
+-- data tells none
 data_tells : (json : JsonTree) → tells_fault (data_text json) ≡ false
 unfolding escaped
 data_tells json = refl
 
+-- the same of a body that is such a text
 pub tells : (f : RequestFault) (body : List ℕ) → body ≡ fault_text f → tells_fault body ≡ true
 tells f body is = ap tells_fault is ∙ fault_tells f
 
+-- and of one that is data
 pub tells_not : (json : JsonTree) (body : List ℕ) → body ≡ data_text json → tells_fault body ≡ false
 tells_not json body is = ap tells_fault is ∙ data_tells json
