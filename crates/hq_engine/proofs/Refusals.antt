@@ -1,5 +1,5 @@
 -- What refusals of parts are to a request.
-use Rattle.std.proofs.Common.{◌≡◌, ◌⊎◌, inl, inr, Result, Ok, Err, ap, ◌∙◌}
+use Rattle.std.proofs.Common.{◌≡◌, ◌⊎◌, inl, inr, Result, Err, ap, ◌∙◌}
 use Rattle.hq_engine.specs.Reading.{refused_as}
 use Rattle.hq_engine.specs.declared.reading.RequestRefusal.{RequestRefusal}
 use Rattle.hq_engine.specs.declared.reading.RequestRefusal.TheVariants.{Memory}

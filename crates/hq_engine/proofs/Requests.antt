@@ -13,7 +13,7 @@ use Rattle.hq_terms.specs.Fits.{fits, fits_tracked}
 use Rattle.hq_terms.specs.Grants.{grant, grant_of, grants_of, no_grant}
 use Rattle.hq_terms.specs.Meta.{MetaTree, TrackedTree}
 use Rattle.hq_terms.specs.Permission.{Permission, Mask, permission, role_of}
-use Rattle.hq_terms.specs.Schema.{Schema, SchemaTable, schema_of, schema_table, numbered, table}
+use Rattle.hq_terms.specs.Schema.{Schema, schema_of, schema_table, numbered, table}
 use Rattle.hq_terms.specs.Schema as schema
 use Rattle.hq_terms.specs.declared.role.Role.{Role}
 use Rattle.hq_terms.specs.declared.session.Session.{Session}

@@ -1,5 +1,5 @@
 -- Which replies tell a fault.
-use Rattle.std.proofs.Common.{◌≡◌, ℕ, List, true, false, refl, sym, ap, ◌∙◌}
+use Rattle.std.proofs.Common.{◌≡◌, ℕ, List, true, false, refl, ap, ◌∙◌}
 use Rattle.hq_base.specs.Compact.{escaped}
 use Rattle.hq_base.specs.Json.{JsonTree}
 use Rattle.hq_engine.specs.Due.{data_text}

@@ -1,6 +1,5 @@
 -- The faults of a request: the rule that each violates, and its place.
-use Rattle.std.specs.Prelude.{ℕ, Option, Some, None}
-use Rattle.hq_gql_tree.specs.declared.fault.Fault.{Fault}
+use Rattle.std.specs.Prelude.{ℕ, Option, None}
 use Rattle.hq_gql_tree.specs.declared.rule.RuleId.{RuleId}
 use Rattle.hq_gql_tree.specs.declared.rule.RuleId.TheVariants as rule
 use Rattle.hq_engine.specs.declared.faults.RequestFault.{RequestFault}

@@ -25,13 +25,15 @@ abbrev pub is_empty : SelectionTrees → Bool
 is_empty no_selection = true
 is_empty (selection s more) = false
 
--- a plain field without a selection set, and its name
+-- a plain field without a selection set
 abbrev pub is_column : FieldHead → SelectionTrees → Bool
 is_column h below = is_plain_field h && is_empty below
 
+-- its name
 abbrev pub plain_name : FieldHead → SelectionTrees → Option (List ℕ)
 plain_name h below = cond (is_column h below) (Some h.name) None
 
+-- the name of a selection that is such a field
 abbrev pub column_of : SelectionTree → Option (List ℕ)
 column_of (field h below) = plain_name h below
 column_of (spread s) = None
@@ -50,13 +52,15 @@ is_list_length n = nat_lt 0 n && nat_le n 50
 abbrev pub list_with : List ℕ → List (List ℕ) → Option ListBody
 list_with root columns = cond (all_differ bytes_eq columns) (Some (record { root = root; columns = columns })) None
 
+-- the list of these columns, where each selection is one and their names differ
 abbrev pub list_of_columns : (root : List ℕ) → List SelectionTree → Option ListBody
 list_of_columns root below = option_and_then (list_with root) (columns_of below)
 
--- the list that a root field asks for: 1 to 50 different columns
+-- a plain field with 1 to 50 selections
 abbrev pub is_list : FieldHead → List SelectionTree → Bool
 is_list h below = is_plain_field h && is_list_length (length below)
 
+-- the list that a root field asks for: 1 to 50 different columns
 abbrev pub list_under : FieldHead → List SelectionTree → Option ListBody
 list_under h below = cond (is_list h below) (list_of_columns h.name below) None
 

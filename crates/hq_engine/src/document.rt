@@ -1,5 +1,5 @@
 //! The documents that are answered so far: one plain list of columns.
-ghost use Rattle.std.specs.Prelude.{◌≡◌, map, IfOk, bytes_eq, option_copied, option_map};
+ghost use Rattle.std.specs.Prelude.{◌≡◌, map, IfOk, bytes_eq, option_copied};
 ghost use Rattle.std.specs.List.{list_any};
 ghost use Rattle.hq_base.specs.Lists.{all_differ};
 ghost use Rattle.hq_gql_tree.specs.Documents.{operation_view, definition_view};

@@ -1,4 +1,4 @@
-ghost use Rattle.std.specs.Prelude.{◌≡◌, ◌==◌, ◌∷◌, map, find, position, true, false, IfOk, MatchOption, Some, None, bytes_eq, option_map, option_copied, ok_or, slice_index_or, []};
+ghost use Rattle.std.specs.Prelude.{◌≡◌, ◌==◌, map, find, position, IfOk, bytes_eq, option_map};
 ghost use Rattle.std.specs.List.{list_any};
 ghost use Rattle.hq_base.specs.Json.{json_view};
 ghost use Rattle.hq_gql_tree.specs.View.{document_view};

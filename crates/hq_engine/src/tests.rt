@@ -1,7 +1,7 @@
 use super::*;
 use crate::document::list_of;
 use crate::reading::{RequestRefusal, reading_due};
-use crate::reply::fault_reply;
+use crate::reply::{data_reply, fault_reply};
 use hq_base::{Json, Txt};
 use hq_gql_tree::{Fault, RuleId};
 use hq_terms::Want;
@@ -18,6 +18,16 @@ fn told(alloc: Global, fault: &RequestFault) -> Result<String, Fail> {
     let mut out = String::new(alloc);
     out.push_str(text.as_str())?;
     Ok(out)
+}
+
+#[test]
+fn data_tells_no_fault(rt: HostRuntime) -> Result<(), Fail> {
+    let alloc = rt.alloc();
+    let reply = data_reply(alloc, Json::Null)?;
+    let text = Txt::of(alloc, reply.body.as_slice())?;
+    assert_eq!(rt; text.as_str(), r#"{"data":null}"#);
+    assert!(rt; !tells_fault(&reply) && reply.status == 200);
+    Ok(())
 }
 
 // What a body reads as, in words: its fault, the plain list that its document asks for, or that it asks for none.
