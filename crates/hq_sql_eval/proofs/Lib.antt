@@ -1,0 +1,6 @@
+pub mod Weights
+pub mod NamedCells
+pub mod JoinedRows
+pub mod Ordered
+pub mod Evaluated
+pub mod Stored

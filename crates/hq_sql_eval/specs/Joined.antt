@@ -1,0 +1,32 @@
+-- Rows of joins, of which some are put off.
+use Rattle.std.specs.Prelude.{List, [], ◌∷◌, map, Option, Some, None}
+use Rattle.hq_base.specs.Cells.{CellTree}
+use Rattle.hq_sql_tree.specs.Tree.{JoinTree, JoinTrees, no_join, join}
+use Rattle.hq_sql_tree.specs.View.{expr_view, order_view}
+use Rattle.hq_sql_tree.specs.Meaning.{NamedRow, Scope as Names}
+use Rattle.hq_sql_eval.specs.declared.joins.Asked.{Asked}
+use Rattle.hq_sql_eval.specs.declared.joins.Asked.TheVariants.{Keys, Values}
+use Rattle.hq_sql_eval.specs.Keys.{expr_values, key_values}
+
+-- one more join in front, which is put off
+abbrev pub put_off : List (Option NamedRow) → List (Option NamedRow)
+put_off [] = []
+put_off (r ∷ rs) = None ∷ (r ∷ rs)
+
+-- the row of the first join, where it has one already
+abbrev pub first_joined : List (Option NamedRow) → Option NamedRow
+first_joined [] = None
+first_joined (r ∷ rs) = r
+
+abbrev pub other_joined : List (Option NamedRow) → List (Option NamedRow)
+other_joined [] = []
+other_joined (r ∷ rs) = rs
+
+-- a join in front of others
+abbrev pub join_in : JoinTree → JoinTrees → JoinTrees
+join_in j js = join j.select j.alias js
+
+-- the cells that are asked of a row
+abbrev pub asked_values : Asked → Names → List CellTree
+asked_values (Keys order) names = key_values (map order_view order.now.items) names
+asked_values (Values exprs) names = expr_values (map expr_view exprs.now.items) names

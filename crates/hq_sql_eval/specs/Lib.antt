@@ -1,0 +1,6 @@
+pub mod View
+pub mod Sources
+pub mod Joined
+pub mod Single
+pub mod Keys
+pub mod Weight

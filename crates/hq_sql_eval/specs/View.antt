@@ -1,0 +1,90 @@
+-- What rows and scopes in memory are seen as.
+use Rattle.std.specs.Prelude.{ℕ, true, List, [], ◌∷◌, map, Option, Some, None, option_map, codes, slice_index_or}
+use Rattle.std.specs.Global.{Vec}
+use Rattle.hq_base.specs.Cells as cell
+use Rattle.hq_base.specs.Cells.{CellTree}
+use Rattle.hq_sql_cells.specs.View.{cell_view}
+use Rattle.hq_sql_tree.specs.Tree.{JoinTrees, no_join, join}
+use Rattle.hq_sql_tree.specs.View.{select_view}
+use Rattle.hq_sql_tree.specs.Meaning.{NamedRow, Scope as Names, nothing, with_alias, named_row, World, rows_of}
+use Rattle.hq_sql_eval.specs.declared.row.Named.{Named}
+use Rattle.hq_sql_eval.specs.declared.row.Made.{Made}
+use Rattle.hq_sql_eval.specs.declared.row.Row.{Row}
+use Rattle.hq_sql_eval.specs.declared.row.Row.TheVariants as row
+use Rattle.hq_sql_eval.specs.declared.scope.Stored.{Stored}
+use Rattle.hq_sql_eval.specs.declared.scope.Source.{Source}
+use Rattle.hq_sql_eval.specs.declared.scope.Source.TheVariants as source
+use Rattle.hq_sql_eval.specs.declared.scope.Group.{Group}
+use Rattle.hq_sql_eval.specs.declared.scope.Group.TheVariants.{Alone, Of}
+use Rattle.hq_sql_eval.specs.declared.scope.Scope.{Scope, Nothing, Bound', Later'}
+use Rattle.hq_sql_eval.specs.declared.place.Place.{Place}
+
+abbrev pub named_view : Named → List ℕ × CellTree
+named_view n = (n.name.now, cell_view n.cell)
+
+abbrev pub made_view : Made → NamedRow
+made_view m = map named_view m.cells.items
+
+-- the one row of One
+abbrev pub row_of_one : NamedRow
+row_of_one = (codes "u", cell.bool true) ∷ []
+
+abbrev pub row_view : Row → NamedRow
+row_view (row.Stored columns values) = named_row columns.now values.now
+row_view (row.Made cells) = map named_view cells.now
+row_view row.One = row_of_one
+
+-- tables with their rows
+abbrev pub world_of : List Stored → World
+world_of stored = record { tables = map (λ s. s.table.now) stored; database = map (λ s. s.rows.now) stored }
+
+-- the rows of a FROM
+abbrev pub source_view : Source → List NamedRow
+source_view (source.Stored stored) = map (named_row stored.table.now.columns) stored.rows.now
+source_view (source.Made rows) = map made_view rows.now
+source_view source.One = row_of_one ∷ []
+
+-- the row at a place, without cells where there is none
+abbrev pub row_in : Source → ℕ → NamedRow
+row_in (source.Stored stored) position = slice_index_or (map (named_row stored.table.now.columns) stored.rows.now) position []
+row_in (source.Made rows) position = slice_index_or (map made_view rows.now) position []
+row_in source.One position = row_of_one
+
+-- the first row, and the row of NULLs where there is none
+abbrev pub first_row : List NamedRow → NamedRow
+first_row [] = []
+first_row (r ∷ rs) = r
+
+-- what is in scope: a join that is put off has the first row of its select
+abbrev pub scope_of : Scope → World → Names
+scope_of Nothing world = nothing
+scope_of (Bound' alias row p outer) world = with_alias (scope_of outer world) alias.now (row_view row)
+scope_of (Later' alias select p outer) world = with_alias (scope_of outer world) alias.now (first_row (rows_of (select_view select.now) world (scope_of outer world)))
+
+-- the rows that an aggregate is taken over, each with what is in scope around them
+abbrev pub group_of : Group → Names → List Names
+group_of Alone names = []
+group_of (Of alias rows) names = map (with_alias names alias.now) (map made_view rows.now)
+
+-- a row of joins, of which some have a row already, and those that are put off the first row of their select
+abbrev pub beside : JoinTrees → World → Names → List (Option NamedRow) → Names
+beside no_join world names rows = names
+beside (join select alias js) world names [] = beside js world (with_alias names alias (first_row (rows_of select world names))) []
+beside (join select alias js) world names (None ∷ rows) = beside js world (with_alias names alias (first_row (rows_of select world names))) rows
+beside (join select alias js) world names (Some r ∷ rows) = beside js world (with_alias names alias r) rows
+
+-- the rows of joins, of which some are put off
+abbrev pub joined_view : Vec (Option Made) → List (Option NamedRow)
+joined_view joined = map (option_map made_view) joined.items
+
+abbrev pub place_of : (position : ℕ) → Vec (Option Made) → Place
+place_of position joined = record { position = position; joined = joined }
+
+-- what is in scope at a place
+abbrev pub names_at : Source → (alias : List ℕ) → JoinTrees → World → Names → Place → Names
+names_at from alias joins world names place =
+    beside joins world (with_alias names alias (row_in from place.position)) (joined_view place.joined)
+
+-- what is in scope, over tables with their rows
+abbrev pub names_of : Scope → List Stored → Names
+names_of scope stored = scope_of scope (world_of stored)

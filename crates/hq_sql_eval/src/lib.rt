@@ -1,0 +1,21 @@
+//! The evaluation of a statement over the tables that are pinned: the JSON that it means.
+#![tactic(auto)]
+
+mod aggregates;
+mod cells;
+mod clauses;
+mod joins;
+mod mentions;
+mod place;
+mod row;
+mod scope;
+mod single;
+mod stages;
+mod statement;
+mod truths;
+mod values;
+
+pub use statement::eval;
+
+#[cfg(test)]
+mod tests;

@@ -1,0 +1,97 @@
+//! The value of a statement.
+ghost use Rattle.std.specs.Prelude.{◌≡◌, ◌<◌, ℕ, length, List as Items, [], true, cond, codes, map, IfOk, slice_index_or};
+ghost use Rattle.hq_base.specs.Json.{json_view};
+ghost use Rattle.hq_terms.specs.Database.{Row};
+ghost use Rattle.hq_sql_tree.specs.View.{select_view};
+ghost use Rattle.hq_sql_tree.specs.Meaning.{first_value, meaning};
+ghost use Rattle.hq_sql_scans.specs.Agree.{HasRows};
+ghost use Rattle.hq_sql_scans.specs.Scans.{scans};
+ghost use Rattle.hq_sql_eval.specs.View.{made_view, world_of};
+
+use crate::clauses::rows;
+use crate::row::{Made, cell_taken};
+use crate::scope::{Scope, Stored};
+use hq_base::{Json, Memory, Txt};
+use hq_sql_scans::{only_scanned_tables_matter, scanned};
+use hq_sql_tree::Select;
+use hq_tables::{Tables, ValList};
+use hq_terms::TableId;
+use std::alloc::Global;
+
+// The name of a statement's output.
+fn value_name(alloc: Global) -> Result<Txt, Memory>
+    ensures { IfOk result (λ name. name ≡ codes "v") }
+{
+    let mut name = Txt::new(alloc);
+    name.push_str("v")?;
+    Ok(name)
+}
+
+// The JSON of the output `v` of the first row, null where there is none.
+fn first_value<'d>(alloc: Global, rows: Vec<Made<'d>>) -> Result<Json, Memory>
+    ensures { IfOk result (λ json. json_view json ≡ first_value (map made_view rows.entry.items)) }
+{
+    let name = value_name(alloc)?;
+    for row in rows {
+        return cell_taken(row, &name).into_json(alloc);
+    }
+    Ok(Json::Null)
+}
+
+// The rows of a table, none where the statement takes no rows from it.
+fn stored_rows<T: Tables>(tables: &T, is_scanned: bool, at: usize) -> &[ValList]
+    requires { is_scanned ≡ true → T.is_pinned tables.now at ≡ true }
+    ensures { result.now ≡ cond is_scanned (T.rows tables.now at) [] }
+{
+    if is_scanned {
+        return tables.pinned(TableId::new(at)).as_slice();
+    }
+    &[]
+}
+
+// The tables of the catalog, each with its rows where the statement takes rows from it.
+fn stored<'d, T: Tables>(
+    alloc: Global,
+    select: &Select,
+    tables: &'d T,
+) -> Result<Vec<Stored<'d>>, Memory>
+    requires { (t : ℕ) → t < length (T.tables tables.now) → scans (select_view select.now) (T.tables tables.now) t ≡ true → T.is_pinned tables.now t ≡ true }
+    ensures tables { IfOk result (λ world. (world_of world.items).tables ≡ T.tables tables.now) }
+    ensures rows { IfOk result (λ world. HasRows (select_view select.now) (T.tables tables.now) (T.rows tables.now) (world_of world.items).database) }
+{
+    let list = tables.catalog().tables.as_slice();
+    let marks = scanned(alloc, select, list)?;
+    let mut world = Vec::with_capacity(alloc, list.len())?;
+    for (at, table) in list.iter().enumerate() {
+        world.push(Stored {
+            table,
+            rows: stored_rows(tables, marks[at], at),
+        })?;
+    }
+    Ok(world)
+}
+
+/// What a statement means over tables with these rows.
+pub(crate) fn eval_over<'d>(
+    alloc: Global,
+    select: &'d Select,
+    world: &'d [Stored<'d>],
+) -> Result<Json, Memory>
+    ensures { IfOk result (λ json. json_view json ≡ meaning (select_view select.now) (world_of world.now)) }
+{
+    let scope = Scope::Nothing;
+    let made = rows(alloc, select, world, &scope)?;
+    first_value(alloc, made)
+}
+
+/// What a statement means over pinned tables: over each database in which the tables that it takes rows from have the rows
+/// that are pinned. Memory comes also where a number on the way does not fit 128 bits.
+pub fn eval<T: Tables>(alloc: Global, select: &Select, tables: &T) -> Result<Json, Memory>
+    requires pinned { (t : ℕ) → t < length (T.tables tables.now) → scans (select_view select.now) (T.tables tables.now) t ≡ true → T.is_pinned tables.now t ≡ true }
+    ensures value { IfOk result (λ json. (d : Items (Items Row)) → HasRows (select_view select.now) (T.tables tables.now) (T.rows tables.now) d
+        → json_view json ≡ meaning (select_view select.now) (record { tables = T.tables tables.now; database = d })) }
+{
+    only_scanned_tables_matter();
+    let world = stored(alloc, select, tables)?;
+    eval_over(alloc, select, &world)
+}

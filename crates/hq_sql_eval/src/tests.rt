@@ -1,0 +1,5 @@
+mod aggregates;
+mod depth;
+mod fixture;
+mod pinned;
+mod statements;

@@ -1,0 +1,161 @@
+//! Truths of conditions.
+ghost use Rattle.std.specs.Prelude.{◌≡◌, map, IfOk};
+ghost use Rattle.hq_sql_tree.specs.Tree.{preds_of};
+ghost use Rattle.hq_sql_tree.specs.View.{select_view, pred_view, filter_view};
+ghost use Rattle.hq_sql_tree.specs.Meaning.{kept, truth_at, all_true, any_true, has_rows, rows_of};
+ghost use Rattle.hq_sql_eval.specs.View.{world_of, names_of};
+
+use crate::clauses::{any_row, made_of, rows};
+use crate::scope::{Group, Scope, Stored, alias_of, source_of};
+use crate::single::is_whole;
+use crate::stages::{Parts, stages};
+use crate::values::{value, values};
+use hq_base::Memory;
+use hq_sql_cells::{among, compared, matched};
+use hq_sql_tree::{Pred, PredList, Select};
+use hq_terms::Truth;
+use std::alloc::Global;
+
+/// Whether a WHERE keeps a row: neither where it is false nor where it is unknown.
+#[cycle(eval)]
+pub fn kept<'d>(
+    alloc: Global,
+    filter: &'d Option<Pred>,
+    world: &'d [Stored<'d>],
+    scope: &Scope<'_, 'd>,
+) -> Result<bool, Memory>
+    ensures { IfOk result (λ b. b ≡ kept (filter_view filter.now) (world_of world.now) (names_of scope.now world.now)) }
+{
+    match filter {
+        None => Ok(true),
+        Some(pred) => Ok(truth(alloc, pred, world, scope)?.is_yes()),
+    }
+}
+
+#[cycle(eval)]
+fn truth<'d>(
+    alloc: Global,
+    pred: &'d Pred,
+    world: &'d [Stored<'d>],
+    scope: &Scope<'_, 'd>,
+) -> Result<Truth, Memory>
+    ensures { IfOk result (λ t. t ≡ truth_at (pred_view pred.now) (world_of world.now) (names_of scope.now world.now)) }
+{
+    match pred {
+        Pred::True => Ok(Truth::Yes),
+        Pred::False => Ok(Truth::No),
+        Pred::Cmp { left, op, right } => {
+            let left = value(alloc, left, world, Group::Alone, scope)?;
+            let right = value(alloc, right, world, Group::Alone, scope)?;
+            Ok(compared(*op, &left, &right))
+        }
+        Pred::Like { left, right, fold } => {
+            let left = value(alloc, left, world, Group::Alone, scope)?;
+            let right = value(alloc, right, world, Group::Alone, scope)?;
+            matched(alloc, *fold, &left, &right)
+        }
+        Pred::Within { value: expr, list } => {
+            let item = value(alloc, expr, world, Group::Alone, scope)?;
+            let items = values(alloc, list, world, scope)?;
+            Ok(among(&items, &item))
+        }
+        Pred::IsNull(expr) => {
+            let cell = value(alloc, expr, world, Group::Alone, scope)?;
+            Ok(Truth::of(cell.is_null()))
+        }
+        Pred::Not(inner) => Ok(truth(alloc, inner, world, scope)?.negated()),
+        Pred::And(preds) => all_true(alloc, preds, world, scope),
+        Pred::Or(preds) => any_true(alloc, preds, world, scope),
+        Pred::Exists(select) => Ok(Truth::of(exists(alloc, select, world, scope)?)),
+    }
+}
+
+// AND of a list, which ends where one is false.
+#[cycle(eval)]
+fn all_true<'d>(
+    alloc: Global,
+    preds: &'d PredList,
+    world: &'d [Stored<'d>],
+    scope: &Scope<'_, 'd>,
+) -> Result<Truth, Memory>
+    ensures { IfOk result (λ t. t ≡ all_true (preds_of (map pred_view preds.now.items)) (world_of world.now) (names_of scope.now world.now)) }
+{
+    let mut all = Truth::Yes;
+    for pred in preds {
+        all = all.and(truth(alloc, pred, world, scope)?);
+        if all == Truth::No {
+            return Ok(Truth::No);
+        }
+    }
+    Ok(all)
+}
+
+// OR of a list, which ends where one is true.
+#[cycle(eval)]
+fn any_true<'d>(
+    alloc: Global,
+    preds: &'d PredList,
+    world: &'d [Stored<'d>],
+    scope: &Scope<'_, 'd>,
+) -> Result<Truth, Memory>
+    ensures { IfOk result (λ t. t ≡ any_true (preds_of (map pred_view preds.now.items)) (world_of world.now) (names_of scope.now world.now)) }
+{
+    let mut any = Truth::No;
+    for pred in preds {
+        any = any.or(truth(alloc, pred, world, scope)?);
+        if any == Truth::Yes {
+            return Ok(Truth::Yes);
+        }
+    }
+    Ok(any)
+}
+
+// Whether a select has a row. Without LIMIT and OFFSET it ends at the first row that is kept.
+#[cycle(eval)]
+fn exists<'d>(
+    alloc: Global,
+    select: &'d Select,
+    world: &'d [Stored<'d>],
+    scope: &Scope<'_, 'd>,
+) -> Result<bool, Memory>
+    ensures { IfOk result (λ b. b ≡ has_rows (rows_of (select_view select.now) (world_of world.now) (names_of scope.now world.now))) }
+{
+    match select {
+        Select::Fold { .. } => Ok(true),
+        Select::Rows {
+            distinct,
+            outs,
+            from,
+            joins,
+            filter,
+            order,
+            limit,
+            offset,
+        } => {
+            if !is_whole(*limit, *offset) {
+                return Ok(!rows(alloc, select, world, scope)?.is_empty());
+            }
+            let made = made_of(alloc, from, world, scope)?;
+            let parts = Parts {
+                distinct,
+                outs,
+                filter,
+                order,
+            };
+            let list = joins.as_slice();
+            let given = made.as_slice();
+            let stages = stages(alloc, parts, list)?;
+            let source = source_of(world, from, given);
+            any_row(
+                alloc,
+                source,
+                alias_of(from),
+                list,
+                &stages,
+                filter,
+                world,
+                &*scope,
+            )
+        }
+    }
+}
