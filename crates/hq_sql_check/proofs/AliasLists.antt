@@ -1,5 +1,5 @@
 -- The aliases of a tree stand in front of those that are given.
-use Rattle.std.proofs.Common.{◌≡◌, refl, sym, ap, ◌∙◌, ℕ, List, [], ◌∷◌, ◌++◌, append_assoc}
+use Rattle.std.proofs.Common.{◌≡◌, refl, ap, ℕ, List, [], ◌∷◌, ◌++◌, append_assoc}
 use Rattle.hq_sql_tree.specs.Tree as tree
 use Rattle.hq_sql_tree.specs.Tree.{SelectTree, FromTree, JoinTrees, FilterTree, PredTree, PredTrees}
 use Rattle.hq_sql_tree.specs.WellFormed.{aliases_in, aliases_in_from, aliases_in_joins, aliases_in_filter, aliases_in_pred, aliases_in_preds}

@@ -1,5 +1,5 @@
 -- DISTINCT ON: some keys at the front are, as a set, its expressions exactly where those at the front that are among them are.
-use Rattle.std.proofs.Common.{◌≡◌, refl, sym, ap, ◌∙◌, ℕ, suc, List, [], ◌∷◌, map, take, Bool, true, false, ◌&&◌, ◌||◌, if◌then◌else◌, cond}
+use Rattle.std.proofs.Common.{◌≡◌, refl, sym, ap, ◌∙◌, suc, List, [], ◌∷◌, map, take, Bool, true, false, ◌&&◌, ◌||◌, if◌then◌else◌}
 use Rattle.std.specs.List.{list_all, list_any}
 use Rattle.std.proofs.lemmas.List.{take-map}
 use Rattle.hq_sql_tree.specs.declared.expr.Expr.{Expr}

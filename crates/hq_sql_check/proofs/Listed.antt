@@ -1,5 +1,5 @@
 -- Lists inside trees: the members of AND and OR, and the sort keys of json_agg.
-use Rattle.std.proofs.Common.{◌≡◌, refl, sym, ap, suc, ◌==◌, List, [], ◌∷◌, map, length, Bool, true, false, ◌&&◌}
+use Rattle.std.proofs.Common.{◌≡◌, refl, ap, suc, ◌==◌, List, [], ◌∷◌, map, length, false, ◌&&◌}
 use Rattle.std.proofs.Math.Bool.{and_assoc}
 use Rattle.hq_sql_tree.specs.declared.expr.Order.{Order}
 use Rattle.hq_sql_tree.specs.declared.select.Pred.{Pred}

@@ -1,5 +1,5 @@
 -- The form of a statement, part by part.
-use Rattle.std.proofs.Common.{◌≡◌, refl, List, [], ◌∷◌, length, ◌==◌, Option, Some, None, is_none, Bool, true, false, ◌&&◌, ℕ, arith}
+use Rattle.std.proofs.Common.{◌≡◌, refl, List, [], ◌∷◌, length, ◌==◌, Option, Some, None, is_none, false, ◌&&◌, ℕ, arith}
 use Rattle.std.proofs.lemmas.Bool.{ne_eqb}
 use Rattle.hq_sql_tree.specs.Tree as tree
 use Rattle.hq_sql_tree.specs.Tree.{ExprTree, OutTree, FromTree, JoinTrees, FilterTree, OrderTree}

@@ -3,6 +3,7 @@ use hq_sql_text::read;
 use std::alloc::Global;
 use std::test::Fail;
 
+mod depth;
 mod fixture;
 
 use fixture::catalog;

@@ -1,7 +1,6 @@
-use Rattle.std.proofs.Common.{◌≡◌, ◌∙◌, sym, ap, ◌+◌, ◌<◌, ◌++◌, ◌∷◌, [], map, drop, length, arith}
-use Rattle.hq_sql_tree.specs.Tree as tree
+use Rattle.std.proofs.Common.{◌∙◌, sym, ap, ◌+◌, ◌<◌, ◌++◌, [], map, drop, length, arith}
 use Rattle.hq_sql_tree.specs.Tree.{joins_of, preds_of}
-use Rattle.hq_sql_tree.specs.View.{expr_view, order_view, out_view, select_view, from_view, join_view, pred_view, filter_view}
+use Rattle.hq_sql_tree.specs.View.{select_view, from_view, join_view, pred_view, filter_view}
 use Rattle.hq_sql_tree.specs.WellFormed.{aliases_in, aliases_in_joins, aliases_in_preds}
 use Rattle.hq_sql_check.specs.Scopes.{texts}
 use Rattle.hq_sql_check.proofs.AliasLists.{pieces, beside, beside_end, behind}

@@ -1,4 +1,4 @@
-use Rattle.std.proofs.Common.{◌≡◌, ◌∙◌, sym, ap, bytes_eq}
+use Rattle.std.proofs.Common.{◌∙◌, ap, bytes_eq}
 use Rattle.hq_sql_check.specs.Scopes.{texts, neighbours_differ}
 use Rattle.hq_sql_check.proofs.Sorted.{names_differ}
 use Rattle.hq_sql_check.proofs.differ.sorted_differ.Goals as goal

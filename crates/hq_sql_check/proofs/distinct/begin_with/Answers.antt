@@ -1,4 +1,4 @@
-use Rattle.std.proofs.Common.{◌≡◌, ◌∙◌, sym, ap, map, take}
+use Rattle.std.proofs.Common.{◌∙◌, sym, ap, map, take}
 use Rattle.std.specs.List.{list_all}
 use Rattle.hq_sql_tree.specs.View.{expr_view, order_view}
 use Rattle.hq_sql_tree.specs.WellFormed.{is_among}

@@ -1,4 +1,4 @@
-use Rattle.std.proofs.Common.{◌≡◌, ◌∙◌, sym, ap, map, length, ◌==◌, Bool, true, false, ◌&&◌, rules}
+use Rattle.std.proofs.Common.{◌≡◌, ◌∙◌, sym, ap, map, length, ◌==◌, true, false, ◌&&◌, rules}
 use Rattle.hq_sql_tree.specs.Tree as tree
 use Rattle.hq_sql_tree.specs.Tree.{orders_of}
 use Rattle.hq_sql_tree.specs.View.{agg_view, expr_view, order_view}

@@ -1,4 +1,4 @@
-use Rattle.std.proofs.Common.{◌≡◌, ◌∙◌, sym, ap, refl, map, bytes_eq, true, false, option_map, arith, rules}
+use Rattle.std.proofs.Common.{◌≡◌, ◌∙◌, ap, refl, map, bytes_eq, true, false, option_map, arith, rules}
 use Rattle.hq_sql_tree.specs.WellFormed.{kind_at, kind_named}
 use Rattle.hq_sql_check.specs.Scopes.{kind_view, name_view}
 use Rattle.hq_sql_check.proofs.Stacked.{last_front}
