@@ -18,6 +18,7 @@ abbrev pub first_joined : List (Option NamedRow) → Option NamedRow
 first_joined [] = None
 first_joined (r ∷ rs) = r
 
+-- the rows of the joins behind the first one
 abbrev pub other_joined : List (Option NamedRow) → List (Option NamedRow)
 other_joined [] = []
 other_joined (r ∷ rs) = rs

@@ -12,12 +12,15 @@ use Rattle.hq_sql_cells.specs.Keys.{keys_of, distinct_of, keys_cmp, same_group}
 use Rattle.hq_sql_tree.specs.Tree.{ExprTree, PairTree, OrderTree, OutTree}
 use Rattle.hq_sql_tree.specs.Meaning.{Scope as Names, value}
 
+-- the direction of a sort key
 abbrev pub direction_of : OrderTree → Direction
 direction_of o = record { desc = o.desc; nulls_first = o.nulls_first }
 
+-- the directions of sort keys
 abbrev pub directions_of : List OrderTree → List Direction
 directions_of = map direction_of
 
+-- the row of a kept one
 abbrev pub row_of : {T : Type 0} → Kept T → T
 row_of k = k.row
 
@@ -30,10 +33,11 @@ abbrev pub distinct_kept : {T : Type 0} → List ExprTree → List (Kept T) → 
 distinct_kept [] ks = ks
 distinct_kept (e ∷ es) ks = firsts same_group ks
 
--- the values of expressions, and those that rows are sorted by
+-- the values of expressions
 abbrev pub expr_values : List ExprTree → Names → List CellTree
 expr_values es names = map (λ e. value e [] names) es
 
+-- the values that rows are sorted by
 abbrev pub key_values : List OrderTree → Names → List CellTree
 key_values os names = map (λ o. value o.value [] names) os
 
@@ -41,10 +45,11 @@ key_values os names = map (λ o. value o.value [] names) os
 abbrev pub with_cells : {T : Type 0} → Kept T → (List CellTree × List CellTree) × T
 with_cells k = ((keys_of k, distinct_of k), k.row)
 
--- the JSON of an expression with sort keys, as kept and as meant
+-- the JSON of an expression with sort keys, as it is kept
 abbrev pub with_json : Kept Json → List CellTree × JsonTree
 with_json k = (keys_of k, json_view k.row)
 
+-- what is meant by them
 abbrev pub json_at : ExprTree → List OrderTree → Names → List CellTree × JsonTree
 json_at e os names = (key_values os names, json_of (value e [] names))
 
@@ -60,5 +65,6 @@ member_at group names p = (p.name, json_of (value p.value group names))
 abbrev pub output_at : Names → OutTree → List ℕ × CellTree
 output_at names o = (o.name, value o.value [] names)
 
+-- the named cells of outputs
 abbrev pub outputs_of : List OutTree → Names → List (List ℕ × CellTree)
 outputs_of os names = map (output_at names) os

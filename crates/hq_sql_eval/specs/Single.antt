@@ -7,6 +7,7 @@ abbrev pub is_one_at_most : Option ℕ → Bool
 is_one_at_most None = false
 is_one_at_most (Some n) = nat_lt n 2
 
+-- One: the one row whose column `u` is true
 abbrev pub is_one : FromTree → Bool
 is_one (table schema name alias) = false
 is_one (sub select alias) = false
@@ -18,6 +19,7 @@ abbrev mutual
   is_single (rows distinct outs from joins condition keys limit offset) = is_one_at_most limit || (is_one from && are_single joins)
   is_single (fold out inner alias) = true
 
+  -- joins whose selects give one row at most
   pub are_single : JoinTrees → Bool
   are_single no_join = true
   are_single (join select alias js) = is_single select && are_single js

@@ -4,6 +4,7 @@ use Rattle.hq_sql_tree.specs.Tree.{FromTree, table, sub, one}
 use Rattle.hq_sql_tree.specs.Meaning.{NamedRow, Scope as Names, World, rows_of, rows_named}
 use Rattle.hq_sql_eval.specs.View.{row_of_one}
 
+-- the alias of a FROM
 abbrev pub alias_in : FromTree → List ℕ
 alias_in (table schema name alias) = alias
 alias_in (sub select alias) = alias
@@ -21,6 +22,7 @@ rows_given (table schema name alias) world made = rows_named world.tables world.
 rows_given (sub select alias) world made = made
 rows_given (one alias) world made = row_of_one ∷ []
 
+-- whether a list has an item
 abbrev pub has_items : {A : Type 0} → List A → Bool
 has_items [] = false
 has_items (x ∷ xs) = true

@@ -1,4 +1,4 @@
--- What rows and scopes in memory are seen as.
+-- What rows and scopes in memory are seen as (PostgreSQL, SELECT: FROM, and LATERAL joins).
 use Rattle.std.specs.Prelude.{ℕ, true, List, [], ◌∷◌, map, Option, Some, None, option_map, codes, slice_index_or}
 use Rattle.std.specs.Global.{Vec}
 use Rattle.hq_base.specs.Cells as cell
@@ -19,9 +19,11 @@ use Rattle.hq_sql_eval.specs.declared.scope.Group.TheVariants.{Alone, Of}
 use Rattle.hq_sql_eval.specs.declared.scope.Scope.{Scope, Nothing, Bound', Later'}
 use Rattle.hq_sql_eval.specs.declared.place.Place.{Place}
 
+-- a cell with its name
 abbrev pub named_view : Named → List ℕ × CellTree
 named_view n = (n.name.now, cell_view n.cell)
 
+-- a row that a select makes
 abbrev pub made_view : Made → NamedRow
 made_view m = map named_view m.cells.items
 
@@ -29,6 +31,7 @@ made_view m = map named_view m.cells.items
 abbrev pub row_of_one : NamedRow
 row_of_one = (codes "u", cell.bool true) ∷ []
 
+-- a row that is lent
 abbrev pub row_view : Row → NamedRow
 row_view (row.Stored columns values) = named_row columns.now values.now
 row_view (row.Made cells) = map named_view cells.now
@@ -77,6 +80,7 @@ beside (join select alias js) world names (Some r ∷ rows) = beside js world (w
 abbrev pub joined_view : Vec (Option Made) → List (Option NamedRow)
 joined_view joined = map (option_map made_view) joined.items
 
+-- a place of FROM with the rows of its joins
 abbrev pub place_of : (position : ℕ) → Vec (Option Made) → Place
 place_of position joined = record { position = position; joined = joined }
 

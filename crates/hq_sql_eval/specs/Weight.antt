@@ -15,6 +15,7 @@ use Rattle.hq_sql_eval.specs.declared.scope.Scope.{Scope, Nothing, Bound', Later
 use Rattle.hq_sql_eval.specs.declared.joins.Asked.{Asked}
 use Rattle.hq_sql_eval.specs.declared.joins.Asked.TheVariants.{Keys, Values}
 
+-- the sum of numbers
 abbrev pub total : List ℕ → ℕ
 total [] = 0
 total (n ∷ ns) = n + total ns
@@ -60,6 +61,7 @@ out_weight o = expr_weight o.value
 
 -- ---- selects and conditions
 
+-- a condition that may be absent
 abbrev pub held : Option ℕ → ℕ
 held None = 0
 held (Some n) = 1 + n

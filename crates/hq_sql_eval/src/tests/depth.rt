@@ -49,47 +49,48 @@ fn a_join_named_often_is_evaluated_once(rt: HostRuntime) -> Result<(), Fail> {
 // As many parentheses as a statement may open, but for the two of the test's own select.
 const DEEPEST: usize = 1998;
 
-#[test]
-fn the_deepest_joins_are_evaluated(rt: HostRuntime) -> Result<(), Fail> {
-    let alloc = rt.alloc();
-    let joins = nested(
-        alloc,
+// What stands before and behind a select inside another, such that the value is true at each depth.
+const FORMS: &[(&[u8], &[u8])] = &[
+    // A join that is named in an output, in WHERE once and twice, and in ORDER BY once and twice.
+    (
         br#"SELECT "j"."v" AS "v" FROM (SELECT TRUE AS "u") AS "t" LEFT JOIN LATERAL ("#,
-        br#"SELECT TRUE AS "v" FROM (SELECT TRUE AS "u") AS "t""#,
         br#") AS "j" ON TRUE"#,
-        DEEPEST,
-    )?;
-    let out = answer(alloc, &statement_of(alloc, &joins)?)?;
-    assert_eq!(rt; out.as_slice(), b"true".as_slice());
-    Ok(())
-}
-
-#[test]
-fn the_deepest_conditions_are_evaluated(rt: HostRuntime) -> Result<(), Fail> {
-    let alloc = rt.alloc();
-    let exists = nested(
-        alloc,
+    ),
+    (
+        br#"SELECT TRUE AS "v" FROM (SELECT TRUE AS "u") AS "t" LEFT JOIN LATERAL ("#,
+        br#") AS "j" ON TRUE WHERE ("j"."v" = TRUE)"#,
+    ),
+    (
+        br#"SELECT TRUE AS "v" FROM (SELECT TRUE AS "u") AS "t" LEFT JOIN LATERAL ("#,
+        br#") AS "j" ON TRUE WHERE ("j"."v" = "j"."v")"#,
+    ),
+    (
+        br#"SELECT TRUE AS "v" FROM (SELECT TRUE AS "u") AS "t" LEFT JOIN LATERAL ("#,
+        br#") AS "j" ON TRUE ORDER BY "j"."v" ASC NULLS LAST"#,
+    ),
+    (
+        br#"SELECT "j"."v" AS "v" FROM (SELECT TRUE AS "u") AS "t" LEFT JOIN LATERAL ("#,
+        br#") AS "j" ON TRUE ORDER BY "j"."v" ASC NULLS LAST"#,
+    ),
+    // EXISTS, and a select in FROM.
+    (
         br#"SELECT TRUE AS "v" FROM "public"."author" AS "t" WHERE EXISTS ("#,
-        br#"SELECT TRUE AS "v" FROM (SELECT TRUE AS "u") AS "t""#,
-        br#")"#,
-        DEEPEST,
-    )?;
-    let out = answer(alloc, &statement_of(alloc, &exists)?)?;
-    assert_eq!(rt; out.as_slice(), b"true".as_slice());
-    Ok(())
+        b")",
+    ),
+    (br#"SELECT "t"."v" AS "v" FROM ("#, br#") AS "t""#),
+];
+
+fn is_true(alloc: Global, front: &[u8], back: &[u8]) -> Result<bool, Fail> {
+    let middle = br#"SELECT TRUE AS "v" FROM (SELECT TRUE AS "u") AS "t""#;
+    let select = nested(alloc, front, middle, back, DEEPEST)?;
+    let out = answer(alloc, &statement_of(alloc, &select)?)?;
+    Ok(out.as_slice() == b"true".as_slice())
 }
 
 #[test]
-fn the_deepest_selects_are_evaluated(rt: HostRuntime) -> Result<(), Fail> {
-    let alloc = rt.alloc();
-    let subs = nested(
-        alloc,
-        br#"SELECT "t"."v" AS "v" FROM ("#,
-        br#"SELECT TRUE AS "v" FROM (SELECT TRUE AS "u") AS "t""#,
-        br#") AS "t""#,
-        DEEPEST,
-    )?;
-    let out = answer(alloc, &statement_of(alloc, &subs)?)?;
-    assert_eq!(rt; out.as_slice(), b"true".as_slice());
+fn the_deepest_statements_are_evaluated(rt: HostRuntime) -> Result<(), Fail> {
+    for (front, back) in FORMS {
+        assert!(rt; is_true(rt.alloc(), front, back)?);
+    }
     Ok(())
 }
