@@ -4,7 +4,7 @@ ghost use Rattle.hq_terms.specs.Catalog.{full_name, is_table};
 ghost use Rattle.hq_tables.specs.Header.{names_differ};
 
 use crate::eval;
-use hq_base::{Bytes, List, Memory, Txt, Ty};
+use hq_base::{Bytes, Json, List, Memory, Txt, Ty};
 use hq_sql_text::read;
 use hq_tables::{MemTables, Tables, load_table};
 use hq_terms::{Catalog, ColId, ColList, Column, ColumnList, Table, TableId};
@@ -72,13 +72,18 @@ fn store(alloc: Global) -> Result<MemTables, Fail>
 const LABELS: &[u8] =
     br#"SELECT json_build_object('labels'::text, "j"."v") AS "v" FROM (SELECT TRUE AS "u") AS "t" LEFT JOIN LATERAL (SELECT COALESCE(json_agg("s"."v" ORDER BY "s"."v" COLLATE "C" ASC NULLS LAST), '[]'::json) AS "v" FROM (SELECT "l"."name" AS "v" FROM "public"."label" AS "l") AS "s") AS "j" ON TRUE"#;
 
-#[test]
-fn a_statement_is_evaluated_over_pinned_tables(rt: HostRuntime) -> Result<(), Fail> {
-    let alloc = rt.alloc();
+// What the statement gives over the store, whose table is pinned.
+fn labels(alloc: Global) -> Result<Json, Fail> {
     let mut tables = store(alloc)?;
     let select = read(alloc, LABELS)?;
     tables.pin(alloc, TableId::new(0))?;
-    let json = eval(alloc, &select, &tables)?;
+    Ok(eval(alloc, &select, &tables)?)
+}
+
+#[test]
+fn a_statement_is_evaluated_over_pinned_tables(rt: HostRuntime) -> Result<(), Fail> {
+    let alloc = rt.alloc();
+    let json = labels(alloc)?;
     let mut out = Bytes::new(alloc);
     json.write_to(alloc, &mut out)?;
     assert_eq!(rt; out.as_slice(), br#"{"labels":["a","b"]}"#.as_slice());
