@@ -4,7 +4,15 @@ use Rattle.std.specs.Ordering.{flip_args}
 use Rattle.hq_base.specs.Cells.{CellTree, null, int, text, bool, json, int_in, cell_cmp, same_cell}
 use Rattle.hq_base.specs.Lists.{sort, firsts}
 
--- a cell that an aggregate takes: JSON is never counted, summed or compared
+-- a cell that is counted: each but NULL
+abbrev pub is_counted : CellTree → Bool
+is_counted null = false
+is_counted (int n) = true
+is_counted (text s) = true
+is_counted (bool b) = true
+is_counted (json j) = true
+
+-- a cell that is summed or compared: JSON has no order
 abbrev pub is_taken : CellTree → Bool
 is_taken null = false
 is_taken (int n) = true
@@ -16,9 +24,9 @@ abbrev pub first_cell : List CellTree → CellTree
 first_cell [] = null
 first_cell (c ∷ cs) = c
 
--- the number of cells, or of different ones
+-- the number of cells, or of different ones among those that are compared
 abbrev pub counted : (distinct : Bool) → List CellTree → CellTree
-counted distinct cs = int (pos (length (cond distinct (firsts same_cell (sort cell_cmp (filter is_taken cs))) (filter is_taken cs))))
+counted distinct cs = int (pos (length (cond distinct (firsts same_cell (sort cell_cmp (filter is_taken cs))) (filter is_counted cs))))
 
 -- the exact sum of whole numbers, NULL over none
 abbrev pub sum_of : List CellTree → CellTree

@@ -1,10 +1,10 @@
-//! Aggregates (PostgreSQL, aggregate functions). Each passes over NULL, and over JSON, which has no order.
+//! Aggregates (PostgreSQL, aggregate functions). Each passes over NULL, and those that compare or add over JSON too.
 ghost use Rattle.std.specs.Prelude.{◌≡◌, ◌&&◌, map, filter, length, IfOk, OnOk, OnErr, FitsSigned, None, option_map, true};
 ghost use Rattle.std.specs.Int.{w128};
 ghost use Rattle.std.specs.Ordering.{on};
 ghost use Rattle.hq_base.specs.Cells.{cell_cmp, same_cell, int_in};
 ghost use Rattle.hq_base.specs.Lists.{Ascends, firsts, sort};
-ghost use Rattle.hq_base.specs.Aggregates.{is_taken, first_cell, counted, summed, least, greatest};
+ghost use Rattle.hq_base.specs.Aggregates.{is_counted, is_taken, first_cell, counted, summed, least, greatest};
 ghost use Rattle.hq_sql_cells.specs.View.{cell_view};
 ghost use Rattle.hq_sql_cells.specs.Best.{best_cmp, is_better};
 ghost use Rattle.hq_sql_cells.specs.Totals.{total_after, SumsFit, starts_group};
@@ -14,7 +14,17 @@ use crate::order::cell_cmp;
 use hq_base::Memory;
 use std::cmp::Ordering;
 
-// Whether aggregates take the cell.
+// Whether a plain count counts the cell.
+fn is_counted(cell: &Cell<'_>) -> bool
+    ensures { result ≡ is_counted (cell_view cell.now) }
+{
+    match cell {
+        Cell::Int(_) | Cell::Text(_) | Cell::Bool(_) | Cell::Json(_) => true,
+        Cell::Null => false,
+    }
+}
+
+// Whether the cell is added or compared.
 fn is_taken(cell: &Cell<'_>) -> bool
     ensures { result ≡ is_taken (cell_view cell.now) }
 {
@@ -24,8 +34,8 @@ fn is_taken(cell: &Cell<'_>) -> bool
     }
 }
 
-/// `count(e)`: how many cells are taken, or with `distinct` how many different ones, in n log n comparisons; only that
-/// may want memory.
+/// `count(e)`: how many cells are not NULL, or with `distinct` how many different ones there are, JSON left out, in
+/// n log n comparisons; only that may want memory.
 pub fn counted<'d>(distinct: bool, cells: Vec<Cell<'d>>) -> Result<Cell<'d>, Memory>
     ensures value { IfOk result (λ count. cell_view count ≡ counted distinct (map cell_view cells.entry.items)) }
     ensures memory { OnErr result (distinct ≡ true) }
@@ -33,17 +43,17 @@ pub fn counted<'d>(distinct: bool, cells: Vec<Cell<'d>>) -> Result<Cell<'d>, Mem
     let count = if distinct {
         number_of_different(cells)?
     } else {
-        number_taken(&cells)
+        number_counted(&cells)
     };
     Ok(Cell::Int(count as i128))
 }
 
-fn number_taken(cells: &[Cell<'_>]) -> usize
-    ensures { result ≡ length (filter is_taken (map cell_view cells.now)) }
+fn number_counted(cells: &[Cell<'_>]) -> usize
+    ensures { result ≡ length (filter is_counted (map cell_view cells.now)) }
 {
     let mut number = 0;
     for cell in cells {
-        if is_taken(cell) {
+        if is_counted(cell) {
             number += 1;
         }
     }

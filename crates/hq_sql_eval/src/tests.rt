@@ -1,5 +1,7 @@
 mod aggregates;
+mod agreement;
 mod depth;
 mod fixture;
 mod pinned;
+mod plain;
 mod statements;

@@ -23,7 +23,7 @@ fn of_each_kind<'d>(alloc: Global, values: &'d [Val]) -> Result<Vec<Cell<'d>>, M
     Ok(all)
 }
 
-// Cells, how many they are, how many different ones, the least and the greatest (PostgreSQL, aggregate functions).
+// Cells, how many are not NULL, how many different ones are compared, the least and the greatest (PostgreSQL, aggregate functions).
 static CASES: [(&str, &str); 8] = [
     ("", "0 0 null null "),
     ("- -", "0 0 null null "),
@@ -31,10 +31,10 @@ static CASES: [(&str, &str); 8] = [
     ("b a c - b", "4 3 \"a\" \"c\" "),
     ("abc b", "2 2 \"abc\" \"b\" "),
     ("true - false true", "3 2 false true "),
-    ("{} {}", "0 0 null null "),
+    ("{} {}", "2 0 null null "),
     (
         "-9223372036854775808 5 {} -1",
-        "3 3 -9223372036854775808 5 ",
+        "4 3 -9223372036854775808 5 ",
     ),
 ];
 

@@ -2,7 +2,7 @@ use super::fixture::{answer, statement_of};
 use std::test::Fail;
 
 // Folds, and the value of their output `v`.
-const FOLDS: &[(&[u8], &[u8])] = &[
+pub const FOLDS: &[(&[u8], &[u8])] = &[
     (
         br#"SELECT json_build_object('all'::text, count(*), 'some'::text, count("s"."r"), 'different'::text, count(DISTINCT "s"."r"), 'sum'::text, sum("s"."r"), 'least'::text, min("s"."t"), 'greatest'::text, max("s"."t")) AS "v" FROM (SELECT "a"."rating" AS "r", "a"."title" AS "t" FROM "public"."article" AS "a") AS "s""#,
         br#"{"all":4,"some":3,"different":2,"sum":17,"least":"A","greatest":"D"}"#,
@@ -26,6 +26,11 @@ const FOLDS: &[(&[u8], &[u8])] = &[
     (
         br#"SELECT json_build_object('sum'::text, sum("s"."r"), 'least'::text, min("s"."r"), 'greatest'::text, max("s"."r")) AS "v" FROM (SELECT "a"."rating" AS "r" FROM "public"."article" AS "a" ORDER BY "a"."id" DESC NULLS LAST LIMIT 3) AS "s""#,
         br#"{"sum":12,"least":5,"greatest":7}"#,
+    ),
+    // JSON is counted where it is not NULL.
+    (
+        br#"SELECT json_build_object('all'::text, count(*), 'objects'::text, count("s"."v")) AS "v" FROM (SELECT "j"."v" AS "v" FROM "public"."author" AS "a" LEFT JOIN LATERAL (SELECT json_build_object('id'::text, "b"."id") AS "v" FROM "public"."article" AS "b" WHERE ("b"."author_id" = "a"."id") LIMIT 1) AS "j" ON TRUE) AS "s""#,
+        br#"{"all":3,"objects":2}"#,
     ),
     // Lists inside lists.
     (

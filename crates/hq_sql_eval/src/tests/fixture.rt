@@ -1,6 +1,7 @@
 use crate::scope::Stored;
 use crate::statement::eval_over;
-use hq_base::{Bytes, List, Memory, Txt, Ty, Val};
+use crate::tests::plain::evaluator::meaning;
+use hq_base::{Bytes, Json, List, Memory, Txt, Ty, Val};
 use hq_sql_text::read;
 use hq_tables::{RowList, ValList};
 use hq_terms::{Column, Table};
@@ -132,16 +133,28 @@ fn world<'d>(
     Ok(world)
 }
 
+fn text_of(alloc: Global, json: &Json) -> Result<Bytes, Fail> {
+    let mut out = Bytes::new(alloc);
+    json.write_to(alloc, &mut out)?;
+    Ok(out)
+}
+
 /// What a statement gives over the example tables, as text.
 pub fn answer(alloc: Global, statement: &[u8]) -> Result<Bytes, Fail> {
     let select = read(alloc, statement)?;
     let tables = tables(alloc)?;
     let all = all_rows(alloc)?;
     let world = world(alloc, &tables, &all)?;
-    let json = eval_over(alloc, &select, &world)?;
-    let mut out = Bytes::new(alloc);
-    json.write_to(alloc, &mut out)?;
-    Ok(out)
+    text_of(alloc, &eval_over(alloc, &select, &world)?)
+}
+
+/// What the plain evaluator gives.
+pub fn plain_answer(alloc: Global, statement: &[u8]) -> Result<Bytes, Fail> {
+    let select = read(alloc, statement)?;
+    let tables = tables(alloc)?;
+    let all = all_rows(alloc)?;
+    let world = world(alloc, &tables, &all)?;
+    text_of(alloc, &meaning(alloc, &select, &world)?)
 }
 
 /// A statement whose value is that of one output `v` of a select.

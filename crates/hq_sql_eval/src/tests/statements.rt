@@ -2,7 +2,7 @@ use super::fixture::{answer, list_of, statement_of};
 use std::test::Fail;
 
 // The statement of a list of authors with a condition.
-const WORKED: &[u8] =
+pub const WORKED: &[u8] =
     br#"SELECT json_build_object('author'::text, "j1"."v") AS "v" FROM (SELECT TRUE AS "u") AS "t0" LEFT JOIN LATERAL (SELECT COALESCE(json_agg("s1"."v" ORDER BY "s1"."o0" ASC NULLS LAST), '[]'::json) AS "v" FROM (SELECT json_build_object('id'::text, "t1"."id", 'name'::text, "t1"."name") AS "v", "t1"."id" AS "o0" FROM "public"."author" AS "t1" WHERE ("t1"."name" COLLATE "C" = 'O''Hara'::text) ORDER BY "t1"."id" ASC NULLS LAST) AS "s1") AS "j1" ON TRUE"#;
 
 #[test]
@@ -16,7 +16,7 @@ fn the_worked_statement_gives_its_object(rt: HostRuntime) -> Result<(), Fail> {
 }
 
 // Rows, and the list of their outputs `v`.
-const ROWS: &[(&[u8], &[u8])] = &[
+pub const ROWS: &[(&[u8], &[u8])] = &[
     // WHERE keeps neither false nor unknown.
     (
         br#"SELECT "a"."id" AS "v" FROM "public"."article" AS "a" WHERE ("a"."rating" < '6'::bigint)"#,
