@@ -6,7 +6,7 @@ use Rattle.hq_base.specs.Cells as cell
 use Rattle.hq_base.specs.Cells.{json_of}
 use Rattle.hq_base.specs.Json as json
 use Rattle.hq_base.specs.Json.{json_view, member_view, members_of, elements_of}
-use Rattle.hq_base.specs.Aggregates.{summed, least, greatest}
+use Rattle.hq_base.specs.Aggregates.{counted, summed, least, greatest}
 use Rattle.hq_base.specs.Lists.{sort}
 use Rattle.hq_sql_cells.specs.View.{cell_view}
 use Rattle.hq_sql_tree.specs.declared.select.Join.{the_lemmas as join_lemmas}
@@ -85,6 +85,17 @@ aggregates::taken-returns-in_ok-sorted-in-JsonAgg t c =
     let lhs : json_view (Arr js) ≡ json.arr (elements_of (map json_view js.items)) = search (rules, json_lemmas) in
     let rhs : taken (agg_view c.args.agg.now) ns ≡ cell.json (json.arr (elements_of (map (λ n. json_of (value e [] n)) (sort (orders_cmp (orders_of os)) ns)))) = search (rules, agg_lemmas) in
     ap cell.json (lhs ∙ ap (λ l. json.arr (elements_of l)) (ap (map json_view) c.in_ok-sorted-in-JsonAgg.ensures ∙ elements_are e os c.in_ok-kept-in-JsonAgg.kept.items ns kept)) ∙ sym rhs
+
+pub aggregates::taken-returns-in_ok-each_value-in-Count : goal.aggregates::taken-returns-in_ok-each_value-in-Count
+aggregates::taken-returns-in_ok-each_value-in-Count t c =
+    let e = c.in-Count.expr.value in
+    let d = c.in-Count.distinct in
+    let ns = map (with_alias (names_of c.args.scope.now c.args.world.now) c.args.alias.now) (map made_view c.args.rows.now) in
+    let lent : c.deref.result.now ≡ e = search rules in
+    let cells : map cell_view c.in_ok-each_value-in-Count.field-0.items ≡ map (value (expr_view e) []) ns =
+    subst (λ x. map cell_view c.in_ok-each_value-in-Count.field-0.items ≡ map (value (expr_view x) []) ns) lent c.in_ok-each_value-in-Count.ensures in
+    let rhs : taken (agg_view c.args.agg.now) ns ≡ counted d (map (value (expr_view e) []) ns) = search (rules, agg_lemmas) in
+    IfOk-weaker c.counted.result _ _ (λ cell h. h ∙ ap (counted d) cells ∙ sym rhs) c.counted.ensures.value
 
 pub aggregates::taken-returns-in_ok-each_value-in-Sum : goal.aggregates::taken-returns-in_ok-each_value-in-Sum
 aggregates::taken-returns-in_ok-each_value-in-Sum t c =

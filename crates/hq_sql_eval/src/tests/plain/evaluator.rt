@@ -41,7 +41,7 @@ pub fn meaning<'d>(
     }
 }
 
-#[cycle(plain)]
+#[cycle(value)]
 fn value<'d>(
     alloc: Global,
     steps: usize,
@@ -62,7 +62,7 @@ fn value<'d>(
     }
 }
 
-#[cycle(plain)]
+#[cycle(value)]
 fn members<'d>(
     alloc: Global,
     steps: usize,
@@ -82,7 +82,7 @@ fn members<'d>(
     Ok(members)
 }
 
-#[cycle(plain)]
+#[cycle(value)]
 fn taken<'d>(
     alloc: Global,
     steps: usize,
@@ -106,7 +106,7 @@ fn taken<'d>(
     }
 }
 
-#[cycle(plain)]
+#[cycle(value)]
 fn at_each<'d>(
     alloc: Global,
     steps: usize,
@@ -121,7 +121,7 @@ fn at_each<'d>(
     Ok(cells)
 }
 
-#[cycle(plain)]
+#[cycle(value)]
 fn elements<'d>(
     alloc: Global,
     steps: usize,
@@ -142,7 +142,7 @@ fn elements<'d>(
 }
 
 // The values of the sort keys.
-#[cycle(plain)]
+#[cycle(value)]
 fn keys<'d>(
     alloc: Global,
     steps: usize,
@@ -157,14 +157,12 @@ fn keys<'d>(
     Ok(keys)
 }
 
-#[cycle(plain)]
 fn values<'d>(
     alloc: Global,
     steps: usize,
     exprs: &'d ExprList,
     names: &Names<'d>,
 ) -> Result<Vec<Cell<'d>>, Memory> {
-    let steps = next(steps)?;
     let mut values = Vec::new(alloc);
     for expr in exprs {
         values.push(value(alloc, steps, expr, &[], names)?)?;
@@ -173,7 +171,7 @@ fn values<'d>(
 }
 
 // ORDER BY.
-#[cycle(plain)]
+#[cycle(value)]
 fn ordered<'d>(
     alloc: Global,
     steps: usize,
@@ -190,14 +188,12 @@ fn ordered<'d>(
 }
 
 // DISTINCT ON.
-#[cycle(plain)]
 fn distinct_on<'d>(
     alloc: Global,
     steps: usize,
     exprs: &'d ExprList,
     list: Vec<Keyed<'d>>,
 ) -> Result<Vec<Keyed<'d>>, Memory> {
-    let steps = next(steps)?;
     if exprs.is_empty() {
         return Ok(list);
     }
@@ -229,14 +225,12 @@ fn paged<'d>(
     Ok(out)
 }
 
-#[cycle(plain)]
 fn outputs<'d>(
     alloc: Global,
     steps: usize,
     outs: &'d OutList,
     names: &Names<'d>,
 ) -> Result<NamedRow<'d>, Memory> {
-    let steps = next(steps)?;
     let mut cells = Vec::new(alloc);
     for out in outs {
         cells.push(NamedCell {
@@ -248,7 +242,7 @@ fn outputs<'d>(
 }
 
 // The rows of a select in its scope.
-#[cycle(plain)]
+#[cycle(rows)]
 fn rows_of<'d>(
     alloc: Global,
     steps: usize,
@@ -293,7 +287,7 @@ fn rows_of<'d>(
 }
 
 // FROM, its joins, and WHERE.
-#[cycle(plain)]
+#[cycle(rows)]
 fn kept<'d>(
     alloc: Global,
     steps: usize,
@@ -322,7 +316,7 @@ fn kept<'d>(
 }
 
 // A left row without a partner stays, and the names of the right side give NULL.
-#[cycle(plain)]
+#[cycle(rows)]
 fn joined<'d>(
     alloc: Global,
     steps: usize,
@@ -346,7 +340,7 @@ fn joined<'d>(
     Ok(out)
 }
 
-#[cycle(plain)]
+#[cycle(rows)]
 fn given<'d>(
     alloc: Global,
     steps: usize,
@@ -417,7 +411,7 @@ fn named_row<'d>(
     Ok(NamedRow { cells })
 }
 
-#[cycle(plain)]
+#[cycle(rows)]
 fn truth<'d>(
     alloc: Global,
     steps: usize,
@@ -454,7 +448,7 @@ fn truth<'d>(
     }
 }
 
-#[cycle(plain)]
+#[cycle(rows)]
 fn all_true<'d>(
     alloc: Global,
     steps: usize,
@@ -470,7 +464,7 @@ fn all_true<'d>(
     Ok(all)
 }
 
-#[cycle(plain)]
+#[cycle(rows)]
 fn any_true<'d>(
     alloc: Global,
     steps: usize,
