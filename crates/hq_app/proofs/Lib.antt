@@ -1,6 +1,6 @@
 mod Catalogs
 mod EachDue
 mod WrittenParts
-mod Fronts
 mod Endings
+mod Statings
 mod Commands

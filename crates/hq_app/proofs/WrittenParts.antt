@@ -1,10 +1,16 @@
 -- Parts that are written one after the other.
-use Rattle.std.proofs.Common.{◌≡◌, ℕ, zero, suc, ◌+◌, ◌<◌, List, [], ◌∷◌, ◌++◌, map, length, take, drop, get_or, Option, Some, None, refl, sym, ap, ◌∙◌, arith, append_assoc, append-nil, length-append, subst, add-one}
+use Rattle.std.proofs.Common.{◌≡◌, ℕ, zero, suc, ◌+◌, ◌<◌, ◌≤◌, Result, List, [], ◌∷◌, ◌++◌, map, length, take, drop, get_or, Option, Some, None, refl, sym, ap, ◌∙◌, arith, append_assoc, append-nil, length-append, subst, add-one}
 use Rattle.std.specs.List.{concat}
 use Rattle.std.specs.Io.KnownBytes.{Appends}
 use Rattle.std.proofs.lemmas.List.{take-append-le}
 use Rattle.std.proofs.Math.Seq.{take-append-add}
+use Rattle.std.proofs.lemmas.Result.{on_ok_weaker, on_err_weaker}
+use Rattle.hq_outside.specs.Causes.{Rose}
 use Rattle.hq_outside.specs.Streams.{AppendsPrefix}
+use Rattle.hq_app.specs.Wrote.{Wrote}
+
+rose_earlier : (before between now : ℕ) → before ≤ between → Rose between now → Rose before now
+rose_earlier before between now le h = omega (arith, h)
 
 -- what was appended after the other was appended behind it
 pub appends_both : (a b c : Option (List ℕ)) (xs ys : List ℕ) → Appends a b xs → Appends b c ys → Appends a c (xs ++ ys)
@@ -18,6 +24,18 @@ pub prefix_more : (a b c : Option (List ℕ)) (xs ys zs : List ℕ) → Appends 
 prefix_more a b c xs ys zs h (n, within, k) =
     let same : take (length xs + n) (xs ++ (ys ++ zs)) ≡ xs ++ take n ys = take-append-add xs (ys ++ zs) n ∙ ap (λ w. xs ++ w) (take-append-le n ys zs within) in
     (length xs + n, omega (arith, length-append xs (ys ++ zs), length-append ys zs), subst (λ w. Appends a c w) (sym same) (appends_both a b c xs (take n ys) h k))
+
+-- a prefix of what comes last was appended
+prefix_last : (a b c : Option (List ℕ)) (xs ys : List ℕ) → Appends a b xs → AppendsPrefix b c ys → AppendsPrefix a c (xs ++ ys)
+prefix_last a b c xs ys h k = subst (λ w. AppendsPrefix a c (xs ++ w)) (append-nil ys) (prefix_more a b c xs ys [] h k)
+
+-- what was written after the other was written behind it
+pub wrote_both : {T E : Type 0} (a b c : Option (List ℕ)) (before between now : ℕ) (xs ys : List ℕ) (r : Result T E) → Appends a b xs → before ≤ between → Wrote b c between now ys r → Wrote a c before now (xs ++ ys) r
+wrote_both a b c before between now xs ys r h le w = record {
+  ok = on_ok_weaker r (appends_both a b c xs ys h) w.ok;
+  prefix = prefix_last a b c xs ys h w.prefix;
+  cause = record { later = omega (arith, w.cause.later); failed = on_err_weaker r (rose_earlier before between now le) w.cause.failed };
+}
 
 module _ {A : Type 0} (text : A → List ℕ) where
   -- the bytes of these parts

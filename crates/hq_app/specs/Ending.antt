@@ -1,9 +1,15 @@
 -- How a run ends: its answer, the status and the line that tell it, and what it leaves.
-use Rattle.std.specs.Prelude.{◌≡◌, ◌⊎◌, ◌≤◌, ℕ, List, [], Option, Result, Ok, Err, ⊤}
+use Rattle.std.specs.Prelude.{◌≡◌, ◌⊎◌, ◌≤◌, ℕ, List, [], Option, Some, None, Result, Ok, Err, ⊤}
 use Rattle.std.specs.Io.KnownBytes.{Appends}
 use Rattle.hq_outside.specs.Causes.{Rose}
 use Rattle.hq_outside.specs.Streams.{AppendsPrefix}
+use Rattle.hq_terms.specs.Database.{Row}
+use Rattle.hq_terms.specs.declared.session.Session.{Session}
+use Rattle.hq_engine.specs.Asking.{Counts, AskedNone, AskedOne, AskedExactly}
+use Rattle.hq_engine.specs.Engines.{engine_text}
+use Rattle.hq_engine.specs.declared.engine.Engine.{Engine}
 use Rattle.hq_app.specs.Line.{line_of}
+use Rattle.hq_app.specs.Output.{Output, engine_output}
 use Rattle.hq_app.specs.declared.done.Done.{Done}
 use Rattle.hq_app.specs.declared.done.Done.TheVariants.{Answered, Faulty}
 use Rattle.hq_app.specs.declared.refusal.Refusal.{Refusal}
@@ -36,15 +42,40 @@ abbrev pub told_line : Answer → List ℕ
 told_line (Ok _) = []
 told_line (Err r) = line_of r
 
+-- the bytes that are due were appended, or some bytes where these are not known
+abbrev pub Writes : (old new bytes : Option (List ℕ)) → Type 0
+Writes old new None = (some : List ℕ) × Appends old new some
+Writes old new (Some bytes) = Appends old new bytes
+
+-- the same of a prefix of them
+abbrev pub WritesPrefix : (old new bytes : Option (List ℕ)) → Type 0
+WritesPrefix old new None = (some : List ℕ) × AppendsPrefix old new some
+WritesPrefix old new (Some bytes) = AppendsPrefix old new bytes
+
 -- What an answer says of what was due, and of what was written. Want of memory, a failed read and a failed database say
 -- nothing of it; all other refusals are the due ones.
-abbrev pub Ends : (old new : Option (List ℕ)) → (due : Result (Done × List ℕ) Refusal) → Answer → Type 0
-Ends old new due (Ok done) = (bytes : List ℕ) × (due ≡ Ok (done, bytes)) × Appends old new bytes
-Ends old new due (Err refusal.WriteFailed) = (done : Done) × (bytes : List ℕ) × (due ≡ Ok (done, bytes)) × AppendsPrefix old new bytes
+abbrev pub Ends : (old new : Option (List ℕ)) → (due : Result Output Refusal) → Answer → Type 0
+Ends old new due (Ok done) = (output : Output) × (due ≡ Ok output) × (output.done ≡ done) × Writes old new output.bytes
+Ends old new due (Err refusal.WriteFailed) = (output : Output) × (due ≡ Ok output) × WritesPrefix old new output.bytes
 Ends old new due (Err refusal.ReadFailed) = ⊤
 Ends old new due (Err refusal.Memory) = ⊤
 Ends old new due (Err (refusal.Database before after)) = ⊤
 Ends old new due (Err r) = due ≡ Err r
+
+-- What the database was asked, where this is the text of the request: it, and once, or nothing where there is none, before all
+-- that was written; at most this before want of memory, and nothing where no answer was begun.
+abbrev pub AskedBy : Option (List ℕ) → (before now : Counts) → Answer → Type 0
+AskedBy text before now (Ok done) = AskedExactly text before now
+AskedBy text before now (Err refusal.WriteFailed) = AskedExactly text before now
+AskedBy text before now (Err (refusal.Database b a)) = AskedOne text before now
+AskedBy text before now (Err refusal.Memory) = AskedNone before now ⊎ AskedOne text before now
+AskedBy text before now (Err r) = AskedNone before now
+
+-- What an answer to a request says of what was due, written and asked. Where this is the whole text of the input, the answer is the
+-- due one, and exactly the text that is due was asked for it.
+pub record Answers (engine : Engine) (session : Session) (database : Option (List (List Row))) (text : List ℕ) (old new : Option (List ℕ)) (before now : Counts) (answer : Answer) : Type 0 where
+  pub ends : Ends old new (engine_output engine session database text) answer
+  pub asked : AskedBy (engine_text engine session text) before now answer
 
 -- nothing is written but where all is done, or a write failed
 abbrev pub Silent : {A : Type 0} → (old new : A) → Answer → Type 0

@@ -5,5 +5,6 @@ pub mod Loading
 pub mod Line
 pub mod Wrote
 pub mod Check
-pub mod Due
+pub mod Output
 pub mod Ending
+pub mod Runs

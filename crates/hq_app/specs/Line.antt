@@ -1,26 +1,30 @@
--- The line that a refusal is told by.
-use Rattle.std.specs.Prelude.{ℕ, List, [], ◌∷◌, ◌++◌, codes}
+-- The line that a refusal is told by: the file that it is of, its name, and its fields.
+use Rattle.std.specs.Prelude.{ℕ, List, [], ◌∷◌, ◌++◌, codes, Option, Some, None, option_copied}
 use Rattle.std.specs.List.{concat}
 use Rattle.std.specs.Fmt.{decimal}
 use Rattle.hq_catalog_read.specs.declared.refusal.CatalogRefusal.{CatalogRefusal}
 use Rattle.hq_catalog_read.specs.declared.refusal.CatalogRefusal.TheVariants as catalog
-use Rattle.hq_meta_read.specs.declared.refusal.MetaRefusal.{MetaRefusal}
-use Rattle.hq_meta_read.specs.declared.refusal.MetaRefusal.TheVariants as meta
+use Rattle.hq_meta_tables.specs.declared.refusal.MetaRefusal.{MetaRefusal}
+use Rattle.hq_meta_tables.specs.declared.refusal.MetaRefusal.TheVariants as meta
 use Rattle.hq_tables.specs.declared.load.refusal.LoadRefusal.{LoadRefusal}
 use Rattle.hq_tables.specs.declared.load.refusal.LoadRefusal.TheVariants as table
-use Rattle.hq_app.specs.declared.refusal.FileFault.{FileFault}
-use Rattle.hq_app.specs.declared.refusal.FileFault.TheVariants as fault
+use Rattle.hq_app.specs.declared.file_fault.FileFault.{FileFault}
+use Rattle.hq_app.specs.declared.file_fault.FileFault.TheVariants as fault
 use Rattle.hq_app.specs.declared.refusal.Refusal.{Refusal}
 use Rattle.hq_app.specs.declared.refusal.Refusal.TheVariants as refusal
 use Rattle.hq_app.specs.declared.parts.Part.{Part}
-use Rattle.hq_app.specs.declared.parts.Part.TheVariants.{Fixed, Text, Number}
+use Rattle.hq_app.specs.declared.parts.Part.TheVariants.{Fixed, WithFile, WithFields, Count}
+use Rattle.hq_app.specs.declared.parts.Field.{Field}
+use Rattle.hq_app.specs.declared.parts.Field.TheVariants.{Text, Number}
+use Rattle.hq_app.specs.declared.parts.Fields.{Fields}
+use Rattle.hq_app.specs.declared.parts.Fields.TheVariants.{Zero, One, Two}
 use Rattle.hq_app.specs.declared.phrase.Phrase.{Phrase}
 use Rattle.hq_app.specs.declared.phrase.Phrase.TheVariants.{Hq, Colon, Space, End, BadArguments, ReadFailed, WriteFailed, DatabaseFailed, OutOfMemory, InputTooLong, NotBuilt, Missing, TooLarge, NotJson, Shape, Repeated, NoKey, NameLength, TooMany, Header, Width, NotUtf8, ZeroByte, NotInteger, NotBoolean, NullInNotNull, RepeatedKey, Version, UnknownTable, UnknownColumn, NoForeignKey, BadOperand, BadMapping, RepeatedName, RepeatedRole, Sources, Memory, Ok, Tables, Roles, Rows}
 
 -- the text of a phrase
 unfoldable pub phrase_text : Phrase → List ℕ
 phrase_text Hq = codes "hq: "
-phrase_text Colon = codes ":"
+phrase_text Colon = codes ": "
 phrase_text Space = codes " "
 phrase_text End = codes "\n"
 phrase_text BadArguments = codes "bad arguments"
@@ -61,76 +65,136 @@ phrase_text Tables = codes " tables, "
 phrase_text Roles = codes " roles, "
 phrase_text Rows = codes " rows"
 
--- the text of a part
+-- a file, and what stands between it and the refusal's name
+abbrev pub front_text : Option (List ℕ) → List ℕ
+front_text None = []
+front_text (Some file) = file ++ phrase_text Colon
+
+-- each field after a space
+abbrev pub spaced : List (List ℕ) → List ℕ
+spaced [] = []
+spaced (field ∷ fields) = phrase_text Space ++ field ++ spaced fields
+
+-- the text of a field, and those of up to two
+abbrev pub field_text : Field → List ℕ
+field_text (Text text) = text.now
+field_text (Number number) = decimal number
+
+abbrev pub field_texts : Fields → List (List ℕ)
+field_texts Zero = []
+field_texts (One field) = field_text field ∷ []
+field_texts (Two first second) = field_text first ∷ field_text second ∷ []
+
+-- the text of a part of a line
 abbrev pub part_text : Part → List ℕ
 part_text (Fixed phrase) = phrase_text phrase
-part_text (Text text) = text.now
-part_text (Number number) = decimal number
+part_text (WithFile file) = front_text (option_copied file)
+part_text (WithFields fields) = spaced (field_texts fields)
+part_text (Count number) = decimal number
 
--- a line of one phrase
-abbrev pub plain_line : Phrase → List ℕ
-plain_line phrase = concat (phrase_text Hq ∷ phrase_text phrase ∷ phrase_text End ∷ [])
+-- the names and the fields of the refusals of readers
+abbrev pub catalog_name : CatalogRefusal → Phrase
+catalog_name catalog.NotJson = NotJson
+catalog_name (catalog.Shape path) = Shape
+catalog_name (catalog.Repeated name) = Repeated
+catalog_name (catalog.NoKey name) = NoKey
+catalog_name (catalog.NameLength name) = NameLength
+catalog_name (catalog.TooMany what count) = TooMany
+catalog_name catalog.Memory = Memory
 
--- each part after a space
-abbrev pub spaced : List (List ℕ) → List (List ℕ)
-spaced [] = []
-spaced (part ∷ parts) = phrase_text Space ∷ part ∷ spaced parts
+abbrev pub catalog_fields : CatalogRefusal → List (List ℕ)
+catalog_fields catalog.NotJson = []
+catalog_fields (catalog.Shape path) = path ∷ []
+catalog_fields (catalog.Repeated name) = name ∷ []
+catalog_fields (catalog.NoKey name) = name ∷ []
+catalog_fields (catalog.NameLength name) = name ∷ []
+catalog_fields (catalog.TooMany what count) = what ∷ decimal count ∷ []
+catalog_fields catalog.Memory = []
 
--- a line of a file, with the refusal's name and its fields
-abbrev pub file_line : (file : List ℕ) → Phrase → (fields : List (List ℕ)) → List ℕ
-file_line file name fields = concat (phrase_text Hq ∷ file ∷ phrase_text Colon ∷ phrase_text Space ∷ phrase_text name ∷ (spaced fields ++ phrase_text End ∷ []))
+abbrev pub meta_name : MetaRefusal → Phrase
+meta_name meta.NotJson = NotJson
+meta_name (meta.Version found) = Version
+meta_name (meta.Shape path) = Shape
+meta_name (meta.UnknownTable path) = UnknownTable
+meta_name (meta.UnknownColumn path) = UnknownColumn
+meta_name (meta.NoForeignKey path) = NoForeignKey
+meta_name (meta.BadOperand path) = BadOperand
+meta_name (meta.BadMapping path) = BadMapping
+meta_name (meta.RepeatedName path) = RepeatedName
+meta_name (meta.RepeatedRole path) = RepeatedRole
+meta_name (meta.Sources count) = Sources
+meta_name meta.Memory = Memory
 
-abbrev pub catalog_line : (file : List ℕ) → CatalogRefusal → List ℕ
-catalog_line file catalog.NotJson = file_line file NotJson []
-catalog_line file (catalog.Shape path) = file_line file Shape (path ∷ [])
-catalog_line file (catalog.Repeated name) = file_line file Repeated (name ∷ [])
-catalog_line file (catalog.NoKey name) = file_line file NoKey (name ∷ [])
-catalog_line file (catalog.NameLength name) = file_line file NameLength (name ∷ [])
-catalog_line file (catalog.TooMany what count) = file_line file TooMany (what ∷ decimal count ∷ [])
-catalog_line file catalog.Memory = file_line file Memory []
+abbrev pub meta_fields : MetaRefusal → List (List ℕ)
+meta_fields meta.NotJson = []
+meta_fields (meta.Version found) = found ∷ []
+meta_fields (meta.Shape path) = path ∷ []
+meta_fields (meta.UnknownTable path) = path ∷ []
+meta_fields (meta.UnknownColumn path) = path ∷ []
+meta_fields (meta.NoForeignKey path) = path ∷ []
+meta_fields (meta.BadOperand path) = path ∷ []
+meta_fields (meta.BadMapping path) = path ∷ []
+meta_fields (meta.RepeatedName path) = path ∷ []
+meta_fields (meta.RepeatedRole path) = path ∷ []
+meta_fields (meta.Sources count) = decimal count ∷ []
+meta_fields meta.Memory = []
 
-abbrev pub meta_line : (file : List ℕ) → MetaRefusal → List ℕ
-meta_line file meta.NotJson = file_line file NotJson []
-meta_line file (meta.Version found) = file_line file Version (found ∷ [])
-meta_line file (meta.Shape path) = file_line file Shape (path ∷ [])
-meta_line file (meta.UnknownTable path) = file_line file UnknownTable (path ∷ [])
-meta_line file (meta.UnknownColumn path) = file_line file UnknownColumn (path ∷ [])
-meta_line file (meta.NoForeignKey path) = file_line file NoForeignKey (path ∷ [])
-meta_line file (meta.BadOperand path) = file_line file BadOperand (path ∷ [])
-meta_line file (meta.BadMapping path) = file_line file BadMapping (path ∷ [])
-meta_line file (meta.RepeatedName path) = file_line file RepeatedName (path ∷ [])
-meta_line file (meta.RepeatedRole path) = file_line file RepeatedRole (path ∷ [])
-meta_line file (meta.Sources count) = file_line file Sources (decimal count ∷ [])
-meta_line file meta.Memory = file_line file Memory []
+abbrev pub table_name : LoadRefusal → Phrase
+table_name table.Header = Header
+table_name (table.Width line) = Width
+table_name (table.NotUtf8 line col) = NotUtf8
+table_name (table.ZeroByte line col) = ZeroByte
+table_name (table.NotInteger line col) = NotInteger
+table_name (table.NotBoolean line col) = NotBoolean
+table_name (table.NullInNotNull line col) = NullInNotNull
+table_name (table.RepeatedKey line earlier) = RepeatedKey
+table_name table.Memory = Memory
 
-abbrev pub table_line : (file : List ℕ) → LoadRefusal → List ℕ
-table_line file table.Header = file_line file Header []
-table_line file (table.Width line) = file_line file Width (decimal line ∷ [])
-table_line file (table.NotUtf8 line col) = file_line file NotUtf8 (decimal line ∷ decimal col ∷ [])
-table_line file (table.ZeroByte line col) = file_line file ZeroByte (decimal line ∷ decimal col ∷ [])
-table_line file (table.NotInteger line col) = file_line file NotInteger (decimal line ∷ decimal col ∷ [])
-table_line file (table.NotBoolean line col) = file_line file NotBoolean (decimal line ∷ decimal col ∷ [])
-table_line file (table.NullInNotNull line col) = file_line file NullInNotNull (decimal line ∷ decimal col ∷ [])
-table_line file (table.RepeatedKey line earlier) = file_line file RepeatedKey (decimal line ∷ decimal earlier ∷ [])
-table_line file table.Memory = file_line file Memory []
+abbrev pub table_fields : LoadRefusal → List (List ℕ)
+table_fields table.Header = []
+table_fields (table.Width line) = decimal line ∷ []
+table_fields (table.NotUtf8 line col) = decimal line ∷ decimal col ∷ []
+table_fields (table.ZeroByte line col) = decimal line ∷ decimal col ∷ []
+table_fields (table.NotInteger line col) = decimal line ∷ decimal col ∷ []
+table_fields (table.NotBoolean line col) = decimal line ∷ decimal col ∷ []
+table_fields (table.NullInNotNull line col) = decimal line ∷ decimal col ∷ []
+table_fields (table.RepeatedKey line earlier) = decimal line ∷ decimal earlier ∷ []
+table_fields table.Memory = []
 
-abbrev pub fault_line : (file : List ℕ) → FileFault → List ℕ
-fault_line file fault.Missing = file_line file Missing []
-fault_line file fault.TooLarge = file_line file TooLarge []
-fault_line file (fault.Catalog e) = catalog_line file e
-fault_line file (fault.Meta e) = meta_line file e
-fault_line file (fault.Table e) = table_line file e
+abbrev pub fault_name : FileFault → Phrase
+fault_name fault.Missing = Missing
+fault_name fault.TooLarge = TooLarge
+fault_name (fault.Catalog e) = catalog_name e
+fault_name (fault.Meta e) = meta_name e
+fault_name (fault.Table e) = table_name e
 
-abbrev pub database_line : (before after : ℕ) → List ℕ
-database_line before after = concat (phrase_text Hq ∷ phrase_text DatabaseFailed ∷ (spaced (decimal before ∷ decimal after ∷ []) ++ phrase_text End ∷ []))
+abbrev pub fault_fields : FileFault → List (List ℕ)
+fault_fields fault.Missing = []
+fault_fields fault.TooLarge = []
+fault_fields (fault.Catalog e) = catalog_fields e
+fault_fields (fault.Meta e) = meta_fields e
+fault_fields (fault.Table e) = table_fields e
+
+-- the file that a refusal is of
+abbrev pub refusal_file : Refusal → Option (List ℕ)
+refusal_file (refusal.File file f) = Some file
+refusal_file r = None
+
+abbrev pub refusal_name : Refusal → Phrase
+refusal_name refusal.BadWords = BadArguments
+refusal_name (refusal.File file f) = fault_name f
+refusal_name refusal.ReadFailed = ReadFailed
+refusal_name refusal.WriteFailed = WriteFailed
+refusal_name (refusal.Database before after) = DatabaseFailed
+refusal_name refusal.Memory = OutOfMemory
+refusal_name refusal.InputTooLong = InputTooLong
+refusal_name refusal.NotBuilt = NotBuilt
+
+abbrev pub refusal_fields : Refusal → List (List ℕ)
+refusal_fields (refusal.File file f) = fault_fields f
+refusal_fields (refusal.Database before after) = decimal before ∷ decimal after ∷ []
+refusal_fields r = []
 
 -- the line of a refusal
 abbrev pub line_of : Refusal → List ℕ
-line_of refusal.BadWords = plain_line BadArguments
-line_of (refusal.File file f) = fault_line file f
-line_of refusal.ReadFailed = plain_line ReadFailed
-line_of refusal.WriteFailed = plain_line WriteFailed
-line_of (refusal.Database before after) = database_line before after
-line_of refusal.Memory = plain_line OutOfMemory
-line_of refusal.InputTooLong = plain_line InputTooLong
-line_of refusal.NotBuilt = plain_line NotBuilt
+line_of r = concat (phrase_text Hq ∷ front_text (refusal_file r) ∷ phrase_text (refusal_name r) ∷ spaced (refusal_fields r) ∷ phrase_text End ∷ [])

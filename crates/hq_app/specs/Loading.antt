@@ -1,25 +1,27 @@
 -- What loading a directory gives: the catalog, the metadata and the rows of each table in the catalog's order, or the
 -- first refusal in this order.
 use Rattle.std.specs.Prelude.{ℕ, List, [], ◌∷◌, codes, Result, Ok, Err}
-use Rattle.hq_base.specs.Due.{and_then, mapped}
+use Rattle.hq_base.specs.Due.{and_then, mapped, ◌>>=◌}
 use Rattle.hq_outside.specs.declared.files.File.{File}
 use Rattle.hq_outside.specs.declared.files.FileRefusal.{FileRefusal}
 use Rattle.hq_outside.specs.declared.files.FileRefusal.TheVariants as file
 use Rattle.hq_terms.specs.Database.{Row}
 use Rattle.hq_terms.specs.Meta.{MetaTree, meta_view}
 use Rattle.hq_terms.specs.declared.table.Table.{Table}
+use Rattle.hq_engine.specs.Reading.{refused_as}
 use Rattle.hq_catalog_read.specs.Reading.{catalog_due}
 use Rattle.hq_catalog_read.specs.declared.refusal.CatalogRefusal.{CatalogRefusal}
 use Rattle.hq_catalog_read.specs.declared.refusal.CatalogRefusal.TheVariants as catalog
 use Rattle.hq_meta_read.specs.Reading.{meta_due}
-use Rattle.hq_meta_read.specs.declared.refusal.MetaRefusal.{MetaRefusal}
-use Rattle.hq_meta_read.specs.declared.refusal.MetaRefusal.TheVariants as meta
+use Rattle.hq_meta_tables.specs.declared.refusal.MetaRefusal.{MetaRefusal}
+use Rattle.hq_meta_tables.specs.declared.refusal.MetaRefusal.TheVariants as meta
 use Rattle.hq_tables.specs.Load.{table_due}
 use Rattle.hq_tables.specs.declared.load.refusal.LoadRefusal.{LoadRefusal}
 use Rattle.hq_tables.specs.declared.load.refusal.LoadRefusal.TheVariants as table
 use Rattle.hq_app.specs.Directory.{file_due, table_file}
+use Rattle.hq_app.specs.declared.loaded.Description.{Description}
 use Rattle.hq_app.specs.declared.loaded.Loaded.{Loaded}
-use Rattle.hq_app.specs.declared.refusal.FileFault.TheVariants as fault
+use Rattle.hq_app.specs.declared.file_fault.FileFault.TheVariants as fault
 use Rattle.hq_app.specs.declared.refusal.LoadingRefusal.{LoadingRefusal}
 use Rattle.hq_app.specs.declared.refusal.LoadingRefusal.TheVariants as loading
 
@@ -41,11 +43,6 @@ table_refused name refusal = loading.File name (fault.Table refusal)
 abbrev pub meta_refused : (file : List ℕ) → MetaRefusal → LoadingRefusal
 meta_refused name meta.Memory = loading.Memory
 meta_refused name refusal = loading.File name (fault.Meta refusal)
-
--- the refusal under f
-abbrev pub refused_as : {X E F : Type 0} → (E → F) → Result X E → Result X F
-refused_as f (Ok x) = Ok x
-refused_as f (Err e) = Err (f e)
 
 abbrev pub catalog_file : List ℕ
 catalog_file = codes "catalog.json"
@@ -79,11 +76,25 @@ pub record Contents : Type 0 where
 abbrev pub contents : List Table → MetaTree → List (List Row) → Contents
 contents tables meta rows = record { tables = tables; meta = meta; rows = rows }
 
+-- what a directory describes: a catalog, and metadata for it
+pub record Described : Type 0 where
+  pub tables : List Table
+  pub meta : MetaTree
+
+abbrev pub described : List Table → MetaTree → Described
+described tables meta = record { tables = tables; meta = meta }
+
+-- what loading the description gives
+abbrev pub description_due : List File → (dir : List ℕ) → Result Described LoadingRefusal
+description_due files dir = catalog_in files dir >>= λ tables. mapped (described tables) (meta_in files dir tables)
+
 -- what loading a directory gives
 abbrev pub loading_due : List File → (dir : List ℕ) → Result Contents LoadingRefusal
-loading_due files dir =
-    and_then (λ tables. and_then (λ meta. mapped (contents tables meta) (each_due (rows_in files dir) tables)) (meta_in files dir tables)) (catalog_in files dir)
+loading_due files dir = description_due files dir >>= λ d. mapped (contents d.tables d.meta) (each_due (rows_in files dir) d.tables)
 
 -- what is loaded, as it is seen
+abbrev pub description_view : Description → Described
+description_view loaded = described loaded.catalog.tables (meta_view loaded.meta)
+
 abbrev pub loaded_view : Loaded → Contents
 loaded_view loaded = contents loaded.catalog.tables (meta_view loaded.meta) loaded.rows

@@ -1,9 +1,9 @@
-ghost use Rattle.std.specs.Prelude.{◌≡◌, ◌≢◌, ◌≤◌, ◌++◌, ◌∷◌, [], ℕ, List as Items, Ok, map, length, IfOk, OnOk, IsErrOf, IfErr};
-ghost use Rattle.std.specs.List.{list_any};
-ghost use Rattle.std.specs.Prelude.{bytes_eq, flat_map};
+//! Checking a directory.
+ghost use Rattle.std.specs.Prelude.{◌≡◌, ◌≢◌, ◌≤◌, Ok, Some, length, IfOk, IsErrOf, IfErr};
 ghost use Rattle.hq_outside.specs.Causes.{Rose};
-ghost use Rattle.hq_terms.specs.Meta.{meta_view, perm_view, tracked_view};
-ghost use Rattle.hq_app.specs.Check.{new_names, roles_in, rows_in, counts_line, check_line};
+ghost use Rattle.hq_terms.specs.Meta.{meta_view};
+ghost use Rattle.hq_engine.specs.Roles.{roles_in};
+ghost use Rattle.hq_app.specs.Check.{rows_in, counts_line, check_line};
 ghost use Rattle.hq_app.specs.Ending.{Ends, Silent, NotDatabase};
 ghost use Rattle.hq_app.specs.Loading.{loaded_view};
 ghost use Rattle.hq_app.specs.Wrote.{Wrote};
@@ -11,58 +11,18 @@ ghost use Rattle.hq_app.specs.Wrote.{Wrote};
 use crate::parts::{Part, write_parts};
 use crate::phrase::Phrase;
 use crate::{Done, Loaded, Refusal};
-use hq_base::{List, Memory, Txt};
+use hq_base::Memory;
+use hq_engine::roles_in;
 use hq_outside::{Sink, WriteFailed};
 use hq_tables::Rows;
-use hq_terms::{Meta, Perm, Tracked};
+use hq_terms::Meta;
 use std::alloc::Global;
-
-// Adds a role, unless it is there.
-fn add_role(alloc: Global, roles: &mut List<Txt>, role: &Txt) -> Result<(), Memory>
-    ensures { OnOk result ((rest : Items (Items ℕ)) → roles.new ++ new_names roles.new rest ≡ roles.old ++ new_names roles.old (role.now ∷ rest)) }
-{
-    if !is_among(roles, role) {
-        roles.push(role.copy(alloc)?)?;
-    }
-    Ok(())
-}
-
-// Whether a role is among these.
-fn is_among(roles: &List<Txt>, role: &Txt) -> bool
-    ensures { result ≡ list_any (bytes_eq role.now) roles.now }
-{
-    roles
-        .as_slice()
-        .iter()
-        .any(|other| role.as_bytes() == other.as_bytes())
-}
-
-// Adds the roles of these permissions that are not there.
-fn add_roles(alloc: Global, roles: &mut List<Txt>, perms: &[Perm]) -> Result<(), Memory>
-    ensures { OnOk result ((rest : Items (Items ℕ)) → roles.new ++ new_names roles.new rest ≡ roles.old ++ new_names roles.old (map (λ p. p.role) (map perm_view perms.now) ++ rest)) }
-{
-    for perm in perms {
-        add_role(alloc, roles, &perm.role)?;
-    }
-    Ok(())
-}
-
-// The roles that the permissions of these tables name, each once.
-fn roles_of(alloc: Global, tracked: &[Tracked]) -> Result<List<Txt>, Memory>
-    ensures { IfOk result (λ roles. roles ≡ new_names [] (flat_map (λ k. map (λ p. p.role) k.perms) (map tracked_view tracked.now))) }
-{
-    let mut roles = List::new(alloc);
-    for entry in tracked {
-        add_roles(alloc, &mut roles, entry.perms.as_slice())?;
-    }
-    Ok(roles)
-}
 
 // How many roles the permissions name.
 fn count_roles(alloc: Global, meta: &Meta) -> Result<u64, Memory>
     ensures { IfOk result (λ count. count ≡ length (roles_in (meta_view meta.now))) }
 {
-    Ok(roles_of(alloc, meta.tracked.as_slice())?.len() as u64)
+    Ok(roles_in(alloc, meta)?.len() as u64)
 }
 
 // How many rows these tables have in all.
@@ -85,11 +45,11 @@ fn write_counts<K: Sink>(out: &mut K, tables: u64, roles: u64, rows: u64) -> Res
         out,
         &[
             Part::Fixed(Phrase::Ok),
-            Part::Number(tables),
+            Part::Count(tables),
             Part::Fixed(Phrase::Tables),
-            Part::Number(roles),
+            Part::Count(roles),
             Part::Fixed(Phrase::Roles),
-            Part::Number(rows),
+            Part::Count(rows),
             Part::Fixed(Phrase::Rows),
             Part::Fixed(Phrase::End),
         ],
@@ -98,7 +58,7 @@ fn write_counts<K: Sink>(out: &mut K, tables: u64, roles: u64, rows: u64) -> Res
 
 /// Writes the line of a check of what a directory holds.
 pub fn write_check<K: Sink>(alloc: Global, loaded: &Loaded, out: &mut K) -> Result<Done, Refusal>
-    ensures told { Ends (K.written out.old) (K.written out.new) (Ok (Done.Answered, check_line (loaded_view loaded.now))) result }
+    ensures told { Ends (K.written out.old) (K.written out.new) (Ok (record { done = Done.Answered; bytes = Some (check_line (loaded_view loaded.now)) })) result }
     ensures fault { result ≢ Ok Done.Faulty }
     ensures silent { Silent (K.written out.old) (K.written out.new) result }
     ensures read { IsErrOf result Refusal.ReadFailed → ⊥ }

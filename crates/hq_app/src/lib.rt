@@ -4,26 +4,25 @@
 mod check;
 mod directory;
 mod done;
+mod file_fault;
 mod line;
 mod loaded;
 mod loading;
 mod parts;
 mod phrase;
 mod refusal;
-mod refused;
 mod reply;
+mod stating;
 mod top;
 mod words;
 mod world;
 
 pub use done::Done;
-pub use loaded::Loaded;
-pub use loading::load;
-pub use refusal::{FileFault, LoadingRefusal, Refusal};
+pub use file_fault::FileFault;
+pub use loaded::{Description, Loaded};
+pub use loading::{load, load_description};
+pub use refusal::{LoadingRefusal, Refusal};
 pub use reply::INPUT_LIMIT;
 pub use top::{answer_one, run};
 pub use words::{Command, WordsRefusal};
 pub use world::{Ran, World};
-
-#[cfg(test)]
-mod tests;

@@ -15,3 +15,11 @@ pub struct Loaded {
     ghost database: { is_database catalog.tables rows ≡ true },
     ghost fits: { fits_tables catalog.tables (meta_view meta) ≡ true },
 }
+
+/// What a directory describes, without its rows: the catalog, and metadata for it.
+#[derive(Drop)]
+pub struct Description {
+    pub catalog: Catalog,
+    pub meta: Meta,
+    ghost fits: { fits_tables catalog.tables (meta_view meta) ≡ true },
+}

@@ -6,11 +6,10 @@ ghost use Rattle.hq_terms.specs.Database.{are_rows, is_database};
 ghost use Rattle.hq_terms.specs.Fits.{fits};
 ghost use Rattle.hq_tables.specs.Header.{names_differ};
 ghost use Rattle.hq_app.specs.Told.{GivesUnless};
-ghost use Rattle.hq_app.specs.Loading.{catalog_file, meta_file, catalog_in, meta_in, rows_in, each_due, loaded_view, loading_due};
+ghost use Rattle.hq_app.specs.Loading.{catalog_file, meta_file, catalog_in, meta_in, rows_in, each_due, description_due, description_view, loaded_view, loading_due};
 
 use crate::directory::{load_file, table_file_name};
-use crate::refused::{refused_catalog, refused_load, refused_meta, refused_table};
-use crate::{Loaded, LoadingRefusal};
+use crate::{Description, Loaded, LoadingRefusal};
 use hq_base::{List, Memory, Txt};
 use hq_catalog_read::read_catalog;
 use hq_meta_read::read_meta;
@@ -53,9 +52,9 @@ fn load_catalog<F: Files>(
     match load_file(alloc, files, dir, &file) {
         Ok(bytes) => match read_catalog(alloc, bytes.as_slice()) {
             Ok(catalog) => Ok(catalog),
-            Err(refusal) => Err(refused_catalog(file, refusal)),
+            Err(refusal) => Err(LoadingRefusal::of_catalog(file, refusal)),
         },
-        Err(refusal) => Err(refused_load(file, refusal)),
+        Err(refusal) => Err(LoadingRefusal::of_load(file, refusal)),
     }
 }
 
@@ -77,9 +76,9 @@ fn load_meta<F: Files>(
     match load_file(alloc, files, dir, &file) {
         Ok(bytes) => match read_meta(alloc, bytes.as_slice(), catalog) {
             Ok(meta) => Ok(meta),
-            Err(refusal) => Err(refused_meta(file, refusal)),
+            Err(refusal) => Err(LoadingRefusal::of_meta(file, refusal)),
         },
-        Err(refusal) => Err(refused_load(file, refusal)),
+        Err(refusal) => Err(LoadingRefusal::of_load(file, refusal)),
     }
 }
 
@@ -102,9 +101,9 @@ fn load_rows<F: Files>(
     match load_file(alloc, files, dir, &file) {
         Ok(bytes) => match load_table(alloc, bytes.as_slice(), table) {
             Ok(rows) => Ok(rows),
-            Err(refusal) => Err(refused_table(file, refusal)),
+            Err(refusal) => Err(LoadingRefusal::of_table(file, refusal)),
         },
-        Err(refusal) => Err(refused_load(file, refusal)),
+        Err(refusal) => Err(LoadingRefusal::of_load(file, refusal)),
     }
 }
 
@@ -130,8 +129,26 @@ fn load_tables<F: Files>(
     Ok(all)
 }
 
-/// Loads a directory: its catalog, its metadata, and the rows of each table of the catalog, in this order. The first
-/// refusal in this order is the answer.
+/// Loads what a directory describes: its catalog and its metadata, in this order. The first refusal in this order is the
+/// answer.
+pub fn load_description<F: Files>(
+    alloc: Global,
+    files: &mut F,
+    dir: &Txt,
+) -> Result<Description, LoadingRefusal>
+    ensures told { IfSome (F.folder files.old) (λ folder.
+        GivesUnless description_view LoadingRefusal.Memory LoadingRefusal.Failed (description_due folder dir.now) result) }
+    ensures failed { IsErrOf result LoadingRefusal.Failed → Rose (F.faults files.old) (F.faults files.new) }
+    ensures folder { F.folder files.new ≡ F.folder files.old }
+    ensures later { F.faults files.old ≤ F.faults files.new }
+{
+    let catalog = load_catalog(alloc, files, dir)?;
+    let meta = load_meta(alloc, files, dir, &catalog)?;
+    Ok(Description { catalog, meta })
+}
+
+/// Loads a directory: what it describes, and the rows of each table of the catalog, in this order. The first refusal in this
+/// order is the answer.
 pub fn load<F: Files>(alloc: Global, files: &mut F, dir: &Txt) -> Result<Loaded, LoadingRefusal>
     ensures told { IfSome (F.folder files.old) (λ folder.
         GivesUnless loaded_view LoadingRefusal.Memory LoadingRefusal.Failed (loading_due folder dir.now) result) }
@@ -139,8 +156,7 @@ pub fn load<F: Files>(alloc: Global, files: &mut F, dir: &Txt) -> Result<Loaded,
     ensures folder { F.folder files.new ≡ F.folder files.old }
     ensures later { F.faults files.old ≤ F.faults files.new }
 {
-    let catalog = load_catalog(alloc, files, dir)?;
-    let meta = load_meta(alloc, files, dir, &catalog)?;
+    let Description { catalog, meta } = load_description(alloc, files, dir)?;
     let rows = load_tables(alloc, files, dir, catalog.tables.as_slice())?;
     Ok(Loaded {
         catalog,

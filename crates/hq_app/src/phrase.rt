@@ -56,7 +56,7 @@ impl Phrase {
     {
         match self {
             Phrase::Hq => b"hq: ",
-            Phrase::Colon => b":",
+            Phrase::Colon => b": ",
             Phrase::Space => b" ",
             Phrase::End => b"\n",
             Phrase::BadArguments => b"bad arguments",

@@ -2,28 +2,13 @@ ghost use Rattle.std.specs.Prelude.{◌≡◌};
 ghost use Rattle.hq_app.specs.declared.refusal.LoadingRefusal.TheVariants as refusal;
 
 use crate::WordsRefusal;
+use crate::file_fault::FileFault;
+use crate::parts::{Field, Fields};
+use crate::phrase::Phrase;
 use hq_base::{Memory, Txt};
-use hq_catalog_read::CatalogRefusal;
-use hq_engine::EngineRefusal;
-use hq_meta_read::MetaRefusal;
+use hq_engine::{EngineRefusal, StatementRefusal};
 use hq_outside::{InputRefusal, WriteFailed};
-use hq_tables::LoadRefusal;
 use thiserror::Error;
-
-/// Why a file of the directory is refused. The refusals of its reader are never want of memory, which is told apart.
-#[derive(Debug, Drop, Error)]
-pub enum FileFault {
-    #[error("no such file")]
-    Missing,
-    #[error("file too large")]
-    TooLarge,
-    #[error("{0}")]
-    Catalog(CatalogRefusal),
-    #[error("{0}")]
-    Meta(MetaRefusal),
-    #[error("{0}")]
-    Table(LoadRefusal),
-}
 
 /// Why a directory was not loaded.
 #[derive(Debug, Drop, Error)]
@@ -90,6 +75,50 @@ impl Refusal {
     }
 }
 
+impl Refusal {
+    ghost use Rattle.std.specs.Prelude.{◌≡◌, option_copied};
+    ghost use Rattle.hq_app.specs.Line.{field_texts, refusal_fields, refusal_file, refusal_name};
+
+    /// The file that it is of.
+    pub fn file(&self) -> Option<&Txt>
+        ensures { option_copied result ≡ refusal_file self.now }
+    {
+        match self {
+            Refusal::File { file, .. } => Some(file),
+            _ => None,
+        }
+    }
+
+    /// Its name on a line.
+    pub fn name(&self) -> Phrase
+        ensures { result ≡ refusal_name self.now }
+    {
+        match self {
+            Refusal::BadWords => Phrase::BadArguments,
+            Refusal::File { fault, .. } => fault.name(),
+            Refusal::ReadFailed => Phrase::ReadFailed,
+            Refusal::WriteFailed => Phrase::WriteFailed,
+            Refusal::Database { .. } => Phrase::DatabaseFailed,
+            Refusal::Memory => Phrase::OutOfMemory,
+            Refusal::InputTooLong => Phrase::InputTooLong,
+            Refusal::NotBuilt => Phrase::NotBuilt,
+        }
+    }
+
+    /// Its fields on a line.
+    pub fn fields(&self) -> Fields<'_>
+        ensures { field_texts result ≡ refusal_fields self.now }
+    {
+        match self {
+            Refusal::File { fault, .. } => fault.fields(),
+            Refusal::Database { before, after } => {
+                Fields::Two(Field::Number(*before), Field::Number(*after))
+            }
+            _ => Fields::Zero,
+        }
+    }
+}
+
 impl From<Memory> for Refusal {
     ghost use Rattle.std.specs.Prelude.{◌≡◌};
     ghost use Rattle.hq_app.specs.declared.refusal.Refusal.TheVariants as ending;
@@ -114,7 +143,7 @@ impl From<WriteFailed> for Refusal {
 
 impl From<WordsRefusal> for Refusal {
     ghost use Rattle.std.specs.Prelude.{◌≡◌};
-    ghost use Rattle.hq_app.specs.Due.{of_words};
+    ghost use Rattle.hq_app.specs.Output.{of_words};
 
     ghost from_gives = { λ r e. e ≡ of_words r };
 
@@ -128,7 +157,7 @@ impl From<WordsRefusal> for Refusal {
 
 impl From<LoadingRefusal> for Refusal {
     ghost use Rattle.std.specs.Prelude.{◌≡◌};
-    ghost use Rattle.hq_app.specs.Due.{of_loading};
+    ghost use Rattle.hq_app.specs.Output.{of_loading};
 
     ghost from_gives = { λ r e. e ≡ of_loading r };
 
@@ -143,7 +172,7 @@ impl From<LoadingRefusal> for Refusal {
 
 impl From<InputRefusal> for Refusal {
     ghost use Rattle.std.specs.Prelude.{◌≡◌};
-    ghost use Rattle.hq_app.specs.Due.{of_input};
+    ghost use Rattle.hq_app.specs.Output.{of_input};
 
     ghost from_gives = { λ r e. e ≡ of_input r };
 
@@ -158,7 +187,7 @@ impl From<InputRefusal> for Refusal {
 
 impl From<EngineRefusal> for Refusal {
     ghost use Rattle.std.specs.Prelude.{◌≡◌};
-    ghost use Rattle.hq_app.specs.Due.{of_engine};
+    ghost use Rattle.hq_app.specs.Output.{of_engine};
 
     ghost from_gives = { λ r e. e ≡ of_engine r };
 
@@ -167,6 +196,20 @@ impl From<EngineRefusal> for Refusal {
             EngineRefusal::Database { before, after } => Refusal::Database { before, after },
             EngineRefusal::Memory => Refusal::Memory,
             EngineRefusal::NotBuilt => Refusal::NotBuilt,
+        }
+    }
+}
+
+impl From<StatementRefusal> for Refusal {
+    ghost use Rattle.std.specs.Prelude.{◌≡◌};
+    ghost use Rattle.hq_app.specs.Output.{of_statement};
+
+    ghost from_gives = { λ r e. e ≡ of_statement r };
+
+    fn from(refusal: StatementRefusal) -> Self {
+        match refusal {
+            StatementRefusal::NotBuilt => Refusal::NotBuilt,
+            StatementRefusal::Memory => Refusal::Memory,
         }
     }
 }

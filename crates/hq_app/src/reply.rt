@@ -1,10 +1,8 @@
-ghost use Rattle.std.specs.Prelude.{◌≡◌, ◌≢◌, ◌≤◌, IsErrOf, IsSome, IfSome, IfErr, Ok, Err, None};
+//! The reply to one request.
+ghost use Rattle.std.specs.Prelude.{◌≡◌, ◌≢◌, ◌≤◌, length, IsErrOf, IfSome, IfErr, Err};
 ghost use Rattle.hq_outside.specs.Causes.{Rose};
-ghost use Rattle.hq_terms.specs.Meta.{meta_view};
-ghost use Rattle.hq_app.specs.Loading.{contents};
-ghost use Rattle.hq_engine.specs.Reading.{first_fault};
-ghost use Rattle.hq_app.specs.Due.{done_by, reply_due};
-ghost use Rattle.hq_app.specs.Ending.{Ends, Silent, TellsDatabase};
+ghost use Rattle.hq_app.specs.Output.{done_by};
+ghost use Rattle.hq_app.specs.Ending.{Answers, Silent, TellsDatabase};
 
 use crate::{Done, Refusal};
 use hq_base::Reply;
@@ -28,6 +26,35 @@ fn done_by(reply: &Reply) -> Done
     }
 }
 
+// Answers a request, and writes the reply's body.
+fn reply_over<D: Database, K: Sink>(
+    alloc: Global,
+    engine: &Engine,
+    session: &Session,
+    body: &[u8],
+    db: &mut D,
+    out: &mut K,
+) -> Result<Done, Refusal>
+    requires limit { length body.now ≤ INPUT_LIMIT }
+    requires catalog { D.tables db.old ≡ engine.now.catalog.tables }
+    ensures told { Answers engine.now session.now (D.database db.old) body.now (K.written out.old) (K.written out.new)
+        (record { asks = D.asks db.old; last = D.last db.old }) (record { asks = D.asks db.new; last = D.last db.new }) result }
+    ensures silent { Silent (K.written out.old) (K.written out.new) result }
+    ensures read { result ≢ Err Refusal.ReadFailed }
+    ensures write { IsErrOf result Refusal.WriteFailed → Rose (K.faults out.old) (K.faults out.new) }
+    ensures failed { IfErr result (λ e. TellsDatabase (D.faults db.old) (D.faults db.new) e) }
+    ensures words { result ≢ Err Refusal.BadWords }
+    ensures tables { D.tables db.new ≡ D.tables db.old }
+    ensures database { D.database db.new ≡ D.database db.old }
+    ensures out_later { K.faults out.old ≤ K.faults out.new }
+    ensures db_later { D.faults db.old ≤ D.faults db.new }
+{
+    let reply = engine.answer(alloc, session, body, db)?;
+    let done = done_by(&reply);
+    write_all(out, reply.body.as_slice())?;
+    Ok(done)
+}
+
 /// Reads a request, answers it, and writes the reply's body.
 pub fn reply_to<D: Database, S: Source, K: Sink>(
     alloc: Global,
@@ -38,23 +65,19 @@ pub fn reply_to<D: Database, S: Source, K: Sink>(
     out: &mut K,
 ) -> Result<Done, Refusal>
     requires { D.tables db.old ≡ engine.now.catalog.tables }
-    ensures told { IfSome (D.database db.old) (λ rows. IfSome (S.left input.old) (λ left.
-        Ends (K.written out.old) (K.written out.new) (reply_due (contents engine.now.catalog.tables (meta_view engine.now.meta) rows) session.now left) result)) }
-    ensures fault { result ≡ Ok Done.Faulty → IfSome (S.left input.old) (λ left. IsSome (first_fault left)) }
-    ensures data { result ≡ Ok Done.Answered → IfSome (S.left input.old) (λ left. first_fault left ≡ None) }
+    ensures told { IfSome (S.left input.old) (λ left. Answers engine.now session.now (D.database db.old) left (K.written out.old) (K.written out.new)
+        (record { asks = D.asks db.old; last = D.last db.old }) (record { asks = D.asks db.new; last = D.last db.new }) result) }
     ensures silent { Silent (K.written out.old) (K.written out.new) result }
     ensures read { IsErrOf result Refusal.ReadFailed → Rose (S.faults input.old) (S.faults input.new) }
     ensures write { IsErrOf result Refusal.WriteFailed → Rose (K.faults out.old) (K.faults out.new) }
     ensures failed { IfErr result (λ e. TellsDatabase (D.faults db.old) (D.faults db.new) e) }
     ensures words { result ≢ Err Refusal.BadWords }
+    ensures tables { D.tables db.new ≡ D.tables db.old }
     ensures database { D.database db.new ≡ D.database db.old }
     ensures input_later { S.faults input.old ≤ S.faults input.new }
     ensures out_later { K.faults out.old ≤ K.faults out.new }
     ensures db_later { D.faults db.old ≤ D.faults db.new }
 {
     let body = read_all(alloc, input, INPUT_LIMIT)?;
-    let reply = engine.answer(alloc, session, body.as_slice(), db)?;
-    let done = done_by(&reply);
-    write_all(out, reply.body.as_slice())?;
-    Ok(done)
+    reply_over(alloc, engine, session, body.as_slice(), db, out)
 }

@@ -1,16 +1,16 @@
-ghost use Rattle.std.specs.Prelude.{◌≡◌, ◌≢◌, ◌⊎◌, ◌≤◌, ◌↔◌, IsErrOf, IfErr, IsSome, IfSome, None, Ok, true, false};
+ghost use Rattle.std.specs.Prelude.{◌≡◌, ◌≢◌, ◌⊎◌, ◌≤◌, ◌↔◌, IsErrOf, IfErr, IfSome, None, Ok, Some, false};
 ghost use Rattle.hq_outside.specs.Causes.{Rose};
+ghost use Rattle.hq_app.specs.Words.{command_of, reads_input};
 ghost use Rattle.hq_terms.specs.Meta.{meta_view};
-ghost use Rattle.hq_engine.specs.Reading.{first_fault};
-ghost use Rattle.hq_app.specs.Words.{command_of, is_check};
-ghost use Rattle.hq_app.specs.Loading.{contents, loaded_view};
-ghost use Rattle.hq_app.specs.Due.{check_due, due, query_due, reply_due};
-ghost use Rattle.hq_app.specs.Ending.{Answer, Ends, Silent, Tells, NotDatabase, status_of, told_line};
+ghost use Rattle.hq_app.specs.Output.{check_output, query_output, request_output, sql_output, statement_output};
+ghost use Rattle.hq_app.specs.Ending.{Answer, Answers, Ends, Silent, Tells, NotDatabase, status_of, told_line};
+ghost use Rattle.hq_app.specs.Runs.{ReadCause, Runs, outside};
 
 use crate::check::write_check;
 use crate::line::write_line;
 use crate::reply::reply_to;
-use crate::{Command, Done, Loaded, Ran, Refusal, World, load};
+use crate::stating::state_to;
+use crate::{Command, Description, Done, Loaded, Ran, Refusal, World, load, load_description};
 use hq_base::Txt;
 use hq_db::SqlDb;
 use hq_engine::Engine;
@@ -29,10 +29,8 @@ fn respond<S: Source, K: Sink>(
     input: &mut S,
     out: &mut K,
 ) -> Result<Done, Refusal>
-    ensures told { IfSome (S.left input.old) (λ left.
-        Ends (K.written out.old) (K.written out.new) (reply_due (loaded_view loaded) session.now left) result) }
-    ensures fault { result ≡ Ok Done.Faulty → IfSome (S.left input.old) (λ left. IsSome (first_fault left)) }
-    ensures data { result ≡ Ok Done.Answered → IfSome (S.left input.old) (λ left. first_fault left ≡ None) }
+    ensures told { IfSome (S.left input.old) (λ left. Ends (K.written out.old) (K.written out.new)
+        (request_output loaded.catalog.tables (meta_view loaded.meta) session.now (Some loaded.rows) left) result) }
     ensures silent { Silent (K.written out.old) (K.written out.new) result }
     ensures read { IsErrOf result Refusal.ReadFailed → Rose (S.faults input.old) (S.faults input.new) }
     ensures write { IsErrOf result Refusal.WriteFailed → Rose (K.faults out.old) (K.faults out.new) }
@@ -46,7 +44,7 @@ fn respond<S: Source, K: Sink>(
         meta,
         rows,
     } = loaded;
-    let engine = Engine::new(catalog.copy(alloc)?, meta);
+    let engine = Engine::new(alloc, catalog.copy(alloc)?, meta)?;
     let mut db = SqlDb::new(MemTables::new(catalog, rows));
     reply_to(alloc, &engine, session, &mut db, input, out)
 }
@@ -61,9 +59,7 @@ fn query<F: Files, S: Source, K: Sink>(
     out: &mut K,
 ) -> Result<Done, Refusal>
     ensures told { IfSome (F.folder files.old) (λ folder. IfSome (S.left input.old) (λ left.
-        Ends (K.written out.old) (K.written out.new) (query_due dir.now headers.now folder left) result)) }
-    ensures fault { result ≡ Ok Done.Faulty → IfSome (S.left input.old) (λ left. IsSome (first_fault left)) }
-    ensures data { result ≡ Ok Done.Answered → IfSome (S.left input.old) (λ left. first_fault left ≡ None) }
+        Ends (K.written out.old) (K.written out.new) (query_output dir.now headers.now folder left) result)) }
     ensures silent { Silent (K.written out.old) (K.written out.new) result }
     ensures words { IsErrOf result Refusal.BadWords → ⊥ }
     ensures read { IsErrOf result Refusal.ReadFailed →
@@ -81,6 +77,57 @@ fn query<F: Files, S: Source, K: Sink>(
     respond(alloc, loaded, &session, input, out)
 }
 
+// Tells the text that is asked for a request of a session, by what a directory describes.
+fn state<S: Source, K: Sink>(
+    alloc: Global,
+    description: Description,
+    session: &Session,
+    input: &mut S,
+    out: &mut K,
+) -> Result<Done, Refusal>
+    ensures told { IfSome (S.left input.old) (λ left. Ends (K.written out.old) (K.written out.new)
+        (statement_output description.catalog.tables (meta_view description.meta) session.now left) result) }
+    ensures silent { Silent (K.written out.old) (K.written out.new) result }
+    ensures read { IsErrOf result Refusal.ReadFailed → Rose (S.faults input.old) (S.faults input.new) }
+    ensures write { IsErrOf result Refusal.WriteFailed → Rose (K.faults out.old) (K.faults out.new) }
+    ensures failed { IfErr result NotDatabase }
+    ensures words { result ≢ Err Refusal.BadWords }
+    ensures input_later { S.faults input.old ≤ S.faults input.new }
+    ensures out_later { K.faults out.old ≤ K.faults out.new }
+{
+    let Description { catalog, meta } = description;
+    let engine = Engine::new(alloc, catalog, meta)?;
+    state_to(alloc, &engine, session, input, out)
+}
+
+// Loads what a directory describes, and tells the text that is asked for a request, for the session of the headers.
+fn sql<F: Files, S: Source, K: Sink>(
+    alloc: Global,
+    dir: &Txt,
+    headers: &Headers,
+    files: &mut F,
+    input: &mut S,
+    out: &mut K,
+) -> Result<Done, Refusal>
+    ensures told { IfSome (F.folder files.old) (λ folder. IfSome (S.left input.old) (λ left.
+        Ends (K.written out.old) (K.written out.new) (sql_output dir.now headers.now folder left) result)) }
+    ensures silent { Silent (K.written out.old) (K.written out.new) result }
+    ensures words { IsErrOf result Refusal.BadWords → ⊥ }
+    ensures read { IsErrOf result Refusal.ReadFailed →
+        Rose (F.faults files.old) (F.faults files.new) × (S.left input.new ≡ S.left input.old)
+        ⊎ Rose (S.faults input.old) (S.faults input.new) }
+    ensures write { IsErrOf result Refusal.WriteFailed → Rose (K.faults out.old) (K.faults out.new) }
+    ensures failed { IfErr result NotDatabase }
+    ensures folder { F.folder files.new ≡ F.folder files.old }
+    ensures files_later { F.faults files.old ≤ F.faults files.new }
+    ensures input_later { S.faults input.old ≤ S.faults input.new }
+    ensures out_later { K.faults out.old ≤ K.faults out.new }
+{
+    let description = load_description(alloc, files, dir)?;
+    let session = headers.session(alloc)?;
+    state(alloc, description, &session, input, out)
+}
+
 // Loads a directory, and writes what it holds.
 fn check<F: Files, K: Sink>(
     alloc: Global,
@@ -89,7 +136,7 @@ fn check<F: Files, K: Sink>(
     out: &mut K,
 ) -> Result<Done, Refusal>
     ensures told { IfSome (F.folder files.old) (λ folder.
-        Ends (K.written out.old) (K.written out.new) (check_due dir.now folder) result) }
+        Ends (K.written out.old) (K.written out.new) (check_output dir.now folder) result) }
     ensures fault { result ≢ Ok Done.Faulty }
     ensures silent { Silent (K.written out.old) (K.written out.new) result }
     ensures words { IsErrOf result Refusal.BadWords → ⊥ }
@@ -112,17 +159,15 @@ fn answered<F: Files, S: Source, K: Sink>(
     input: &mut S,
     out: &mut K,
 ) -> Result<Done, Refusal>
-    ensures told { IfSome (F.folder files.old) (λ folder. IfSome (S.left input.old) (λ left.
-        Ends (K.written out.old) (K.written out.new) (due words.now folder left) result)) }
-    ensures fault { result ≡ Ok Done.Faulty → IfSome (S.left input.old) (λ left. IsSome (first_fault left)) }
-    ensures data { is_check (command_of words.now) ≡ false → result ≡ Ok Done.Answered → IfSome (S.left input.old) (λ left. first_fault left ≡ None) }
+    ensures runs { Runs (command_of words.now)
+        (outside (F.folder files.old) (F.faults files.old) (S.left input.old) (S.faults input.old) (K.written out.old) (K.faults out.old))
+        (outside (F.folder files.new) (F.faults files.new) (S.left input.new) (S.faults input.new) (K.written out.new) (K.faults out.new)) result }
+    ensures read { IsErrOf result Refusal.ReadFailed → ReadCause (command_of words.now)
+        (outside (F.folder files.old) (F.faults files.old) (S.left input.old) (S.faults input.old) (K.written out.old) (K.faults out.old))
+        (outside (F.folder files.new) (F.faults files.new) (S.left input.new) (S.faults input.new) (K.written out.new) (K.faults out.new)) }
     ensures silent { Silent (K.written out.old) (K.written out.new) result }
     ensures words { IsErrOf result Refusal.BadWords ↔ (command_of words.now ≡ None) }
-    ensures check { is_check (command_of words.now) ≡ true → input.new ≡ input.old }
-    ensures no_fault { is_check (command_of words.now) ≡ true → result ≢ Ok Done.Faulty }
-    ensures read { IsErrOf result Refusal.ReadFailed →
-        Rose (F.faults files.old) (F.faults files.new) × (S.left input.new ≡ S.left input.old)
-        ⊎ Rose (S.faults input.old) (S.faults input.new) }
+    ensures input { reads_input (command_of words.now) ≡ false → input.new ≡ input.old }
     ensures write { IsErrOf result Refusal.WriteFailed → Rose (K.faults out.old) (K.faults out.new) }
     ensures failed { IfErr result NotDatabase }
     ensures folder { F.folder files.new ≡ F.folder files.old }
@@ -132,6 +177,7 @@ fn answered<F: Files, S: Source, K: Sink>(
 {
     match Command::read(alloc, words)? {
         Command::Query { dir, headers } => query(alloc, &dir, &headers, files, input, out),
+        Command::Sql { dir, headers } => sql(alloc, &dir, &headers, files, input, out),
         Command::Check { dir } => check(alloc, &dir, files, out),
     }
 }
@@ -164,16 +210,13 @@ pub fn answer_one<T: Tables, S: Source, K: Sink, E: Sink>(
 ) -> u8
     requires catalog { ⟦<SqlDb<T> as Database>⟧.tables db.old ≡ engine.now.catalog.tables }
 
-    // The status is that of an answer, which is the due one unless memory or an object of the outside failed; standard error
-    // has its line.
+    // The status is that of an answer, and standard error has its line. The answer is the due one unless memory or an object of
+    // the outside failed; exactly the text of the request was asked for it, and once.
     ensures ends { (answer : Answer) × (result ≡ status_of answer)
         × Tells (E.written err.old) (E.written err.new) (E.faults err.old) (E.faults err.new) (told_line answer)
-        × IfSome (⟦<SqlDb<T> as Database>⟧.database db.old) (λ rows. IfSome (S.left input.old) (λ left.
-        Ends (K.written out.old) (K.written out.new) (reply_due (contents engine.now.catalog.tables (meta_view engine.now.meta) rows) session.now left) answer)) }
-
-    // A fault is told exactly where the request has one.
-    ensures fault { result ≡ 1 → IfSome (S.left input.old) (λ left. IsSome (first_fault left)) }
-    ensures data { result ≡ 0 → IfSome (S.left input.old) (λ left. first_fault left ≡ None) }
+        × IfSome (S.left input.old) (λ left. Answers engine.now session.now (⟦<SqlDb<T> as Database>⟧.database db.old) left (K.written out.old) (K.written out.new)
+        (record { asks = ⟦<SqlDb<T> as Database>⟧.asks db.old; last = ⟦<SqlDb<T> as Database>⟧.last db.old })
+        (record { asks = ⟦<SqlDb<T> as Database>⟧.asks db.new; last = ⟦<SqlDb<T> as Database>⟧.last db.new }) answer) }
 
     // Nothing is written at a status other than 0, 1 and 5.
     ensures silent { result ≢ 0 → result ≢ 1 → result ≢ 5 → K.written out.new ≡ K.written out.old }
@@ -183,31 +226,34 @@ pub fn answer_one<T: Tables, S: Source, K: Sink, E: Sink>(
     ensures write { result ≡ 5 → Rose (K.faults out.old) (K.faults out.new) }
     ensures failed { result ≡ 6 → Rose (⟦<SqlDb<T> as Database>⟧.faults db.old) (⟦<SqlDb<T> as Database>⟧.faults db.new) }
 
+    // The database is unchanged, so that the same call again, after a failure too, answers as if it were the first.
+    ensures tables { ⟦<SqlDb<T> as Database>⟧.tables db.new ≡ ⟦<SqlDb<T> as Database>⟧.tables db.old }
+    ensures database { ⟦<SqlDb<T> as Database>⟧.database db.new ≡ ⟦<SqlDb<T> as Database>⟧.database db.old }
+
     // No count falls.
     ensures input_later { S.faults input.old ≤ S.faults input.new }
     ensures out_later { K.faults out.old ≤ K.faults out.new }
+    ensures db_later { ⟦<SqlDb<T> as Database>⟧.faults db.old ≤ ⟦<SqlDb<T> as Database>⟧.faults db.new }
 {
     tell(err, reply_to(alloc, engine, session, db, input, out))
 }
 
 /// The program. `query DIR [HEADER]...` answers the request on the standard input over the directory, for the session of the
-/// headers. `check DIR` loads the directory and writes `ok: T tables, R roles, N rows`. Everything that it touches is handed
+/// headers; `sql DIR [HEADER]...` writes the text of SQL that is asked for it and a line end, or `none` and a line end where
+/// none is. `check DIR` loads the directory and writes `ok: T tables, R roles, N rows`. Everything that it touches is handed
 /// in, and handed back with the status that the program ends with.
 pub fn run<F: Files, D: Door, S: Source, K: Sink, E: Sink>(
     alloc: Global,
     words: &[Txt],
     world: World<F, D, S, K, E>,
 ) -> Ran<F, D, S, K, E>
-    // The status is that of an answer, which is the due one unless memory or an object of the outside failed; standard error
-    // has its line.
+    // The status is that of an answer, and standard error has its line. The answer is the one that is due for the command that
+    // the words ask for, unless memory or an object of the outside failed.
     ensures ends { (answer : Answer) × (result.status ≡ status_of answer)
         × Tells (E.written world.err) (E.written result.world.err) (E.faults world.err) (E.faults result.world.err) (told_line answer)
-        × IfSome (F.folder world.files) (λ folder. IfSome (S.left world.input) (λ left.
-        Ends (K.written world.out) (K.written result.world.out) (due words.now folder left) answer)) }
-
-    // A fault is told exactly where the request has one.
-    ensures fault { result.status ≡ 1 → IfSome (S.left world.input) (λ left. IsSome (first_fault left)) }
-    ensures data { is_check (command_of words.now) ≡ false → result.status ≡ 0 → IfSome (S.left world.input) (λ left. first_fault left ≡ None) }
+        × Runs (command_of words.now)
+        (outside (F.folder world.files) (F.faults world.files) (S.left world.input) (S.faults world.input) (K.written world.out) (K.faults world.out))
+        (outside (F.folder result.world.files) (F.faults result.world.files) (S.left result.world.input) (S.faults result.world.input) (K.written result.world.out) (K.faults result.world.out)) answer }
 
     // Nothing is written at a status other than 0, 1 and 5.
     ensures silent { result.status ≢ 0 → result.status ≢ 1 → result.status ≢ 5 → K.written result.world.out ≡ K.written world.out }
@@ -215,18 +261,15 @@ pub fn run<F: Files, D: Door, S: Source, K: Sink, E: Sink>(
     // It ends with 2 exactly where the words ask for no command.
     ensures words { (result.status ≡ 2) ↔ (command_of words.now ≡ None) }
 
-    // A check reads no input, and tells no fault.
-    ensures check { is_check (command_of words.now) ≡ true → result.world.input ≡ world.input }
-    ensures no_fault { is_check (command_of words.now) ≡ true → result.status ≢ 1 }
-
-    // A failure is told only where the count of that object rose; a failed load comes before anything is read.
-    ensures read { result.status ≡ 4 →
-        Rose (F.faults world.files) (F.faults result.world.files) × (S.left result.world.input ≡ S.left world.input)
-        ⊎ Rose (S.faults world.input) (S.faults result.world.input) }
+    // A failure is told only where the count of that object rose, as the command uses it.
+    ensures read { result.status ≡ 4 → ReadCause (command_of words.now)
+        (outside (F.folder world.files) (F.faults world.files) (S.left world.input) (S.faults world.input) (K.written world.out) (K.faults world.out))
+        (outside (F.folder result.world.files) (F.faults result.world.files) (S.left result.world.input) (S.faults result.world.input) (K.written result.world.out) (K.faults result.world.out)) }
     ensures write { result.status ≡ 5 → Rose (K.faults world.out) (K.faults result.world.out) }
     ensures database { result.status ≢ 6 }
 
-    // The folder and the door are unchanged, and no count falls.
+    // A command that reads no input leaves it. The folder and the door are unchanged, and no count falls.
+    ensures input { reads_input (command_of words.now) ≡ false → result.world.input ≡ world.input }
     ensures folder { F.folder result.world.files ≡ F.folder world.files }
     ensures door { result.world.door ≡ world.door }
     ensures files_later { F.faults world.files ≤ F.faults result.world.files }

@@ -9,10 +9,12 @@ use hq_session::{HEADERS_LIMIT, Header, Headers, HeadersRefusal};
 use std::alloc::Global;
 use thiserror::Error;
 
-/// What the words ask: to answer a request over this directory for the session of the headers, or to check the directory.
+/// What the words ask: to answer a request over this directory for the session of the headers, to tell the text of SQL that is
+/// asked for it, or to check the directory.
 #[derive(Debug, Drop)]
 pub enum Command {
     Query { dir: Txt, headers: Headers },
+    Sql { dir: Txt, headers: Headers },
     Check { dir: Txt },
 }
 
@@ -38,7 +40,7 @@ impl From<Memory> for WordsRefusal {
 
 impl From<HeadersRefusal> for WordsRefusal {
     ghost use Rattle.std.specs.Prelude.{◌≡◌};
-    ghost use Rattle.hq_app.specs.Due.{of_headers};
+    ghost use Rattle.hq_app.specs.Output.{of_headers};
 
     ghost from_gives = { λ r e. e ≡ of_headers r };
 
@@ -79,8 +81,8 @@ fn headers(alloc: Global, words: &[Txt]) -> Result<Headers, WordsRefusal>
 }
 
 impl Command {
-    /// What these words ask, which are those behind the program's name. BadWords exactly where they are neither `query`, a
-    /// directory and at most 64 headers, each `name: value`, nor `check` and a directory: this is told before memory is taken.
+    /// What these words ask, which are those behind the program's name. BadWords exactly where they are neither `query` or `sql`,
+    /// a directory and at most 64 headers, each `name: value`, nor `check` and a directory: this is told before memory is taken.
     pub fn read(alloc: Global, words: &[Txt]) -> Result<Command, WordsRefusal>
         ensures bad { IsErrOf result WordsRefusal.BadWords ↔ (command_of words.now ≡ None) }
         ensures told { Gives (λ command. command) WordsRefusal.Memory (ok_or (command_of words.now) WordsRefusal.BadWords) result }
@@ -90,6 +92,11 @@ impl Command {
                 let headers = headers(alloc, words)?;
                 let dir = dir.copy(alloc)?;
                 Ok(Command::Query { dir, headers })
+            }
+            [name, dir, words @ ..] if name.as_str() == "sql" && are_headers(words) => {
+                let headers = headers(alloc, words)?;
+                let dir = dir.copy(alloc)?;
+                Ok(Command::Sql { dir, headers })
             }
             [name, dir] if name.as_str() == "check" => Ok(Command::Check {
                 dir: dir.copy(alloc)?,

@@ -1,0 +1,2 @@
+pub mod Blog
+pub mod Worked

@@ -1,24 +1,51 @@
--- A typed request, whose names are resolved: fields under their response keys, in the order of the reply.
-use Rattle.std.specs.Prelude.{ℕ, List, [], ◌∷◌}
-use Rattle.hq_ask_tree.specs.declared.ask.AskColumn.{AskColumn}
+-- A typed request, without where it lies in memory, and what it grants.
+use Rattle.std.specs.Prelude.{ℕ, List, [], map, find, Option, option_map, option_and_then, ◌==◌}
+use Rattle.hq_terms.specs.Bexp.{BexpTree, bexp_view}
+use Rattle.hq_terms.specs.Grants.{Grants}
+use Rattle.hq_terms.specs.Meta.{MetaTree}
+use Rattle.hq_terms.specs.Permission.{Mask, Permission, permission}
+use Rattle.hq_terms.specs.Schema.{Schema, numbered}
+use Rattle.hq_terms.specs.declared.role.Role.{Role}
 use Rattle.hq_ask_tree.specs.declared.ask.Ask.{Ask}
+use Rattle.hq_ask_tree.specs.declared.ask.Bound.{Bound}
+use Rattle.hq_ask_tree.specs.Fields.{FieldTrees, fields_of, keyed_field_view}
 
-mutual
-  -- fields, each under its response key
-  pub data FieldTrees : Type 0 where
-    no_field : FieldTrees
-    field : (key : List ℕ) → FieldTree → FieldTrees → FieldTrees
+-- a touched table with the bound filter and the bound masks of the role's permission
+pub record BoundTree : Type 0 where
+  pub table : ℕ
+  pub filter : BexpTree
+  pub masks : List Mask
 
-  -- a column of the row that the field stands at, or the list of a table's rows
-  pub data FieldTree : Type 0 where
-    column : (column : ℕ) → FieldTree
-    list : (table : ℕ) → FieldTrees → FieldTree
+-- the role, the root fields under their response keys, and the touched tables
+pub record AskTree : Type 0 where
+  pub role : Role
+  pub fields : FieldTrees
+  pub bound : List BoundTree
 
--- columns as fields
-abbrev pub columns_of : List AskColumn → FieldTrees
-columns_of [] = no_field
-columns_of (c ∷ cs) = field c.key (column c.column) (columns_of cs)
+-- what a touched table is seen as: no column has a mask
+abbrev pub bound_view : Bound → BoundTree
+bound_view b = record { table = b.table; filter = bexp_view b.filter; masks = [] }
 
--- what a request is seen as: one root field
-abbrev pub ask_view : Ask → FieldTrees
-ask_view a = field a.key (list a.table (columns_of a.columns)) no_field
+-- what a typed request is seen as
+abbrev pub ask_view : Ask → AskTree
+ask_view a = record {
+  role = a.role;
+  fields = fields_of (map keyed_field_view a.fields.items);
+  bound = map bound_view a.bound;
+}
+
+-- the entry of a touched table
+abbrev pub bound_table : List BoundTree → ℕ → Option BoundTree
+bound_table bs t = find (λ b. b.table == t) bs
+
+-- a permission with the filter and the masks that are bound in its place
+abbrev pub with_bound : Permission → BoundTree → Permission
+with_bound p b = record p { filter = b.filter; masks = b.masks }
+
+-- what a request grants of a table: the permission of its role with what is bound, and nothing of a table that is not touched
+abbrev pub grant_in : AskTree → MetaTree → ℕ → Option Permission
+grant_in a m t = option_and_then (λ p. option_map (with_bound p) (bound_table a.bound t)) (permission a.role m t)
+
+-- what a request grants
+abbrev pub grants_in : AskTree → MetaTree → Schema → Grants
+grants_in a m s = numbered (λ t table. grant_in a m t) 0 s

@@ -1,17 +1,21 @@
-use hq_base::{List, Txt};
-use hq_terms::{ColId, TableId};
+use crate::AskFields;
+use hq_base::List;
+use hq_terms::{Bexp, Role, TableId};
 
-/// A column under its response key.
-#[derive(Debug, Drop)]
-pub struct AskColumn {
-    pub key: Txt,
-    pub column: ColId,
+/// A table that the request touches, with the filter of the role's permission, bound for the session.
+#[derive(Drop)]
+pub struct Bound {
+    pub table: TableId,
+    pub filter: Bexp,
 }
 
-/// A request for one list of columns: the response key of its root field, the table, and the columns.
-#[derive(Debug, Drop)]
+/// The touched tables, each once.
+pub type BoundList = List<Bound>;
+
+/// A typed request of a role: the root fields, and each touched table with its bound filter.
+#[derive(Drop)]
 pub struct Ask {
-    pub key: Txt,
-    pub table: TableId,
-    pub columns: List<AskColumn>,
+    pub role: Role,
+    pub fields: AskFields,
+    pub bound: BoundList,
 }

@@ -13,8 +13,6 @@ mod path;
 mod pattern;
 mod reply;
 mod stable_sort;
-#[cfg(test)]
-mod tests;
 mod txt;
 mod value;
 

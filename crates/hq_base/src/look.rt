@@ -78,6 +78,3 @@ fn member_named<'a>(members: &'a [Member], name: &str) -> Option<&'a Json>
     }
     None
 }
-
-#[cfg(test)]
-mod tests;

@@ -47,6 +47,3 @@ fn digits(alloc: Global, number: usize) -> Result<String, Memory>
 {
     Ok(format!(in alloc; "{number}")?)
 }
-
-#[cfg(test)]
-mod tests;

@@ -22,6 +22,3 @@ mod written;
 
 pub use read::read_catalog;
 pub use refusal::CatalogRefusal;
-
-#[cfg(test)]
-mod tests;

@@ -10,8 +10,8 @@ use Rattle.hq_sql_tree.specs.Tree.{SelectTree}
 use Rattle.hq_sql_text.specs.Readable.{Spells}
 use Rattle.hq_link.specs.Answered.{Answered, member_names}
 use Rattle.hq_link.specs.Typed.{IsTyped}
-use Rattle.hq_sql_scans.specs.Agree.{HasRows}
-use Rattle.hq_sql_scans.specs.Scans.{scans}
+use Rattle.hq_sql_check.specs.Agree.{HasRows}
+use Rattle.hq_sql_check.specs.Scans.{scans}
 use Rattle.hq_db.proofs.Names.{statement_named}
 
 -- the database of these rows of each table

@@ -30,8 +30,14 @@ fn read_text(alloc: Global, text: &[u8]) -> Result<Select, DbRefusal>
     }
 }
 
-/// The answer to a text over these tables. The tables that it takes rows from may be pinned behind the call.
-pub fn answer<T: Tables>(alloc: Global, tables: &mut T, text: &[u8]) -> Result<Json, DbRefusal>
+/// The answer to a text over these tables. The tables that it takes rows from may be pinned behind the call. `looked` grows by
+/// the comparisons that look-ups by index made, and stays at the greatest number.
+pub fn answer<T: Tables>(
+    alloc: Global,
+    tables: &mut T,
+    text: &[u8],
+    looked: &mut u64,
+) -> Result<Json, DbRefusal>
     ensures answered { IfOk result (λ json. Answered (T.tables tables.old) (T.database tables.old) text.now (json_view json)) }
     ensures not_sql { result ≡ Err DbRefusal.NotSql → (s : SelectTree) → Spells text.now s → ⊥ }
     ensures not_typed { result ≡ Err DbRefusal.NotTyped → NotFitting (T.tables tables.old) text.now }
@@ -39,11 +45,12 @@ pub fn answer<T: Tables>(alloc: Global, tables: &mut T, text: &[u8]) -> Result<J
     ensures tables { T.tables tables.new ≡ T.tables tables.old }
     ensures database { T.database tables.new ≡ T.database tables.old }
     ensures later { T.faults tables.old ≤ T.faults tables.new }
+    ensures looked { looked.old ≤ looked.new }
 {
     let select = read_text(alloc, text)?;
     if !well_formed(alloc, &select, tables.catalog())? {
         return Err(DbRefusal::NotTyped);
     }
     pin_tables(alloc, tables, &select)?;
-    Ok(eval(alloc, &select, &*tables)?)
+    Ok(eval(alloc, &select, &*tables, looked)?)
 }

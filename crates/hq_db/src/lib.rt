@@ -7,6 +7,3 @@ mod sql_db;
 
 pub use hq_sql_check::well_formed;
 pub use sql_db::SqlDb;
-
-#[cfg(test)]
-mod tests;

@@ -1,11 +1,11 @@
 //! Pinning the tables of a statement.
 ghost use Rattle.std.specs.Prelude.{◌≡◌, ◌≤◌, ◌<◌, ℕ, true, length, IfErr, OnOk};
-ghost use Rattle.hq_sql_scans.specs.Scans.{scans};
+ghost use Rattle.hq_sql_check.specs.Scans.{scans};
 ghost use Rattle.hq_sql_tree.specs.View.{select_view};
 ghost use Rattle.hq_db.specs.Failures.{IsFailure, RoseFor};
 
 use hq_link::DbRefusal;
-use hq_sql_scans::scanned;
+use hq_sql_check::scanned;
 use hq_sql_tree::Select;
 use hq_tables::{StoreRefusal, Tables};
 use hq_terms::TableId;

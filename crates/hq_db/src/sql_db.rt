@@ -1,4 +1,10 @@
-ghost use Rattle.std.specs.Prelude.{◌≡◌, None, false, ℕ};
+ghost use Rattle.std.specs.Prelude.{◌≡◌, ◌⊎◌, ◌≤◌, None, ℕ, Err, IfOk, IfErr};
+ghost use Rattle.hq_base.specs.Json.{json_view};
+ghost use Rattle.hq_sql_tree.specs.Tree.{SelectTree};
+ghost use Rattle.hq_sql_text.specs.Readable.{Spells};
+ghost use Rattle.hq_link.specs.Answered.{Answered, NotFitting};
+ghost use Rattle.hq_link.specs.Asked.{Asked, NotAsked, TellsFailure};
+ghost use Rattle.hq_db.specs.Steps.{steps_of};
 
 use crate::answer::answer;
 use hq_base::{Bytes, Json};
@@ -12,6 +18,7 @@ pub struct SqlDb<T: Tables> {
     tables: T,
     asks: u64,
     last: Option<Bytes>,
+    looked: u64,
 }
 
 impl<T: Tables> SqlDb<T> {
@@ -22,12 +29,22 @@ impl<T: Tables> SqlDb<T> {
         ensures faults { ⟦<SqlDb<T> as Database>⟧.faults result ≡ T.faults tables }
         ensures asks { ⟦<SqlDb<T> as Database>⟧.asks result ≡ 0 }
         ensures last { ⟦<SqlDb<T> as Database>⟧.last result ≡ None }
+        ensures steps { steps_of result ≡ 0 }
     {
         SqlDb {
             tables,
             asks: 0,
             last: None,
+            looked: 0,
         }
+    }
+
+    /// How many comparisons the look-ups by index of this database made. It never falls and stays at the last value of a u64.
+    /// Takes no memory.
+    pub fn steps(&self) -> u64
+        ensures { result ≡ steps_of self.now }
+    {
+        self.looked
     }
 
     /// The tables, of which none is pinned after a text was answered. Takes no memory.
@@ -55,12 +72,24 @@ impl<T: Tables> Database for SqlDb<T> {
         self.tables.faults()
     }
 
-    fn run(&mut self, alloc: Global, text: &[u8]) -> Result<Json, DbRefusal> {
+    fn run(&mut self, alloc: Global, text: &[u8]) -> Result<Json, DbRefusal>
+        ensures steps { steps_of self.old ≤ steps_of self.new }
+
+        // What the trait says.
+        ensures failed { IfErr result (λ e. TellsFailure (⟦<SqlDb<T> as Database>⟧.faults self.old) (⟦<SqlDb<T> as Database>⟧.faults self.new) e) }
+        ensures asked { Asked (⟦<SqlDb<T> as Database>⟧.asks self.old) (⟦<SqlDb<T> as Database>⟧.asks self.new) (⟦<SqlDb<T> as Database>⟧.last self.new) text.now ⊎ ((result ≡ Err DbRefusal.Memory) × NotAsked (⟦<SqlDb<T> as Database>⟧.asks self.old) (⟦<SqlDb<T> as Database>⟧.asks self.new) (⟦<SqlDb<T> as Database>⟧.last self.old) (⟦<SqlDb<T> as Database>⟧.last self.new)) }
+        ensures answered { IfOk result (λ json. Answered (⟦<SqlDb<T> as Database>⟧.tables self.old) (⟦<SqlDb<T> as Database>⟧.database self.old) text.now (json_view json)) }
+        ensures not_sql { result ≡ Err DbRefusal.NotSql → (s : SelectTree) → Spells text.now s → ⊥ }
+        ensures not_typed { result ≡ Err DbRefusal.NotTyped → NotFitting (⟦<SqlDb<T> as Database>⟧.tables self.old) text.now }
+        ensures tables { ⟦<SqlDb<T> as Database>⟧.tables self.new ≡ ⟦<SqlDb<T> as Database>⟧.tables self.old }
+        ensures database { ⟦<SqlDb<T> as Database>⟧.database self.new ≡ ⟦<SqlDb<T> as Database>⟧.database self.old }
+        ensures later { ⟦<SqlDb<T> as Database>⟧.faults self.old ≤ ⟦<SqlDb<T> as Database>⟧.faults self.new }
+    {
         let copy = Bytes::from_slice(alloc, text)?;
         self.asks = self.asks.saturating_add(1);
         self.last = Some(copy);
         let before = self.tables.faults();
-        let answer = answer(alloc, &mut self.tables, text);
+        let answer = answer(alloc, &mut self.tables, text, &mut self.looked);
         self.tables.release();
         match answer {
             Err(DbRefusal::Failed { .. }) => Err(DbRefusal::Failed {

@@ -1,6 +1,9 @@
-mod Dues
+mod OtherRoles
 mod Refusals
+mod RolesKept
 mod RuleTexts
+mod SchemaSets
 mod Selections
+mod TextsAsked
 mod Told
 pub mod Requests

@@ -2,7 +2,7 @@
 use Rattle.std.proofs.Common.{◌≡◌, ℕ, List, true, false, refl, ap, ◌∙◌}
 use Rattle.hq_base.specs.Compact.{escaped}
 use Rattle.hq_base.specs.Json.{JsonTree}
-use Rattle.hq_engine.specs.Due.{data_text}
+use Rattle.hq_engine.specs.Replies.{data_text}
 use Rattle.hq_engine.specs.FaultTexts.{fault_text, tells_fault}
 use Rattle.hq_engine.specs.declared.faults.RequestFault.{RequestFault}
 

@@ -4,5 +4,11 @@ pub mod RequestForm
 pub mod Reading
 pub mod PlainList
 pub mod ListRequest
-pub mod Due
-pub mod Answer
+pub mod Request
+pub mod Replies
+pub mod Asking
+pub mod Failures
+pub mod Statements
+pub mod Stating
+pub mod Roles
+pub mod Engines

@@ -1,6 +1,6 @@
--- Reading a request: its body as JSON, the form of a request, the tokens of its query text, and their document; or its first
--- fault in this order. Neither metadata nor a database is looked at.
-use Rattle.std.specs.Prelude.{ℕ, List, length, Option, Some, None, ok_or, Result, Ok, Err}
+-- The steps by which a request is read: its body as JSON, the query text of a request, and the document that it spells. Neither
+-- metadata nor a database is looked at.
+use Rattle.std.specs.Prelude.{ℕ, List, length, Some, ok_or, Result, Ok, Err}
 use Rattle.hq_base.specs.Body.{body_of}
 use Rattle.hq_base.specs.Due.{◌>>=◌}
 use Rattle.hq_base.specs.Json.{JsonTree}
@@ -17,10 +17,9 @@ use Rattle.hq_gql_tree.specs.declared.rule.RuleId.TheVariants.{InvalidToken, Syn
 use Rattle.hq_engine.specs.Faults.{fault_at}
 use Rattle.hq_engine.specs.RequestForm.{form_fault, query_in}
 use Rattle.hq_engine.specs.declared.faults.BodyFault.TheVariants.{NotJson, Fraction, ZeroByte}
-use Rattle.hq_engine.specs.declared.faults.RequestFault.{RequestFault}
 use Rattle.hq_engine.specs.declared.faults.RequestFault.TheVariants.{Body}
-use Rattle.hq_engine.specs.declared.reading.RequestRefusal.{RequestRefusal}
-use Rattle.hq_engine.specs.declared.reading.RequestRefusal.TheVariants.{Fault, Memory}
+use Rattle.hq_engine.specs.declared.refusal.RequestRefusal.{RequestRefusal}
+use Rattle.hq_engine.specs.declared.refusal.RequestRefusal.TheVariants.{Fault, Memory}
 
 -- the refusal of a part, as a fault of the request
 abbrev pub of_json : JsonRefusal → RequestRefusal
@@ -65,16 +64,3 @@ query_due body = ok_or (query_in body) (Fault form_fault)
 -- the document of a query text
 abbrev pub document_due : List ℕ → Result DocumentTree RequestRefusal
 document_due text = refused_as of_lex (tokens_of text) >>= λ tokens. refused_as of_parse (parsed (length text) tokens)
-
--- what a body reads as: its JSON, and the document of its query text
-unfoldable pub reading_due : List ℕ → Result (JsonTree × DocumentTree) RequestRefusal
-reading_due body = json_due body >>= λ value. query_due value >>= λ text. document_due text >>= λ document. Ok (value, document)
-
-abbrev pub fault_of : {X : Type 0} → Result X RequestRefusal → Option RequestFault
-fault_of (Err (Fault f)) = Some f
-fault_of (Err Memory) = None
-fault_of (Ok x) = None
-
--- the first fault of a request, where it has one
-abbrev pub first_fault : List ℕ → Option RequestFault
-first_fault body = fault_of (reading_due body)

@@ -1,28 +1,20 @@
-ghost use Rattle.std.specs.Prelude.{◌≡◌, ◌⊎◌, ◌≤◌, true, false, is_some, length, IfOk, IfErr, IfSome, OnOk, Err, Some};
-ghost use Rattle.hq_base.specs.Json.{json_view};
-ghost use Rattle.hq_link.specs.Asked.{Asked, NotAsked};
-ghost use Rattle.hq_link.specs.Typed.{IsTyped};
-ghost use Rattle.hq_sql_tree.specs.Meaning.{meaning};
-ghost use Rattle.hq_sql_tree.specs.Tree.{SelectTree};
-ghost use Rattle.hq_sql_text.specs.Readable.{Spells};
-ghost use Rattle.hq_sql_compile.specs.Correct.{IsList, IsPlain};
+ghost use Rattle.std.specs.Prelude.{◌≡◌, true};
 ghost use Rattle.hq_terms.specs.Fits.{fits};
-ghost use Rattle.hq_terms.specs.Grants.{grant, grants_of};
 ghost use Rattle.hq_terms.specs.Meta.{meta_view};
-ghost use Rattle.hq_engine.specs.Answer.{Asks, IsStatement, States, TellsDatabase, TellsFault, asked_text, compiled};
-ghost use Rattle.hq_engine.specs.Due.{data_text, resolved_for, due_of, due_reply};
-ghost use Rattle.hq_engine.specs.FaultTexts.{fault_text, tells_fault};
-ghost use Rattle.hq_engine.specs.Reading.{first_fault};
+ghost use Rattle.hq_engine.specs.Roles.{AreRoleSchemas};
 
-use crate::EngineRefusal;
-use crate::due::{Due, due_of};
+use crate::list_request::list_due;
+use crate::reading::{document_due, json_due, query_due};
+use crate::refusal::RequestRefusal;
 use crate::reply::{data_reply, fault_reply};
+use crate::roles::RoleSchemas;
+use crate::statement::{ask, statement_text};
+use crate::{EngineRefusal, Stated, StatementRefusal};
 use hq_ask_tree::Ask;
-use hq_base::{Bytes, Json, Memory, Reply};
-use hq_link::{Database, DbRefusal};
-use hq_sql_compile::compile;
-use hq_sql_text::{one_tree, print};
-use hq_terms::{Catalog, Meta, Session};
+use hq_base::{Memory, Reply};
+use hq_link::Database;
+use hq_schema::Schema;
+use hq_terms::{Catalog, Meta, Role, Session};
 use std::alloc::Global;
 
 /// Answers requests over a database of this catalog, by this metadata.
@@ -30,29 +22,57 @@ use std::alloc::Global;
 pub struct Engine {
     pub catalog: Catalog,
     pub meta: Meta,
+    schemas: RoleSchemas,
     ghost meta_fits: { fits catalog.tables (meta_view meta) ≡ true },
+    ghost each_role: { ∥ AreRoleSchemas catalog.tables (meta_view meta) schemas ∥₁ },
 }
 
 impl Engine {
-    /// An engine for this catalog and a metadata that fits it.
-    pub fn new(catalog: Catalog, meta: Meta) -> Engine
+    ghost use Rattle.std.specs.Prelude.{◌≡◌, ◌≤◌, length, true, false, is_some, IfOk, IfErr, IfSome, IsErrOf, OnOk, Ok, Some};
+    ghost use Rattle.hq_ask_tree.specs.Request.{ask_view};
+    ghost use Rattle.hq_base.specs.Due.{Gives};
+    ghost use Rattle.hq_role_schema.specs.RoleSchema.{role_schema};
+    ghost use Rattle.hq_schema.specs.Schema.{schema_view};
+    ghost use Rattle.hq_terms.specs.Fits.{fits};
+    ghost use Rattle.hq_terms.specs.Meta.{meta_view};
+    ghost use Rattle.hq_engine.specs.Asking.{Asks, text_for};
+    ghost use Rattle.hq_engine.specs.Engines.{engine_fault, engine_reply, engine_request, engine_text};
+    ghost use Rattle.hq_engine.specs.Failures.{IsOfDatabase, TellsDatabase};
+    ghost use Rattle.hq_engine.specs.FaultTexts.{fault_text, tells_fault};
+    ghost use Rattle.hq_engine.specs.Replies.{data_text, resolved_for};
+    ghost use Rattle.hq_engine.specs.Request.{is_built};
+    ghost use Rattle.hq_engine.specs.Statements.{HasStatement, IsListRequest, IsStatement};
+    ghost use Rattle.hq_engine.specs.Stating.{States};
+
+    /// An engine for this catalog and a metadata that fits it. The schema of each role is derived here, once.
+    pub fn new(alloc: Global, catalog: Catalog, meta: Meta) -> Result<Engine, Memory>
         requires { fits catalog.tables (meta_view meta) ≡ true }
-        ensures { (result.catalog.tables ≡ catalog.tables) × (meta_view result.meta ≡ meta_view meta) }
+        ensures { IfOk result (λ engine. (engine.catalog.tables ≡ catalog.tables) × (meta_view engine.meta ≡ meta_view meta)) }
     {
-        Engine { catalog, meta }
+        let schemas = RoleSchemas::derive(alloc, &catalog, &meta)?;
+        Ok(Engine {
+            catalog,
+            meta,
+            schemas,
+        })
     }
 
-    // The text of a request for a list of columns, of a table on which the session has a plain permission.
-    fn text(&self, alloc: Global, session: &Session, ask: &Ask) -> Result<Bytes, Memory>
-        requires list { IsList self.now.catalog.tables ask.now }
-        requires plain { IsPlain (grant (grants_of session.now self.now.catalog.tables (meta_view self.now.meta)) ask.now.table) }
-        ensures text { IfOk result (λ text. text ≡ asked_text self.now.catalog.tables (meta_view self.now.meta) ask.now) }
-        ensures statement { OnOk result (IsStatement self.now.catalog.tables (meta_view self.now.meta) session.now ask.now) }
-        ensures typed { OnOk result (IsTyped self.now.catalog.tables (compiled self.now.catalog.tables (meta_view self.now.meta) ask.now)) }
+    /// The schema of a role, which is found by its name. Takes no memory.
+    pub fn schema(&self, role: &Role) -> &Schema
+        ensures { schema_view result.now ≡ role_schema self.now.catalog.tables (meta_view self.now.meta) role.now }
     {
-        let _ = session;
-        let select = compile(alloc, ask, &self.catalog, &self.meta)?;
-        print(alloc, &select)
+        self.schemas.find(role)
+    }
+
+    // The typed request that a body makes for a session, or why it makes none.
+    #[tactic(auto, unfolding(crate::specs::Request::request_due))]
+    fn request(&self, alloc: Global, session: &Session, body: &[u8]) -> Result<Ask, RequestRefusal>
+        ensures { Gives ask_view RequestRefusal.Memory (engine_request self.now session.now body.now) result }
+    {
+        let json = json_due(alloc, body)?;
+        let text = query_due(&json)?;
+        let document = document_due(alloc, text.as_bytes())?;
+        list_due(alloc, &self.meta, session, &json, &document)
     }
 
     // The reply to a request for a list of columns, of a table on which the session has a plain permission.
@@ -63,28 +83,28 @@ impl Engine {
         request: &Ask,
         db: &mut D,
     ) -> Result<Reply, EngineRefusal>
-        requires list { IsList self.now.catalog.tables request.now }
-        requires plain { IsPlain (grant (grants_of session.now self.now.catalog.tables (meta_view self.now.meta)) request.now.table) }
+        requires list { IsListRequest self.now.catalog.tables (meta_view self.now.meta) session.now (ask_view request.now).fields }
         requires catalog { D.tables db.old ≡ self.now.catalog.tables }
         ensures status { IfOk result (λ reply. reply.status ≡ 200) }
         ensures reply { IfOk result (λ reply. IfSome (D.database db.old) (λ d.
-            reply.body ≡ data_text (resolved_for self.now.catalog.tables (meta_view self.now.meta) session.now d request.now))) }
+            reply.body ≡ data_text (resolved_for self.now.catalog.tables (meta_view self.now.meta) session.now d (ask_view request.now)))) }
         ensures kind { IfOk result (λ reply. tells_fault reply.body ≡ false) }
-        ensures asks { Asks (asked_text self.now.catalog.tables (meta_view self.now.meta)) (Due.Asks request.now)
+        ensures asks { Asks (text_for self.now.catalog.tables (meta_view self.now.meta) (Ok (ask_view request.now)))
             (record { asks = D.asks db.old; last = D.last db.old }) (record { asks = D.asks db.new; last = D.last db.new }) result }
-        ensures statement { OnOk result (IsStatement self.now.catalog.tables (meta_view self.now.meta) session.now request.now) }
-        ensures failed { IfErr result (λ e. TellsDatabase (D.faults db.old) (D.faults db.new) e) }
+        ensures statement { OnOk result (IsStatement self.now.catalog.tables (meta_view self.now.meta) session.now (ask_view request.now)) }
+        ensures built { IfErr result IsOfDatabase }
+        ensures failed { IfErr result (TellsDatabase (D.faults db.old) (D.faults db.new)) }
         ensures tables { D.tables db.new ≡ D.tables db.old }
         ensures database { D.database db.new ≡ D.database db.old }
         ensures later { D.faults db.old ≤ D.faults db.new }
     {
-        let text = self.text(alloc, session, request)?;
+        let text = statement_text(alloc, &self.catalog, &self.meta, session, request)?;
         let data = ask(alloc, db, text.as_slice())?;
         Ok(data_reply(alloc, data)?)
     }
 
     /// The reply to a request of a session, over a database of the engine's catalog. The body has at most 1,048,576 bytes.
-    /// A request that is answered asks the database exactly one text; a fault is told without asking.
+    /// A request with a table field asks the database exactly one text; any other request and a fault ask none.
     pub fn answer<D: Database>(
         &self,
         alloc: Global,
@@ -97,52 +117,59 @@ impl Engine {
 
         // A reply is the due one, where the database is told.
         ensures status { IfOk result (λ reply. reply.status ≡ 200) }
-        ensures reply { IfOk result (λ reply. IfSome (D.database db.old) (λ d.
-            due_reply self.now.catalog.tables (meta_view self.now.meta) d session.now body.now ≡ Some reply.body)) }
+        ensures reply { IfOk result (λ reply. IfSome (D.database db.old) (λ d. engine_reply self.now session.now d body.now ≡ Some reply.body)) }
 
         // A reply tells a fault exactly where the request has one, and then the first.
-        ensures kind { IfOk result (λ reply. tells_fault reply.body ≡ is_some (first_fault body.now)) }
-        ensures fault { IfOk result (λ reply. IfSome (first_fault body.now) (λ f. reply.body ≡ fault_text f)) }
+        ensures kind { IfOk result (λ reply. tells_fault reply.body ≡ is_some (engine_fault self.now session.now body.now)) }
+        ensures fault { IfOk result (λ reply. IfSome (engine_fault self.now session.now body.now) (λ f. reply.body ≡ fault_text f)) }
 
-        // One text is asked for a request, and none for a fault or a body that is not built so far.
-        ensures asks { Asks (asked_text self.now.catalog.tables (meta_view self.now.meta)) (due_of (meta_view self.now.meta) session.now body.now)
+        // Exactly the text of the request was asked, and once; none where the request has no table field, or a fault.
+        ensures asks { Asks (engine_text self.now session.now body.now)
             (record { asks = D.asks db.old; last = D.last db.old }) (record { asks = D.asks db.new; last = D.last db.new }) result }
 
-        // The text that is asked spells the compiled statement, and this means the object of the root fields.
-        ensures statement { OnOk result (States self.now.catalog.tables (meta_view self.now.meta) session.now (due_of (meta_view self.now.meta) session.now body.now)) }
+        // That text spells the compiled statement, and this means the object of the root fields.
+        ensures statement { OnOk result (HasStatement self.now.catalog.tables (meta_view self.now.meta) session.now (engine_request self.now session.now body.now)) }
+
+        // NotBuilt comes exactly where the body makes no request that is built so far, and has no fault.
+        ensures built { IfOk result (λ _. is_built (engine_request self.now session.now body.now) ≡ true) }
+        ensures not_built { IsErrOf result EngineRefusal.NotBuilt → is_built (engine_request self.now session.now body.now) ≡ false }
 
         // The database fails only where its count of faults rose in this call.
-        ensures failed { IfErr result (λ e. TellsFault (D.faults db.old) (D.faults db.new) e) }
+        ensures failed { IfErr result (TellsDatabase (D.faults db.old) (D.faults db.new)) }
 
         // The database is unchanged, and its count of faults never falls.
         ensures tables { D.tables db.new ≡ D.tables db.old }
         ensures database { D.database db.new ≡ D.database db.old }
         ensures later { D.faults db.old ≤ D.faults db.new }
     {
-        match due_of(alloc, &self.meta, session, body)? {
-            Due::Faulty(fault) => Ok(fault_reply(alloc, &fault)?),
-            Due::Asks(request) => self.data(alloc, session, &request, db),
-            Due::NotBuilt => Err(EngineRefusal::NotBuilt),
+        match self.request(alloc, session, body) {
+            Ok(request) => self.data(alloc, session, &request, db),
+            Err(RequestRefusal::Fault(fault)) => Ok(fault_reply(alloc, &fault)?),
+            Err(RequestRefusal::NotBuilt) => Err(EngineRefusal::NotBuilt),
+            Err(RequestRefusal::Memory) => Err(EngineRefusal::Memory),
         }
     }
-}
-
-// Asks a text of a statement that fits the database's catalog.
-fn ask<D: Database>(alloc: Global, db: &mut D, text: &[u8]) -> Result<Json, EngineRefusal>
-    requires { (s : SelectTree) × Spells text.now s × IsTyped (D.tables db.old) s }
-    ensures asked { Asked (D.asks db.old) (D.asks db.new) (D.last db.new) text.now ⊎ ((result ≡ Err EngineRefusal.Memory) × NotAsked (D.asks db.old) (D.asks db.new) (D.last db.old) (D.last db.new)) }
-    ensures answered { IfOk result (λ json. IfSome (D.database db.old) (λ d. (s : SelectTree) → Spells text.now s → json_view json ≡ meaning s (record { tables = D.tables db.old; database = d }))) }
-    ensures failed { IfErr result (λ e. TellsDatabase (D.faults db.old) (D.faults db.new) e) }
-    ensures tables { D.tables db.new ≡ D.tables db.old }
-    ensures database { D.database db.new ≡ D.database db.old }
-    ensures later { D.faults db.old ≤ D.faults db.new }
-{
-    one_tree();
-    match db.run(alloc, text) {
-        Ok(data) => Ok(data),
-        Err(DbRefusal::Failed { before, after }) => Err(EngineRefusal::Database { before, after }),
-        Err(DbRefusal::Memory) => Err(EngineRefusal::Memory),
-        Err(DbRefusal::NotSql) => unreachable!(),
-        Err(DbRefusal::NotTyped) => unreachable!(),
+    /// The text that `answer` asks for a request, or why it asks none. The body has at most 1,048,576 bytes.
+    pub fn statement(
+        &self,
+        alloc: Global,
+        session: &Session,
+        body: &[u8],
+    ) -> Result<Stated, StatementRefusal>
+        requires { length body.now ≤ 1048576 }
+        ensures { States (engine_text self.now session.now body.now) (engine_request self.now session.now body.now) result }
+    {
+        match self.request(alloc, session, body) {
+            Ok(request) => Ok(Stated::Text(statement_text(
+                alloc,
+                &self.catalog,
+                &self.meta,
+                session,
+                &request,
+            )?)),
+            Err(RequestRefusal::Fault(fault)) => Ok(Stated::Fault(fault_reply(alloc, &fault)?)),
+            Err(RequestRefusal::NotBuilt) => Err(StatementRefusal::NotBuilt),
+            Err(RequestRefusal::Memory) => Err(StatementRefusal::Memory),
+        }
     }
 }

@@ -3,7 +3,6 @@
 
 mod body;
 mod document;
-mod due;
 mod engine;
 mod fault_text;
 mod faults;
@@ -11,11 +10,13 @@ mod list_request;
 mod reading;
 mod refusal;
 mod reply;
+mod roles;
+mod stated;
+mod statement;
 
 pub use engine::Engine;
 pub use faults::{BodyFault, RequestFault};
-pub use refusal::EngineRefusal;
+pub use refusal::{EngineRefusal, RequestRefusal};
 pub use reply::tells_fault;
-
-#[cfg(test)]
-mod tests;
+pub use roles::roles_in;
+pub use stated::{Stated, StatementRefusal};

@@ -1,17 +1,20 @@
-ghost use Rattle.std.specs.Prelude.{◌≡◌, ◌==◌, map, find, position, IfOk, bytes_eq, option_map};
-ghost use Rattle.std.specs.List.{list_any};
+ghost use Rattle.std.specs.Prelude.{◌≡◌, map, find, position, IfOk, bytes_eq, option_map};
+ghost use Rattle.hq_ask_tree.specs.Fields.{fields_of, keyed_field_view};
+ghost use Rattle.hq_ask_tree.specs.Request.{ask_view};
+ghost use Rattle.hq_base.specs.Due.{Gives};
 ghost use Rattle.hq_base.specs.Json.{json_view};
 ghost use Rattle.hq_gql_tree.specs.View.{document_view};
 ghost use Rattle.hq_terms.specs.Meta.{tracked_view, meta_view};
 ghost use Rattle.hq_terms.specs.PermView.{permission_view};
-ghost use Rattle.hq_engine.specs.ListRequest.{is_plain, column_named, ask_column, columns_named, ask_under, ask_of_table, list_request, document_request};
+ghost use Rattle.hq_engine.specs.ListRequest.{is_plain, column_named, columns_named, column_field, list_field, list_ask, ask_under, ask_of_table, list_request, document_request, list_due};
 
 use crate::body::names_operation;
 use crate::document::{ListBody, list_of};
-use hq_ask_tree::{Ask, AskColumn};
+use crate::refusal::RequestRefusal;
+use hq_ask_tree::{Args, Ask, AskField, AskFields, Bound, KeyedAskField};
 use hq_base::{Json, List, Memory, Txt};
 use hq_gql_tree::Document;
-use hq_terms::{Bexp, ColId, ColList, Meta, PermView, Role, Session, Tracked};
+use hq_terms::{Bexp, ColId, ColList, Meta, PermView, Role, Session, Tracked, has_column};
 use std::alloc::Global;
 
 // A permission on all rows, without a limit.
@@ -36,12 +39,6 @@ fn root_table<'a>(tracked: &'a [Tracked], root: &Txt) -> Option<&'a Tracked>
     None
 }
 
-fn has_column(columns: &ColList, column: usize) -> bool
-    ensures { result ≡ list_any (λ d. d == column) columns.now }
-{
-    columns.as_slice().iter().any(|c| c.at() == column)
-}
-
 fn place_of(names: &[Txt], name: &Txt) -> Option<usize>
     ensures { result ≡ position (λ n. bytes_eq n name.now) names.now }
 {
@@ -53,22 +50,9 @@ fn column_named(names: &[Txt], columns: &ColList, name: &Txt) -> Option<usize>
     ensures { result ≡ column_named names.now columns.now name.now }
 {
     match place_of(names, name) {
-        Some(place) if has_column(columns, place) => Some(place),
+        Some(place) if has_column(columns.as_slice(), ColId::new(place)) => Some(place),
         _ => None,
     }
-}
-
-fn ask_column(alloc: Global, names: &[Txt], column: usize) -> Result<AskColumn, Memory>
-    ensures { IfOk result (λ c. c ≡ ask_column names.now column) }
-{
-    let key = match names.get(column) {
-        Some(name) => name.copy(alloc)?,
-        None => Txt::new(alloc),
-    };
-    Ok(AskColumn {
-        key,
-        column: ColId::new(column),
-    })
 }
 
 // The permitted columns of these GraphQL names, where each is one.
@@ -77,7 +61,7 @@ fn columns_named(
     names: &[Txt],
     columns: &ColList,
     wanted: &[Txt],
-) -> Result<Option<List<AskColumn>>, Memory>
+) -> Result<Option<ColList>, Memory>
     ensures { IfOk result (λ found. found ≡ columns_named names.now columns.now wanted.now) }
 {
     let mut found = List::new(alloc);
@@ -85,18 +69,86 @@ fn columns_named(
         let Some(column) = column_named(names, columns, name) else {
             return Ok(None);
         };
-        found.push(ask_column(alloc, names, column)?)?;
+        found.push(ColId::new(column))?;
     }
     Ok(Some(found))
 }
 
+// A column under its GraphQL name.
+fn column_field(alloc: Global, names: &[Txt], column: ColId) -> Result<KeyedAskField, Memory>
+    ensures { IfOk result (λ keyed. keyed_field_view keyed ≡ column_field names.now column) }
+{
+    let key = match names.get(column.at()) {
+        Some(name) => name.copy(alloc)?,
+        None => Txt::new(alloc),
+    };
+    Ok(KeyedAskField {
+        key,
+        field: AskField::Column { col: column },
+    })
+}
+
+// Columns under their GraphQL names.
+fn column_fields(alloc: Global, names: &[Txt], columns: &[ColId]) -> Result<AskFields, Memory>
+    ensures { IfOk result (λ fields. map keyed_field_view fields.items ≡ map (column_field names.now) columns.now) }
+{
+    let mut fields = Vec::new(alloc);
+    for column in columns {
+        fields.push(column_field(alloc, names, *column)?)?;
+    }
+    Ok(fields)
+}
+
+// The list of these columns of a table, under its root name.
+fn list_field(alloc: Global, tracked: &Tracked, columns: &ColList) -> Result<AskFields, Memory>
+    ensures { IfOk result (λ fields. fields_of (map keyed_field_view fields.items) ≡ list_field (tracked_view tracked.now) columns.now) }
+{
+    let below = column_fields(alloc, tracked.column_names.as_slice(), columns.as_slice())?;
+    let args = Args {
+        filter: Bexp::True,
+        sorts: List::new(alloc),
+        limit: None,
+        offset: None,
+        distinct: List::new(alloc),
+    };
+    let mut fields = Vec::new(alloc);
+    fields.push(KeyedAskField {
+        key: tracked.roots.select.copy(alloc)?,
+        field: AskField::List {
+            table: tracked.table,
+            rel: None,
+            args,
+            fields: below,
+        },
+    })?;
+    Ok(fields)
+}
+
+// The request of a role that may see all rows of a table, for a list of these columns.
+fn list_ask(alloc: Global, role: Role, tracked: &Tracked, columns: &ColList) -> Result<Ask, Memory>
+    ensures { IfOk result (λ ask. ask_view ask ≡ list_ask role (tracked_view tracked.now) columns.now) }
+{
+    let fields = list_field(alloc, tracked, columns)?;
+    let mut bound = List::new(alloc);
+    bound.push(Bound {
+        table: tracked.table,
+        filter: Bexp::True,
+    })?;
+    Ok(Ask {
+        role,
+        fields,
+        bound,
+    })
+}
+
 fn ask_under(
     alloc: Global,
+    role: Role,
     tracked: &Tracked,
     view: &PermView,
     body: &ListBody,
 ) -> Result<Option<Ask>, Memory>
-    ensures { IfOk result (λ ask. ask ≡ ask_under (tracked_view tracked.now) (permission_view view.now) body.now) }
+    ensures { IfOk result (λ ask. option_map ask_view ask ≡ ask_under role (tracked_view tracked.now) (permission_view view.now) body.now) }
 {
     if !allows_all_rows(view) {
         return Ok(None);
@@ -108,26 +160,22 @@ fn ask_under(
         body.columns.as_slice(),
     )? {
         None => Ok(None),
-        Some(columns) => Ok(Some(Ask {
-            key: tracked.roots.select.copy(alloc)?,
-            table: tracked.table,
-            columns,
-        })),
+        Some(columns) => Ok(Some(list_ask(alloc, role, tracked, &columns)?)),
     }
 }
 
 fn ask_of_table(
     alloc: Global,
     meta: &Meta,
-    role: &Role,
+    role: Role,
     body: &ListBody,
     tracked: &Tracked,
 ) -> Result<Option<Ask>, Memory>
-    ensures { IfOk result (λ ask. ask ≡ ask_of_table (meta_view meta.now) role.now body.now (tracked_view tracked.now)) }
+    ensures { IfOk result (λ ask. option_map ask_view ask ≡ ask_of_table (meta_view meta.now) role body.now (tracked_view tracked.now)) }
 {
-    match meta.perm(alloc, role, tracked.table)? {
+    match meta.perm(alloc, &role, tracked.table)? {
         None => Ok(None),
-        Some(view) => ask_under(alloc, tracked, &view, body),
+        Some(view) => ask_under(alloc, role, tracked, &view, body),
     }
 }
 
@@ -135,10 +183,10 @@ fn ask_of_table(
 fn list_request(
     alloc: Global,
     meta: &Meta,
-    role: &Role,
+    role: Role,
     body: &ListBody,
 ) -> Result<Option<Ask>, Memory>
-    ensures { IfOk result (λ ask. ask ≡ list_request (meta_view meta.now) role.now body.now) }
+    ensures { IfOk result (λ ask. option_map ask_view ask ≡ list_request (meta_view meta.now) role body.now) }
 {
     match root_table(meta.tracked.as_slice(), &body.root) {
         None => Ok(None),
@@ -146,16 +194,16 @@ fn list_request(
     }
 }
 
-/// The request that a document makes for a session, where it is built so far: one list of plain columns on which the role
-/// may see all rows.
-pub(crate) fn document_request(
+// The request that a document makes for a session, where it is built so far: one list of plain columns on which the role may
+// see all rows.
+fn document_request(
     alloc: Global,
     meta: &Meta,
     session: &Session,
     json: &Json,
     document: &Document,
 ) -> Result<Option<Ask>, Memory>
-    ensures { IfOk result (λ ask. ask ≡ document_request (meta_view meta.now) session.now (json_view json.now, document_view document.now)) }
+    ensures { IfOk result (λ ask. option_map ask_view ask ≡ document_request (meta_view meta.now) session.now (json_view json.now) (document_view document.now)) }
 {
     if names_operation(json) {
         return Ok(None);
@@ -164,5 +212,21 @@ pub(crate) fn document_request(
         return Ok(None);
     };
     let role = Role::of(alloc, session)?;
-    list_request(alloc, meta, &role, &list)
+    list_request(alloc, meta, role, &list)
+}
+
+/// The request that a document makes for a session.
+pub(crate) fn list_due(
+    alloc: Global,
+    meta: &Meta,
+    session: &Session,
+    json: &Json,
+    document: &Document,
+) -> Result<Ask, RequestRefusal>
+    ensures { Gives ask_view RequestRefusal.Memory (list_due (meta_view meta.now) session.now (json_view json.now) (document_view document.now)) result }
+{
+    match document_request(alloc, meta, session, json, document)? {
+        Some(ask) => Ok(ask),
+        None => Err(RequestRefusal::NotBuilt),
+    }
 }

@@ -1,37 +1,19 @@
-//! A body's document, or the first fault of a request.
+//! The steps by which a request is read.
 ghost use Rattle.std.specs.Prelude.{◌≡◌};
 ghost use Rattle.hq_base.specs.Due.{Gives};
 ghost use Rattle.hq_base.specs.Json.{json_view};
 ghost use Rattle.hq_gql_tree.specs.View.{document_view};
-ghost use Rattle.hq_engine.specs.Reading.{json_due, query_due, document_due, reading_due};
+ghost use Rattle.hq_engine.specs.Reading.{json_due, query_due, document_due};
 
 use crate::body::query_in;
 use crate::faults::fault_at;
+use crate::refusal::RequestRefusal;
 use crate::{BodyFault, RequestFault};
-use hq_base::{Json, JsonRefusal, Memory, Txt};
+use hq_base::{Json, JsonRefusal, Txt};
 use hq_gql_lexer::{LexRefusal, lex};
 use hq_gql_parser::{ParseRefusal, parse};
 use hq_gql_tree::{Document, RuleId};
 use std::alloc::Global;
-
-/// Why a request is not read.
-#[derive(Debug, Drop)]
-pub(crate) enum RequestRefusal {
-    /// It has a fault.
-    Fault(RequestFault),
-    Memory,
-}
-
-impl From<Memory> for RequestRefusal {
-    ghost use Rattle.std.specs.Prelude.{◌≡◌};
-    ghost use Rattle.hq_engine.specs.declared.reading.RequestRefusal.TheVariants as refusal;
-
-    ghost from_gives = { λ _ e. e ≡ refusal.Memory };
-
-    fn from(_: Memory) -> Self {
-        RequestRefusal::Memory
-    }
-}
 
 impl From<JsonRefusal> for RequestRefusal {
     ghost use Rattle.std.specs.Prelude.{◌≡◌};
@@ -86,16 +68,16 @@ impl From<ParseRefusal> for RequestRefusal {
     }
 }
 
-// A body as JSON.
+/// A body as JSON.
 #[tactic(auto, using(crate::proofs::Refusals::refused))]
-fn json_due(alloc: Global, body: &[u8]) -> Result<Json, RequestRefusal>
+pub(crate) fn json_due(alloc: Global, body: &[u8]) -> Result<Json, RequestRefusal>
     ensures { Gives json_view RequestRefusal.Memory (json_due body.now) result }
 {
     Ok(Json::from_body(alloc, body)?)
 }
 
-// The query text of a request.
-fn query_due(body: &Json) -> Result<&Txt, RequestRefusal>
+/// The query text of a request.
+pub(crate) fn query_due(body: &Json) -> Result<&Txt, RequestRefusal>
     ensures { Gives (λ text. text.now) RequestRefusal.Memory (query_due (json_view body.now)) result }
 {
     match query_in(body) {
@@ -104,22 +86,11 @@ fn query_due(body: &Json) -> Result<&Txt, RequestRefusal>
     }
 }
 
-// The document of a query text.
+/// The document of a query text.
 #[tactic(auto, using(crate::proofs::Refusals::refused))]
-fn document_due(alloc: Global, text: &[u8]) -> Result<Document, RequestRefusal>
+pub(crate) fn document_due(alloc: Global, text: &[u8]) -> Result<Document, RequestRefusal>
     ensures { Gives document_view RequestRefusal.Memory (document_due text.now) result }
 {
     let tokens = lex(alloc, text)?;
     Ok(parse(alloc, &tokens, text.len() as u64)?)
-}
-
-/// What a body reads as: its JSON, and the document of its query text.
-#[tactic(auto, unfolding(crate::specs::Reading::reading_due))]
-pub(crate) fn reading_due(alloc: Global, body: &[u8]) -> Result<(Json, Document), RequestRefusal>
-    ensures { Gives (λ read. (json_view read.0, document_view read.1)) RequestRefusal.Memory (reading_due body.now) result }
-{
-    let json = json_due(alloc, body)?;
-    let text = query_due(&json)?;
-    let document = document_due(alloc, text.as_bytes())?;
-    Ok((json, document))
 }

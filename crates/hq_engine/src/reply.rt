@@ -2,7 +2,7 @@ ghost use Rattle.std.specs.Prelude.{◌≡◌, IfOk, codes, true, false};
 ghost use Rattle.hq_base.specs.Compact.{compact};
 ghost use Rattle.hq_base.specs.Json as tree;
 ghost use Rattle.hq_base.specs.Json.{json_view};
-ghost use Rattle.hq_engine.specs.Due.{data_text};
+ghost use Rattle.hq_engine.specs.Replies.{data_text};
 ghost use Rattle.hq_engine.specs.FaultTexts.{fault_text, tells_fault};
 
 use crate::RequestFault;

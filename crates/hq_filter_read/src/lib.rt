@@ -19,6 +19,3 @@ mod variable;
 pub use filter::read_filter;
 pub use laws::nesting_is_bounded;
 pub use refusal::FilterRefusal;
-
-#[cfg(test)]
-mod tests;

@@ -109,11 +109,6 @@ spans at text tokens (token at' k front next ts is more) =
     (omega arith, omega (arith, some), subst (λ to. AreInOrder (at' + length front) to ts) (omega (arith, length-append front next)) inner)
 
 -- so are those of an answer
-pub given_lexes : (text : List ℕ) (result : Result (List Token) LexRefusal) → Gives (λ t. t) refusal.Memory (tokens_of text) result → IfOk result (λ tokens. Lexes 0 text tokens)
-given_lexes text (Ok tokens) h = tokens_of-Lexes text tokens h
-given_lexes text (Err e) h = tt
-
--- so are those of an answer
 pub given_spans : (text : List ℕ) (result : Result (List Token) LexRefusal) → Gives (λ t. t) refusal.Memory (tokens_of text) result → IfOk result (λ tokens. AreInOrder 0 (length text) tokens)
 given_spans text (Ok tokens) h = subst (λ to. AreInOrder 0 to tokens) (omega arith) (spans 0 text tokens (tokens_of-Lexes text tokens h))
 given_spans text (Err e) h = tt

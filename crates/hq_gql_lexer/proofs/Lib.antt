@@ -21,5 +21,3 @@ pub mod NumberTakenLemmas
 pub mod IgnoredTakenLemmas
 pub mod StringTakenLemmas
 pub mod TakenLemmas
-pub mod PlaceLemmas
-pub mod RefusedLemmas

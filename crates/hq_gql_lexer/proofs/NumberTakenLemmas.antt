@@ -9,7 +9,7 @@ use Rattle.hq_gql_lexer.specs.declared.refusal.LexRefusal.TheVariants.{BadNumber
 use Rattle.hq_gql_lexer.specs.declared.token.TokenKind.TheVariants as kind
 use Rattle.hq_gql_lexer.specs.Characters.{next_is, is_name_start, is_name_continue}
 use Rattle.hq_gql_lexer.specs.Numbers.{digits_len, minus_len, natural_len, integer_len, fraction_len, sign_len, signed_digits_len, exponent_len, number_len}
-use Rattle.hq_gql_lexer.specs.Lexemes.{name_at, starts_number, goes_on, number_kind, number_at}
+use Rattle.hq_gql_lexer.specs.Lexemes.{name_at, starts_number, cannot_follow_number, number_kind, number_at}
 use Rattle.hq_gql_lexer.specs.Grammar.{IsOptional, IsName, IsDigits, IsNatural, IsInteger, IsFraction, IsSignedDigits, IsExponent, IsFloat}
 use Rattle.hq_gql_lexer.proofs.TextLemmas.{and_parts}
 use Rattle.hq_gql_lexer.proofs.LinesLemmas.{prefix_len_yes, prefix_len_no}
@@ -144,7 +144,7 @@ no_exponent [] h = refl
 no_exponent (b ∷ next) h = cond-false _ (1 + signed_digits_len next) 0 (and_left (b == 101 || b == 69) _ h)
 
 -- what may not follow a number: a digit, a `.`, and an `e` or `E`
-no_digit : (b : ℕ) → goes_on b ≡ false → is_ascii_digit b ≡ false
+no_digit : (b : ℕ) → cannot_follow_number b ≡ false → is_ascii_digit b ≡ false
 no_digit b h = (or_no (is_ascii_digit b) (b == 46) (is_name_start b) h).0
   where
     or_no : (s t u : Bool) → (s || t || u) ≡ false → (s ≡ false) × (t ≡ false) × (u ≡ false)
@@ -153,9 +153,9 @@ no_digit b h = (or_no (is_ascii_digit b) (b == 46) (is_name_start b) h).0
     or_no true t u h = absurd (false≢true (sym h))
 
 -- no `.`
-no_point : (b : ℕ) → goes_on b ≡ false → (b == 46) ≡ false
+no_point : (b : ℕ) → cannot_follow_number b ≡ false → (b == 46) ≡ false
 no_point b h = ⊎_elim
-    (λ (same : (b == 46) ≡ true). absurd (false≢true (sym h ∙ ap goes_on (eqb-true b 46 same))))
+    (λ (same : (b == 46) ≡ true). absurd (false≢true (sym h ∙ ap cannot_follow_number (eqb-true b 46 same))))
     (λ (apart : (b == 46) ≡ false). apart)
     (cases_Bool (b == 46))
 
@@ -167,8 +167,8 @@ apart_from q b n with' h = ⊎_elim
     (cases_Bool (b == n))
 
 -- no `e` and no `E`
-no_mark : (b : ℕ) → goes_on b ≡ false → (b == 101 || b == 69) ≡ false
-no_mark b h = rw (apart_from goes_on b 101 refl h) (apart_from goes_on b 69 refl h)
+no_mark : (b : ℕ) → cannot_follow_number b ≡ false → (b == 101 || b == 69) ≡ false
+no_mark b h = rw (apart_from cannot_follow_number b 101 refl h) (apart_from cannot_follow_number b 69 refl h)
 
 -- the counts of the three parts, where each is counted whole
 parts_whole : (w f e next : List ℕ) → integer_len (w ++ (f ++ (e ++ next))) ≡ length w → fraction_len (f ++ (e ++ next)) ≡ length f
@@ -185,22 +185,22 @@ parts_whole w f e next hw hf he =
 
 -- a number that is counted whole is taken, where nothing stands behind it that may not follow
 number_taken : (at : ℕ) (text next : List ℕ) (whole : Bool) → number_len (text ++ next) ≡ length text → (length text == integer_len (text ++ next)) ≡ whole
-    → next_is goes_on next ≡ false → number_at at (text ++ next) ≡ Ok (number_kind whole text, length text)
+    → next_is cannot_follow_number next ≡ false → number_at at (text ++ next) ≡ Ok (number_kind whole text, length text)
 unfolding number_at
 number_taken at text next whole len is stop =
     let bytes = text ++ next in
-    ap (λ n. cond (next_is goes_on (drop n bytes)) (Err (BadNumber at)) (Ok (number_kind (n == integer_len bytes) (take n bytes), n))) len
-    ∙ cond-false _ (Err (BadNumber at)) _ (ap (next_is goes_on) (drop_at text next (length text) refl) ∙ stop)
+    ap (λ n. cond (next_is cannot_follow_number (drop n bytes)) (Err (BadNumber at)) (Ok (number_kind (n == integer_len bytes) (take n bytes), n))) len
+    ∙ cond-false _ (Err (BadNumber at)) _ (ap (next_is cannot_follow_number) (drop_at text next (length text) refl) ∙ stop)
     ∙ ap (λ t. Ok (number_kind (length text == integer_len bytes) t, length text)) (take_at text next (length text) refl)
     ∙ ap (λ t. Ok (number_kind t text, length text)) is
 
 -- a whole number is taken whole
-pub int_taken : (at : ℕ) (text next : List ℕ) → IsInteger text → next_is goes_on next ≡ false → number_at at (text ++ next) ≡ Ok (kind.Int text, length text)
+pub int_taken : (at : ℕ) (text next : List ℕ) → IsInteger text → next_is cannot_follow_number next ≡ false → number_at at (text ++ next) ≡ Ok (kind.Int text, length text)
 int_taken at text next is stop =
-    let whole = integer_whole text next is (narrower is_ascii_digit goes_on no_digit next stop) in
+    let whole = integer_whole text next is (narrower is_ascii_digit cannot_follow_number no_digit next stop) in
     let len : number_len (text ++ next) ≡ length text
-    = parts_whole text [] [] next whole (no_fraction next (narrower (λ b. b == 46) goes_on no_point next stop))
-    (no_exponent next (narrower (λ b. b == 101 || b == 69) goes_on no_mark next stop)) ∙ omega arith in
+    = parts_whole text [] [] next whole (no_fraction next (narrower (λ b. b == 46) cannot_follow_number no_point next stop))
+    (no_exponent next (narrower (λ b. b == 101 || b == 69) cannot_follow_number no_mark next stop)) ∙ omega arith in
     number_taken at text next true len (eq-eqb _ _ (sym whole)) stop
 
 -- a part that may be left out, counted whole
@@ -238,14 +238,14 @@ some_byte [] h = absurd (h refl)
 some_byte (b ∷ text) h = omega arith
 
 -- a FloatValue is taken whole
-pub float_taken : (at : ℕ) (text next : List ℕ) → IsFloat text → next_is goes_on next ≡ false → number_at at (text ++ next) ≡ Ok (kind.Float text, length text)
+pub float_taken : (at : ℕ) (text next : List ℕ) → IsFloat text → next_is cannot_follow_number next ≡ false → number_at at (text ++ next) ≡ Ok (kind.Float text, length text)
 float_taken at text next is stop =
     let w = is.whole in
     let f = is.fraction in
     let e = is.exponent in
-    let digit = narrower is_ascii_digit goes_on no_digit next stop in
-    let point = narrower (λ b. b == 46) goes_on no_point next stop in
-    let mark = narrower (λ b. b == 101 || b == 69) goes_on no_mark next stop in
+    let digit = narrower is_ascii_digit cannot_follow_number no_digit next stop in
+    let point = narrower (λ b. b == 46) cannot_follow_number no_point next stop in
+    let mark = narrower (λ b. b == 101 || b == 69) cannot_follow_number no_mark next stop in
     let split : text ++ next ≡ w ++ (f ++ (e ++ next))
     = ap (λ t. t ++ next) is.parts ∙ append_assoc w (f ++ e) next ∙ ap (λ t. w ++ t) (append_assoc f e next) in
     let e_digit = optional_stops IsExponent is_ascii_digit e next (exponent_first is_ascii_digit e next refl refl) digit is.is_exponent in

@@ -9,7 +9,7 @@ use Rattle.std.proofs.lemmas.Bool.Decides.{nat_tests}
 use Rattle.std.proofs.lemmas.List.{append-nil, length-append, drop_at, take_at}
 use Rattle.std.proofs.lemmas.Str.{encode_ascii, IsUtf8-drop, IsCharBoundary-from_take, IsUtf8-from_ascii}
 use Rattle.hq_gql_lexer.specs.declared.refusal.LexRefusal.{LexRefusal}
-use Rattle.hq_gql_lexer.specs.declared.characters.Form.TheVariants.{Plain}
+use Rattle.hq_gql_lexer.specs.declared.characters.StringKind.TheVariants.{Plain}
 use Rattle.hq_gql_lexer.specs.Characters.{is_line_end, is_source}
 use Rattle.hq_gql_lexer.specs.Escapes.{escape_at}
 use Rattle.hq_gql_lexer.specs.Steps.{steps}

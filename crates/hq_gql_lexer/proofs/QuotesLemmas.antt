@@ -11,7 +11,7 @@ use Rattle.std.proofs.lemmas.Bool.{cases_Bool, cond-true, cond-false, false≢tr
 use Rattle.std.proofs.lemmas.Bool.Decides.{nat_tests}
 use Rattle.std.proofs.lemmas.List.{length-append, length-drop, take-append-le, drop-append-le, take-append-drop}
 use Rattle.std.proofs.lemmas.Str.{encode_ascii, IsUtf8-from_ascii}
-use Rattle.hq_gql_lexer.specs.declared.characters.Form.TheVariants.{Block}
+use Rattle.hq_gql_lexer.specs.declared.characters.StringKind.TheVariants.{Block}
 use Rattle.hq_gql_lexer.specs.Characters.{is_source}
 use Rattle.hq_gql_lexer.specs.Steps.{steps}
 use Rattle.hq_gql_lexer.specs.Strings.{quotes, block_step, block_len, source_at, character_at, characters}

@@ -6,7 +6,7 @@ use Rattle.std.proofs.lemmas.Bool.{cases_Bool, cond-true, cond-false, ltb-false}
 use Rattle.std.proofs.lemmas.List.{take_all}
 use Rattle.std.proofs.lemmas.Str.{IsUtf8-nil, IsUtf8-from_is_utf8}
 use Rattle.hq_gql_lexer.specs.declared.refusal.LexRefusal.{LexRefusal}
-use Rattle.hq_gql_lexer.specs.declared.characters.Form.{Form}
+use Rattle.hq_gql_lexer.specs.declared.characters.StringKind.{StringKind}
 use Rattle.hq_gql_lexer.specs.Steps.{steps}
 use Rattle.hq_gql_lexer.specs.Strings.{character_at, characters}
 use Rattle.hq_gql_lexer.proofs.StepsLemmas.{bind_ok}
@@ -27,9 +27,9 @@ unfolding utf8_valid_len
 utf8_front bytes = utf8_up_to bytes (length bytes)
 
 -- what is read is all of the bytes
-pub record IsRead (form : Form) (at : ℕ) (bytes value : List ℕ) : Type 0 where
+pub record IsRead (string_kind : StringKind) (at : ℕ) (bytes value : List ℕ) : Type 0 where
   pub utf8 : IsUtf8 bytes
-  pub read : steps (character_at form) 0 at bytes ≡ Ok value
+  pub read : steps (character_at string_kind) 0 at bytes ≡ Ok value
 
 -- where there is an answer, the test of a refusal has failed
 pub unless : {A : Type 0} (t : Bool) (e : LexRefusal) (x y : A) → cond t (Err e) (Ok x) ≡ Ok y → (t ≡ false) × (x ≡ y)
@@ -37,12 +37,12 @@ unless true e x y h = cc
 unless false e x y h = (refl, cc)
 
 -- where characters are read, all bytes are UTF-8 and the steps gave the value
-pub characters_read : (form : Form) (at : ℕ) (bytes value : List ℕ) → characters form at bytes ≡ Ok value → IsRead form at bytes value
+pub characters_read : (string_kind : StringKind) (at : ℕ) (bytes value : List ℕ) → characters string_kind at bytes ≡ Ok value → IsRead string_kind at bytes value
 unfolding characters
-characters_read form at bytes value h = bind_ok (steps (character_at form) 0 at (take (utf8_valid_len bytes) bytes)) _ value h (λ found read whole.
+characters_read string_kind at bytes value h = bind_ok (steps (character_at string_kind) 0 at (take (utf8_valid_len bytes) bytes)) _ value h (λ found read whole.
     let end = unless _ _ found value whole in
     let all : take (utf8_valid_len bytes) bytes ≡ bytes = take_all (utf8_valid_len bytes) bytes (ltb-false _ _ end.0) in
     record {
       utf8 = subst IsUtf8 all (utf8_front bytes);
-      read = ap (steps (character_at form) 0 at) (sym all) ∙ read ∙ ap Ok end.1;
+      read = ap (steps (character_at string_kind) 0 at) (sym all) ∙ read ∙ ap Ok end.1;
     })

@@ -11,7 +11,7 @@ use Rattle.hq_gql_lexer.specs.declared.token.TokenKind.{TokenKind}
 use Rattle.hq_gql_lexer.specs.declared.token.TokenKind.TheVariants as kind
 use Rattle.hq_gql_lexer.specs.Characters.{next_is, is_name_start, is_name_continue}
 use Rattle.hq_gql_lexer.specs.Numbers.{integer_len, number_len}
-use Rattle.hq_gql_lexer.specs.Lexemes.{punct_of, one_byte, punct_at, name_at, starts_number, goes_on, number_kind, number_at, string_at, punct_or, token_at, ignored_at, ignored_or, lexeme_at}
+use Rattle.hq_gql_lexer.specs.Lexemes.{punct_of, one_byte, punct_at, name_at, starts_number, cannot_follow_number, number_kind, number_at, string_at, punct_or, token_at, ignored_at, ignored_or, lexeme_at}
 use Rattle.hq_gql_lexer.specs.Grammar.{punct_text, IsName, IsInteger, IsToken, IsIgnored}
 use Rattle.std.proofs.lemmas.List.Sums.{prefix_len-le-length}
 use Rattle.hq_gql_lexer.proofs.EscapeLemmas.{tested}
@@ -119,7 +119,7 @@ unfolding number_at
 number_sound at bytes k n starts h =
     let len = number_len bytes in
     let text = take len bytes in
-    let end = unless (next_is goes_on (drop len bytes)) _ (number_kind (len == integer_len bytes) text, len) (k, n) h in
+    let end = unless (next_is cannot_follow_number (drop len bytes)) _ (number_kind (len == integer_len bytes) text, len) (k, n) h in
     let found = number_in_front bytes starts (number_within bytes) in
     let some : 0 < len = omega (arith, integer_some (integer_len bytes) bytes (integer_in_front bytes starts), found.at_least) in
     ⊎_elim

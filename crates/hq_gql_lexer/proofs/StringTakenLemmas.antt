@@ -10,8 +10,8 @@ use Rattle.std.proofs.lemmas.List.{append-nil, length-append, take_at, drop_at, 
 use Rattle.std.proofs.lemmas.Str.{encode_ascii, IsUtf8-nil, IsUtf8-append, IsUtf8-encode, IsUtf8-from_ascii, utf8_valid_len-IsUtf8}
 use Rattle.std.proofs.lemmas.Str.Ascii.{IsAscii-cons}
 use Rattle.hq_base.specs.Due.{◌>>=◌}
-use Rattle.hq_gql_lexer.specs.declared.characters.Form.{Form}
-use Rattle.hq_gql_lexer.specs.declared.characters.Form.TheVariants.{Plain, Block}
+use Rattle.hq_gql_lexer.specs.declared.characters.StringKind.{StringKind}
+use Rattle.hq_gql_lexer.specs.declared.characters.StringKind.TheVariants.{Plain, Block}
 use Rattle.hq_gql_lexer.specs.declared.refusal.LexRefusal.{LexRefusal}
 use Rattle.hq_gql_lexer.specs.declared.refusal.LexRefusal.TheVariants.{OpenString, NotUtf8}
 use Rattle.hq_gql_lexer.specs.declared.token.TokenKind.TheVariants as kind
@@ -37,24 +37,24 @@ read_on : (front others : List ℕ) (r : Result (List ℕ) LexRefusal) → r ≡
 read_on front others r h = ap (with_front front) h
 
 -- a character that stands for itself is copied
-character_copied : (form : Form) → Copies (character_at form) → (at c : ℕ) (bytes others : List ℕ)
-    → (c < 128 → character_at form at (c ∷ bytes) ≡ Ok (c ∷ [], 1))
-    → ((at' : ℕ) → steps (character_at form) 0 at' bytes ≡ Ok others) → steps (character_at form) 0 at (encode c ++ bytes) ≡ Ok (encode c ++ others)
-character_copied form copies at c bytes others self behind = ⊎_elim
+character_copied : (string_kind : StringKind) → Copies (character_at string_kind) → (at c : ℕ) (bytes others : List ℕ)
+    → (c < 128 → character_at string_kind at (c ∷ bytes) ≡ Ok (c ∷ [], 1))
+    → ((at' : ℕ) → steps (character_at string_kind) 0 at' bytes ≡ Ok others) → steps (character_at string_kind) 0 at (encode c ++ bytes) ≡ Ok (encode c ++ others)
+character_copied string_kind copies at c bytes others self behind = ⊎_elim
     (λ (one : c < 128).
-    subst (λ front. steps (character_at form) 0 at (front ++ bytes) ≡ Ok (front ++ others)) (sym (encode_ascii c one))
-    (steps_one (character_at form) at (c ∷ bytes) (c ∷ []) 1 (self one) (omega arith) (omega arith) ∙ read_on (c ∷ []) others _ (behind (at + 1))))
+    subst (λ front. steps (character_at string_kind) 0 at (front ++ bytes) ≡ Ok (front ++ others)) (sym (encode_ascii c one))
+    (steps_one (character_at string_kind) at (c ∷ bytes) (c ∷ []) 1 (self one) (omega arith) (omega arith) ∙ read_on (c ∷ []) others _ (behind (at + 1))))
     (λ (more : 128 ≤ c).
-    copy_all (character_at form) copies at (encode c) bytes (encode-is_high c more) ∙ read_on (encode c) others _ (behind (at + length (encode c))))
+    copy_all (character_at string_kind) copies at (encode c) bytes (encode-is_high c more) ∙ read_on (encode c) others _ (behind (at + length (encode c))))
     (cases_lt c 128)
 
 -- where all bytes are UTF-8 and the steps read them, they are read
-characters_taken : (form : Form) (at : ℕ) (bytes value : List ℕ) → IsUtf8 bytes → steps (character_at form) 0 at bytes ≡ Ok value → characters form at bytes ≡ Ok value
+characters_taken : (string_kind : StringKind) (at : ℕ) (bytes value : List ℕ) → IsUtf8 bytes → steps (character_at string_kind) 0 at bytes ≡ Ok value → characters string_kind at bytes ≡ Ok value
 unfolding characters
-characters_taken form at bytes value utf8 read =
+characters_taken string_kind at bytes value utf8 read =
     let n = length bytes in
-    ap (λ valid. steps (character_at form) 0 at (take valid bytes) >>= λ v. cond (nat_lt valid n) (Err (NotUtf8 (at + valid))) (Ok v)) (utf8_valid_len-IsUtf8 bytes utf8)
-    ∙ ap (λ bs. steps (character_at form) 0 at bs >>= λ v. cond (nat_lt n n) (Err (NotUtf8 (at + n))) (Ok v)) (take_all n bytes (omega arith))
+    ap (λ valid. steps (character_at string_kind) 0 at (take valid bytes) >>= λ v. cond (nat_lt valid n) (Err (NotUtf8 (at + valid))) (Ok v)) (utf8_valid_len-IsUtf8 bytes utf8)
+    ∙ ap (λ bs. steps (character_at string_kind) 0 at bs >>= λ v. cond (nat_lt n n) (Err (NotUtf8 (at + n))) (Ok v)) (take_all n bytes (omega arith))
     ∙ ap (λ r. r >>= λ v. cond (nat_lt n n) (Err (NotUtf8 (at + n))) (Ok v)) read
     ∙ cond-false _ _ _ (le-ltb n n (omega arith))
 

@@ -191,8 +191,3 @@ taken_from at bytes tokens (token at' k text next ts is more) =
 pub Lexes-tokens_of : (text : List ℕ) (tokens : List Token) → Lexes 0 text tokens → tokens_of text ≡ Ok tokens
 unfolding tokens_of
 Lexes-tokens_of text tokens h = taken_from 0 text tokens h
-
--- so a call gives those tokens
-pub given_allowed : (text : List ℕ) (result : Result (List Token) LexRefusal) → Gives (λ t. t) refusal.Memory (tokens_of text) result
-    → (tokens : List Token) → Lexes 0 text tokens → Gives (λ t. t) refusal.Memory (Ok tokens) result
-given_allowed text result h tokens is = subst (λ due. Gives (λ t. t) refusal.Memory due result) (Lexes-tokens_of text tokens is) h

@@ -12,7 +12,7 @@ use Rattle.hq_gql_lexer.specs.Characters.{next_is, is_line_end, is_name_start, i
 use Rattle.hq_gql_lexer.specs.Escapes.{escape_at}
 use Rattle.hq_gql_lexer.specs.Strings.{quotes}
 use Rattle.hq_gql_lexer.specs.BlockStrings.{block_value}
-use Rattle.hq_gql_lexer.specs.Lexemes.{byte_order_mark, is_ignored, goes_on}
+use Rattle.hq_gql_lexer.specs.Lexemes.{byte_order_mark, is_ignored, cannot_follow_number}
 
 -- a part that may be left out
 abbrev pub IsOptional : (List ℕ → Type 0) → List ℕ → Type 0
@@ -122,8 +122,8 @@ pub record IsBlockString (text value : List ℕ) : Type 0 where
 abbrev pub IsToken : List ℕ → (next : List ℕ) → TokenKind → Type 0
 IsToken text next (kind.Punct p) = text ≡ punct_text p
 IsToken text next (kind.Name name) = (name ≡ text) × IsName text × (next_is is_name_continue next ≡ false)
-IsToken text next (kind.Int number) = (number ≡ text) × IsInteger text × (next_is goes_on next ≡ false)
-IsToken text next (kind.Float number) = (number ≡ text) × IsFloat text × (next_is goes_on next ≡ false)
+IsToken text next (kind.Int number) = (number ≡ text) × IsInteger text × (next_is cannot_follow_number next ≡ false)
+IsToken text next (kind.Float number) = (number ≡ text) × IsFloat text × (next_is cannot_follow_number next ≡ false)
 IsToken text next (kind.Str value) = IsPlainString text next value ⊎ IsBlockString text value
 
 -- what a comment holds behind its `#` (2.1.4)

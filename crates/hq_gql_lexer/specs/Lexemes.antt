@@ -4,7 +4,7 @@ use Rattle.std.specs.List.{starts_with, prefix_len}
 use Rattle.std.specs.Char.{is_ascii_digit}
 use Rattle.std.specs.Option.{ok_or}
 use Rattle.std.specs.Str.Lossy.{utf8_valid_len}
-use Rattle.hq_gql_lexer.specs.declared.characters.Form.TheVariants.{Plain, Block}
+use Rattle.hq_gql_lexer.specs.declared.characters.StringKind.TheVariants.{Plain, Block}
 use Rattle.hq_gql_lexer.specs.declared.refusal.LexRefusal.{LexRefusal}
 use Rattle.hq_gql_lexer.specs.declared.refusal.LexRefusal.TheVariants.{BadByte, OpenString, BadNumber, NotUtf8}
 use Rattle.hq_gql_lexer.specs.declared.token.Punct.{Punct}
@@ -85,8 +85,8 @@ abbrev pub starts_number : List ℕ → Bool
 starts_number bytes = next_is is_ascii_digit bytes || next_is (λ b. b == 45) bytes && next_is is_ascii_digit (drop 1 bytes)
 
 -- what may not follow a number: a digit, a `.` or the start of a name (2.9.1, 2.9.2)
-abbrev pub goes_on : ℕ → Bool
-goes_on b = is_ascii_digit b || b == 46 || is_name_start b
+abbrev pub cannot_follow_number : ℕ → Bool
+cannot_follow_number b = is_ascii_digit b || b == 46 || is_name_start b
 
 -- a number is whole where it has no fraction and no exponent
 abbrev pub number_kind : (whole : Bool) → List ℕ → TokenKind
@@ -96,7 +96,7 @@ number_kind whole text = if whole then kind.Int text else kind.Float text
 unfoldable pub number_at : Reader
 number_at at bytes =
     let n = number_len bytes in
-    if next_is goes_on (drop n bytes) then Err (BadNumber at) else Ok (number_kind (n == integer_len bytes) (take n bytes), n)
+    if next_is cannot_follow_number (drop n bytes) then Err (BadNumber at) else Ok (number_kind (n == integer_len bytes) (take n bytes), n)
 
 -- a string in one quote: its closing one is looked for first
 unfoldable pub plain_at : Reader

@@ -7,5 +7,4 @@ pub mod BlockStrings
 pub mod Lexemes
 pub mod Pieces
 pub mod Grammar
-pub mod Refused
 pub mod Spans

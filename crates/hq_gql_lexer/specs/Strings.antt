@@ -2,8 +2,8 @@
 use Rattle.std.specs.Prelude.{ℕ, zero, suc, ◌+◌, ◌-◌, List, [], ◌∷◌, take, length, Bool, not, ◌&&◌, ◌==◌, nat_eq, nat_lt, Option, Some, None, Result, Ok, Err, if◌then◌else◌, option_map, encode_utf8}
 use Rattle.std.specs.List.{starts_with}
 use Rattle.std.specs.Str.Lossy.{utf8_valid_len}
-use Rattle.hq_gql_lexer.specs.declared.characters.Form.{Form}
-use Rattle.hq_gql_lexer.specs.declared.characters.Form.TheVariants.{Plain, Block}
+use Rattle.hq_gql_lexer.specs.declared.characters.StringKind.{StringKind}
+use Rattle.hq_gql_lexer.specs.declared.characters.StringKind.TheVariants.{Plain, Block}
 use Rattle.hq_gql_lexer.specs.declared.refusal.LexRefusal.{LexRefusal}
 use Rattle.hq_gql_lexer.specs.declared.refusal.LexRefusal.TheVariants.{BadByte, BadEscape, NotUtf8}
 use Rattle.hq_gql_lexer.specs.Characters.{next_is, is_source, is_line_end}
@@ -47,7 +47,7 @@ escaped at None = Err (BadEscape at)
 escaped at (Some c) = Ok (encode_utf8 c.0, c.1)
 
 -- a byte or an escape of a plain string, a byte or a `\"""` of a block string
-unfoldable pub character_at : Form → Step (List ℕ)
+unfoldable pub character_at : StringKind → Step (List ℕ)
 character_at Plain at bytes =
     if next_is (λ b. b == 92) bytes then escaped at (escape_at bytes) else source_at at bytes
 character_at Block at bytes =
@@ -55,8 +55,8 @@ character_at Block at bytes =
 
 -- What the characters between a string's quotes stand for, from the place of the first on. Where the bytes are not
 -- UTF-8, that holds behind those that are.
-unfoldable pub characters : Form → ℕ → List ℕ → Result (List ℕ) LexRefusal
-characters form at bytes =
+unfoldable pub characters : StringKind → ℕ → List ℕ → Result (List ℕ) LexRefusal
+characters string_kind at bytes =
     let valid = utf8_valid_len bytes in
-    steps (character_at form) 0 at (take valid bytes) >>= λ value.
+    steps (character_at string_kind) 0 at (take valid bytes) >>= λ value.
     if nat_lt valid (length bytes) then Err (NotUtf8 (at + valid)) else Ok value

@@ -4,7 +4,7 @@ ghost use Rattle.hq_base.specs.Due.{Gives};
 ghost use Rattle.hq_gql_lexer.specs.Pieces.{piece_text};
 ghost use Rattle.hq_gql_lexer.specs.Steps.{steps};
 ghost use Rattle.hq_gql_lexer.specs.Strings.{source_at, character_at, characters};
-ghost use Rattle.hq_gql_lexer.specs.declared.characters.Form.TheVariants.{Plain, Block};
+ghost use Rattle.hq_gql_lexer.specs.declared.characters.StringKind.TheVariants.{Plain, Block};
 
 use crate::LexRefusal;
 use crate::byte::{is_source, utf8_len};
@@ -14,7 +14,7 @@ use std::alloc::Global;
 
 // Which quotes the string has.
 #[derive(Clone, Copy)]
-pub(crate) enum Form {
+pub(crate) enum StringKind {
     // `".."`
     Plain,
     // `"""..."""`
@@ -64,13 +64,13 @@ fn block_piece(at: usize, bytes: &[u8]) -> Result<(Piece, usize), LexRefusal>
     }
 }
 
-fn next_piece(form: Form, at: usize, bytes: &[u8]) -> Result<(Piece, usize), LexRefusal>
-    ensures exact { Gives (λ x. (piece_text x.0, x.1)) LexRefusal.Memory (character_at form at bytes.now) result }
+fn next_piece(kind: StringKind, at: usize, bytes: &[u8]) -> Result<(Piece, usize), LexRefusal>
+    ensures exact { Gives (λ x. (piece_text x.0, x.1)) LexRefusal.Memory (character_at kind at bytes.now) result }
     ensures within { IfOk result (λ x. (0 < x.1) × (x.1 ≤ length bytes.now)) }
 {
-    match form {
-        Form::Plain => plain_piece(at, bytes),
-        Form::Block => block_piece(at, bytes),
+    match kind {
+        StringKind::Plain => plain_piece(at, bytes),
+        StringKind::Block => block_piece(at, bytes),
     }
 }
 
@@ -88,14 +88,14 @@ fn put(out: &mut Vec<u8>, piece: Piece) -> Result<(), Memory>
     Ok(())
 }
 
-fn pieces(alloc: Global, form: Form, at: usize, text: &[u8]) -> Result<Vec<u8>, LexRefusal>
+fn pieces(alloc: Global, kind: StringKind, at: usize, text: &[u8]) -> Result<Vec<u8>, LexRefusal>
     requires { at + length text.now < 2 ^ 64 }
-    ensures { Gives (λ v. v.items) LexRefusal.Memory (steps (character_at form) 0 at text.now) result }
+    ensures { Gives (λ v. v.items) LexRefusal.Memory (steps (character_at kind) 0 at text.now) result }
 {
     let mut value = Vec::new(alloc);
     let mut done = 0;
     while done < text.len() {
-        let (piece, len) = next_piece(form, at + done, &text[done..])?;
+        let (piece, len) = next_piece(kind, at + done, &text[done..])?;
         put(&mut value, piece)?;
         done += len;
     }
@@ -106,15 +106,15 @@ fn pieces(alloc: Global, form: Form, at: usize, text: &[u8]) -> Result<Vec<u8>, 
 // What the characters between the quotes stand for; `at` is the place of the first.
 pub(crate) fn characters(
     alloc: Global,
-    form: Form,
+    kind: StringKind,
     at: usize,
     text: &[u8],
 ) -> Result<Vec<u8>, LexRefusal>
     requires { at + length text.now < 2 ^ 64 }
-    ensures { Gives (λ v. v.items) LexRefusal.Memory (characters form at text.now) result }
+    ensures { Gives (λ v. v.items) LexRefusal.Memory (characters kind at text.now) result }
 {
     let valid = utf8_len(text);
-    let value = pieces(alloc, form, at, &text[..valid])?;
+    let value = pieces(alloc, kind, at, &text[..valid])?;
     if valid < text.len() {
         return Err(LexRefusal::NotUtf8 {
             at: (at + valid) as u64,

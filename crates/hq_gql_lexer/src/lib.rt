@@ -13,9 +13,6 @@ mod refusal;
 mod string;
 mod token;
 
-pub use lexing::lex;
+pub use lexing::{lex, tokens_are_of_the_grammar};
 pub use refusal::LexRefusal;
 pub use token::{Punct, Token, TokenKind, Tokens};
-
-#[cfg(test)]
-mod tests;

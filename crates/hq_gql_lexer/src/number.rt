@@ -3,7 +3,7 @@ ghost use Rattle.std.specs.Prelude.{◌≡◌, ◌+◌, ◌<◌, ◌≤◌, ◌^
 ghost use Rattle.hq_base.specs.Due.{Gives};
 ghost use Rattle.hq_gql_lexer.specs.Characters.{next_is};
 ghost use Rattle.hq_gql_lexer.specs.Numbers.{minus_len, natural_len, integer_len, fraction_len, sign_len, signed_digits_len, exponent_len, number_len};
-ghost use Rattle.hq_gql_lexer.specs.Lexemes.{goes_on, starts_number, number_at};
+ghost use Rattle.hq_gql_lexer.specs.Lexemes.{cannot_follow_number, starts_number, number_at};
 
 use crate::byte::{digit_is_next, digits_len, is_name_start, text};
 use crate::{LexRefusal, TokenKind};
@@ -92,8 +92,8 @@ fn number_len(bytes: &[u8]) -> usize
 }
 
 // Whether what follows a number goes on as no number may.
-fn goes_on(bytes: &[u8]) -> bool
-    ensures { result ≡ next_is goes_on bytes.now }
+fn cannot_follow_number(bytes: &[u8]) -> bool
+    ensures { result ≡ next_is cannot_follow_number bytes.now }
 {
     match bytes {
         [b, ..] => b.is_ascii_digit() || *b == b'.' || is_name_start(*b),
@@ -124,7 +124,7 @@ pub(crate) fn number(
     ensures within { IfOk result (λ x. (0 < x.1) × (x.1 ≤ length bytes.now)) }
 {
     let len = number_len(bytes);
-    if goes_on(&bytes[len..]) {
+    if cannot_follow_number(&bytes[len..]) {
         return Err(LexRefusal::BadNumber { at: at as u64 });
     }
     let text = text(alloc, &bytes[..len])?;

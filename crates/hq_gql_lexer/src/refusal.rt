@@ -6,7 +6,7 @@ use std::alloc::{AllocError, AllocFailed};
 use thiserror::Error;
 
 /// Why a text has no tokens. Each place is that of a byte, from 0.
-#[derive(Clone, Copy, Debug, PartialEq, Eq, Error)]
+#[derive(Clone, Copy, Debug, Error)]
 pub enum LexRefusal {
     /// No token, comment or ignored character begins here, or a string or comment cannot hold this character.
     #[error("no token begins at byte {at}")]

@@ -6,7 +6,7 @@ ghost use Rattle.hq_gql_lexer.specs.Lexemes.{plain_at, block_at, string_at};
 
 use crate::block::{block_len, block_value, quotes_are_next};
 use crate::byte::{is_line_end, text};
-use crate::characters::{Form, characters};
+use crate::characters::{StringKind, characters};
 use crate::{LexRefusal, TokenKind};
 use std::alloc::Global;
 
@@ -39,7 +39,7 @@ fn plain_string(alloc: Global, at: usize, bytes: &[u8]) -> Result<(TokenKind, us
     let Some(len) = plain_len(rest) else {
         return Err(LexRefusal::OpenString { at: at as u64 });
     };
-    let value = characters(alloc, Form::Plain, at + 1, &rest[..len])?;
+    let value = characters(alloc, StringKind::Plain, at + 1, &rest[..len])?;
     Ok((TokenKind::Str(text(alloc, &value)?), len + 2))
 }
 
@@ -54,7 +54,7 @@ fn block_string(alloc: Global, at: usize, bytes: &[u8]) -> Result<(TokenKind, us
     let Some(len) = block_len(rest) else {
         return Err(LexRefusal::OpenString { at: at as u64 });
     };
-    let raw = characters(alloc, Form::Block, at + 3, &rest[..len])?;
+    let raw = characters(alloc, StringKind::Block, at + 3, &rest[..len])?;
     let value = block_value(alloc, &raw)?;
     Ok((TokenKind::Str(text(alloc, &value)?), len + 6))
 }

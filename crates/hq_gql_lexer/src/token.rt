@@ -4,7 +4,7 @@ use hq_base::{List, Txt};
 pub type Tokens = List<Token>;
 
 /// A token, and the bytes that it takes: those at the places from `from`, up to but without `to`.
-#[derive(Debug, Drop)]
+#[derive(Drop)]
 pub struct Token {
     pub from: u64,
     pub to: u64,
@@ -12,7 +12,7 @@ pub struct Token {
 }
 
 /// What a token is (GraphQL October 2021, 2.1.6). Names and numbers have their text, a string has its value.
-#[derive(Debug, Drop)]
+#[derive(Drop)]
 pub enum TokenKind {
     Punct(Punct),
     Name(Txt),
@@ -22,7 +22,7 @@ pub enum TokenKind {
 }
 
 /// A punctuator (2.1.8).
-#[derive(Clone, Copy, Debug, PartialEq, Eq)]
+#[derive(Clone, Copy, Debug, PartialEq)]
 pub enum Punct {
     /// `!`
     Bang,

@@ -9,10 +9,10 @@ use Rattle.hq_gql_parser.specs.declared.stop.Stop.{Stop}
 use Rattle.hq_gql_parser.specs.declared.stop.Stop.TheVariants.{Unexpected, TooDeep, Memory}
 use Rattle.hq_gql_parser.specs.Lookahead.{next_of, next, is_at}
 use Rattle.hq_gql_parser.specs.Languages.{Language}
-use Rattle.hq_gql_parser.specs.Documents.{and_then, behind, behind_punct, room}
-use Rattle.hq_gql_parser.specs.Parsing.{Parse, taken, take, either, closed}
+use Rattle.hq_gql_parser.specs.Documents.{and_then, left_behind, left_behind_punct, brackets_left}
+use Rattle.hq_gql_parser.specs.Parsing.{Parse, taken, take, either, too_deep_or_unexpected}
 use Rattle.hq_gql_parser.proofs.Sets.{Set, subset, within, joined, first_in, is_end, anything, union, left_holds, right_holds}
-use Rattle.hq_gql_parser.proofs.Rooms.{room_one}
+use Rattle.hq_gql_parser.proofs.BracketsLeft.{brackets_left_one}
 use Rattle.hq_gql_parser.proofs.Exact.{first, first_next, Begins, Taken, Wrong, Deep, Seen, Reads, Exact}
 
 -- ---- one token
@@ -21,12 +21,12 @@ use Rattle.hq_gql_parser.proofs.Exact.{first, first_next, Begins, Taken, Wrong, 
 abbrev pub OfUse : {A : Type 0} → (Token → Option A) → A → Language
 OfUse use_of x ts = (t : Token) × (ts ≡ t ∷ []) × (use_of t ≡ Some x)
 
-module _ {A : Type 0} (d e : ℕ) (use_of : Token → Option A) (s : Set) (starts : (t : Token) (x : A) → use_of t ≡ Some x → s (next_of t.kind) ≡ true) (rooms : (t : Token) (x : A) → use_of t ≡ Some x → behind t.kind d ≡ Some e) (some : (t : Token) × (x : A) × (use_of t ≡ Some x)) where
+module _ {A : Type 0} (d e : ℕ) (use_of : Token → Option A) (s : Set) (starts : (t : Token) (x : A) → use_of t ≡ Some x → s (next_of t.kind) ≡ true) (rooms : (t : Token) (x : A) → use_of t ≡ Some x → left_behind t.kind d ≡ Some e) (some : (t : Token) × (x : A) × (use_of t ≡ Some x)) where
   begins_none : Begins (OfUse use_of) []
   begins_none = (some.0 ∷ [], some.1, (some.0, refl, some.2))
 
   take_some : (t : Token) (ts : List Token) (x : A) → use_of t ≡ Some x → Taken d e (take use_of) (OfUse use_of) (t ∷ ts) x ts
-  take_some t ts x e = (t ∷ [], refl, (t, refl, e), room_one d t ∙ rooms t x e, λ after h. rw e refl)
+  take_some t ts x e = (t ∷ [], refl, (t, refl, e), brackets_left_one d t ∙ rooms t x e, λ after h. rw e refl)
 
   wrong_token : (t : Token) (ts after : List Token) → use_of t ≡ None → first after ≡ Some t → take use_of after ≡ Err (Unexpected (length after))
   wrong_token t ts [] e h = absurd cc
@@ -52,7 +52,7 @@ module _ {A : Type 0} (d e : ℕ) (use_of : Token → Option A) (s : Set) (start
     some = (some.1, some.0 ∷ [], (some.0, refl, some.2));
     seen = take_seen;
     begins = λ x front (t, is, e). rw is (starts t x e);
-    reads = λ x front after (t, is, e) h. rw (is, e) (inl (room_one d t ∙ rooms t x e, refl));
+    reads = λ x front after (t, is, e) h. rw (is, e) (inl (brackets_left_one d t ∙ rooms t x e, refl));
   }
 
 -- ---- nothing
@@ -172,10 +172,10 @@ module _ {A : Type 0} {d e : ℕ} (test : Set) {p q : Parse A} {R S : A → Lang
 module _ {A : Type 0} (e : ℕ) (p : Punct) (R : A → Language) (k : Set) (some : (x : A) × (front : List Token) × R x front)
     (begins : (t : Token) → t.kind ≡ kind.Punct p → Begins R (t ∷ []))
     (opens : (x : A) (front : List Token) → R x front → (t : Token) × (rest : List Token) × (front ≡ t ∷ rest) × (t.kind ≡ kind.Punct p))
-    (is_bracket : behind_punct p 0 ≡ None) (same : is_at (ahead.Punct p) (ahead.Punct p) ≡ true)
+    (is_bracket : left_behind_punct p 0 ≡ None) (same : is_at (ahead.Punct p) (ahead.Punct p) ≡ true)
     (only : (t : Token) → is_at (ahead.Punct p) (next_of t.kind) ≡ true → t.kind ≡ kind.Punct p) where
   abbrev stopped : Parse A
-  stopped ts = Err (closed p ts)
+  stopped ts = Err (too_deep_or_unexpected p ts)
 
   stop : Bool → List Token → Stop
   stop b ts = if b then TooDeep (length ts) else Unexpected (length ts)
@@ -183,28 +183,28 @@ module _ {A : Type 0} (e : ℕ) (p : Punct) (R : A → Language) (k : Set) (some
   stops_here : (ts : List Token) → is_at (ahead.Punct p) (next ts) ≡ true → Deep 0 R ts (length ts)
   unfolding is_at
   stops_here [] t = absurd cc
-  stops_here (t ∷ ts) h = let is = only t h in ([], t, ts, refl, refl, begins t is, refl, ap (λ k. behind k 0) is ∙ is_bracket)
+  stops_here (t ∷ ts) h = let is = only t h in ([], t, ts, refl, refl, begins t is, refl, ap (λ k. left_behind k 0) is ∙ is_bracket)
 
   none_here : (ts : List Token) → is_at (ahead.Punct p) (next ts) ≡ false → Wrong 0 stopped R ts (length ts)
-  unfolding closed
+  unfolding too_deep_or_unexpected
   none_here ts h = ([], ts, refl, refl, (some.1, some.0, some.2), (0, refl), λ after g. rw (ap (is_at (ahead.Punct p)) (first_next after ts g) ∙ h) refl)
 
   stopped_by : (ts : List Token) (b : Bool) → is_at (ahead.Punct p) (next ts) ≡ b → Seen 0 e stopped R ts (Err (if b then TooDeep (length ts) else Unexpected (length ts)))
   stopped_by ts true h = stops_here ts h
   stopped_by ts false h = none_here ts h
 
-  room_zero : (t : Token) (rest : List Token) → t.kind ≡ kind.Punct p → room 0 (t ∷ rest) ≡ None
-  room_zero t rest is = ap (λ k. and_then (λ m. room m rest) (behind k 0)) is ∙ ap (and_then (λ m. room m rest)) is_bracket
+  brackets_left_zero : (t : Token) (rest : List Token) → t.kind ≡ kind.Punct p → brackets_left 0 (t ∷ rest) ≡ None
+  brackets_left_zero t rest is = ap (λ k. and_then (λ m. brackets_left m rest) (left_behind k 0)) is ∙ ap (and_then (λ m. brackets_left m rest)) is_bracket
 
   stopped_token : (t : Token) (rest : List Token) → t.kind ≡ kind.Punct p → stopped (t ∷ rest) ≡ Err (TooDeep (length (t ∷ rest)))
-  unfolding closed
+  unfolding too_deep_or_unexpected
   stopped_token t rest is = let at_p : is_at (ahead.Punct p) (next_of t.kind) ≡ true = ap (λ k. is_at (ahead.Punct p) (next_of k)) is ∙ same in rw at_p refl
 
   stopped_reads : (x : A) (front after : List Token) (t : Token) (rest : List Token) → front ≡ t ∷ rest → t.kind ≡ kind.Punct p → Reads 0 e front (stopped (front ++ after)) (x, after)
-  stopped_reads x front after t rest is is_p = rw is (inr (length (t ∷ (rest ++ after)), room_zero t rest is_p, stopped_token t (rest ++ after) is_p))
+  stopped_reads x front after t rest is is_p = rw is (inr (length (t ∷ (rest ++ after)), brackets_left_zero t rest is_p, stopped_token t (rest ++ after) is_p))
 
   pub exact_stopped : Exact 0 e stopped R (is_at (ahead.Punct p)) k
-  unfolding closed
+  unfolding too_deep_or_unexpected
   exact_stopped = record {
     some = some;
     seen = λ ts. stopped_by ts (is_at (ahead.Punct p) (next ts)) refl;

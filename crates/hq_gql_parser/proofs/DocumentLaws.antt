@@ -2,7 +2,7 @@
 use Rattle.std.proofs.Common.{◌≡◌, ◌≢◌, ℕ, zero, suc, ◌+◌, ◌-◌, ◌≤◌, ◌<◌, ◌⊎◌, inl, inr, Bool, true, false, List, [], ◌∷◌, ◌++◌, length, drop, Some, None, Result, Ok, Err, refl, sym, ap, subst, ◌∙◌, append_assoc, arith, if◌then◌else◌}
 use Rattle.std.proofs.lemmas.List.{append-nil}
 use Rattle.std.proofs.lemmas.Bool.{cases_lt}
-use Rattle.hq_base.specs.Due.{Gives, ◌>>=◌}
+use Rattle.hq_base.specs.Due.{◌>>=◌}
 use Rattle.hq_gql_lexer.specs.declared.token.Token.{Token}
 use Rattle.hq_gql_tree.specs.Documents.{DocumentTree, DefinitionTree}
 use Rattle.hq_gql_tree.specs.View.{document_view}
@@ -15,11 +15,11 @@ use Rattle.hq_gql_parser.specs.declared.refusal.ParseRefusal.{ParseRefusal}
 use Rattle.hq_gql_parser.specs.declared.refusal.ParseRefusal.TheVariants.{Unexpected, TooDeep, Empty, Memory}
 use Rattle.hq_gql_parser.specs.Lookahead.{next_of, next, is_at}
 use Rattle.hq_gql_parser.specs.Operations.{IsDocument}
-use Rattle.hq_gql_parser.specs.Documents.{and_then, behind, room, most, BeginsDocument, NoneGoesOn, place, IsUnexpected, IsTooDeep, Parses}
+use Rattle.hq_gql_parser.specs.Documents.{and_then, left_behind, brackets_left, nesting_limit, BeginsDocument, NoneGoesOn, place, IsUnexpected, IsTooDeep, Parses}
 use Rattle.hq_gql_parser.specs.Parsing.{Parse, many, all, some, until}
 use Rattle.hq_gql_parser.specs.ParsingOperations.{definition_at, document_at}
 use Rattle.hq_gql_parser.proofs.Sets.{Set, is_end, token_next}
-use Rattle.hq_gql_parser.proofs.Rooms.{room_then}
+use Rattle.hq_gql_parser.proofs.BracketsLeft.{brackets_left_then}
 use Rattle.hq_gql_parser.proofs.Exact.{first, Deep, Seen, Reads}
 use Rattle.hq_gql_parser.proofs.OperationLaws.{law_document, definition_takes}
 use Rattle.hq_gql_parser.proofs.NestLaws.{document_opens}
@@ -75,7 +75,7 @@ not_the_end : (a : Lookahead) → is_end a ≡ false → until ahead.End a ≡ f
 unfolding is_at
 not_the_end ahead.End e h = absurd cc
 not_the_end (ahead.Punct p) e h = absurd cc
-not_the_end (ahead.Word w) e h = absurd cc
+not_the_end (ahead.Keyword w) e h = absurd cc
 not_the_end ahead.Name e h = absurd cc
 not_the_end ahead.Int e h = absurd cc
 not_the_end ahead.Float e h = absurd cc
@@ -91,12 +91,12 @@ nothing_left n ts ds rest is = at_end rest (some_ends (until ahead.End) (definit
 
 -- ---- what is answered is due
 
-room_known : (n m : ℕ) (ts : List Token) → room n ts ≡ Some m → room n ts ≡ None → ⊥
-room_known n m ts e h = let wrong : Some m ≡ None = sym e ∙ h in absurd cc
+left_known : (n m : ℕ) (ts : List Token) → brackets_left n ts ≡ Some m → brackets_left n ts ≡ None → ⊥
+left_known n m ts e h = let wrong : Some m ≡ None = sym e ∙ h in absurd cc
 
 -- a document that is read nests no deeper than the brackets may
-nests_within : (n : ℕ) (d : DocumentTree) (ts : List Token) → IsDocument d ts → room n ts ≡ Some n → (n < document_nest d) ⊎ (document_nest d ≤ n) → document_nest d ≤ n
-nests_within n d ts is e (inl lt) = absurd (room_known n n ts e ((document_opens d ts is).over n lt))
+nests_within : (n : ℕ) (d : DocumentTree) (ts : List Token) → IsDocument d ts → brackets_left n ts ≡ Some n → (n < document_nest d) ⊎ (document_nest d ≤ n) → document_nest d ≤ n
+nests_within n d ts is e (inl lt) = absurd (left_known n n ts e ((document_opens d ts is).over n lt))
 nests_within n d ts is e (inr le) = le
 
 pair_is : (a b : DocumentTree × List Token) → ◌≡◌ {A = Result (DocumentTree × List Token) Stop} (Ok a) (Ok b) → a ≡ b
@@ -108,7 +108,7 @@ found_by n ts ds rest (Ok (es, more)) h none (front, is, doc, m, local) =
     let pair = pair_is (es, more) (ds, rest) h in
     let whole : front ≡ ts = sym (is ∙ ap (λ us. front ++ us) (ap (λ p. p.1) pair ∙ none) ∙ append-nil front) in
     let doc' : IsDocument ds ts = subst (λ us. IsDocument ds us) whole (subst (λ d. IsDocument d front) (ap (λ p. p.0) pair) doc) in
-    (doc', nests_within n ds ts doc' (subst (λ us. room n us ≡ Some n) whole m) (cases_lt n (document_nest ds)))
+    (doc', nests_within n ds ts doc' (subst (λ us. brackets_left n us ≡ Some n) whole m) (cases_lt n (document_nest ds)))
 
 pub found : (n : ℕ) (ts : List Token) (ds : DocumentTree) (rest : List Token) → document_at n ts ≡ Ok (ds, rest) → IsDocument ds ts × (document_nest ds ≤ n)
 found n ts ds rest h = found_by n ts ds rest (document_at n ts) h (nothing_left n ts ds rest h) ((law_document n).seen ts)
@@ -127,7 +127,7 @@ goes_wrong n front (t ∷ rest) local = λ (more, d, is).
     read_whole n (length (t ∷ more)) ((front ++ t ∷ []) ++ more) d is (ap (document_at n) (append-nil ((front ++ t ∷ []) ++ more) ∙ append_assoc front (t ∷ []) more) ∙ local (t ∷ more) refl)
 
 abbrev pub IsWrong : (n : ℕ) → List Token → ℕ → Type 0
-IsWrong n ts k = (front : List Token) × (rest : List Token) × (ts ≡ front ++ rest) × (k ≡ length rest) × BeginsDocument front × NoneGoesOn front rest × ((m : ℕ) × (room n front ≡ Some m))
+IsWrong n ts k = (front : List Token) × (rest : List Token) × (ts ≡ front ++ rest) × (k ≡ length rest) × BeginsDocument front × NoneGoesOn front rest × ((m : ℕ) × (brackets_left n front ≡ Some m))
 
 wrong_by : (n k : ℕ) (ts : List Token) (r : Result (DocumentTree × List Token) Stop) → r ≡ Err (stop.Unexpected k) → Seen n n (document_at n) IsDocument ts r → IsWrong n ts k
 wrong_by n k ts (Ok x) e seen = absurd cc
@@ -151,9 +151,9 @@ deep n k ts e = deep_by n k ts (document_at n ts) e ((law_document n).seen ts)
 
 -- ---- tokens spell at most one document
 
-read_by : (n : ℕ) (d : DocumentTree) (ts : List Token) (r : Result (DocumentTree × List Token) Stop) → room n ts ≡ Some n → Reads n n ts r (d, []) → r ≡ Ok (d, [])
+read_by : (n : ℕ) (d : DocumentTree) (ts : List Token) (r : Result (DocumentTree × List Token) Stop) → brackets_left n ts ≡ Some n → Reads n n ts r (d, []) → r ≡ Ok (d, [])
 read_by n d ts r m (inl (e, is)) = is
-read_by n d ts r m (inr (k, e, is)) = absurd (room_known n n ts m e)
+read_by n d ts r m (inr (k, e, is)) = absurd (left_known n n ts m e)
 
 reads : (n : ℕ) (d : DocumentTree) (ts : List Token) → IsDocument d ts → document_nest d ≤ n → document_at n (ts ++ []) ≡ Ok (d, [])
 reads n d ts is le = read_by n d ts (document_at n (ts ++ [])) ((document_opens d ts is).fits n le) ((law_document n).reads d ts [] is refl)
@@ -174,16 +174,16 @@ too_long a b c m t us none is_b is_c (more, d, doc) =
     (subst (λ vs. NoneGoesOn a vs) is_b none) (m ++ more, d, subst (λ vs. IsDocument d vs) same doc)
 
 -- behind a bracket that is one too many there is no room
-no_room : (c m : List Token) (t : Token) → room most c ≡ Some 0 → behind t.kind 0 ≡ None → room most (c ++ (t ∷ m)) ≡ None
-no_room c m t e o = room_then most 0 c (t ∷ m) e ∙ ap (and_then (λ k. room k m)) o
+none_left_behind : (c m : List Token) (t : Token) → brackets_left nesting_limit c ≡ Some 0 → left_behind t.kind 0 ≡ None → brackets_left nesting_limit (c ++ (t ∷ m)) ≡ None
+none_left_behind c m t e o = brackets_left_then nesting_limit 0 c (t ∷ m) e ∙ ap (and_then (λ k. brackets_left k m)) o
 
 document_unexpected : (end at : ℕ) (ts : List Token) (d : DocumentTree) → IsDocument d ts → IsUnexpected end ts at → ⊥
 document_unexpected end at ts d doc (front, [], any, is, e, begins, none, m) = none d (subst (λ us. IsDocument d us) (is ∙ append-nil front) doc)
 document_unexpected end at ts d doc (front, t ∷ rest, any, is, e, begins, none, m) = none (rest, d, subst (λ us. IsDocument d us) (is ∙ sym (append_assoc front (t ∷ []) rest)) doc)
 
-document_deep : (at : ℕ) (ts : List Token) (d : DocumentTree) → IsDocument d ts → document_nest d ≤ most → IsTooDeep ts at → ⊥
+document_deep : (at : ℕ) (ts : List Token) (d : DocumentTree) → IsDocument d ts → document_nest d ≤ nesting_limit → IsTooDeep ts at → ⊥
 document_deep at ts d doc le (front, t, rest, is, e, begins, m, o) =
-    room_known most most ts ((document_opens d ts doc).fits most le) (subst (λ us. room most us ≡ None) (sym is) (no_room front rest t m o))
+    left_known nesting_limit nesting_limit ts ((document_opens d ts doc).fits nesting_limit le) (subst (λ us. brackets_left nesting_limit us ≡ None) (sym is) (none_left_behind front rest t m o))
 
 document_empty : (ts : List Token) (d : DocumentTree) → IsDocument d ts → ts ≡ [] → ⊥
 document_empty ts d doc is =
@@ -206,24 +206,24 @@ unexpected_by end at at' a b c d e e' begins begins' none none' (inr (inr (x, m,
 unexpected_unique : (end at at' : ℕ) (ts : List Token) → IsUnexpected end ts at → IsUnexpected end ts at' → at ≡ at'
 unexpected_unique end at at' ts (a, b, any, is, e, begins, none, m) (c, d, any', is', e', begins', none', m') = unexpected_by end at at' a b c d e e' begins begins' none none' (splits a b c d (sym is ∙ is'))
 
-unexpected_deep_by : (a b c r : List Token) (t : Token) → NoneGoesOn a b → ((n : ℕ) × (room most a ≡ Some n)) → BeginsDocument (c ++ t ∷ []) → room most c ≡ Some 0 → behind t.kind 0 ≡ None → Splits a b c (t ∷ r) → ⊥
+unexpected_deep_by : (a b c r : List Token) (t : Token) → NoneGoesOn a b → ((n : ℕ) × (brackets_left nesting_limit a ≡ Some n)) → BeginsDocument (c ++ t ∷ []) → brackets_left nesting_limit c ≡ Some 0 → left_behind t.kind 0 ≡ None → Splits a b c (t ∷ r) → ⊥
 unexpected_deep_by a b c r t none m begins m' o (inl (f, g)) = too_long a b (c ++ t ∷ []) [] t r none g (ap (λ us. us ++ t ∷ []) (sym f)) begins
 unexpected_deep_by a b c r t none m begins m' o (inr (inl (x, l, f, g))) = too_long a b (c ++ t ∷ []) (l ++ t ∷ []) x (l ++ t ∷ r) none g (ap (λ us. us ++ t ∷ []) f ∙ append_assoc a (x ∷ l) (t ∷ [])) begins
 unexpected_deep_by a b c r t none m begins m' o (inr (inr (x, l, f, g))) =
     let same : t ≡ x = heads t x r (l ++ b) g in
-    room_known most m.0 a m.1 (subst (λ us. room most us ≡ None) (sym f) (no_room c l x m' (subst (λ u. behind u.kind 0 ≡ None) same o)))
+    left_known nesting_limit m.0 a m.1 (subst (λ us. brackets_left nesting_limit us ≡ None) (sym f) (none_left_behind c l x m' (subst (λ u. left_behind u.kind 0 ≡ None) same o)))
 
 unexpected_deep : (end at at' : ℕ) (ts : List Token) → IsUnexpected end ts at → IsTooDeep ts at' → ⊥
 unexpected_deep end at at' ts (a, b, any, is, e, begins, none, m) (c, t, r, is', e', begins', m', o) = unexpected_deep_by a b c r t none m begins' m' o (splits a b c (t ∷ r) (sym is ∙ is'))
 
-deep_unique_by : (at at' : ℕ) (a b c d : List Token) (t u : Token) → at ≡ t.from → at' ≡ u.from → room most a ≡ Some 0 → room most c ≡ Some 0 → behind t.kind 0 ≡ None → behind u.kind 0 ≡ None → Splits a (t ∷ b) c (u ∷ d) → at ≡ at'
+deep_unique_by : (at at' : ℕ) (a b c d : List Token) (t u : Token) → at ≡ t.from → at' ≡ u.from → brackets_left nesting_limit a ≡ Some 0 → brackets_left nesting_limit c ≡ Some 0 → left_behind t.kind 0 ≡ None → left_behind u.kind 0 ≡ None → Splits a (t ∷ b) c (u ∷ d) → at ≡ at'
 deep_unique_by at at' a b c d t u e e' m m' o o' (inl (f, g)) = e ∙ ap (λ x. x.from) (heads t u b d g) ∙ sym e'
 deep_unique_by at at' a b c d t u e e' m m' o o' (inr (inl (x, l, f, g))) =
     let same : t ≡ x = heads t x b (l ++ u ∷ d) g in
-    absurd (room_known most 0 c m' (subst (λ us. room most us ≡ None) (sym f) (no_room a l x m (subst (λ v. behind v.kind 0 ≡ None) same o))))
+    absurd (left_known nesting_limit 0 c m' (subst (λ us. brackets_left nesting_limit us ≡ None) (sym f) (none_left_behind a l x m (subst (λ v. left_behind v.kind 0 ≡ None) same o))))
 deep_unique_by at at' a b c d t u e e' m m' o o' (inr (inr (x, l, f, g))) =
     let same : u ≡ x = heads u x d (l ++ t ∷ b) g in
-    absurd (room_known most 0 a m (subst (λ us. room most us ≡ None) (sym f) (no_room c l x m' (subst (λ v. behind v.kind 0 ≡ None) same o'))))
+    absurd (left_known nesting_limit 0 a m (subst (λ us. brackets_left nesting_limit us ≡ None) (sym f) (none_left_behind c l x m' (subst (λ v. left_behind v.kind 0 ≡ None) same o'))))
 
 deep_unique : (at at' : ℕ) (ts : List Token) → IsTooDeep ts at → IsTooDeep ts at' → at ≡ at'
 deep_unique at at' ts (a, t, b, is, e, begins, m, o) (c, u, d, is', e', begins', m', o') = deep_unique_by at at' a b c d t u e e' m m' o o' (splits a (t ∷ b) c (u ∷ d) (sym is ∙ is'))
@@ -254,25 +254,19 @@ one_answer end ts (Err Memory) b p q = absurd p
 
 -- ---- what the code answers
 
-pub only_ok : (end : ℕ) (ts : List Token) (d : DocumentTree) → Parses end ts (Ok d) → (due : Result DocumentTree ParseRefusal) → Parses end ts due → due ≡ Ok d
-only_ok end ts d p due q = one_answer end ts due (Ok d) q p
-
-pub only_err : (end : ℕ) (ts : List Token) (e : ParseRefusal) → Parses end ts (Err e) → (due : Result DocumentTree ParseRefusal) → Parses end ts due → Gives document_view Memory due (Err e)
-only_err end ts e p due q = inr (one_answer end ts due (Err e) q p)
-
 -- a refusal at the token that has so many from itself on is due
-pub unexpected : (end k : ℕ) (ts : List Token) → ts ≢ [] → document_at most ts ≡ Err (stop.Unexpected k) → IsUnexpected end ts (place end (drop (length ts - k) ts))
+pub unexpected : (end k : ℕ) (ts : List Token) → ts ≢ [] → document_at nesting_limit ts ≡ Err (stop.Unexpected k) → IsUnexpected end ts (place end (drop (length ts - k) ts))
 unexpected end k ts some e =
-    let (front, rest, is, len, begins, none, m) = wrong most k ts e in
+    let (front, rest, is, len, begins, none, m) = wrong nesting_limit k ts e in
     (front, rest, some, is, ap (λ n. place end (drop (length ts - n) ts)) len ∙ ap (place end) (left_is ts front rest is), begins, none, m)
 
-pub too_deep : (end k : ℕ) (ts : List Token) → document_at most ts ≡ Err (stop.TooDeep k) → IsTooDeep ts (place end (drop (length ts - k) ts))
+pub too_deep : (end k : ℕ) (ts : List Token) → document_at nesting_limit ts ≡ Err (stop.TooDeep k) → IsTooDeep ts (place end (drop (length ts - k) ts))
 too_deep end k ts e =
-    let (front, t, rest, is, len, begins, m, o) = deep most k ts e in
+    let (front, t, rest, is, len, begins, m, o) = deep nesting_limit k ts e in
     (front, t, rest, is, ap (λ n. place end (drop (length ts - n) ts)) len ∙ ap (place end) (left_is ts front (t ∷ rest) is), begins, m, o)
 
-pub unexpected_fits : (k : ℕ) (ts : List Token) → document_at most ts ≡ Err (stop.Unexpected k) → k ≤ length ts
-unexpected_fits k ts e = let w = wrong most k ts e in let fits = left_fits ts w.0 w.1 w.2 in rw w.3 fits
+pub unexpected_fits : (k : ℕ) (ts : List Token) → document_at nesting_limit ts ≡ Err (stop.Unexpected k) → k ≤ length ts
+unexpected_fits k ts e = let w = wrong nesting_limit k ts e in let fits = left_fits ts w.0 w.1 w.2 in rw w.3 fits
 
-pub too_deep_fits : (k : ℕ) (ts : List Token) → document_at most ts ≡ Err (stop.TooDeep k) → k ≤ length ts
-too_deep_fits k ts e = let w = deep most k ts e in let fits = left_fits ts w.0 (w.1 ∷ w.2) w.3 in rw w.4 fits
+pub too_deep_fits : (k : ℕ) (ts : List Token) → document_at nesting_limit ts ≡ Err (stop.TooDeep k) → k ≤ length ts
+too_deep_fits k ts e = let w = deep nesting_limit k ts e in let fits = left_fits ts w.0 (w.1 ∷ w.2) w.3 in rw w.4 fits

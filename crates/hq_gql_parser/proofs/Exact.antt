@@ -7,10 +7,10 @@ use Rattle.hq_gql_parser.specs.declared.stop.Stop.{Stop}
 use Rattle.hq_gql_parser.specs.declared.stop.Stop.TheVariants.{Unexpected, TooDeep, Memory}
 use Rattle.hq_gql_parser.specs.Lookahead.{next_of, next}
 use Rattle.hq_gql_parser.specs.Languages.{Language, ◌▸◌}
-use Rattle.hq_gql_parser.specs.Documents.{behind, room}
+use Rattle.hq_gql_parser.specs.Documents.{left_behind, brackets_left}
 use Rattle.hq_gql_parser.specs.Parsing.{Parse}
 use Rattle.hq_gql_parser.proofs.Sets.{Set, subset, within, joined, first_in}
-use Rattle.hq_gql_parser.proofs.Rooms.{room_then, room_none}
+use Rattle.hq_gql_parser.proofs.BracketsLeft.{brackets_left_then, brackets_left_none}
 
 -- the first token
 abbrev pub first : List Token → Option Token
@@ -26,15 +26,15 @@ abbrev pub Local : {A : Type 0} → Parse A → (front rest : List Token) → Pa
 Local p front rest answer = (after : List Token) → first after ≡ first rest → p (front ++ after) ≡ answer after
 
 abbrev pub Taken : {A : Type 0} → (d e : ℕ) → Parse A → (A → Language) → List Token → A → List Token → Type 0
-Taken d e p R ts x rest = (front : List Token) × (ts ≡ front ++ rest) × R x front × (room d front ≡ Some e) × Local p front rest (λ after. Ok (x, after))
+Taken d e p R ts x rest = (front : List Token) × (ts ≡ front ++ rest) × R x front × (brackets_left d front ≡ Some e) × Local p front rest (λ after. Ok (x, after))
 
 abbrev pub Wrong : {A : Type 0} → (d : ℕ) → Parse A → (A → Language) → List Token → ℕ → Type 0
 Wrong d p R ts n =
-    (front : List Token) × (rest : List Token) × (ts ≡ front ++ rest) × (n ≡ length rest) × Begins R front × ((m : ℕ) × (room d front ≡ Some m)) × Local p front rest (λ after. Err (Unexpected (length after)))
+    (front : List Token) × (rest : List Token) × (ts ≡ front ++ rest) × (n ≡ length rest) × Begins R front × ((m : ℕ) × (brackets_left d front ≡ Some m)) × Local p front rest (λ after. Err (Unexpected (length after)))
 
 abbrev pub Deep : {A : Type 0} → (d : ℕ) → (A → Language) → List Token → ℕ → Type 0
 Deep d R ts n =
-    (front : List Token) × (t : Token) × (rest : List Token) × (ts ≡ front ++ (t ∷ rest)) × (n ≡ length (t ∷ rest)) × Begins R (front ++ t ∷ []) × (room d front ≡ Some 0) × (behind t.kind 0 ≡ None)
+    (front : List Token) × (t : Token) × (rest : List Token) × (ts ≡ front ++ (t ∷ rest)) × (n ≡ length (t ∷ rest)) × Begins R (front ++ t ∷ []) × (brackets_left d front ≡ Some 0) × (left_behind t.kind 0 ≡ None)
 
 -- an answer is right, where so many brackets may open before and behind what is taken
 abbrev pub Seen : {A : Type 0} → (d e : ℕ) → Parse A → (A → Language) → List Token → Result (A × List Token) Stop → Type 0
@@ -45,7 +45,7 @@ Seen d e p R ts (Err Memory) = ⊥
 
 -- a sentence is taken, unless it opens one bracket too many
 abbrev pub Reads : {A : Type 0} → (d e : ℕ) → List Token → Result (A × List Token) Stop → A × List Token → Type 0
-Reads d e front r x = ((room d front ≡ Some e) × (r ≡ Ok x)) ⊎ ((n : ℕ) × (room d front ≡ None) × (r ≡ Err (TooDeep n)))
+Reads d e front r x = ((brackets_left d front ≡ Some e) × (r ≡ Ok x)) ⊎ ((n : ℕ) × (brackets_left d front ≡ None) × (r ≡ Err (TooDeep n)))
 
 -- The law of a parser of this grammar. What it takes begins with one of `starts`, which has the end where it may take
 -- nothing; and it takes a whole sentence where one of `follow` stands behind it.
@@ -95,7 +95,7 @@ module _ {A B : Type 0} (d e f : ℕ) (p : Parse A) (q : A → Parse B) (R : A �
     is ∙ ap (λ us. a ++ us) is' ∙ sym (append_assoc a b rest'),
     len,
     begins_second a b x r begins,
-    (m'.0, room_then d e a b m ∙ m'.1),
+    (m'.0, brackets_left_then d e a b m ∙ m'.1),
     λ after h.
         let same : first (b ++ after) ≡ first rest = first-append b after rest' h ∙ ap first (sym is') in
         rw (append_assoc a b after, local (b ++ after) same) (local' after h),
@@ -109,7 +109,7 @@ module _ {A B : Type 0} (d e f : ℕ) (p : Parse A) (q : A → Parse B) (R : A �
     is ∙ ap (λ us. a ++ us) is' ∙ sym (append_assoc a b (t ∷ rest')),
     len,
     subst (Begins (Chain R S)) (sym (append_assoc a b (t ∷ []))) (begins_second a (b ++ t ∷ []) x r begins),
-    room_then d e a b m ∙ m',
+    brackets_left_then d e a b m ∙ m',
     o,
   )
 
@@ -118,7 +118,7 @@ module _ {A B : Type 0} (d e f : ℕ) (p : Parse A) (q : A → Parse B) (R : A �
     a ++ b,
     is ∙ ap (λ us. a ++ us) is' ∙ sym (append_assoc a b rest'),
     (x, (a, b, refl, r, s)),
-    room_then d e a b m ∙ m',
+    brackets_left_then d e a b m ∙ m',
     λ after h.
         let same : first (b ++ after) ≡ first rest = first-append b after rest' h ∙ ap first (sym is') in
         rw (append_assoc a b after, local (b ++ after) same) (local' after h),
@@ -136,13 +136,13 @@ module _ {A B : Type 0} (d e f : ℕ) (p : Parse A) (q : A → Parse B) (R : A �
   by_first ts law_q (Err (TooDeep n)) seen = first_deep ts n seen
   by_first ts law_q (Err Memory) seen = absurd seen
 
-  reads_second : (a b after : List Token) (x : A) (y : B) (r : Result (B × List Token) Stop) → room d a ≡ Some e → Reads e f b r (y, after) → Reads d f (a ++ b) r (y, after)
-  reads_second a b after x y r m (inl (m', e')) = inl (room_then d e a b m ∙ m', e')
-  reads_second a b after x y r m (inr (n, m', e')) = inr (n, room_then d e a b m ∙ m', e')
+  reads_second : (a b after : List Token) (x : A) (y : B) (r : Result (B × List Token) Stop) → brackets_left d a ≡ Some e → Reads e f b r (y, after) → Reads d f (a ++ b) r (y, after)
+  reads_second a b after x y r m (inl (m', e')) = inl (brackets_left_then d e a b m ∙ m', e')
+  reads_second a b after x y r m (inr (n, m', e')) = inr (n, brackets_left_then d e a b m ∙ m', e')
 
   pub reads_both : (a b after : List Token) (x : A) (y : B) (r : Result (A × List Token) Stop) → Reads d e a r (x, b ++ after) → Reads e f b (q x (b ++ after)) (y, after) → Reads d f (a ++ b) (r >>= λ z. q z.0 z.1) (y, after)
   reads_both a b after x y r (inl (m, is)) on_q = rw is (reads_second a b after x y (q x (b ++ after)) m on_q)
-  reads_both a b after x y r (inr (n, m, is)) on_q = inr (n, room_none d a b m, rw is refl)
+  reads_both a b after x y r (inr (n, m, is)) on_q = inr (n, brackets_left_none d a b m, rw is refl)
 
 module _ {A B : Type 0} {d e f : ℕ} {p : Parse A} {q : A → Parse B} {R : A → Language} {S : A → B → Language} {s1 k1 s2 k2 : Set} (law_p : Exact d e p R s1 k1) (law_q : (x : A) → Exact e f (q x) (S x) s2 k2) (fits : subset (joined s2 k2) k1 ≡ true) where
   chain_begins : (y : B) (front : List Token) → Chain R S y front → joined s1 s2 (next front) ≡ true

@@ -2,7 +2,7 @@ mod LookaheadLemmas
 mod Loops
 mod Depths
 mod Sets
-mod Rooms
+mod BracketsLeft
 mod Exact
 mod Choices
 mod Items

@@ -18,7 +18,7 @@ use Rattle.hq_gql_parser.specs.Selections.{IsHead, IsFragmentName, IsCondition, 
 use Rattle.hq_gql_parser.specs.Operations.{IsDefault, IsVariable, AreVariables, IsSomeName, IsNamedOperation, IsShorthand, IsDefinition, IsDocument}
 use Rattle.hq_gql_parser.proofs.NestLemmas.{Opens, opens_nothing, opens_token, opens_both, opens_as, opens_behind, opens_before, opens_in}
 
--- ---- names and words
+-- ---- names and keywords
 
 opens_name : (name : List ℕ) (ts : List Token) → IsName name ts → Opens 0 ts
 opens_name name ts (at, r) = opens_token (kind.Name name) at ts (λ d. refl) r

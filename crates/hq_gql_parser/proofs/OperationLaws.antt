@@ -7,24 +7,24 @@ use Rattle.hq_gql_tree.specs.declared.document.OpKind.TheVariants.{Query, Mutati
 use Rattle.hq_gql_tree.specs.Values.{PlacedTree, DirectiveTree}
 use Rattle.hq_gql_tree.specs.Selections.{SelectionTrees, selections_of, selections_in}
 use Rattle.hq_gql_tree.specs.Documents.{VarDefTree, DefinitionTree, operation, fragment}
-use Rattle.hq_gql_parser.specs.declared.word.Word.TheVariants as word
+use Rattle.hq_gql_parser.specs.declared.keyword.Keyword.TheVariants as keyword
 use Rattle.hq_gql_parser.specs.declared.lookahead.Lookahead.TheVariants as ahead
 use Rattle.hq_gql_parser.specs.Lookahead.{is_at, is_name, is_fragment_name}
 use Rattle.hq_gql_parser.specs.Languages.{Language}
 use Rattle.hq_gql_parser.specs.Values.{IsPlaced, AreDirectives}
 use Rattle.hq_gql_parser.specs.Types.{IsType}
 use Rattle.hq_gql_parser.specs.Selections.{IsFragmentName, IsCondition, IsSelectionSet}
-use Rattle.hq_gql_parser.specs.Operations.{IsDefault, IsVariable, AreVariables, kind_word, IsSomeName, IsNamedOperation, IsDefinition, IsDocument}
+use Rattle.hq_gql_parser.specs.Operations.{IsDefault, IsVariable, AreVariables, kind_keyword, IsSomeName, IsNamedOperation, IsDefinition, IsDocument}
 use Rattle.hq_gql_parser.specs.Parsing.{until, until_punct}
 use Rattle.hq_gql_parser.specs.ParsingOperations.{default_at, variable_definition_at, listed_variables_at, variables_at, some_name_at, operation_with, shorthand_at, fragment_at, definition_at, document_at}
 use Rattle.hq_gql_parser.proofs.Sets.{Set, anything, is_end, union, joined, subset, subset_anything}
 use Rattle.hq_gql_parser.proofs.Exact.{Exact, Chain, exact_then}
 use Rattle.hq_gql_parser.proofs.Choices.{Only, exact_pure, Mapped, exact_map, Either, exact_either, exact_as}
 use Rattle.hq_gql_parser.proofs.Items.{AtLeastOne, exact_some}
-use Rattle.hq_gql_parser.proofs.TokenLaws.{PunctAt, exact_punct, NameAt, exact_name, WordAt, exact_word, exact_fragment_name}
+use Rattle.hq_gql_parser.proofs.TokenLaws.{PunctAt, exact_punct, NameAt, exact_name, WordAt, exact_keyword, exact_fragment_name}
 use Rattle.hq_gql_parser.proofs.ValueLaws.{is_value, law_value}
 use Rattle.hq_gql_parser.proofs.DirectiveLaws.{is_parenthesis, no_parenthesis, ListedIs, listed_to, listed_from, no_directive, law_directives}
-use Rattle.hq_gql_parser.proofs.TypeLaws.{no_bang, law_type}
+use Rattle.hq_gql_parser.proofs.TypeLaws.{no_exclamation, law_type}
 use Rattle.hq_gql_parser.proofs.SelectionLaws.{selections_back, law_condition, SetIs, is_set, law_set}
 
 -- ---- default values
@@ -59,7 +59,7 @@ law_default n =
 
 -- what may follow the definition of a variable
 abbrev after_variable : Set
-after_variable a = (no_bang a && no_equals a) && no_directive a
+after_variable a = (no_exclamation a && no_equals a) && no_directive a
 
 abbrev VariableIs : VarDefTree → Language
 VariableIs =
@@ -125,17 +125,17 @@ law_some_name n =
 
 abbrev OperationIs : OpKind → DefinitionTree → Language
 OperationIs k =
-    Chain (WordAt (kind_word k)) (λ w. Chain IsSomeName (λ m. Chain AreVariables (λ vs. Chain (AreDirectives false)
+    Chain (WordAt (kind_keyword k)) (λ w. Chain IsSomeName (λ m. Chain AreVariables (λ vs. Chain (AreDirectives false)
     (λ ds. Mapped (λ s. operation (record { at = w; kind = k; name = m; vars = vs; directives = ds; selections = selections_of s.1 })) SetIs))))
 
 abbrev is_kind : OpKind → Set
-is_kind k = is_at (ahead.Word (kind_word k))
+is_kind k = is_at (ahead.Keyword (kind_keyword k))
 
 law_operation : (n : ℕ) (k : OpKind) → subset (joined (is_kind k) anything) (is_kind k) ≡ true → Exact n n (operation_with n k) (OperationIs k) (is_kind k) anything
 unfolding operation_with is_at is_name
 law_operation n k e =
     exact_as (OperationIs k) (is_kind k) anything
-    (exact_then (exact_word (kind_word k) n)
+    (exact_then (exact_keyword (kind_keyword k) n)
     (λ w. exact_as
     (Chain IsSomeName (λ m. Chain AreVariables (λ vs. Chain (AreDirectives false) (λ ds. Mapped (λ s. operation (record { at = w; kind = k; name = m; vars = vs; directives = ds; selections = selections_of s.1 })) SetIs))))
     anything anything
@@ -154,18 +154,18 @@ law_shorthand n = exact_map (λ s. operation (record { at = s.0; kind = Query; n
 -- ---- fragments
 
 abbrev is_fragment : Set
-is_fragment = is_at (ahead.Word word.Fragment)
+is_fragment = is_at (ahead.Keyword keyword.Fragment)
 
 abbrev FragmentIs : DefinitionTree → Language
 FragmentIs =
-    Chain (WordAt word.Fragment) (λ w. Chain IsFragmentName (λ m. Chain IsCondition (λ c. Chain (AreDirectives false)
+    Chain (WordAt keyword.Fragment) (λ w. Chain IsFragmentName (λ m. Chain IsCondition (λ c. Chain (AreDirectives false)
     (λ ds. Mapped (λ s. fragment (record { at = w; name = m; cond = c; directives = ds; selections = selections_of s.1 })) SetIs))))
 
 law_fragment : (n : ℕ) → Exact n n (fragment_at n) FragmentIs is_fragment anything
 unfolding fragment_at is_at is_name is_fragment_name
 law_fragment n =
     exact_as FragmentIs is_fragment anything
-    (exact_then (exact_word word.Fragment n) (λ w. exact_then (exact_fragment_name n) (λ m. exact_then (law_condition n) (λ c. exact_then (law_directives false n)
+    (exact_then (exact_keyword keyword.Fragment n) (λ w. exact_then (exact_fragment_name n) (λ m. exact_then (law_condition n) (λ c. exact_then (law_directives false n)
     (λ ds. exact_map (λ s. fragment (record { at = w; name = m; cond = c; directives = ds; selections = selections_of s.1 })) (law_set n)) refl) refl) refl) refl)
     (λ v ts r. r) (λ v ts r. r) refl refl
 

@@ -7,7 +7,7 @@ use Rattle.hq_gql_lexer.specs.declared.token.TokenKind.TheVariants as kind
 use Rattle.hq_gql_tree.specs.declared.selection.TypeCond.{TypeCond}
 use Rattle.hq_gql_tree.specs.Values.{DirectiveTree}
 use Rattle.hq_gql_tree.specs.Selections.{SelectionTree, field, spread, inline, SelectionTrees, no_selection, selection, selections_of, selections_in}
-use Rattle.hq_gql_parser.specs.declared.word.Word.TheVariants as word
+use Rattle.hq_gql_parser.specs.declared.keyword.Keyword.TheVariants as keyword
 use Rattle.hq_gql_parser.specs.declared.lookahead.Lookahead.TheVariants as ahead
 use Rattle.hq_gql_parser.specs.Lookahead.{is_at, is_name, is_fragment_name}
 use Rattle.hq_gql_parser.specs.Languages.{Language, Each}
@@ -19,7 +19,7 @@ use Rattle.hq_gql_parser.proofs.Sets.{Set, anything, is_end, union}
 use Rattle.hq_gql_parser.proofs.Exact.{Begins, Exact, Chain, exact_then}
 use Rattle.hq_gql_parser.proofs.Choices.{Only, exact_pure, Mapped, exact_map, Either, exact_either, exact_as, exact_stopped}
 use Rattle.hq_gql_parser.proofs.Items.{AtLeastOne, exact_some}
-use Rattle.hq_gql_parser.proofs.TokenLaws.{token, PunctAt, exact_punct, punct_is, at_self, NameAt, exact_name, exact_word, exact_fragment_name}
+use Rattle.hq_gql_parser.proofs.TokenLaws.{token, PunctAt, exact_punct, punct_is, at_self, NameAt, exact_name, exact_keyword, exact_fragment_name}
 use Rattle.hq_gql_parser.proofs.DirectiveLaws.{law_arguments, no_directive, law_directives}
 
 -- ---- lists of selections
@@ -69,18 +69,18 @@ law_head d = exact_as HeadIs is_name no_colon (exact_then (exact_name d) (law_al
 
 -- ---- type conditions
 
-pub law_condition : (d : ℕ) → Exact d d condition_at IsCondition (is_at (ahead.Word word.On)) anything
+pub law_condition : (d : ℕ) → Exact d d condition_at IsCondition (is_at (ahead.Keyword keyword.On)) anything
 unfolding condition_at is_at is_name
 law_condition d =
-    exact_as IsCondition (is_at (ahead.Word word.On)) anything
-    (exact_then (exact_word word.On d) (λ o. exact_map (λ m. record { at = o; name = m.1 }) (exact_name d)) refl)
+    exact_as IsCondition (is_at (ahead.Keyword keyword.On)) anything
+    (exact_then (exact_keyword keyword.On d) (λ o. exact_map (λ m. record { at = o; name = m.1 }) (exact_name d)) refl)
     (λ x ts (o, (a, b, is, r, (m, same, r'))). subst (λ w. IsCondition w ts) (sym same) (a, b, is, r, (m.0, r')))
     (λ x ts (a, b, is, r, (place, r')). (x.at, (a, b, is, r, ((place, x.name), refl, r'))))
     refl refl
 
 -- what may stand behind a condition that is left out
 abbrev no_on : Set
-no_on a = not (is_at (ahead.Word word.On) a)
+no_on a = not (is_at (ahead.Keyword keyword.On) a)
 
 some_condition_to : (x : Option TypeCond) (ts : List Token) → Either (Mapped (λ c. Some c) IsCondition) (Only None) x ts → IsSomeCondition x ts
 some_condition_to x ts (inl (c, same, r)) = subst (λ w. IsSomeCondition w ts) (sym same) r
@@ -90,12 +90,12 @@ some_condition_from : (x : Option TypeCond) (ts : List Token) → IsSomeConditio
 some_condition_from None ts is = inr (refl, is)
 some_condition_from (Some c) ts r = inl (c, refl, r)
 
-law_some_condition : (d : ℕ) → Exact d d some_condition_at IsSomeCondition (union (is_at (ahead.Word word.On)) is_end) no_on
+law_some_condition : (d : ℕ) → Exact d d some_condition_at IsSomeCondition (union (is_at (ahead.Keyword keyword.On)) is_end) no_on
 unfolding some_condition_at is_at
 law_some_condition d =
-    exact_as IsSomeCondition (union (is_at (ahead.Word word.On)) is_end) no_on
-    (exact_either (is_at (ahead.Word word.On))
-    (exact_as (Mapped (λ c. Some c) IsCondition) (is_at (ahead.Word word.On)) no_on (exact_map (λ c. Some c) (law_condition d)) (λ v ts r. r) (λ v ts r. r) refl refl)
+    exact_as IsSomeCondition (union (is_at (ahead.Keyword keyword.On)) is_end) no_on
+    (exact_either (is_at (ahead.Keyword keyword.On))
+    (exact_as (Mapped (λ c. Some c) IsCondition) (is_at (ahead.Keyword keyword.On)) no_on (exact_map (λ c. Some c) (law_condition d)) (λ v ts r. r) (λ v ts r. r) refl refl)
     (exact_as (Only None) is_end no_on (exact_pure d None) (λ v ts r. r) (λ v ts r. r) refl refl) refl refl)
     some_condition_to some_condition_from refl refl
 
@@ -171,7 +171,7 @@ selection_from (inline h (selection s more)) ts (a, b, is, r, (a', b', is', r', 
 
 -- what an inline fragment begins with, behind its `...`
 abbrev is_inline : Set
-is_inline a = is_at (ahead.Word word.On) a || (is_at (ahead.Punct At) a || is_set a)
+is_inline a = is_at (ahead.Keyword keyword.On) a || (is_at (ahead.Punct At) a || is_set a)
 
 -- what a selection begins with
 abbrev pub is_selection : Set

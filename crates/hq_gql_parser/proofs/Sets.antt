@@ -4,11 +4,11 @@ use Rattle.hq_gql_lexer.specs.declared.token.Punct.TheVariants as punct
 use Rattle.hq_gql_lexer.specs.declared.token.Token.{Token}
 use Rattle.hq_gql_lexer.specs.declared.token.TokenKind.{TokenKind}
 use Rattle.hq_gql_lexer.specs.declared.token.TokenKind.TheVariants as kind
-use Rattle.hq_gql_parser.specs.declared.word.Word.{Word}
-use Rattle.hq_gql_parser.specs.declared.word.Word.TheVariants as word
+use Rattle.hq_gql_parser.specs.declared.keyword.Keyword.{Keyword}
+use Rattle.hq_gql_parser.specs.declared.keyword.Keyword.TheVariants as keyword
 use Rattle.hq_gql_parser.specs.declared.lookahead.Lookahead.{Lookahead}
 use Rattle.hq_gql_parser.specs.declared.lookahead.Lookahead.TheVariants as ahead
-use Rattle.hq_gql_parser.specs.Lookahead.{next_of, named, word_of, next}
+use Rattle.hq_gql_parser.specs.Lookahead.{next_of, named, keyword_of, next}
 
 abbrev pub Set : Type 0
 Set = Lookahead → Bool
@@ -18,9 +18,9 @@ everything =
     ahead.End ∷ ahead.Name ∷ ahead.Int ∷ ahead.Float ∷ ahead.Str
     ∷ ahead.Punct punct.Bang ∷ ahead.Punct punct.Dollar ∷ ahead.Punct punct.Ampersand ∷ ahead.Punct punct.OpenParenthesis ∷ ahead.Punct punct.CloseParenthesis
     ∷ ahead.Punct punct.Spread ∷ ahead.Punct punct.Colon ∷ ahead.Punct punct.Equals ∷ ahead.Punct punct.At ∷ ahead.Punct punct.OpenBracket
-    ∷ ahead.Punct punct.CloseBracket ∷ ahead.Punct punct.OpenBrace ∷ ahead.Punct punct.Pipe ∷ ahead.Punct punct.CloseBrace ∷ ahead.Word word.Query
-    ∷ ahead.Word word.Mutation ∷ ahead.Word word.Subscription ∷ ahead.Word word.Fragment ∷ ahead.Word word.On ∷ ahead.Word word.True
-    ∷ ahead.Word word.False ∷ ahead.Word word.Null ∷ []
+    ∷ ahead.Punct punct.CloseBracket ∷ ahead.Punct punct.OpenBrace ∷ ahead.Punct punct.Pipe ∷ ahead.Punct punct.CloseBrace ∷ ahead.Keyword keyword.Query
+    ∷ ahead.Keyword keyword.Mutation ∷ ahead.Keyword keyword.Subscription ∷ ahead.Keyword keyword.Fragment ∷ ahead.Keyword keyword.On ∷ ahead.Keyword keyword.True
+    ∷ ahead.Keyword keyword.False ∷ ahead.Keyword keyword.Null ∷ []
 
 abbrev pub holds : Set → List Lookahead → Bool
 holds f [] = true
@@ -66,14 +66,14 @@ everywhere f h (ahead.Punct punct.CloseBracket) = holds_pick f everything 15 _ h
 everywhere f h (ahead.Punct punct.OpenBrace) = holds_pick f everything 16 _ h refl
 everywhere f h (ahead.Punct punct.Pipe) = holds_pick f everything 17 _ h refl
 everywhere f h (ahead.Punct punct.CloseBrace) = holds_pick f everything 18 _ h refl
-everywhere f h (ahead.Word word.Query) = holds_pick f everything 19 _ h refl
-everywhere f h (ahead.Word word.Mutation) = holds_pick f everything 20 _ h refl
-everywhere f h (ahead.Word word.Subscription) = holds_pick f everything 21 _ h refl
-everywhere f h (ahead.Word word.Fragment) = holds_pick f everything 22 _ h refl
-everywhere f h (ahead.Word word.On) = holds_pick f everything 23 _ h refl
-everywhere f h (ahead.Word word.True) = holds_pick f everything 24 _ h refl
-everywhere f h (ahead.Word word.False) = holds_pick f everything 25 _ h refl
-everywhere f h (ahead.Word word.Null) = holds_pick f everything 26 _ h refl
+everywhere f h (ahead.Keyword keyword.Query) = holds_pick f everything 19 _ h refl
+everywhere f h (ahead.Keyword keyword.Mutation) = holds_pick f everything 20 _ h refl
+everywhere f h (ahead.Keyword keyword.Subscription) = holds_pick f everything 21 _ h refl
+everywhere f h (ahead.Keyword keyword.Fragment) = holds_pick f everything 22 _ h refl
+everywhere f h (ahead.Keyword keyword.On) = holds_pick f everything 23 _ h refl
+everywhere f h (ahead.Keyword keyword.True) = holds_pick f everything 24 _ h refl
+everywhere f h (ahead.Keyword keyword.False) = holds_pick f everything 25 _ h refl
+everywhere f h (ahead.Keyword keyword.Null) = holds_pick f everything 26 _ h refl
 
 abbrev pub implied : Set → Set → Set
 implied s t a = if s a then t a else true
@@ -93,7 +93,7 @@ within s t h a e = taken (s a) (t a) (everywhere (implied s t) h a) e
 abbrev pub is_end : Set
 is_end ahead.End = true
 is_end (ahead.Punct p) = false
-is_end (ahead.Word w) = false
+is_end (ahead.Keyword w) = false
 is_end ahead.Name = false
 is_end ahead.Int = false
 is_end ahead.Float = false
@@ -118,13 +118,13 @@ pub right_holds : (b c : Bool) → c ≡ true → (b || c) ≡ true
 right_holds true c e = refl
 right_holds false c e = e
 
-named_token : (w : Option Word) → is_end (named w) ≡ false
+named_token : (w : Option Keyword) → is_end (named w) ≡ false
 named_token None = refl
 named_token (Some w) = refl
 
 pub token_next : (k : TokenKind) → is_end (next_of k) ≡ false
 token_next (kind.Punct p) = refl
-token_next (kind.Name name) = named_token (word_of name)
+token_next (kind.Name name) = named_token (keyword_of name)
 token_next (kind.Int text) = refl
 token_next (kind.Float text) = refl
 token_next (kind.Str value) = refl
@@ -135,7 +135,7 @@ more_holds b c d e h = right_holds b (if c then d else false) (rw e h)
 joined_empty : (s t : Set) (a : Lookahead) → s ahead.End ≡ true → t a ≡ true → joined s t a ≡ true
 joined_empty s t ahead.End e h = rw e h
 joined_empty s t (ahead.Punct p) e h = more_holds (s (ahead.Punct p)) (s ahead.End) (t (ahead.Punct p)) e h
-joined_empty s t (ahead.Word w) e h = more_holds (s (ahead.Word w)) (s ahead.End) (t (ahead.Word w)) e h
+joined_empty s t (ahead.Keyword w) e h = more_holds (s (ahead.Keyword w)) (s ahead.End) (t (ahead.Keyword w)) e h
 joined_empty s t ahead.Name e h = more_holds (s ahead.Name) (s ahead.End) (t ahead.Name) e h
 joined_empty s t ahead.Int e h = more_holds (s ahead.Int) (s ahead.End) (t ahead.Int) e h
 joined_empty s t ahead.Float e h = more_holds (s ahead.Float) (s ahead.End) (t ahead.Float) e h

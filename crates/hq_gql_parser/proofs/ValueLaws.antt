@@ -5,9 +5,9 @@ use Rattle.hq_gql_lexer.specs.declared.token.Token.{Token}
 use Rattle.hq_gql_lexer.specs.declared.token.TokenKind.{TokenKind}
 use Rattle.hq_gql_lexer.specs.declared.token.TokenKind.TheVariants as kind
 use Rattle.hq_gql_tree.specs.Values.{ValueTree, int, float, str, bool, null, enum, list, object, variable, ElementTrees, no_element, MemberTrees, no_member, PlacedTree, elements_of, elements_in, members_of, members_in}
-use Rattle.hq_gql_parser.specs.declared.word.Word.TheVariants as word
+use Rattle.hq_gql_parser.specs.declared.keyword.Keyword.TheVariants as keyword
 use Rattle.hq_gql_parser.specs.declared.lookahead.Lookahead.TheVariants as ahead
-use Rattle.hq_gql_parser.specs.Lookahead.{is_word, is_at, is_name}
+use Rattle.hq_gql_parser.specs.Lookahead.{is_keyword, is_at, is_name}
 use Rattle.hq_gql_parser.specs.Languages.{Language, IsToken, Each}
 use Rattle.hq_gql_parser.specs.Values.{name_value, IsValue, IsPlaced, IsArgument}
 use Rattle.hq_gql_parser.specs.Parsing.{Parse, until_punct}
@@ -40,7 +40,7 @@ named_by c at name ts false false false e is = (name, sym e, is)
 
 named_is : (c : Bool) (at : ℕ) (name : List ℕ) (ts : List Token) → IsToken at (kind.Name name) ts → IsValue c at (name_value name) ts
 unfolding name_value
-named_is c at name ts is = named_by c at name ts (is_word name word.True) (is_word name word.False) (is_word name word.Null) refl is
+named_is c at name ts is = named_by c at name ts (is_keyword name keyword.True) (is_keyword name keyword.False) (is_keyword name keyword.Null) refl is
 
 literal_is : (c : Bool) (k : TokenKind) (at : ℕ) (v : PlacedTree) (ts : List Token) → placed_at at (literal_of k) ≡ Some v → IsToken at k ts → IsPlaced c v ts
 literal_is c (kind.Punct p) at v ts e is = absurd cc

@@ -6,7 +6,7 @@ use Rattle.hq_gql_parser.specs.declared.refusal.ParseRefusal.{ParseRefusal}
 use Rattle.hq_gql_parser.specs.declared.refusal.ParseRefusal.TheVariants.{Unexpected, TooDeep, Empty, Memory}
 use Rattle.hq_gql_parser.specs.declared.stop.Stop.{Stop}
 use Rattle.hq_gql_parser.specs.declared.stop.Stop.TheVariants as stop
-use Rattle.hq_gql_parser.specs.Documents.{most, place}
+use Rattle.hq_gql_parser.specs.Documents.{nesting_limit, place}
 use Rattle.hq_gql_parser.specs.ParsingOperations.{document_at}
 
 -- the place of the token that has so many from itself on
@@ -25,4 +25,4 @@ answer_of end ts (Err e) = Err (stopped end ts e)
 
 unfoldable pub parsed : (end : ℕ) → List Token → Result DocumentTree ParseRefusal
 parsed end [] = Err Empty
-parsed end (t ∷ ts) = answer_of end (t ∷ ts) (document_at most (t ∷ ts))
+parsed end (t ∷ ts) = answer_of end (t ∷ ts) (document_at nesting_limit (t ∷ ts))

@@ -6,9 +6,9 @@ use Rattle.hq_gql_tree.specs.declared.document.OpKind.{OpKind}
 use Rattle.hq_gql_tree.specs.declared.document.OpKind.TheVariants.{Query, Mutation, Subscription}
 use Rattle.hq_gql_tree.specs.Values.{PlacedTree}
 use Rattle.hq_gql_tree.specs.Documents.{VarDefTree, OperationTree, FragmentTree, DefinitionTree, operation, fragment, DocumentTree}
-use Rattle.hq_gql_parser.specs.declared.word.Word.{Word}
-use Rattle.hq_gql_parser.specs.declared.word.Word.TheVariants as word
-use Rattle.hq_gql_parser.specs.Lookahead.{word_text}
+use Rattle.hq_gql_parser.specs.declared.keyword.Keyword.{Keyword}
+use Rattle.hq_gql_parser.specs.declared.keyword.Keyword.TheVariants as keyword
+use Rattle.hq_gql_parser.specs.Lookahead.{keyword_text}
 use Rattle.hq_gql_parser.specs.Languages.{Language, IsNothing, IsToken, IsPunct, IsName, ◌▸◌, Each, InParentheses}
 use Rattle.hq_gql_parser.specs.Values.{IsPlaced, AreDirectives}
 use Rattle.hq_gql_parser.specs.Types.{IsType}
@@ -26,20 +26,20 @@ IsVariable v = IsToken v.at (kind.Punct Dollar) ▸ IsName v.name ▸ IsPunct Co
 abbrev pub AreVariables : List VarDefTree → Language
 AreVariables = InParentheses IsVariable
 
--- the word of a kind of operations (2.3)
-abbrev pub kind_word : OpKind → Word
-kind_word Query = word.Query
-kind_word Mutation = word.Mutation
-kind_word Subscription = word.Subscription
+-- the keyword of a kind of operations (2.3)
+abbrev pub kind_keyword : OpKind → Keyword
+kind_keyword Query = keyword.Query
+kind_keyword Mutation = keyword.Mutation
+kind_keyword Subscription = keyword.Subscription
 
 abbrev pub IsSomeName : Option (List ℕ) → Language
 IsSomeName None = IsNothing
 IsSomeName (Some name) = IsName name
 
--- an operation that begins with its word
+-- an operation that begins with its keyword
 abbrev pub IsNamedOperation : OperationTree → Language
 IsNamedOperation o =
-    IsToken o.at (kind.Name (word_text (kind_word o.kind))) ▸ IsSomeName o.name ▸ AreVariables o.vars ▸ AreDirectives false o.directives ▸ (λ ts. (at : ℕ) × IsSelectionSet at o.selections ts)
+    IsToken o.at (kind.Name (keyword_text (kind_keyword o.kind))) ▸ IsSomeName o.name ▸ AreVariables o.vars ▸ AreDirectives false o.directives ▸ (λ ts. (at : ℕ) × IsSelectionSet at o.selections ts)
 
 -- a query that is a selection set alone
 abbrev pub IsShorthand : OperationTree → Language
@@ -48,7 +48,7 @@ IsShorthand o ts = (o.kind ≡ Query) × (o.name ≡ None) × (o.vars ≡ []) ×
 -- a fragment (2.8)
 abbrev pub IsFragment : FragmentTree → Language
 IsFragment f =
-    IsToken f.at (kind.Name (word_text word.Fragment)) ▸ IsFragmentName f.name ▸ IsCondition f.cond ▸ AreDirectives false f.directives ▸ (λ ts. (at : ℕ) × IsSelectionSet at f.selections ts)
+    IsToken f.at (kind.Name (keyword_text keyword.Fragment)) ▸ IsFragmentName f.name ▸ IsCondition f.cond ▸ AreDirectives false f.directives ▸ (λ ts. (at : ℕ) × IsSelectionSet at f.selections ts)
 
 abbrev pub IsDefinition : DefinitionTree → Language
 IsDefinition (operation o) = λ ts. IsShorthand o ts ⊎ IsNamedOperation o ts

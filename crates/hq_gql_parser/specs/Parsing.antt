@@ -5,13 +5,13 @@ use Rattle.hq_gql_lexer.specs.declared.token.Punct.{Punct}
 use Rattle.hq_gql_lexer.specs.declared.token.Token.{Token}
 use Rattle.hq_gql_lexer.specs.declared.token.TokenKind.{TokenKind}
 use Rattle.hq_gql_lexer.specs.declared.token.TokenKind.TheVariants as kind
-use Rattle.hq_gql_parser.specs.declared.word.Word.{Word}
-use Rattle.hq_gql_parser.specs.declared.word.Word.TheVariants as word
+use Rattle.hq_gql_parser.specs.declared.keyword.Keyword.{Keyword}
+use Rattle.hq_gql_parser.specs.declared.keyword.Keyword.TheVariants as keyword
 use Rattle.hq_gql_parser.specs.declared.lookahead.Lookahead.{Lookahead}
 use Rattle.hq_gql_parser.specs.declared.lookahead.Lookahead.TheVariants as ahead
 use Rattle.hq_gql_parser.specs.declared.stop.Stop.{Stop}
 use Rattle.hq_gql_parser.specs.declared.stop.Stop.TheVariants.{Unexpected, TooDeep}
-use Rattle.hq_gql_parser.specs.Lookahead.{next_of, next, is_at, is_word}
+use Rattle.hq_gql_parser.specs.Lookahead.{next_of, next, is_at, is_keyword}
 
 abbrev pub Parse : Type 0 → Type 0
 Parse A = List Token → Result (A × List Token) Stop
@@ -55,20 +55,20 @@ name_at = take name_use
 abbrev pub when : {A : Type 0} → Bool → A → Option A
 when b x = if b then Some x else None
 
-abbrev pub word_use_of : Word → ℕ → Option (List ℕ) → Option ℕ
-word_use_of w at None = None
-word_use_of w at (Some name) = when (is_word name w) at
+abbrev pub keyword_use_of : Keyword → ℕ → Option (List ℕ) → Option ℕ
+keyword_use_of w at None = None
+keyword_use_of w at (Some name) = when (is_keyword name w) at
 
-abbrev pub word_use : Word → Token → Option ℕ
-word_use w t = word_use_of w t.from (name_of t.kind)
+abbrev pub keyword_use : Keyword → Token → Option ℕ
+keyword_use w t = keyword_use_of w t.from (name_of t.kind)
 
--- this word; it gives its place
-unfoldable pub word_at : Word → Parse ℕ
-word_at w = take (word_use w)
+-- this keyword; it gives its place
+unfoldable pub keyword_at : Keyword → Parse ℕ
+keyword_at w = take (keyword_use w)
 
 abbrev pub fragment_use_of : Option (List ℕ) → Option (List ℕ)
 fragment_use_of None = None
-fragment_use_of (Some name) = when (not (is_word name word.On)) name
+fragment_use_of (Some name) = when (not (is_keyword name keyword.On)) name
 
 abbrev pub fragment_use : Token → Option (List ℕ)
 fragment_use t = fragment_use_of (name_of t.kind)
@@ -80,8 +80,8 @@ fragment_name_at = take fragment_use
 -- ---- several
 
 -- where a bracket stops that is one too many
-unfoldable pub closed : Punct → List Token → Stop
-closed p ts = if is_at (ahead.Punct p) (next ts) then TooDeep (length ts) else Unexpected (length ts)
+unfoldable pub too_deep_or_unexpected : Punct → List Token → Stop
+too_deep_or_unexpected p ts = if is_at (ahead.Punct p) (next ts) then TooDeep (length ts) else Unexpected (length ts)
 
 -- this or that, as the test on what stands next says
 abbrev pub either : {A : Type 0} → (Lookahead → Bool) → Parse A → Parse A → Parse A

@@ -7,11 +7,11 @@ use Rattle.hq_gql_tree.specs.declared.document.OpKind.TheVariants.{Query, Mutati
 use Rattle.hq_gql_tree.specs.Values.{PlacedTree}
 use Rattle.hq_gql_tree.specs.Selections.{selections_of}
 use Rattle.hq_gql_tree.specs.Documents.{VarDefTree, DefinitionTree, operation, fragment}
-use Rattle.hq_gql_parser.specs.declared.word.Word.TheVariants as word
+use Rattle.hq_gql_parser.specs.declared.keyword.Keyword.TheVariants as keyword
 use Rattle.hq_gql_parser.specs.declared.lookahead.Lookahead.TheVariants as ahead
 use Rattle.hq_gql_parser.specs.Lookahead.{is_at, is_name}
-use Rattle.hq_gql_parser.specs.Operations.{kind_word}
-use Rattle.hq_gql_parser.specs.Parsing.{Parse, punct_at, name_at, word_at, fragment_name_at, either, some, until, until_punct}
+use Rattle.hq_gql_parser.specs.Operations.{kind_keyword}
+use Rattle.hq_gql_parser.specs.Parsing.{Parse, punct_at, name_at, keyword_at, fragment_name_at, either, some, until, until_punct}
 use Rattle.hq_gql_parser.specs.ParsingValues.{value_at, directives_at}
 use Rattle.hq_gql_parser.specs.ParsingTypes.{type_at}
 use Rattle.hq_gql_parser.specs.ParsingSelections.{condition_at, set_at}
@@ -43,10 +43,10 @@ variables_at n = either (is_at (ahead.Punct OpenParenthesis)) (listed_variables_
 unfoldable pub some_name_at : Parse (Option (List ℕ))
 some_name_at = either is_name (λ ts. name_at ts >>= λ n. Ok (Some n.0.1, n.1)) (λ ts. Ok (None, ts))
 
--- an operation that begins with the word of this kind
+-- an operation that begins with the keyword of this kind
 unfoldable pub operation_with : ℕ → OpKind → Parse DefinitionTree
 operation_with n k ts = do
-  w ← word_at (kind_word k) ts
+  w ← keyword_at (kind_keyword k) ts
   m ← some_name_at w.1
   vs ← variables_at n m.1
   d ← directives_at false n vs.1
@@ -58,7 +58,7 @@ shorthand_at n ts = set_at n ts >>= λ s. Ok (operation (record { at = s.0.0; ki
 
 unfoldable pub fragment_at : ℕ → Parse DefinitionTree
 fragment_at n ts = do
-  w ← word_at word.Fragment ts
+  w ← keyword_at keyword.Fragment ts
   m ← fragment_name_at w.1
   c ← condition_at m.1
   d ← directives_at false n c.1
@@ -68,9 +68,9 @@ fragment_at n ts = do
 unfoldable pub definition_at : ℕ → Parse DefinitionTree
 definition_at n =
     either (is_at (ahead.Punct OpenBrace)) (shorthand_at n)
-    (either (is_at (ahead.Word word.Fragment)) (fragment_at n)
-    (either (is_at (ahead.Word word.Mutation)) (operation_with n Mutation)
-    (either (is_at (ahead.Word word.Subscription)) (operation_with n Subscription) (operation_with n Query))))
+    (either (is_at (ahead.Keyword keyword.Fragment)) (fragment_at n)
+    (either (is_at (ahead.Keyword keyword.Mutation)) (operation_with n Mutation)
+    (either (is_at (ahead.Keyword keyword.Subscription)) (operation_with n Subscription) (operation_with n Query))))
 
 -- one definition, and more up to the end
 abbrev pub document_at : ℕ → Parse (List DefinitionTree)

@@ -4,10 +4,10 @@ use Rattle.hq_base.specs.Due.{◌>>=◌}
 use Rattle.hq_gql_lexer.specs.declared.token.Punct.TheVariants.{Spread, Colon, OpenBrace, CloseBrace}
 use Rattle.hq_gql_tree.specs.declared.selection.TypeCond.{TypeCond}
 use Rattle.hq_gql_tree.specs.Selections.{SelectionTree, field, spread, inline, selections_of}
-use Rattle.hq_gql_parser.specs.declared.word.Word.TheVariants as word
+use Rattle.hq_gql_parser.specs.declared.keyword.Keyword.TheVariants as keyword
 use Rattle.hq_gql_parser.specs.declared.lookahead.Lookahead.TheVariants as ahead
 use Rattle.hq_gql_parser.specs.Lookahead.{is_at, is_fragment_name}
-use Rattle.hq_gql_parser.specs.Parsing.{Parse, punct_at, name_at, word_at, fragment_name_at, closed, either, some, until_punct}
+use Rattle.hq_gql_parser.specs.Parsing.{Parse, punct_at, name_at, keyword_at, fragment_name_at, too_deep_or_unexpected, either, some, until_punct}
 use Rattle.hq_gql_parser.specs.ParsingValues.{arguments_at, directives_at}
 
 -- a place, an alias if there is one, and a name
@@ -40,12 +40,12 @@ field_with n set ts = do
 
 unfoldable pub condition_at : Parse TypeCond
 condition_at ts = do
-  o ← word_at word.On ts
+  o ← keyword_at keyword.On ts
   n ← name_at o.1
   Ok (record { at = o.0; name = n.0.1 }, n.1)
 
 unfoldable pub some_condition_at : Parse (Option TypeCond)
-some_condition_at = either (is_at (ahead.Word word.On)) (λ ts. condition_at ts >>= λ c. Ok (Some c.0, c.1)) (λ ts. Ok (None, ts))
+some_condition_at = either (is_at (ahead.Keyword keyword.On)) (λ ts. condition_at ts >>= λ c. Ok (Some c.0, c.1)) (λ ts. Ok (None, ts))
 
 -- behind the `...` of a spread
 unfoldable pub spread_with : ℕ → (at : ℕ) → Parse SelectionTree
@@ -77,7 +77,7 @@ set_with item ts = do
 
 -- a set, where so many brackets may still open
 unfoldable pub set_at : ℕ → SetParse
-set_at zero = λ ts. Err (closed OpenBrace ts)
+set_at zero = λ ts. Err (too_deep_or_unexpected OpenBrace ts)
 set_at (suc n) = set_with (selection_with n (set_at n))
 
 abbrev pub selection_at : ℕ → Parse SelectionTree

@@ -5,7 +5,7 @@ use Rattle.hq_gql_lexer.specs.declared.token.Punct.TheVariants.{Bang, OpenBracke
 use Rattle.hq_gql_tree.specs.Types.{TypeTree, named, list, non_null}
 use Rattle.hq_gql_parser.specs.declared.lookahead.Lookahead.TheVariants as ahead
 use Rattle.hq_gql_parser.specs.Lookahead.{is_at}
-use Rattle.hq_gql_parser.specs.Parsing.{Parse, punct_at, name_at, closed, either}
+use Rattle.hq_gql_parser.specs.Parsing.{Parse, punct_at, name_at, too_deep_or_unexpected, either}
 
 -- a type without a `!` behind it, with its place
 unfoldable pub named_type_at : Parse (ℕ × TypeTree)
@@ -15,11 +15,11 @@ unfoldable pub nullable_with : Parse (ℕ × TypeTree) → Parse (ℕ × TypeTre
 nullable_with list_type = either (is_at (ahead.Punct OpenBracket)) list_type named_type_at
 
 -- the type, or the one with a `!` behind it
-unfoldable pub bang_at : ℕ × TypeTree → Parse TypeTree
-bang_at t = either (is_at (ahead.Punct Bang)) (λ ts. punct_at Bang ts >>= λ b. Ok (non_null t.0 t.1, b.1)) (λ ts. Ok (t.1, ts))
+unfoldable pub non_null_type_at : ℕ × TypeTree → Parse TypeTree
+non_null_type_at t = either (is_at (ahead.Punct Bang)) (λ ts. punct_at Bang ts >>= λ b. Ok (non_null t.0 t.1, b.1)) (λ ts. Ok (t.1, ts))
 
 unfoldable pub type_with : Parse (ℕ × TypeTree) → Parse TypeTree
-type_with list_type ts = nullable_with list_type ts >>= λ t. bang_at t.0 t.1
+type_with list_type ts = nullable_with list_type ts >>= λ t. non_null_type_at t.0 t.1
 
 unfoldable pub list_type_with : Parse TypeTree → Parse (ℕ × TypeTree)
 list_type_with type_of ts = do
@@ -30,7 +30,7 @@ list_type_with type_of ts = do
 
 -- a list type, where so many brackets may still open
 unfoldable pub list_type_at : ℕ → Parse (ℕ × TypeTree)
-list_type_at zero = λ ts. Err (closed OpenBracket ts)
+list_type_at zero = λ ts. Err (too_deep_or_unexpected OpenBracket ts)
 list_type_at (suc n) = list_type_with (type_with (list_type_at n))
 
 abbrev pub type_at : ℕ → Parse TypeTree

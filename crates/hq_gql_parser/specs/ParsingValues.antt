@@ -10,7 +10,7 @@ use Rattle.hq_gql_parser.specs.declared.lookahead.Lookahead.{Lookahead}
 use Rattle.hq_gql_parser.specs.declared.lookahead.Lookahead.TheVariants as ahead
 use Rattle.hq_gql_parser.specs.Lookahead.{is_at}
 use Rattle.hq_gql_parser.specs.Values.{name_value}
-use Rattle.hq_gql_parser.specs.Parsing.{Parse, take, punct_at, name_at, closed, either, all, some, until_punct}
+use Rattle.hq_gql_parser.specs.Parsing.{Parse, take, punct_at, name_at, too_deep_or_unexpected, either, all, some, until_punct}
 
 -- a literal of one token
 abbrev pub literal_of : TokenKind → Option ValueTree
@@ -72,11 +72,11 @@ object_with value ts = do
 -- a list and an object, where so many brackets may still open
 unfoldable mutual
   pub list_at : (constant : Bool) → ℕ → Parse PlacedTree
-  list_at c zero = λ ts. Err (closed OpenBracket ts)
+  list_at c zero = λ ts. Err (too_deep_or_unexpected OpenBracket ts)
   list_at c (suc n) = list_with (value_with c (list_at c n) (object_at c n))
 
   pub object_at : (constant : Bool) → ℕ → Parse PlacedTree
-  object_at c zero = λ ts. Err (closed OpenBrace ts)
+  object_at c zero = λ ts. Err (too_deep_or_unexpected OpenBrace ts)
   object_at c (suc n) = object_with (value_with c (list_at c n) (object_at c n))
 
 abbrev pub value_at : (constant : Bool) → ℕ → Parse PlacedTree

@@ -4,8 +4,8 @@ use Rattle.hq_gql_lexer.specs.declared.token.Punct.TheVariants.{Spread, Colon, O
 use Rattle.hq_gql_lexer.specs.declared.token.TokenKind.TheVariants as kind
 use Rattle.hq_gql_tree.specs.declared.selection.TypeCond.{TypeCond}
 use Rattle.hq_gql_tree.specs.Selections.{SelectionTree, field, spread, inline, SelectionTrees, no_selection, selection}
-use Rattle.hq_gql_parser.specs.declared.word.Word.TheVariants as word
-use Rattle.hq_gql_parser.specs.Lookahead.{word_text, is_word}
+use Rattle.hq_gql_parser.specs.declared.keyword.Keyword.TheVariants as keyword
+use Rattle.hq_gql_parser.specs.Lookahead.{keyword_text, is_keyword}
 use Rattle.hq_gql_parser.specs.Languages.{Language, IsNothing, IsToken, IsPunct, IsName, ◌▸◌}
 use Rattle.hq_gql_parser.specs.Values.{AreArguments, AreDirectives}
 
@@ -16,11 +16,11 @@ IsHead at (Some alias) name = IsToken at (kind.Name alias) ▸ IsPunct Colon ▸
 
 -- any name but `on` (2.8)
 abbrev pub IsFragmentName : List ℕ → Language
-IsFragmentName name ts = (is_word name word.On ≡ false) × IsName name ts
+IsFragmentName name ts = (is_keyword name keyword.On ≡ false) × IsName name ts
 
 -- a type condition (2.8.1)
 abbrev pub IsCondition : TypeCond → Language
-IsCondition c = IsToken c.at (kind.Name (word_text word.On)) ▸ IsName c.name
+IsCondition c = IsToken c.at (kind.Name (keyword_text keyword.On)) ▸ IsName c.name
 
 abbrev pub IsSomeCondition : Option TypeCond → Language
 IsSomeCondition None = IsNothing

@@ -4,15 +4,15 @@ use Rattle.std.specs.Prelude.{◌≡◌, ℕ, Bool, true, false, List, if◌then
 use Rattle.hq_gql_lexer.specs.declared.token.Punct.TheVariants.{Dollar, Colon, At, OpenBracket, CloseBracket, OpenBrace, CloseBrace}
 use Rattle.hq_gql_lexer.specs.declared.token.TokenKind.TheVariants as kind
 use Rattle.hq_gql_tree.specs.Values.{ValueTree, int, float, str, bool, null, enum, list, object, variable, ElementTrees, no_element, element, MemberTrees, no_member, member, PlacedTree, ArgumentTree, DirectiveTree}
-use Rattle.hq_gql_parser.specs.declared.word.Word.TheVariants as word
-use Rattle.hq_gql_parser.specs.Lookahead.{is_word}
+use Rattle.hq_gql_parser.specs.declared.keyword.Keyword.TheVariants as keyword
+use Rattle.hq_gql_parser.specs.Lookahead.{is_keyword}
 use Rattle.hq_gql_parser.specs.Languages.{Language, IsNothing, IsToken, IsPunct, IsName, ◌▸◌, Each, InParentheses}
 
 -- the value that a name is: a boolean, null, or an enum value (2.9.3, 2.9.5, 2.9.6)
 unfoldable pub name_value : List ℕ → ValueTree
 name_value name =
-    if is_word name word.True then bool true
-    else (if is_word name word.False then bool false else (if is_word name word.Null then null else enum name))
+    if is_keyword name keyword.True then bool true
+    else (if is_keyword name keyword.False then bool false else (if is_keyword name keyword.Null then null else enum name))
 
 -- a name that is this value
 abbrev pub IsNamed : (at : ℕ) → ValueTree → Language

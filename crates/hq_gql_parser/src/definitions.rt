@@ -2,28 +2,28 @@
 ghost use Rattle.std.specs.Prelude.{◌≡◌, map};
 ghost use Rattle.hq_base.specs.Due.{Gives};
 ghost use Rattle.hq_gql_tree.specs.Documents.{definition_view};
-ghost use Rattle.hq_gql_parser.specs.Operations.{kind_word};
+ghost use Rattle.hq_gql_parser.specs.Operations.{kind_keyword};
 ghost use Rattle.hq_gql_parser.specs.ParsingOperations.{some_name_at, operation_with, shorthand_at, fragment_at, definition_at, document_at};
 
 use crate::directives::directives;
+use crate::keyword::Keyword;
 use crate::lookahead::{Lookahead, is_at, is_name};
 use crate::selections::{condition, set};
 use crate::stop::Stop;
-use crate::tokens::{fragment_name, name, word};
+use crate::tokens::{fragment_name, keyword, name};
 use crate::variables::variables;
-use crate::word::Word;
 use hq_base::Txt;
 use hq_gql_lexer::{Punct, Token};
 use hq_gql_tree::{Definition, DefinitionList, Fragment, OpKind, Operation};
 use std::alloc::Global;
 
-fn kind_word(kind: OpKind) -> Word
-    ensures { result ≡ kind_word kind }
+fn kind_keyword(kind: OpKind) -> Keyword
+    ensures { result ≡ kind_keyword kind }
 {
     match kind {
-        OpKind::Query => Word::Query,
-        OpKind::Mutation => Word::Mutation,
-        OpKind::Subscription => Word::Subscription,
+        OpKind::Query => Keyword::Query,
+        OpKind::Mutation => Keyword::Mutation,
+        OpKind::Subscription => Keyword::Subscription,
     }
 }
 
@@ -38,7 +38,7 @@ fn some_name(alloc: Global, tokens: &[Token]) -> Result<(Option<Txt>, &[Token]),
     Ok((None, tokens))
 }
 
-// An operation that begins with the word of its kind.
+// An operation that begins with the keyword of its kind.
 #[tactic(auto, unfolding(crate::specs::ParsingOperations::operation_with))]
 fn operation(
     alloc: Global,
@@ -48,7 +48,7 @@ fn operation(
 ) -> Result<(Definition, &[Token]), Stop>
     ensures { Gives (λ x. (definition_view x.0, x.1.now)) Stop.Memory (operation_with depth kind tokens.now) result }
 {
-    let (at, rest) = word(kind_word(kind), tokens)?;
+    let (at, rest) = keyword(kind_keyword(kind), tokens)?;
     let (name, rest) = some_name(alloc, rest)?;
     let (vars, rest) = variables(alloc, depth, rest)?;
     let (directives, rest) = directives(alloc, depth, false, rest)?;
@@ -85,7 +85,7 @@ fn shorthand(alloc: Global, depth: u32, tokens: &[Token]) -> Result<(Definition,
 fn fragment(alloc: Global, depth: u32, tokens: &[Token]) -> Result<(Definition, &[Token]), Stop>
     ensures { Gives (λ x. (definition_view x.0, x.1.now)) Stop.Memory (fragment_at depth tokens.now) result }
 {
-    let (at, rest) = word(Word::Fragment, tokens)?;
+    let (at, rest) = keyword(Keyword::Fragment, tokens)?;
     let (name, rest) = fragment_name(alloc, rest)?;
     let (cond, rest) = condition(alloc, rest)?;
     let (directives, rest) = directives(alloc, depth, false, rest)?;
@@ -107,13 +107,13 @@ fn definition(alloc: Global, depth: u32, tokens: &[Token]) -> Result<(Definition
     if is_at(tokens, Lookahead::Punct(Punct::OpenBrace)) {
         return shorthand(alloc, depth, tokens);
     }
-    if is_at(tokens, Lookahead::Word(Word::Fragment)) {
+    if is_at(tokens, Lookahead::Keyword(Keyword::Fragment)) {
         return fragment(alloc, depth, tokens);
     }
-    if is_at(tokens, Lookahead::Word(Word::Mutation)) {
+    if is_at(tokens, Lookahead::Keyword(Keyword::Mutation)) {
         return operation(alloc, depth, OpKind::Mutation, tokens);
     }
-    if is_at(tokens, Lookahead::Word(Word::Subscription)) {
+    if is_at(tokens, Lookahead::Keyword(Keyword::Subscription)) {
         return operation(alloc, depth, OpKind::Subscription, tokens);
     }
     operation(alloc, depth, OpKind::Query, tokens)

@@ -4,6 +4,7 @@
 
 mod definitions;
 mod directives;
+mod keyword;
 mod lookahead;
 mod parsing;
 mod refusal;
@@ -13,10 +14,6 @@ mod tokens;
 mod types;
 mod values;
 mod variables;
-mod word;
 
 pub use parsing::{one_answer, one_document, parse, parsed_is_due};
 pub use refusal::ParseRefusal;
-
-#[cfg(test)]
-mod tests;

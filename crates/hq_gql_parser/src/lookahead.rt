@@ -1,15 +1,15 @@
 ghost use Rattle.std.specs.Prelude.{◌≡◌};
 ghost use Rattle.hq_gql_parser.specs.Lookahead.{next_of, next, is_at, is_name, is_fragment_name};
 
-use crate::word::{Word, word_of};
+use crate::keyword::{Keyword, keyword_of};
 use hq_gql_lexer::{Punct, Token, TokenKind};
 
 /// What stands next: all that the grammar looks at before it takes a token.
-#[derive(Clone, Copy, Debug, PartialEq, Eq)]
+#[derive(Clone, Copy, PartialEq)]
 pub(crate) enum Lookahead {
     End,
     Punct(Punct),
-    Word(Word),
+    Keyword(Keyword),
     Name,
     Int,
     Float,
@@ -21,8 +21,8 @@ fn next_of(kind: &TokenKind) -> Lookahead
 {
     match kind {
         TokenKind::Punct(p) => Lookahead::Punct(*p),
-        TokenKind::Name(name) => match word_of(name) {
-            Some(word) => Lookahead::Word(word),
+        TokenKind::Name(name) => match keyword_of(name) {
+            Some(keyword) => Lookahead::Keyword(keyword),
             None => Lookahead::Name,
         },
         TokenKind::Int(_) => Lookahead::Int,
@@ -54,7 +54,7 @@ pub(crate) fn is_name(tokens: &[Token]) -> bool
     ensures { result ≡ is_name (next tokens.now) }
 {
     match next(tokens) {
-        Lookahead::Word(_) | Lookahead::Name => true,
+        Lookahead::Keyword(_) | Lookahead::Name => true,
         _ => false,
     }
 }
@@ -64,5 +64,5 @@ pub(crate) fn is_name(tokens: &[Token]) -> bool
 pub(crate) fn is_fragment_name(tokens: &[Token]) -> bool
     ensures { result ≡ is_fragment_name (next tokens.now) }
 {
-    is_name(tokens) && !is_at(tokens, Lookahead::Word(Word::On))
+    is_name(tokens) && !is_at(tokens, Lookahead::Keyword(Keyword::On))
 }

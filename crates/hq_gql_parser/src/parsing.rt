@@ -1,5 +1,5 @@
 //! The whole document.
-ghost use Rattle.std.specs.Prelude.{◌≡◌, ℕ, ◌-◌, ◌≤◌, ◌⊎◌, List, length, drop, Result, Ok, Err, IfOk};
+ghost use Rattle.std.specs.Prelude.{◌≡◌, ℕ, ◌-◌, ◌≤◌, List, length, drop, Result};
 ghost use Rattle.hq_base.specs.Due.{Gives};
 ghost use Rattle.hq_gql_lexer.specs.declared.token.Token.{Token};
 ghost use Rattle.hq_gql_tree.specs.Documents.{DocumentTree};
@@ -34,14 +34,7 @@ fn place(tokens: &[Token], end: u64, left: usize) -> u64
 /// early (`Unexpected`); and the first `{` or `[` at which more than 50 of them are open at once, where no token up to
 /// it is unexpected (`TooDeep`).
 pub fn parse(alloc: Global, tokens: &Tokens, end: u64) -> Result<Document, ParseRefusal>
-    // The tokens spell the document that is given.
-    ensures found { IfOk result (λ d. IsDocument (document_view d) tokens.now) }
-    // A refusal is due, or memory was wanted.
-    ensures refused { (e : ParseRefusal) → result ≡ Err e → (e ≡ ParseRefusal.Memory) ⊎ Parses end tokens.now (Err e) }
-    // What is due is answered, unless memory is wanted.
-    ensures only { (due : Result DocumentTree ParseRefusal) → Parses end tokens.now due → Gives document_view ParseRefusal.Memory due result }
-    // It is the one that is computed.
-    ensures exact { Gives document_view ParseRefusal.Memory (parsed end tokens.now) result }
+    ensures { Gives document_view ParseRefusal.Memory (parsed end tokens.now) result }
 {
     let tokens = tokens.as_slice();
     if tokens.is_empty() {
@@ -64,12 +57,13 @@ pub fn one_document()
     ensures { (ts : List Token) (a b : DocumentTree) → IsDocument a ts → IsDocument b ts → a ≡ b }
 {}
 
-/// At most one answer is due.
+/// At nesting_limit one answer is due.
 pub fn one_answer()
     ensures { (end : ℕ) (ts : List Token) (a b : Result DocumentTree ParseRefusal) → Parses end ts a → Parses end ts b → a ≡ b }
 {}
 
-/// The answer that is computed is due, whatever the tokens.
+/// The answer that is computed is due, whatever the tokens. So `parse` gives the document that the tokens spell, and a
+/// refusal only where the grammar has it.
 pub fn parsed_is_due()
     ensures { (end : ℕ) (ts : List Token) → Parses end ts (parsed end ts) }
 {}

@@ -3,7 +3,7 @@ ghost use Rattle.std.specs.Prelude.{◌≡◌};
 use thiserror::Error;
 
 /// Why tokens are no document. Each place is that of a byte in the query text, from 0.
-#[derive(Clone, Copy, Debug, PartialEq, Eq, Error)]
+#[derive(Clone, Copy, Debug, Error)]
 pub enum ParseRefusal {
     /// The first token with which no document begins, or the text's length where the tokens end too early.
     #[error("unexpected at byte {at}")]

@@ -8,10 +8,10 @@ ghost use Rattle.hq_gql_parser.specs.Parsing.{some, until_punct};
 ghost use Rattle.hq_gql_parser.specs.ParsingSelections.{alias_at, head_at, condition_at, some_condition_at, some_set_with, field_with, spread_with, inline_with, fragment_with, selection_at, set_at, set_with};
 
 use crate::directives::{arguments, directives};
+use crate::keyword::Keyword;
 use crate::lookahead::{Lookahead, is_at, is_fragment_name};
 use crate::stop::Stop;
-use crate::tokens::{closed, fragment_name, name, punct, word};
-use crate::word::Word;
+use crate::tokens::{fragment_name, keyword, name, punct, too_deep_or_unexpected};
 use hq_base::Txt;
 use hq_gql_lexer::{Punct, Token};
 use hq_gql_tree::{Field, Inline, Selection, SelectionList, Spread, TypeCond};
@@ -60,7 +60,7 @@ fn field_head(alloc: Global, tokens: &[Token]) -> Result<(Head, &[Token]), Stop>
 pub(crate) fn condition(alloc: Global, tokens: &[Token]) -> Result<(TypeCond, &[Token]), Stop>
     ensures { Gives (λ x. (x.0, x.1.now)) Stop.Memory (condition_at tokens.now) result }
 {
-    let (at, rest) = word(Word::On, tokens)?;
+    let (at, rest) = keyword(Keyword::On, tokens)?;
     let (_at, name, rest) = name(alloc, rest)?;
     Ok((TypeCond { at, name }, rest))
 }
@@ -69,7 +69,7 @@ pub(crate) fn condition(alloc: Global, tokens: &[Token]) -> Result<(TypeCond, &[
 fn some_condition(alloc: Global, tokens: &[Token]) -> Result<(Option<TypeCond>, &[Token]), Stop>
     ensures { Gives (λ x. (x.0, x.1.now)) Stop.Memory (some_condition_at tokens.now) result }
 {
-    if is_at(tokens, Lookahead::Word(Word::On)) {
+    if is_at(tokens, Lookahead::Keyword(Keyword::On)) {
         let (found, rest) = condition(alloc, tokens)?;
         return Ok((Some(found), rest));
     }
@@ -226,7 +226,7 @@ pub(crate) fn set(
     ensures { Gives (λ x. ((x.0, map selection_view x.1.items), x.2.now)) Stop.Memory (set_at depth tokens.now) result }
 {
     if depth == 0 {
-        return Err(closed(Punct::OpenBrace, tokens));
+        return Err(too_deep_or_unexpected(Punct::OpenBrace, tokens));
     }
     opened_set(alloc, depth - 1, tokens)
 }

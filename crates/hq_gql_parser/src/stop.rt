@@ -5,7 +5,7 @@ use hq_base::Memory;
 use std::alloc::{AllocError, AllocFailed};
 
 /// Where parsing stops, by the number of tokens that are left from there on.
-#[derive(Clone, Copy, Debug, PartialEq, Eq)]
+#[derive(Clone, Copy)]
 pub(crate) enum Stop {
     Unexpected(usize),
     TooDeep(usize),

@@ -1,11 +1,11 @@
 //! Taking one token.
 ghost use Rattle.std.specs.Prelude.{◌≡◌};
 ghost use Rattle.hq_base.specs.Due.{Gives};
-ghost use Rattle.hq_gql_parser.specs.Parsing.{punct_at, name_at, word_at, fragment_name_at, closed};
+ghost use Rattle.hq_gql_parser.specs.Parsing.{punct_at, name_at, keyword_at, fragment_name_at, too_deep_or_unexpected};
 
+use crate::keyword::{Keyword, is_keyword};
 use crate::lookahead::{Lookahead, is_at};
 use crate::stop::Stop;
-use crate::word::{Word, is_word};
 use hq_base::Txt;
 use hq_gql_lexer::{Punct, Token, TokenKind};
 use std::alloc::Global;
@@ -21,10 +21,10 @@ pub(crate) fn punct(punct: Punct, tokens: &[Token]) -> Result<(u64, &[Token]), S
     }
 }
 
-// This word's place, and the tokens behind it.
-#[tactic(auto, unfolding(crate::specs::Parsing::word_at))]
-pub(crate) fn word(word: Word, tokens: &[Token]) -> Result<(u64, &[Token]), Stop>
-    ensures { Gives (λ x. (x.0, x.1.now)) Stop.Memory (word_at word tokens.now) result }
+// This keyword's place, and the tokens behind it.
+#[tactic(auto, unfolding(crate::specs::Parsing::keyword_at))]
+pub(crate) fn keyword(keyword: Keyword, tokens: &[Token]) -> Result<(u64, &[Token]), Stop>
+    ensures { Gives (λ x. (x.0, x.1.now)) Stop.Memory (keyword_at keyword tokens.now) result }
 {
     match tokens {
         [
@@ -34,7 +34,7 @@ pub(crate) fn word(word: Word, tokens: &[Token]) -> Result<(u64, &[Token]), Stop
                 ..
             },
             rest @ ..,
-        ] if is_word(name, word) => Ok((*from, rest)),
+        ] if is_keyword(name, keyword) => Ok((*from, rest)),
         _ => Err(Stop::Unexpected(tokens.len())),
     }
 }
@@ -69,15 +69,15 @@ pub(crate) fn fragment_name(alloc: Global, tokens: &[Token]) -> Result<(Txt, &[T
                 ..
             },
             rest @ ..,
-        ] if !is_word(name, Word::On) => Ok((name.copy(alloc)?, rest)),
+        ] if !is_keyword(name, Keyword::On) => Ok((name.copy(alloc)?, rest)),
         _ => Err(Stop::Unexpected(tokens.len())),
     }
 }
 
 // Where a bracket stops that is one too many.
-#[tactic(auto, unfolding(crate::specs::Parsing::closed))]
-pub(crate) fn closed(bracket: Punct, tokens: &[Token]) -> Stop
-    ensures { result ≡ closed bracket tokens.now }
+#[tactic(auto, unfolding(crate::specs::Parsing::too_deep_or_unexpected))]
+pub(crate) fn too_deep_or_unexpected(bracket: Punct, tokens: &[Token]) -> Stop
+    ensures { result ≡ too_deep_or_unexpected bracket tokens.now }
 {
     if is_at(tokens, Lookahead::Punct(bracket)) {
         return Stop::TooDeep(tokens.len());

@@ -2,11 +2,11 @@
 ghost use Rattle.std.specs.Prelude.{◌≡◌};
 ghost use Rattle.hq_base.specs.Due.{Gives};
 ghost use Rattle.hq_gql_tree.specs.Types.{type_view};
-ghost use Rattle.hq_gql_parser.specs.ParsingTypes.{named_type_at, nullable_with, bang_at, type_at, list_type_at, list_type_with};
+ghost use Rattle.hq_gql_parser.specs.ParsingTypes.{named_type_at, nullable_with, non_null_type_at, type_at, list_type_at, list_type_with};
 
 use crate::lookahead::{Lookahead, is_at};
 use crate::stop::Stop;
-use crate::tokens::{closed, name, punct};
+use crate::tokens::{name, punct, too_deep_or_unexpected};
 use hq_gql_lexer::{Punct, Token};
 use hq_gql_tree::TypeRefTree;
 use std::alloc::Global;
@@ -20,14 +20,14 @@ fn named_type(alloc: Global, tokens: &[Token]) -> Result<(u64, TypeRefTree, &[To
 }
 
 // The type as it is, or not null where a `!` stands next.
-#[tactic(auto, unfolding(crate::specs::ParsingTypes::bang_at))]
-fn bang(
+#[tactic(auto, unfolding(crate::specs::ParsingTypes::non_null_type_at))]
+fn non_null_type(
     alloc: Global,
     at: u64,
     ty: TypeRefTree,
     tokens: &[Token],
 ) -> Result<(TypeRefTree, &[Token]), Stop>
-    ensures { Gives (λ x. (type_view x.0, x.1.now)) Stop.Memory (bang_at (at, type_view ty) tokens.now) result }
+    ensures { Gives (λ x. (type_view x.0, x.1.now)) Stop.Memory (non_null_type_at (at, type_view ty) tokens.now) result }
 {
     if is_at(tokens, Lookahead::Punct(Punct::Bang)) {
         let (_bang, rest) = punct(Punct::Bang, tokens)?;
@@ -47,7 +47,7 @@ pub(crate) fn type_ref(
     ensures { Gives (λ x. (type_view x.0, x.1.now)) Stop.Memory (type_at depth tokens.now) result }
 {
     let (at, ty, rest) = nullable(alloc, depth, tokens)?;
-    bang(alloc, at, ty, rest)
+    non_null_type(alloc, at, ty, rest)
 }
 
 // A type without a `!` behind it.
@@ -75,7 +75,7 @@ fn list_type(
     ensures { Gives (λ x. ((x.0, type_view x.1), x.2.now)) Stop.Memory (list_type_at depth tokens.now) result }
 {
     if depth == 0 {
-        return Err(closed(Punct::OpenBracket, tokens));
+        return Err(too_deep_or_unexpected(Punct::OpenBracket, tokens));
     }
     opened_list_type(alloc, depth - 1, tokens)
 }

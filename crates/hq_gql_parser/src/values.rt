@@ -7,10 +7,10 @@ ghost use Rattle.hq_gql_parser.specs.Values.{name_value};
 ghost use Rattle.hq_gql_parser.specs.Parsing.{all, until_punct};
 ghost use Rattle.hq_gql_parser.specs.ParsingValues.{literal_at, variable_at, value_at, list_at, list_with, object_at, object_with, argument_at};
 
+use crate::keyword::{Keyword, is_keyword};
 use crate::lookahead::{Lookahead, is_at};
 use crate::stop::Stop;
-use crate::tokens::{closed, name, punct};
-use crate::word::{Word, is_word};
+use crate::tokens::{name, punct, too_deep_or_unexpected};
 use hq_base::{Memory, Txt};
 use hq_gql_lexer::{Punct, Token, TokenKind};
 use hq_gql_tree::{Argument, Placed, Value, ValueList, ValueMembers};
@@ -20,13 +20,13 @@ use std::alloc::Global;
 fn name_value(alloc: Global, name: &Txt) -> Result<Value, Memory>
     ensures { IfOk result (λ v. value_view v ≡ name_value name.now) }
 {
-    if is_word(name, Word::True) {
+    if is_keyword(name, Keyword::True) {
         return Ok(Value::Bool(true));
     }
-    if is_word(name, Word::False) {
+    if is_keyword(name, Keyword::False) {
         return Ok(Value::Bool(false));
     }
-    if is_word(name, Word::Null) {
+    if is_keyword(name, Keyword::Null) {
         return Ok(Value::Null);
     }
     Ok(Value::Enum(name.copy(alloc)?))
@@ -104,7 +104,7 @@ fn list(
     ensures { Gives (λ x. (placed_view x.0, x.1.now)) Stop.Memory (list_at constant depth tokens.now) result }
 {
     if depth == 0 {
-        return Err(closed(Punct::OpenBracket, tokens));
+        return Err(too_deep_or_unexpected(Punct::OpenBracket, tokens));
     }
     opened_list(alloc, depth - 1, constant, tokens)
 }
@@ -160,7 +160,7 @@ fn object(
     ensures { Gives (λ x. (placed_view x.0, x.1.now)) Stop.Memory (object_at constant depth tokens.now) result }
 {
     if depth == 0 {
-        return Err(closed(Punct::OpenBrace, tokens));
+        return Err(too_deep_or_unexpected(Punct::OpenBrace, tokens));
     }
     opened_object(alloc, depth - 1, constant, tokens)
 }

@@ -13,21 +13,21 @@ pub type VarDefList = Vec<VarDef>;
 
 /// A document (GraphQL October 2021, 2.2) of operations and fragments. Its selection sets, objects and lists are
 /// nested at most 50 deep.
-#[derive(Debug, Drop)]
+#[derive(Drop)]
 pub struct Document {
     pub definitions: DefinitionList,
     pub ghost nested: { document_nest (map definition_view definitions.items) ≤ 50 },
 }
 
 /// An operation or a fragment.
-#[derive(Debug, Drop)]
+#[derive(Drop)]
 pub enum Definition {
     Operation(Operation),
     Fragment(Fragment),
 }
 
 /// What an operation does.
-#[derive(Clone, Copy, Debug, PartialEq, Eq)]
+#[derive(Clone, Copy)]
 pub enum OpKind {
     Query,
     Mutation,
@@ -35,7 +35,7 @@ pub enum OpKind {
 }
 
 /// An operation (2.3). Its place is that of its word, else of its selection set.
-#[derive(Debug, Drop)]
+#[derive(Drop)]
 pub struct Operation {
     pub at: u64,
     pub kind: OpKind,
@@ -46,7 +46,7 @@ pub struct Operation {
 }
 
 /// A definition of a variable (2.10), by its name without its `$`.
-#[derive(Debug, Drop)]
+#[derive(Drop)]
 pub struct VarDef {
     pub at: u64,
     pub name: Txt,
@@ -56,7 +56,7 @@ pub struct VarDef {
 }
 
 /// A fragment (2.8).
-#[derive(Debug, Drop)]
+#[derive(Drop)]
 pub struct Fragment {
     pub at: u64,
     pub name: Txt,

@@ -19,6 +19,3 @@ pub use type_ref::TypeRefTree;
 pub use value::{
     Argument, ArgumentList, Directive, DirectiveList, Placed, Value, ValueList, ValueMembers,
 };
-
-#[cfg(test)]
-mod tests;

@@ -5,7 +5,7 @@ use hq_base::Txt;
 pub type SelectionList = Vec<Selection>;
 
 /// A selection (GraphQL October 2021, 2.4).
-#[derive(Debug, Drop)]
+#[derive(Drop)]
 #[cycle(selection)]
 pub enum Selection {
     Field(Field),
@@ -15,7 +15,7 @@ pub enum Selection {
 
 /// A field (2.5, 2.7). No selections stand where it has no selection set. Its place is that of its alias, else of its
 /// name.
-#[derive(Debug, Drop)]
+#[derive(Drop)]
 #[cycle(selection)]
 pub struct Field {
     pub at: u64,
@@ -27,7 +27,7 @@ pub struct Field {
 }
 
 /// A fragment spread (2.8). Its place is that of its `...`.
-#[derive(Debug, Drop)]
+#[derive(Drop)]
 pub struct Spread {
     pub at: u64,
     pub name: Txt,
@@ -35,7 +35,7 @@ pub struct Spread {
 }
 
 /// An inline fragment (2.8.2). Its place is that of its `...`.
-#[derive(Debug, Drop)]
+#[derive(Drop)]
 #[cycle(selection)]
 pub struct Inline {
     pub at: u64,
@@ -45,7 +45,7 @@ pub struct Inline {
 }
 
 /// A type condition (2.8.1). Its place is that of its `on`.
-#[derive(Debug, Drop)]
+#[derive(Drop)]
 pub struct TypeCond {
     pub at: u64,
     pub name: Txt,

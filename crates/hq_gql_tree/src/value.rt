@@ -13,7 +13,7 @@ pub type ArgumentList = Vec<Argument>;
 pub type DirectiveList = Vec<Directive>;
 
 /// A value (GraphQL October 2021, 2.9). A number has its text, a string its value.
-#[derive(Debug, Drop)]
+#[derive(Drop)]
 #[cycle(value)]
 pub enum Value {
     Int(Txt),
@@ -29,7 +29,7 @@ pub enum Value {
 }
 
 /// A value and its place.
-#[derive(Debug, Drop)]
+#[derive(Drop)]
 #[cycle(value)]
 pub struct Placed {
     pub at: u64,
@@ -37,7 +37,7 @@ pub struct Placed {
 }
 
 /// An argument (2.6), or a member of an object (2.9.8).
-#[derive(Debug, Drop)]
+#[derive(Drop)]
 #[cycle(value)]
 pub struct Argument {
     pub at: u64,
@@ -46,7 +46,7 @@ pub struct Argument {
 }
 
 /// A directive (2.12), by its name without its `@`.
-#[derive(Debug, Drop)]
+#[derive(Drop)]
 pub struct Directive {
     pub at: u64,
     pub name: Txt,

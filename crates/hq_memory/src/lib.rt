@@ -18,6 +18,3 @@ pub use files::{MemFiles, SureFiles};
 pub use links::{MemLink, SureLink};
 pub use sinks::{MemSink, SureSink};
 pub use sources::{MemSource, SureSource};
-
-#[cfg(test)]
-mod tests;

@@ -1,24 +1,23 @@
 -- The names of the schema of admin differ where none was refused.
-use Rattle.std.proofs.Common.{◌≡◌, ◌∙◌, ℕ, ◌+◌, List, [], ◌∷◌, ◌++◌, map, filter, take, drop, Bool, true, false, cond, ◌&&◌, Result, Ok, Err, refl, sym, ap, append_assoc, append-nil, codes}
-use Rattle.std.specs.Prelude.{IfOk, ⊤, bytes_eq}
+use Rattle.std.proofs.Common.{◌≡◌, ◌∙◌, ℕ, ◌+◌, List, [], ◌∷◌, ◌++◌, map, filter, Bool, true, false, cond, ◌&&◌, Result, Ok, Err, refl, sym, ap, append_assoc, append-nil, codes}
+use Rattle.std.specs.Prelude.{IfOk}
 use Rattle.std.specs.List.{list_all, flat_map}
-use Rattle.std.proofs.lemmas.Bool.{and_parts, and_from}
+use Rattle.std.proofs.lemmas.Bool.{and_from}
 use Rattle.std.proofs.lemmas.Grind.{flat_map-append}
 use Rattle.std.proofs.lemmas.List.{map-append, take-append-drop}
 use Rattle.std.proofs.lemmas.List.Elements.{filter-append}
 use Rattle.hq_base.specs.Due.{and_then}
-use Rattle.hq_base.specs.Lists.{all_differ}
 use Rattle.hq_base.specs.Path.{member_path, item_path}
 use Rattle.hq_terms.specs.Meta.{TrackedTree, MetaTree}
 use Rattle.hq_terms.specs.Schema.{Schema}
-use Rattle.hq_terms.specs.SchemaNames.{fixed_types, fixed_inputs, types_of, roots_of, column_names_of, is_in_schema, rel_fields, rels_in_schema, fields_of, inputs_of, all_names_differ, names_differ}
+use Rattle.hq_terms.specs.SchemaNames.{fixed_types, fixed_inputs, types_of, roots_of, column_names_of, is_in_schema, rel_fields, fields_of, inputs_of, all_names_differ, names_differ}
 use Rattle.hq_terms.specs.declared.meta.Rel.{Rel}
 use Rattle.hq_meta_names.specs.declared.known.Shared.{Shared}
 use Rattle.hq_meta_names.specs.declared.known.Own.{Own}
 use Rattle.hq_meta_names.specs.declared.refusal.NameRefusal.{NameRefusal}
 use Rattle.hq_meta_names.specs.Added.{added}
-use Rattle.hq_meta_names.specs.Repeats.{with_rel, with_shown_rel, with_rels, object_count, objects_of, arrays_of, with_all_rels, with_columns, own_names, with_table, with_tables, names_due}
-use Rattle.hq_meta_names.proofs.Results.{ok_mapped, ok_and_then}
+use Rattle.hq_meta_names.specs.Repeats.{with_rel, with_shown_rel, with_rels, object_count, objects_of, arrays_of, with_all_rels, with_columns, own_names, with_table, with_tables}
+use Rattle.hq_meta_names.proofs.Results.{ok_and_then}
 use Rattle.hq_meta_names.proofs.Differ.{Adds, added-Adds}
 
 -- what came of adding fields and inputs

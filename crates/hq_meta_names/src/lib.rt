@@ -13,6 +13,3 @@ mod types;
 
 pub use check::check_names;
 pub use refusal::NameRefusal;
-
-#[cfg(test)]
-mod tests;

@@ -5,6 +5,16 @@ use hq_base::{Memory, Txt};
 use hq_terms::TxtList;
 use std::alloc::Global;
 
+/// The text of these bytes.
+pub fn text(alloc: Global, piece: &str) -> Result<Txt, Memory>
+    requires { has_zero piece.now ≡ false }
+    ensures { IfOk result (λ text. text ≡ piece.now) }
+{
+    let mut text = Txt::new(alloc);
+    text.push_str(piece)?;
+    Ok(text)
+}
+
 /// A name with an end.
 pub fn with_end(alloc: Global, name: &Txt, end: &str) -> Result<Txt, Memory>
     requires { has_zero end.now ≡ false }
@@ -30,7 +40,9 @@ pub fn push_text(alloc: Global, names: TxtList, name: &str) -> Result<TxtList, M
     requires { has_zero name.now ≡ false }
     ensures { IfOk result (λ all. all ≡ names ++ name.now ∷ []) }
 {
-    push_end(alloc, names, &Txt::new(alloc), name)
+    let mut all = names;
+    all.push(text(alloc, name)?)?;
+    Ok(all)
 }
 
 /// Names, and behind them a copy of this one.
@@ -39,16 +51,5 @@ pub fn push_name(alloc: Global, names: TxtList, name: &Txt) -> Result<TxtList, M
 {
     let mut all = names;
     all.push(name.copy(alloc)?)?;
-    Ok(all)
-}
-
-/// Names, and behind them copies of others.
-pub fn joined(alloc: Global, names: TxtList, others: &TxtList) -> Result<TxtList, Memory>
-    ensures { IfOk result (λ all. all ≡ names ++ others.now) }
-{
-    let mut all = names;
-    for other in others.as_slice() {
-        all.push(other.copy(alloc)?)?;
-    }
     Ok(all)
 }

@@ -1,44 +1,49 @@
-ghost use Rattle.std.specs.Prelude.{◌≡◌, ◌++◌, ◌∷◌, [], cond, codes, IfOk};
-ghost use Rattle.hq_meta_names.specs.Types.{types_by, roots_by};
+ghost use Rattle.std.specs.Prelude.{◌≡◌, map, filter, IfOk};
+ghost use Rattle.hq_meta_names.specs.Types.{has_part, part_name, table_types_by, types_by, roots_by};
 ghost use Rattle.hq_terms.specs.SchemaNames.{rel_fields};
 
-use crate::texts::{joined, push_end, push_name};
+use crate::texts::{push_end, push_name, with_end};
 use hq_base::{List, Memory, Txt};
+use hq_schema::Part;
 use hq_terms::{Rel, RootNames, TxtList};
 use std::alloc::Global;
 
-// The types of each table.
-fn table_types(alloc: Global, name: &Txt) -> Result<TxtList, Memory>
-    ensures { IfOk result (λ names. names ≡ name.now ∷ (name.now ++ codes "_bool_exp") ∷ (name.now ++ codes "_order_by") ∷ (name.now ++ codes "_select_column")
-        ∷ (name.now ++ codes "_aggregate") ∷ (name.now ++ codes "_aggregate_fields") ∷ []) }
+// Whether a table whose columns some are ordered or whole numbers has a type.
+fn has_part(part: Part, ordered: bool, whole: bool) -> bool
+    ensures { result ≡ has_part ordered whole part }
 {
-    let names = push_name(alloc, List::new(alloc), name)?;
-    let names = push_end(alloc, names, name, "_bool_exp")?;
-    let names = push_end(alloc, names, name, "_order_by")?;
-    let names = push_end(alloc, names, name, "_select_column")?;
-    let names = push_end(alloc, names, name, "_aggregate")?;
-    push_end(alloc, names, name, "_aggregate_fields")
+    match part {
+        Part::Max | Part::Min => ordered,
+        Part::Sum => whole,
+        _ => true,
+    }
 }
 
-// The types of a table that has columns with an order.
-fn ordered_types(alloc: Global, name: &Txt, ordered: bool) -> Result<TxtList, Memory>
-    ensures { IfOk result (λ names. names ≡ cond ordered ((name.now ++ codes "_max_fields") ∷ (name.now ++ codes "_min_fields") ∷ []) []) }
+// Those of these types that it has.
+fn parts_of(
+    alloc: Global,
+    parts: &[Part],
+    ordered: bool,
+    whole: bool,
+    name: &Txt,
+) -> Result<TxtList, Memory>
+    ensures { IfOk result (λ names. names ≡ map (part_name name.now) (filter (has_part ordered whole) parts.now)) }
 {
-    if !ordered {
-        return Ok(List::new(alloc));
+    let mut names = List::new(alloc);
+    for part in parts {
+        if has_part(*part, ordered, whole) {
+            names.push(with_end(alloc, name, part.suffix())?)?;
+        }
     }
-    let names = push_end(alloc, List::new(alloc), name, "_max_fields")?;
-    push_end(alloc, names, name, "_min_fields")
+    Ok(names)
 }
 
-// The type of a table that has columns of whole numbers.
-fn whole_types(alloc: Global, name: &Txt, whole: bool) -> Result<TxtList, Memory>
-    ensures { IfOk result (λ names. names ≡ cond whole ((name.now ++ codes "_sum_fields") ∷ []) []) }
+// All that it has.
+fn table_types(alloc: Global, ordered: bool, whole: bool, name: &Txt) -> Result<TxtList, Memory>
+    ensures { IfOk result (λ names. names ≡ table_types_by ordered whole name.now) }
 {
-    if !whole {
-        return Ok(List::new(alloc));
-    }
-    push_end(alloc, List::new(alloc), name, "_sum_fields")
+    let names = parts_of(alloc, &Part::all(), ordered, whole, name)?;
+    Ok(names)
 }
 
 /// The types of a table that is shown, of whose columns some are ordered or whole numbers.
@@ -54,9 +59,7 @@ pub fn types_by(
     if !shown {
         return Ok(List::new(alloc));
     }
-    let names = table_types(alloc, name)?;
-    let names = joined(alloc, names, &ordered_types(alloc, name, ordered)?)?;
-    joined(alloc, names, &whole_types(alloc, name, whole)?)
+    table_types(alloc, ordered, whole, name)
 }
 
 /// The root fields of a table that is shown: the look-up by key where the key's columns are.

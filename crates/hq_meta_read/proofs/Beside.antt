@@ -9,7 +9,8 @@ use Rattle.hq_terms.specs.Schema.{schema_of, schema_table, numbered, rels_of}
 use Rattle.hq_terms.specs.declared.meta.Rel.{Rel}
 use Rattle.hq_terms.specs.declared.table.Table.{Table}
 use Rattle.hq_meta_read.specs.Permitted.{perms_beside, with_perms}
-use Rattle.hq_meta_read.specs.Related.{rels_beside, with_rels, tables_of}
+use Rattle.hq_meta_read.specs.Related.{rels_beside, with_rels}
+use Rattle.hq_meta_tables.specs.Tracked.{tables_of}
 
 -- lists that are as long are as long behind their first items
 shorter : {A B : Type 0} (x : A) (xs : List A) (y : B) (ys : List B) → length (x ∷ xs) ≡ length (y ∷ ys) → length xs ≡ length ys

@@ -24,15 +24,15 @@ use Rattle.hq_terms.specs.declared.meta.Pair.{Pair}
 use Rattle.hq_terms.specs.declared.meta.Rel.{Rel}
 use Rattle.hq_terms.specs.declared.table.Column.{Column}
 use Rattle.hq_terms.specs.declared.table.Table.{Table}
-use Rattle.hq_meta_read.specs.declared.refusal.MetaRefusal.{MetaRefusal}
-use Rattle.hq_meta_read.specs.Each.{each, each_after}
-use Rattle.hq_meta_read.specs.Found.{columns_of}
+use Rattle.hq_meta_tables.specs.declared.refusal.MetaRefusal.{MetaRefusal}
+use Rattle.hq_meta_tables.specs.Each.{each, each_after}
+use Rattle.hq_meta_tables.specs.Found.{columns_of}
 use Rattle.hq_meta_read.specs.Permitted.{perms_at, with_perms, permitted}
 use Rattle.hq_meta_read.specs.Reading.{named, names_in, tracked_of, meta_of}
-use Rattle.hq_meta_read.specs.Related.{rels_at, with_rels, tables_of, related}
+use Rattle.hq_meta_read.specs.Related.{rels_at, with_rels, related}
 use Rattle.hq_meta_read.specs.Sound.{Sound, AllSound, TablesSound}
-use Rattle.hq_meta_read.specs.Top.{tables_path, table_entries, unwrapped}
-use Rattle.hq_meta_read.specs.Tracked.{tracked_at}
+use Rattle.hq_meta_tables.specs.Top.{tables_path, table_entries, unwrapped}
+use Rattle.hq_meta_tables.specs.Tracked.{tracked_at, tables_of}
 use Rattle.hq_meta_read.proofs.Beside.{WithRels, put_rels, WithPerms, put_perms, same_tracked, same_schema, long_zip}
 use Rattle.hq_meta_read.proofs.Heads.{Head, Tracked, all_tracked-Tracked}
 use Rattle.hq_meta_read.proofs.Keys.{joins, Pairs}

@@ -12,8 +12,8 @@ use Rattle.hq_terms.specs.declared.meta.Pair.{Pair}
 use Rattle.hq_terms.specs.declared.table.Column.{Column}
 use Rattle.hq_terms.specs.declared.table.ForeignKey.{ForeignKey}
 use Rattle.hq_terms.specs.declared.table.Table.{Table}
-use Rattle.hq_meta_read.specs.declared.refusal.MetaRefusal.TheVariants.{NoForeignKey}
-use Rattle.hq_meta_read.specs.Found.{columns_of}
+use Rattle.hq_meta_tables.specs.declared.refusal.MetaRefusal.TheVariants.{NoForeignKey}
+use Rattle.hq_meta_tables.specs.Found.{columns_of}
 use Rattle.hq_meta_read.specs.Linked.{same_columns, pairs_of, foreign_of, own_key, remote_key}
 use Rattle.hq_meta_read.proofs.Lists.{list_all-map, positive, found_passes, passes_at}
 use Rattle.hq_meta_read.proofs.Steps.{ok_found}

@@ -1,6 +1,6 @@
 -- Relationships go to tracked tables by pairs that can be compared.
 use Rattle.std.proofs.Common.{◌≡◌, ◌∙◌, ℕ, List, [], ◌∷◌, ◌++◌, length, Bool, true, false, not, Option, Some, None, slice_get, Result, Ok, Err, refl, sym, ap, subst}
-use Rattle.std.specs.Prelude.{IfOk, ⊤, is_some, nat_lt}
+use Rattle.std.specs.Prelude.{IfOk, ⊤, is_some, nat_lt, ◌&&◌, bytes_eq, codes}
 use Rattle.std.specs.List.{AllByRecursion, AllZip, list_all}
 use Rattle.std.proofs.lemmas.Slice.Zip.{AllZip-long}
 use Rattle.hq_base.specs.Due.{and_then, mapped}
@@ -16,15 +16,15 @@ use Rattle.hq_terms.specs.declared.meta.Rel.{Rel}
 use Rattle.hq_terms.specs.declared.table.Column.{Column}
 use Rattle.hq_terms.specs.declared.table.ForeignKey.{ForeignKey}
 use Rattle.hq_terms.specs.declared.table.Table.{Table}
-use Rattle.hq_meta_read.specs.declared.field.Field.TheVariants as field
+use Rattle.hq_meta_tables.specs.declared.field.Field.TheVariants as field
 use Rattle.hq_meta_read.specs.declared.link.Link.{Link}
-use Rattle.hq_meta_read.specs.declared.refusal.MetaRefusal.{MetaRefusal}
-use Rattle.hq_meta_read.specs.declared.refusal.MetaRefusal.TheVariants.{Shape, UnknownTable, BadMapping}
-use Rattle.hq_meta_read.specs.Each.{each, each_after}
-use Rattle.hq_meta_read.specs.Found.{columns_of, column_named, column_at, table_at, remote_at, tracked_due}
+use Rattle.hq_meta_tables.specs.declared.refusal.MetaRefusal.{MetaRefusal}
+use Rattle.hq_meta_tables.specs.declared.refusal.MetaRefusal.TheVariants.{Shape, UnknownTable, BadMapping}
+use Rattle.hq_meta_tables.specs.Each.{each, each_after}
+use Rattle.hq_meta_tables.specs.Found.{columns_of, column_named, column_at, table_at, remote_at, tracked_due}
 use Rattle.hq_meta_read.specs.Linked.{just_one, pairs_of, own_key, remote_key, by_own_key, key_columns, by_remote_key, by_key_of, by_key, pair_due, pair_at, some_pair, pairs_at, by_hand, link_by, link_at}
-use Rattle.hq_meta_read.specs.Node.{required, checked, at, value_of, object_at, text_at, member_at, free_name_at, object_member, entries_member}
-use Rattle.hq_meta_read.specs.Related.{rel_at, objects_at, rels_at}
+use Rattle.hq_meta_tables.specs.Node.{required, checked, at, value_of, object_at, text_at, member_at, free_name_at, object_member, entries_member}
+use Rattle.hq_meta_read.specs.Related.{rel_name_at, rel_at, objects_at, rels_at}
 use Rattle.hq_meta_read.proofs.Heads.{free_name_at-free}
 use Rattle.hq_meta_read.proofs.Keys.{joins, Pairs, Key, own_pairs, remote_pairs, own_key-Key, remote_key-Key}
 use Rattle.hq_meta_read.proofs.Lists.{positive, push_all, list_all-push, list_all-from, beside_all, objects-only, objects-push}
@@ -160,6 +160,13 @@ pub record Related (tables : List Table) (m : MetaTree) (t : ℕ) (r : Rel) : Ty
   pub remote : is_some (tracked_table m r.remote) ≡ true
   pub pairs : Pairs (columns_of tables t) (columns_of tables r.remote) r.pairs
 
+rel_name_at-free : (many : Bool) (path : List ℕ) (j : JsonTree) → IfOk (rel_name_at many path j) (λ n. is_free_name n ≡ true)
+unfolding rel_name_at
+rel_name_at-free many path j =
+    ok_and_then (λ name. and_then (λ u. Ok name) (checked path (not (many && bytes_eq name (codes "_"))))) (λ n. is_free_name n ≡ true) (λ n. is_free_name n ≡ true)
+    (λ name f. ok_next (λ u. Ok name) (λ n. is_free_name n ≡ true) (λ u. f) (checked path (not (many && bytes_eq name (codes "_")))))
+    (free_name_at path j) (free_name_at-free path j)
+
 rel_at-Related : (tables : List Table) (m : MetaTree) (t : ℕ) (many : Bool) (path : List ℕ) (j : JsonTree) → is_catalog tables ≡ true → IfOk (rel_at tables m t many path j) (λ r. Related tables m t r × (r.many ≡ many))
 unfolding rel_at
 rel_at-Related tables m t many path j catalog =
@@ -167,15 +174,15 @@ rel_at-Related tables m t many path j catalog =
     let all = λ (r : Rel). Related tables m t r × (r.many ≡ many) in
     let np = at path field.Name in
     let up = at path field.Using in
-    ok_next (λ object. and_then (λ text. and_then (λ name. and_then (λ using. and_then (λ l. Ok (made name l)) (link_at tables m t many up using)) (object_member path object field.Using)) (free_name_at np text)) (member_at path object field.Name)) all
-    (λ object. ok_next (λ text. and_then (λ name. and_then (λ using. and_then (λ l. Ok (made name l)) (link_at tables m t many up using)) (object_member path object field.Using)) (free_name_at np text)) all
+    ok_next (λ object. and_then (λ text. and_then (λ name. and_then (λ using. and_then (λ l. Ok (made name l)) (link_at tables m t many up using)) (object_member path object field.Using)) (rel_name_at many np text)) (member_at path object field.Name)) all
+    (λ object. ok_next (λ text. and_then (λ name. and_then (λ using. and_then (λ l. Ok (made name l)) (link_at tables m t many up using)) (object_member path object field.Using)) (rel_name_at many np text)) all
     (λ text. ok_and_then (λ name. and_then (λ using. and_then (λ l. Ok (made name l)) (link_at tables m t many up using)) (object_member path object field.Using)) (λ n. is_free_name n ≡ true) all
     (λ name f. ok_next (λ using. and_then (λ l. Ok (made name l)) (link_at tables m t many up using)) all
     (λ using. ok_and_then (λ l. Ok (made name l)) (Joined tables m t) all
     (λ l g. (record { named = f; remote = g.remote; pairs = g.pairs }, refl))
     (link_at tables m t many up using) (link_at-Joined tables m t many up using catalog))
     (object_member path object field.Using))
-    (free_name_at np text) (free_name_at-free np text))
+    (rel_name_at many np text) (rel_name_at-free many np text))
     (member_at path object field.Name))
     (object_at path j)
 

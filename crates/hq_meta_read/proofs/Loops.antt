@@ -13,7 +13,7 @@ use Rattle.hq_terms.specs.declared.meta.Rel.{Rel}
 use Rattle.hq_terms.specs.declared.meta.Tracked.{Tracked}
 use Rattle.hq_meta_read.specs.Permitted.{perms_beside}
 use Rattle.hq_meta_read.specs.Related.{rels_beside}
-use Rattle.hq_meta_read.specs.Each.{each_after}
+use Rattle.hq_meta_tables.specs.Each.{each_after}
 use Rattle.hq_meta_read.specs.Linked.{pairs_of}
 
 -- a pair of columns

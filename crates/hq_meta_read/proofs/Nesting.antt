@@ -10,15 +10,15 @@ use Rattle.hq_base.specs.Path.{top_path}
 use Rattle.hq_base.specs.Look.{array_in, object_in, member_in, element_list, member_list}
 use Rattle.hq_filter_read.specs.Nesting.{nesting, nesting_of_elements, nesting_of_members}
 use Rattle.hq_terms.specs.Meta.{MetaTree}
-use Rattle.hq_meta_read.specs.declared.field.Field.{Field}
-use Rattle.hq_meta_read.specs.declared.field.Field.TheVariants as field
-use Rattle.hq_meta_read.specs.declared.refusal.MetaRefusal.{MetaRefusal}
-use Rattle.hq_meta_read.specs.declared.refusal.MetaRefusal.TheVariants as refusal
-use Rattle.hq_meta_read.specs.Field.{field_name}
-use Rattle.hq_meta_read.specs.Node.{at, value_of, checked, object_at, text_member, list_at, member_at, list_member, object_member, entries_in, entries_member}
+use Rattle.hq_meta_tables.specs.declared.field.Field.{Field}
+use Rattle.hq_meta_tables.specs.declared.field.Field.TheVariants as field
+use Rattle.hq_meta_tables.specs.declared.refusal.MetaRefusal.{MetaRefusal}
+use Rattle.hq_meta_tables.specs.declared.refusal.MetaRefusal.TheVariants as refusal
+use Rattle.hq_meta_tables.specs.Field.{field_name}
+use Rattle.hq_meta_tables.specs.Node.{at, value_of, checked, object_at, text_member, list_at, member_at, list_member, object_member, entries_in, entries_member}
 use Rattle.hq_meta_read.specs.Reading.{json_in}
 use Rattle.hq_meta_read.specs.Sound.{Shallow}
-use Rattle.hq_meta_read.specs.Top.{unwrapped_by, unwrapped, version_due, sole, no_inherited_roles, kind_due, plain_in, source_path, source_tables, table_entries}
+use Rattle.hq_meta_tables.specs.Top.{unwrapped_by, unwrapped, version_due, sole, roles_due, kind_due, plain_in, source_path, source_tables, table_entries}
 use Rattle.hq_meta_read.proofs.Steps.{ok_weaker, ok_and_then, ok_next, ok_found, ok_tested}
 
 -- a member nests no deeper than its object
@@ -127,12 +127,12 @@ unfolding table_entries
 entries-shallow j h =
     let all = AllByRecursion Shallow in
     let top = top_path in
-    ok_next (λ u. and_then (λ o. and_then (λ sources. and_then (λ v. and_then (λ source. source_tables source) (sole sources)) (no_inherited_roles o)) (list_member top o field.Sources)) (object_at top j)) all
-    (λ u. ok_and_then (λ o. and_then (λ sources. and_then (λ v. and_then (λ source. source_tables source) (sole sources)) (no_inherited_roles o)) (list_member top o field.Sources)) Shallow all
-    (λ o g. ok_and_then (λ sources. and_then (λ v. and_then (λ source. source_tables source) (sole sources)) (no_inherited_roles o)) all all
+    ok_next (λ u. and_then (λ o. and_then (λ sources. and_then (λ v. and_then (λ source. source_tables source) (sole sources)) (roles_due o)) (list_member top o field.Sources)) (object_at top j)) all
+    (λ u. ok_and_then (λ o. and_then (λ sources. and_then (λ v. and_then (λ source. source_tables source) (sole sources)) (roles_due o)) (list_member top o field.Sources)) Shallow all
+    (λ o g. ok_and_then (λ sources. and_then (λ v. and_then (λ source. source_tables source) (sole sources)) (roles_due o)) all all
     (λ sources f. ok_next (λ v. and_then (λ source. source_tables source) (sole sources)) all
     (λ v. ok_and_then (λ source. source_tables source) Shallow all (λ source s. source_tables-shallow source s) (sole sources) (sole-shallow sources f))
-    (no_inherited_roles o))
+    (roles_due o))
     (list_member top o field.Sources) (list_member-shallow top o field.Sources g))
     (object_at top j) (object_at-shallow top j h))
     (version_due (value_of j field.Version))

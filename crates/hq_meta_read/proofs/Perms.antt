@@ -15,12 +15,12 @@ use Rattle.hq_terms.specs.Names.{is_admin_name}
 use Rattle.hq_terms.specs.Schema.{schema_of}
 use Rattle.hq_terms.specs.declared.table.Column.{Column}
 use Rattle.hq_terms.specs.declared.table.Table.{Table}
-use Rattle.hq_meta_read.specs.declared.field.Field.TheVariants as field
-use Rattle.hq_meta_read.specs.declared.refusal.MetaRefusal.TheVariants as refusal
-use Rattle.hq_meta_read.specs.Each.{each, each_after}
-use Rattle.hq_meta_read.specs.Found.{columns_of, column_at}
+use Rattle.hq_meta_tables.specs.declared.field.Field.TheVariants as field
+use Rattle.hq_meta_tables.specs.declared.refusal.MetaRefusal.TheVariants as refusal
+use Rattle.hq_meta_tables.specs.Each.{each, each_after}
+use Rattle.hq_meta_tables.specs.Found.{columns_of, column_at}
 use Rattle.hq_meta_read.specs.Linked.{is_among}
-use Rattle.hq_meta_read.specs.Node.{checked, at, value_of, object_at, member_at, text_member, object_member, entries_member}
+use Rattle.hq_meta_tables.specs.Node.{checked, at, value_of, object_at, member_at, text_member, object_member, entries_member}
 use Rattle.hq_meta_read.specs.Permitted.{role_due, all_columns, chosen, columns_by, columns_at, filter_in, whole_limit, limit_due, aggregations_due, absent, permission_at, perm_at, perms_at}
 use Rattle.hq_meta_read.proofs.Lists.{push_differ, push_all, all_filtered, places_within}
 use Rattle.hq_meta_read.proofs.Steps.{ok_always, ok_weaker, ok_mapped, ok_and_then, ok_next, ok_tested, ok_unless, ok_checked, each_after-keeps}

@@ -6,9 +6,9 @@ use Rattle.std.proofs.lemmas.List.{drop_more}
 use Rattle.hq_base.specs.Due.{and_then, mapped}
 use Rattle.hq_base.specs.Path.{item_path, member_path}
 use Rattle.hq_filter_read.specs.Each.{each_member}
-use Rattle.hq_meta_read.specs.declared.refusal.MetaRefusal.TheVariants.{Shape}
-use Rattle.hq_meta_read.specs.Each.{each_after}
-use Rattle.hq_meta_read.specs.Node.{checked}
+use Rattle.hq_meta_tables.specs.declared.refusal.MetaRefusal.TheVariants.{Shape}
+use Rattle.hq_meta_tables.specs.Each.{each_after}
+use Rattle.hq_meta_tables.specs.Node.{checked}
 
 pub ok_always : {A E : Type 0} (r : Result A E) → IfOk r (λ _. ⊤)
 ok_always (Ok x) = tt

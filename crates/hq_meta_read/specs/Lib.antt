@@ -1,10 +1,3 @@
-pub mod Field
-pub mod Each
-pub mod Node
-pub mod Top
-pub mod Found
-pub mod Configured
-pub mod Tracked
 pub mod Linked
 pub mod Related
 pub mod Permitted

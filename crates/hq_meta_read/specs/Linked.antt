@@ -13,13 +13,13 @@ use Rattle.hq_terms.specs.declared.meta.Pair.{Pair}
 use Rattle.hq_terms.specs.declared.table.Column.{Column}
 use Rattle.hq_terms.specs.declared.table.ForeignKey.{ForeignKey}
 use Rattle.hq_terms.specs.declared.table.Table.{Table}
-use Rattle.hq_meta_read.specs.declared.field.Field.TheVariants as field
+use Rattle.hq_meta_tables.specs.declared.field.Field.TheVariants as field
 use Rattle.hq_meta_read.specs.declared.link.Link.{Link}
-use Rattle.hq_meta_read.specs.declared.refusal.MetaRefusal.{MetaRefusal}
-use Rattle.hq_meta_read.specs.declared.refusal.MetaRefusal.TheVariants.{Shape, NoForeignKey, BadMapping}
-use Rattle.hq_meta_read.specs.Each.{each}
-use Rattle.hq_meta_read.specs.Found.{columns_of, column_named, column_at, remote_at, tracked_due}
-use Rattle.hq_meta_read.specs.Node.{required, checked, at, value_of, object_at, text_at, list_at, member_at, object_member}
+use Rattle.hq_meta_tables.specs.declared.refusal.MetaRefusal.{MetaRefusal}
+use Rattle.hq_meta_tables.specs.declared.refusal.MetaRefusal.TheVariants.{Shape, NoForeignKey, BadMapping}
+use Rattle.hq_meta_tables.specs.Each.{each}
+use Rattle.hq_meta_tables.specs.Found.{columns_of, column_named, column_at, remote_at, tracked_due}
+use Rattle.hq_meta_tables.specs.Node.{required, checked, at, value_of, object_at, text_at, list_at, member_at, object_member}
 
 -- two lists have the same columns, in any order
 abbrev pub is_among : (c : ℕ) → List ℕ → Bool

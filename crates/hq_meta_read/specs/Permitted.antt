@@ -6,22 +6,22 @@ use Rattle.hq_base.specs.Json.{JsonTree, null, int}
 use Rattle.hq_base.specs.Look.{bool_in, str_in, array_in}
 use Rattle.hq_filter_read.specs.Filter.{filter_due}
 use Rattle.hq_filter_read.specs.declared.refusal.FilterRefusal.{FilterRefusal}
-use Rattle.hq_filter_read.specs.declared.refusal.FilterRefusal.TheVariants as filter
 use Rattle.hq_terms.specs.Bexp.{BexpTree}
 use Rattle.hq_terms.specs.Meta.{PermTree, TrackedTree, MetaTree}
 use Rattle.hq_terms.specs.Names.{is_admin_name}
 use Rattle.hq_terms.specs.Schema.{Schema, schema_of, numbered}
 use Rattle.hq_terms.specs.declared.table.Column.{Column}
 use Rattle.hq_terms.specs.declared.table.Table.{Table}
-use Rattle.hq_meta_read.specs.declared.field.Field.{Field}
-use Rattle.hq_meta_read.specs.declared.field.Field.TheVariants as field
-use Rattle.hq_meta_read.specs.declared.refusal.MetaRefusal.{MetaRefusal}
-use Rattle.hq_meta_read.specs.declared.refusal.MetaRefusal.TheVariants as refusal
-use Rattle.hq_meta_read.specs.Each.{each, each_after}
-use Rattle.hq_meta_read.specs.Found.{columns_of, column_at}
-use Rattle.hq_meta_read.specs.Node.{required, checked, at, value_of, object_at, text_at, member_at, text_member, object_member, entries_member}
+use Rattle.hq_meta_tables.specs.declared.field.Field.{Field}
+use Rattle.hq_meta_tables.specs.declared.field.Field.TheVariants as field
+use Rattle.hq_meta_tables.specs.declared.refusal.MetaRefusal.{MetaRefusal}
+use Rattle.hq_meta_tables.specs.declared.refusal.MetaRefusal.TheVariants as refusal
+use Rattle.hq_meta_tables.specs.Each.{each, each_after}
+use Rattle.hq_meta_tables.specs.Found.{columns_of, column_at}
+use Rattle.hq_meta_tables.specs.Node.{required, checked, at, value_of, object_at, text_at, member_at, text_member, object_member, entries_member}
 use Rattle.hq_meta_read.specs.Linked.{is_among}
-use Rattle.hq_meta_read.specs.Related.{tables_of}
+use Rattle.hq_meta_tables.specs.Refused.{filter_refusal}
+use Rattle.hq_meta_tables.specs.Tracked.{tables_of}
 
 -- the role of a permission is not admin's, and none before it has it
 unfoldable pub role_due : (before : List PermTree) → (path : List ℕ) → JsonTree → Result (List ℕ) MetaRefusal
@@ -52,12 +52,6 @@ abbrev pub columns_at : List Column → (path : List ℕ) → JsonTree → Resul
 columns_at columns path j = columns_by columns path (str_in j) (array_in j)
 
 -- the filter at a path over table t, refused under the same names
-abbrev pub filter_refusal : FilterRefusal → MetaRefusal
-filter_refusal (filter.Shape path) = refusal.Shape path
-filter_refusal (filter.UnknownColumn path) = refusal.UnknownColumn path
-filter_refusal (filter.BadOperand path) = refusal.BadOperand path
-filter_refusal filter.Memory = refusal.Memory
-
 abbrev pub filter_in : Result BexpTree FilterRefusal → Result BexpTree MetaRefusal
 filter_in (Ok b) = Ok b
 filter_in (Err e) = Err (filter_refusal e)

@@ -11,14 +11,14 @@ use Rattle.hq_terms.specs.Schema.{schema_of}
 use Rattle.hq_terms.specs.declared.table.Table.{Table}
 use Rattle.hq_meta_names.specs.Repeats.{names_due}
 use Rattle.hq_meta_names.specs.declared.refusal.NameRefusal.{NameRefusal}
-use Rattle.hq_meta_names.specs.declared.refusal.NameRefusal.TheVariants as name
-use Rattle.hq_meta_read.specs.declared.refusal.MetaRefusal.{MetaRefusal}
-use Rattle.hq_meta_read.specs.declared.refusal.MetaRefusal.TheVariants.{NotJson, RepeatedName, Memory}
-use Rattle.hq_meta_read.specs.Each.{each_after}
+use Rattle.hq_meta_tables.specs.declared.refusal.MetaRefusal.{MetaRefusal}
+use Rattle.hq_meta_tables.specs.declared.refusal.MetaRefusal.TheVariants.{NotJson}
+use Rattle.hq_meta_tables.specs.Each.{each_after}
 use Rattle.hq_meta_read.specs.Permitted.{permitted}
 use Rattle.hq_meta_read.specs.Related.{related}
-use Rattle.hq_meta_read.specs.Top.{unwrapped, table_entries, tables_path}
-use Rattle.hq_meta_read.specs.Tracked.{tracked_at}
+use Rattle.hq_meta_tables.specs.Top.{unwrapped, table_entries, tables_path}
+use Rattle.hq_meta_tables.specs.Refused.{name_refusal}
+use Rattle.hq_meta_tables.specs.Tracked.{tracked_at}
 
 -- the tables that the entries track, with their names
 unfoldable pub named : List Table → List JsonTree → Result MetaTree MetaRefusal
@@ -27,10 +27,6 @@ named tables js = do
   Ok (record { tracked = tracked })
 
 -- names that stand twice are refused
-abbrev pub name_refusal : NameRefusal → MetaRefusal
-name_refusal (name.Repeated path) = RepeatedName path
-name_refusal name.Memory = Memory
-
 abbrev pub names_in : Result (Unit {0}) NameRefusal → Result (Unit {0}) MetaRefusal
 names_in (Ok u) = Ok u
 names_in (Err e) = Err (name_refusal e)

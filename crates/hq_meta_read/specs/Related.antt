@@ -1,22 +1,30 @@
 -- The relationships of the tracked tables (Hasura v2, metadata format: ObjectRelationship, ArrayRelationship).
-use Rattle.std.specs.Prelude.{ℕ, List, [], ◌∷◌, map, zip, Bool, true, false, Result, Ok}
+use Rattle.std.specs.Prelude.{ℕ, List, [], ◌∷◌, map, zip, Bool, true, false, not, ◌&&◌, bytes_eq, codes, Result, Ok}
 use Rattle.hq_base.specs.Due.{◌>>=◌}
 use Rattle.hq_base.specs.Json.{JsonTree}
 use Rattle.hq_terms.specs.Meta.{TrackedTree, MetaTree}
 use Rattle.hq_terms.specs.declared.meta.Rel.{Rel}
 use Rattle.hq_terms.specs.declared.table.Table.{Table}
-use Rattle.hq_meta_read.specs.declared.field.Field.TheVariants as field
-use Rattle.hq_meta_read.specs.declared.refusal.MetaRefusal.{MetaRefusal}
-use Rattle.hq_meta_read.specs.Each.{each, each_after}
+use Rattle.hq_meta_tables.specs.declared.field.Field.TheVariants as field
+use Rattle.hq_meta_tables.specs.declared.refusal.MetaRefusal.{MetaRefusal}
+use Rattle.hq_meta_tables.specs.Each.{each, each_after}
 use Rattle.hq_meta_read.specs.Linked.{link_at}
-use Rattle.hq_meta_read.specs.Node.{at, object_at, member_at, free_name_at, object_member, entries_member}
+use Rattle.hq_meta_tables.specs.Tracked.{tables_of}
+use Rattle.hq_meta_tables.specs.Node.{checked, at, object_at, member_at, free_name_at, object_member, entries_member}
+
+-- a relationship's name is a free name, that of an array one also not `_`: its field for aggregates would be `__aggregate`
+unfoldable pub rel_name_at : (many : Bool) → (path : List ℕ) → JsonTree → Result (List ℕ) MetaRefusal
+rel_name_at many path j = do
+  name ← free_name_at path j
+  _ ← checked path (not (many && bytes_eq name (codes "_")))
+  Ok name
 
 -- the relationship at a path, of table t: an array one where it is many
 unfoldable pub rel_at : List Table → MetaTree → (t : ℕ) → (many : Bool) → (path : List ℕ) → JsonTree → Result Rel MetaRefusal
 rel_at tables m t many path j = do
   object ← object_at path j
   text ← member_at path object field.Name
-  name ← free_name_at (at path field.Name) text
+  name ← rel_name_at many (at path field.Name) text
   using ← object_member path object field.Using
   link ← link_at tables m t many (at path field.Using) using
   Ok (record { name = name; remote = link.remote; pairs = link.pairs; many = many })
@@ -41,10 +49,6 @@ rels_beside _ _ = []
 
 abbrev pub with_rels : MetaTree → List (List Rel) → MetaTree
 with_rels m rels = record { tracked = rels_beside m.tracked rels }
-
--- the places of the tracked tables
-abbrev pub tables_of : MetaTree → List ℕ
-tables_of m = map (λ k. k.table) m.tracked
 
 -- the tables, whose entries stand in the list at a path, with their relationships
 unfoldable pub related : List Table → (path : List ℕ) → List JsonTree → MetaTree → Result MetaTree MetaRefusal

@@ -3,21 +3,11 @@
 //! names nor what a role may see are passed over; those that would are refused.
 #![tactic(auto)]
 
-mod field;
-mod found;
 mod link;
 mod linking;
-mod names;
-mod node;
 mod permissions;
 mod read;
-mod refusal;
 mod relationships;
-mod top;
-mod tracking;
 
+pub use hq_meta_tables::MetaRefusal;
 pub use read::read_meta;
-pub use refusal::MetaRefusal;
-
-#[cfg(test)]
-mod tests;

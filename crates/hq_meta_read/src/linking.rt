@@ -7,12 +7,14 @@ ghost use Rattle.hq_terms.specs.Catalog.{comparable, can_pair, type_of};
 ghost use Rattle.hq_terms.specs.Meta.{meta_view};
 ghost use Rattle.hq_meta_read.specs.Linked.{is_among, same_columns, just_one, pairs_of, foreign_of, own_key, remote_key, by_own_key, key_columns, by_remote_key, by_key, pair_due, pair_at, pairs_at, by_hand, link_at};
 
-use crate::MetaRefusal;
-use crate::field::Field;
-use crate::found::{column_at, column_named, columns_of, listed_columns, remote_at, tracked_table};
 use crate::link::Link;
-use crate::node::{at, list_at, member_at, named_path, object_at, text_at};
 use hq_base::{Json, List, Member, Memory, Txt, Ty};
+use hq_meta_tables::MetaRefusal;
+use hq_meta_tables::field::Field;
+use hq_meta_tables::found::{
+    column_at, column_named, columns_of, listed_columns, remote_at, tracked_table,
+};
+use hq_meta_tables::node::{at, list_at, member_at, named_path, object_at, text_at};
 use hq_terms::{Catalog, ColId, ColList, Column, ForeignKey, Pair, PairList, Scope, TableId};
 use std::alloc::Global;
 

@@ -9,18 +9,18 @@ ghost use Rattle.hq_terms.specs.Filters.{is_filter};
 ghost use Rattle.hq_terms.specs.Meta.{meta_view, perm_view};
 ghost use Rattle.hq_terms.specs.Names.{is_admin_name};
 ghost use Rattle.hq_terms.specs.Schema.{schema_of};
-ghost use Rattle.hq_meta_read.specs.Each.{each, each_after};
+ghost use Rattle.hq_meta_tables.specs.Each.{each, each_after};
 ghost use Rattle.hq_meta_read.specs.Sound.{Shallow, Sound, AllSound, TablesSound};
 ghost use Rattle.hq_meta_read.specs.Permitted.{role_due, all_columns, chosen, star, columns_at, filter_in, whole_limit, limit_due, aggregations_due, absent, permission_at, perm_at, perms_at, with_perms, permitted};
 ghost use Rattle.hq_meta_read.specs.Linked.{is_among};
 
-use crate::MetaRefusal;
-use crate::field::Field;
-use crate::found::{columns_of, listed_columns};
-use crate::node::{at, entries_member, member_at, object_at, object_member, text_member};
-use crate::tracking::tables_of;
 use hq_base::{Json, List, Memory, Txt, item_path};
 use hq_filter_read::read_filter;
+use hq_meta_tables::MetaRefusal;
+use hq_meta_tables::field::Field;
+use hq_meta_tables::found::{columns_of, listed_columns};
+use hq_meta_tables::node::{at, entries_member, member_at, object_at, object_member, text_member};
+use hq_meta_tables::tracking::tables_of;
 use hq_terms::{
     Bexp, Catalog, ColId, ColList, Column, Meta, Perm, PermList, Scope, TableId, Tracked,
 };

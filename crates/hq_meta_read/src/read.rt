@@ -10,16 +10,16 @@ ghost use Rattle.hq_terms.specs.SchemaNames.{names_differ};
 ghost use Rattle.hq_meta_names.specs.Repeats.{names_due};
 ghost use Rattle.hq_meta_read.specs.Reading.{json_in, names_in, named, tracked_of, meta_of, meta_due};
 ghost use Rattle.hq_meta_read.specs.Sound.{Shallow, TablesSound};
-ghost use Rattle.hq_meta_read.specs.Top.{tables_path};
+ghost use Rattle.hq_meta_tables.specs.Top.{tables_path};
 
-use crate::MetaRefusal;
 use crate::permissions::permitted;
 use crate::relationships::related;
-use crate::top::{table_entries, tables_path, unwrapped};
-use crate::tracking::all_tracked;
 use hq_base::{Json, JsonRefusal, Txt};
 use hq_filter_read::nesting_is_bounded;
 use hq_meta_names::check_names;
+use hq_meta_tables::MetaRefusal;
+use hq_meta_tables::top::{table_entries, tables_path, unwrapped};
+use hq_meta_tables::tracking::all_tracked;
 use hq_terms::{Catalog, Meta};
 use std::alloc::Global;
 

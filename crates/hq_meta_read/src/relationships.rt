@@ -2,17 +2,36 @@ ghost use Rattle.std.specs.Prelude.{◌≡◌, [], map, zip, IfOk};
 ghost use Rattle.hq_base.specs.Due.{Gives};
 ghost use Rattle.hq_base.specs.Json.{json_view};
 ghost use Rattle.hq_terms.specs.Meta.{meta_view};
-ghost use Rattle.hq_meta_read.specs.Each.{each, each_after};
-ghost use Rattle.hq_meta_read.specs.Related.{rel_at, objects_at, rels_at, with_rels, related};
+ghost use Rattle.hq_meta_tables.specs.Each.{each, each_after};
+ghost use Rattle.hq_meta_read.specs.Related.{rel_name_at, rel_at, objects_at, rels_at, with_rels, related};
 
-use crate::MetaRefusal;
-use crate::field::Field;
 use crate::linking::link_at;
-use crate::node::{at, entries_member, free_name_at, member_at, object_at, object_member};
-use crate::tracking::tables_of;
 use hq_base::{Json, List, Memory, Txt, item_path};
+use hq_meta_tables::MetaRefusal;
+use hq_meta_tables::field::Field;
+use hq_meta_tables::node::{at, entries_member, free_name_at, member_at, object_at, object_member};
+use hq_meta_tables::tracking::tables_of;
 use hq_terms::{Catalog, Meta, Rel, RelList, Scope, TableId, Tracked};
 use std::alloc::Global;
+
+// The name of a relationship at a path. That of an array one is not `_`, since its field for aggregates would be `__aggregate`.
+#[tactic(auto, unfolding(crate::specs::Related::rel_name_at))]
+fn rel_name_at<'a>(
+    alloc: Global,
+    many: bool,
+    path: &Txt,
+    json: &'a Json,
+) -> Result<&'a Txt, MetaRefusal>
+    ensures { Gives (λ name. name.now) MetaRefusal.Memory (rel_name_at many path.now (json_view json.now)) result }
+{
+    let name = free_name_at(alloc, path, json)?;
+    if many && name.as_str() == "_" {
+        return Err(MetaRefusal::Shape {
+            path: path.copy(alloc)?,
+        });
+    }
+    Ok(name)
+}
 
 // The relationship at a path, of a table: an array one where it is many.
 #[tactic(auto, unfolding(crate::specs::Related::rel_at))]
@@ -28,7 +47,7 @@ fn rel_at(
 {
     let object = object_at(alloc, path, json)?;
     let text = member_at(alloc, path, object, Field::Name)?;
-    let name = free_name_at(alloc, &at(alloc, path, Field::Name)?, text)?;
+    let name = rel_name_at(alloc, many, &at(alloc, path, Field::Name)?, text)?;
     let using = object_member(alloc, path, object, Field::Using)?;
     let link = link_at(
         alloc,

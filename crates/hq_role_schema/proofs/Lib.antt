@@ -1,3 +1,2 @@
-mod Places
-mod TypesNamed
+mod Placing
 mod Worked

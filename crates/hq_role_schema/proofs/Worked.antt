@@ -1,17 +1,22 @@
 -- The definitions at work on two tables: authors, and articles by them.
-use Rattle.std.specs.Prelude.{◌≡◌, ℕ, List, [], ◌∷◌, ◌++◌, flat_map, true, false, Some, None, codes, refl}
+use Rattle.std.specs.Prelude.{◌≡◌, ℕ, List, [], ◌∷◌, ◌++◌, map, flat_map, true, false, Option, Some, None, option_map, codes, refl}
 use Rattle.hq_base.specs.declared.value.Ty.TheVariants.{Integer, Bigint, Text, Boolean}
 use Rattle.hq_terms.specs.Bexp.{always}
 use Rattle.hq_terms.specs.Fits.{fits}
 use Rattle.hq_terms.specs.Meta.{MetaTree}
 use Rattle.hq_terms.specs.Schema.{schema_of}
-use Rattle.hq_terms.specs.SchemaNames.{fixed_types, types_of, roots_of, fields_of, inputs_of}
+use Rattle.hq_terms.specs.SchemaNames.{fixed_types, types_of}
 use Rattle.hq_terms.specs.declared.meta.RootNames.{RootNames}
-use Rattle.hq_terms.specs.declared.role.Role.{Role}
 use Rattle.hq_terms.specs.declared.role.Role.TheVariants.{Admin, Named}
 use Rattle.hq_terms.specs.declared.table.Table.{Table}
-use Rattle.hq_role_schema.specs.Shown.{shown_tables}
-use Rattle.hq_role_schema.specs.TypeNames.{type_names}
+use Rattle.hq_schema.specs.Look.{field_of}
+use Rattle.hq_schema.specs.Schema.{SchemaTree, base}
+use Rattle.hq_schema.specs.declared.origin.FieldOrigin.{FieldOrigin}
+use Rattle.hq_schema.specs.declared.origin.FieldOrigin.TheVariants as origin
+use Rattle.hq_role_schema.specs.Fields.{part_fields}
+use Rattle.hq_role_schema.specs.FixedTypes.{fixed_type}
+use Rattle.hq_role_schema.specs.Placed.{part_count}
+use Rattle.hq_role_schema.specs.RoleSchema.{part_type, role_schema}
 
 -- the authors and the articles
 abbrev tables : List Table
@@ -71,20 +76,57 @@ meta = record {
 meta_fits : fits tables meta ≡ true
 meta_fits = refl
 
+-- the names of a schema's types
+abbrev names : SchemaTree → List (List ℕ)
+names s = map (λ t. t.name) s.types
+
 -- the types of the role user
 names_of_user :
-    type_names (shown_tables tables meta (Named (codes "user")))
+    names (role_schema tables meta (Named (codes "user")))
     ≡ fixed_types
     ++ codes "author" ∷ codes "author_bool_exp" ∷ codes "author_order_by" ∷ codes "author_select_column"
     ∷ codes "article" ∷ codes "article_bool_exp" ∷ codes "article_order_by" ∷ codes "article_select_column"
     ∷ codes "article_aggregate" ∷ codes "article_aggregate_fields" ∷ codes "article_max_fields" ∷ codes "article_min_fields"
     ∷ codes "article_sum_fields" ∷ []
+unfolding role_schema part_count part_type fixed_type
 names_of_user = refl
 
 -- the types of admin are those by which the names of a metadata are tested
-names_of_admin : type_names (shown_tables tables meta Admin) ≡ fixed_types ++ flat_map (types_of (schema_of tables meta)) meta.tracked
+names_of_admin : names (role_schema tables meta Admin) ≡ fixed_types ++ flat_map (types_of (schema_of tables meta)) meta.tracked
+unfolding role_schema part_count part_type fixed_type
 names_of_admin = refl
 
 -- a role without permissions has the types that each schema has
-names_of_nobody : type_names (shown_tables tables meta (Named (codes "nobody"))) ≡ fixed_types
+names_of_nobody : names (role_schema tables meta (Named (codes "nobody"))) ≡ fixed_types
+unfolding role_schema part_count part_type fixed_type
 names_of_nobody = refl
+
+-- what a field stands for, and the place of the type to which it leads
+abbrev leads : SchemaTree → ℕ → List ℕ → Option (FieldOrigin × ℕ)
+leads s t name = option_map (λ f. (f.origin, base f.ty)) (field_of s t name)
+
+-- the author of an article, an article's title, an author's articles and their aggregates, and the articles at the root
+author_of_article : leads (role_schema tables meta (Named (codes "user"))) 22 (codes "author") ≡ Some (origin.Object 0, 18)
+unfolding role_schema part_count part_type part_fields fixed_type
+author_of_article = refl
+
+title_of_article : leads (role_schema tables meta (Named (codes "user"))) 22 (codes "title") ≡ Some (origin.Column 2, 2)
+unfolding role_schema part_count part_type part_fields fixed_type
+title_of_article = refl
+
+articles_of_author : leads (role_schema tables meta (Named (codes "user"))) 18 (codes "articles") ≡ Some (origin.«List» 0, 22)
+unfolding role_schema part_count part_type part_fields fixed_type
+articles_of_author = refl
+
+aggregates_of_author : leads (role_schema tables meta (Named (codes "user"))) 18 (codes "articles_aggregate") ≡ Some (origin.ListAggregate 0, 26)
+unfolding role_schema part_count part_type part_fields fixed_type
+aggregates_of_author = refl
+
+articles : leads (role_schema tables meta (Named (codes "user"))) 17 (codes "article") ≡ Some (origin.Rows 1, 22)
+unfolding role_schema part_count part_type part_fields fixed_type
+articles = refl
+
+-- an author's e-mail is hidden
+email_of_author : leads (role_schema tables meta (Named (codes "user"))) 18 (codes "email") ≡ None
+unfolding role_schema part_count part_type part_fields fixed_type
+email_of_author = refl

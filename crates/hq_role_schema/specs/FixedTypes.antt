@@ -1,48 +1,54 @@
--- The types that each schema has, without those for introspection: scalars, the directions of a sort, and the comparisons of
--- each scalar (Hasura, API reference: GraphQL API, order_by and where).
-use Rattle.std.specs.Prelude.{ℕ, List, [], ◌∷◌, ◌++◌, codes}
-use Rattle.hq_schema.specs.Schema.{ArgTree, TypeTree}
-use Rattle.hq_role_schema.specs.References.{fixed, fixed_name, items, arg, scalar_type, input_type, enum_type}
-use Rattle.hq_role_schema.specs.declared.fixed.Fixed.{Fixed}
-use Rattle.hq_role_schema.specs.declared.fixed.Fixed.TheVariants.{Boolean, Int, String, Bigint, OrderBy, BooleanComparison, IntComparison, StringComparison, BigintComparison}
+-- The types that each schema has: scalars, the directions of a sort, the comparisons of each scalar, the types of introspection,
+-- and the root type of a query (GraphQL October 2021, 3.5 and 4.2; Hasura, API reference: GraphQL API).
+use Rattle.std.specs.Prelude.{ℕ, List, [], ◌∷◌, map, codes}
+use Rattle.hq_base.specs.declared.value.Ty.TheVariants as ty
+use Rattle.hq_schema.specs.Fixed.{all_fixed, fixed_name, fixed_kind, fixed_origin}
+use Rattle.hq_schema.specs.Schema.{ArgTree, FieldTree, TypeTree}
+use Rattle.hq_schema.specs.declared.fixed.Fixed.{Fixed}
+use Rattle.hq_schema.specs.declared.fixed.Fixed.TheVariants.{OrderBy, BooleanComparison, IntComparison, StringComparison, BigintComparison, TypeKind, DirectiveLocation, QueryRoot}
+use Rattle.hq_role_schema.specs.Introspection.{introspection_fields}
+use Rattle.hq_role_schema.specs.Operators.{operator_inputs}
+use Rattle.hq_role_schema.specs.Root.{query_fields}
+use Rattle.hq_role_schema.specs.declared.shown.PlacedTable.{PlacedTable}
 
--- the scalars
-abbrev pub fixed_scalar : Fixed → TypeTree
-fixed_scalar f = scalar_type (fixed_name f)
-
-abbrev pub scalar_types : List TypeTree
-scalar_types = fixed_scalar Boolean ∷ fixed_scalar Int ∷ fixed_scalar String ∷ fixed_scalar Bigint ∷ []
-
--- the directions of a sort
-unfoldable pub order_by_type : TypeTree
-order_by_type =
-    enum_type (fixed_name OrderBy)
-    (codes "asc" ∷ codes "asc_nulls_first" ∷ codes "asc_nulls_last" ∷ codes "desc" ∷ codes "desc_nulls_first" ∷ codes "desc_nulls_last" ∷ [])
-
--- the operators of a scalar in ascending order of their bytes; those that match patterns are of texts alone
-unfoldable pub plain_operators : Fixed → List ArgTree
-plain_operators s =
-    arg (codes "_eq") (fixed s) ∷ arg (codes "_gt") (fixed s) ∷ arg (codes "_gte") (fixed s) ∷ arg (codes "_in") (items (fixed s))
-    ∷ arg (codes "_is_null") (fixed Boolean) ∷ arg (codes "_lt") (fixed s) ∷ arg (codes "_lte") (fixed s)
-    ∷ arg (codes "_neq") (fixed s) ∷ arg (codes "_nin") (items (fixed s)) ∷ []
-
-unfoldable pub text_operators : List ArgTree
-text_operators =
-    arg (codes "_eq") (fixed String) ∷ arg (codes "_gt") (fixed String) ∷ arg (codes "_gte") (fixed String)
-    ∷ arg (codes "_ilike") (fixed String) ∷ arg (codes "_in") (items (fixed String)) ∷ arg (codes "_is_null") (fixed Boolean)
-    ∷ arg (codes "_like") (fixed String) ∷ arg (codes "_lt") (fixed String) ∷ arg (codes "_lte") (fixed String)
-    ∷ arg (codes "_neq") (fixed String) ∷ arg (codes "_nilike") (fixed String) ∷ arg (codes "_nin") (items (fixed String))
-    ∷ arg (codes "_nlike") (fixed String) ∷ []
+-- the values of enums, in ascending order of their bytes
+unfoldable pub fixed_values : Fixed → List (List ℕ)
+fixed_values OrderBy =
+    codes "asc" ∷ codes "asc_nulls_first" ∷ codes "asc_nulls_last" ∷ codes "desc" ∷ codes "desc_nulls_first" ∷ codes "desc_nulls_last" ∷ []
+fixed_values TypeKind =
+    codes "ENUM" ∷ codes "INPUT_OBJECT" ∷ codes "INTERFACE" ∷ codes "LIST" ∷ codes "NON_NULL" ∷ codes "OBJECT" ∷ codes "SCALAR"
+    ∷ codes "UNION" ∷ []
+fixed_values DirectiveLocation =
+    codes "ARGUMENT_DEFINITION" ∷ codes "ENUM" ∷ codes "ENUM_VALUE" ∷ codes "FIELD" ∷ codes "FIELD_DEFINITION"
+    ∷ codes "FRAGMENT_DEFINITION" ∷ codes "FRAGMENT_SPREAD" ∷ codes "INLINE_FRAGMENT" ∷ codes "INPUT_FIELD_DEFINITION"
+    ∷ codes "INPUT_OBJECT" ∷ codes "INTERFACE" ∷ codes "MUTATION" ∷ codes "OBJECT" ∷ codes "QUERY" ∷ codes "SCALAR"
+    ∷ codes "SCHEMA" ∷ codes "SUBSCRIPTION" ∷ codes "UNION" ∷ codes "VARIABLE_DEFINITION" ∷ []
+fixed_values _ = []
 
 -- the comparisons of each scalar
-abbrev pub first_comparisons : List TypeTree
-first_comparisons =
-    input_type (fixed_name BooleanComparison) (plain_operators Boolean) ∷ input_type (fixed_name IntComparison) (plain_operators Int) ∷ []
+abbrev pub fixed_inputs : Fixed → List ArgTree
+fixed_inputs BooleanComparison = operator_inputs ty.Boolean
+fixed_inputs IntComparison = operator_inputs ty.Integer
+fixed_inputs StringComparison = operator_inputs ty.Text
+fixed_inputs BigintComparison = operator_inputs ty.Bigint
+fixed_inputs _ = []
 
-abbrev pub other_comparisons : List TypeTree
-other_comparisons =
-    input_type (fixed_name StringComparison) text_operators ∷ input_type (fixed_name BigintComparison) (plain_operators Bigint) ∷ []
+-- the root type alone depends on what the role may see
+abbrev pub fixed_fields : List PlacedTable → Fixed → List FieldTree
+fixed_fields ps QueryRoot = query_fields ps
+fixed_fields ps f = introspection_fields f
+
+unfoldable pub fixed_type : List PlacedTable → Fixed → TypeTree
+fixed_type ps f = record {
+  name = fixed_name f;
+  kind = fixed_kind f;
+  fields = fixed_fields ps f;
+  inputs = fixed_inputs f;
+  values = fixed_values f;
+  columns = [];
+  origin = fixed_origin f;
+}
 
 -- all of them
-abbrev pub plain_fixed_types : List TypeTree
-plain_fixed_types = scalar_types ++ order_by_type ∷ [] ++ first_comparisons ++ other_comparisons
+abbrev pub fixed_types : List PlacedTable → List TypeTree
+fixed_types ps = map (fixed_type ps) all_fixed

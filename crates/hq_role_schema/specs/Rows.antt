@@ -1,34 +1,44 @@
--- Members of types in rows: a name, and a reference to a type that each schema has.
-use Rattle.std.specs.Prelude.{ℕ, List, Bool, not}
+-- Members of the types that each schema has, in rows: a name, how a reference wraps a type, and that type.
+use Rattle.std.specs.Prelude.{ℕ, List, [], ◌∷◌, Bool, true, not, codes}
 use Rattle.std.specs.Borrow.{Bor}
 use Rattle.hq_base.specs.Text.{has_zero}
 use Rattle.hq_schema.specs.Schema.{TypeRefTree, non_null, ArgTree, FieldTree}
-use Rattle.hq_role_schema.specs.References.{fixed, items, all_items, arg, plain_field}
-use Rattle.hq_role_schema.specs.declared.fixed.Fixed.{Fixed}
+use Rattle.hq_schema.specs.declared.fixed.Fixed.{Fixed}
+use Rattle.hq_schema.specs.declared.fixed.Fixed.TheVariants.{Boolean}
+use Rattle.hq_schema.specs.declared.origin.ArgOrigin.TheVariants.{IncludeDeprecated}
+use Rattle.hq_schema.specs.declared.origin.FieldOrigin.TheVariants.{Introspection}
+use Rattle.hq_role_schema.specs.References.{fixed, items, all_items}
 use Rattle.hq_role_schema.specs.declared.rows.Shape.{Shape}
-use Rattle.hq_role_schema.specs.declared.rows.Shape.TheVariants.{One, Required, Items, AllItems}
+use Rattle.hq_role_schema.specs.declared.rows.Shape.TheVariants.{One, Required, Items, AllItems, Deprecable}
 
--- R, R!, [R!] and [R!]!
+-- a piece of text, and whether it is without zero bytes
+abbrev pub piece_name : Bor (List ℕ) → List ℕ
+piece_name piece = piece.now
+
+abbrev pub is_clean : Bor (List ℕ) → Bool
+is_clean piece = not (has_zero piece.now)
+
+-- R, R!, [R!] and [R!]!; what may be deprecated is a list
 abbrev pub shaped : Shape → Fixed → TypeRefTree
 shaped One f = fixed f
 shaped Required f = non_null (fixed f)
 shaped Items f = items (fixed f)
 shaped AllItems f = all_items (fixed f)
+shaped Deprecable f = items (fixed f)
 
--- what a name is, and whether it is without zero bytes
-abbrev pub row_name : Bor (List ℕ) → List ℕ
-row_name name = name.now
+-- includeDeprecated: Boolean = false
+abbrev pub include_deprecated : ArgTree
+include_deprecated = record { name = codes "includeDeprecated"; ty = fixed Boolean; default_false = true; origin = IncludeDeprecated }
 
-abbrev pub is_clean : Bor (List ℕ) → Bool
-is_clean name = not (has_zero name.now)
+-- a list of what may be deprecated has that argument
+abbrev pub shape_args : Shape → List ArgTree
+shape_args Deprecable = include_deprecated ∷ []
+shape_args _ = []
 
 -- a row's name is without zero bytes
 abbrev pub clean_row : Bor (List ℕ) × Shape × Fixed → Bool
 clean_row row = is_clean row.0
 
--- a row as an argument or an input field, and as a field
-abbrev pub row_arg : Bor (List ℕ) × Shape × Fixed → ArgTree
-row_arg row = arg row.0.now (shaped row.1 row.2)
-
+-- a row as a field of introspection
 abbrev pub row_field : Bor (List ℕ) × Shape × Fixed → FieldTree
-row_field row = plain_field row.0.now (shaped row.1 row.2)
+row_field row = record { name = row.0.now; args = shape_args row.1; ty = shaped row.1 row.2; origin = Introspection }

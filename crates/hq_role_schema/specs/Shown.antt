@@ -1,8 +1,10 @@
 -- What a role may see of the tracked tables (Hasura, Authorization: select permissions).
-use Rattle.std.specs.Prelude.{ℕ, List, Bool, cond, ◌==◌, Option, Some, None, option_map, option_and_then, slice_get}
+use Rattle.std.specs.Prelude.{ℕ, List, Bool, cond, not, ◌==◌, Option, Some, None, option_map, option_and_then, slice_get}
 use Rattle.std.specs.List.{filter_map, list_all, list_any}
+use Rattle.hq_terms.specs.Database.{is_boolean}
 use Rattle.hq_terms.specs.Meta.{TrackedTree, MetaTree}
 use Rattle.hq_terms.specs.Permission.{Permission, permission}
+use Rattle.hq_terms.specs.SchemaNames.{is_whole}
 use Rattle.hq_terms.specs.declared.role.Role.{Role}
 use Rattle.hq_terms.specs.declared.table.Column.{Column}
 use Rattle.hq_terms.specs.declared.table.Table.{Table}
@@ -10,13 +12,13 @@ use Rattle.hq_role_schema.specs.declared.shown.ShownColumn.{ShownColumn}
 use Rattle.hq_role_schema.specs.declared.shown.ShownTable.{ShownTable}
 
 -- a column of the catalog under its GraphQL name
-abbrev pub under_name : Option Column → Option (List ℕ) → Option ShownColumn
-under_name (Some c) (Some name) = Some (record { name = name; ty = c.ty; nullable = c.nullable })
-under_name _ _ = None
+abbrev pub under_name : (col : ℕ) → Option Column → Option (List ℕ) → Option ShownColumn
+under_name col (Some c) (Some name) = Some (record { name = name; ty = c.ty; nullable = c.nullable; col = col })
+under_name col _ _ = None
 
 -- columns of a table, by their places
 abbrev pub shown_columns : Table → TrackedTree → List ℕ → List ShownColumn
-shown_columns t k cs = filter_map (λ c. under_name (slice_get t.columns c) (slice_get k.column_names c)) cs
+shown_columns t k cs = filter_map (λ c. under_name c (slice_get t.columns c) (slice_get k.column_names c)) cs
 
 -- the columns of the primary key, in its order, where they are all permitted
 abbrev pub shown_key : Table → TrackedTree → (permitted : List ℕ) → Option (List ShownColumn)
@@ -41,3 +43,11 @@ shown_entry tables m role k = option_and_then (λ t. option_map (shown_table k t
 -- the tables that a role may see, in the order of the metadata
 abbrev pub shown_tables : List Table → MetaTree → Role → List ShownTable
 shown_tables tables m role = filter_map (shown_entry tables m role) m.tracked
+
+-- the greatest and the least are there of columns that are not boolean
+abbrev pub has_greatest : ShownColumn → Bool
+has_greatest c = not (is_boolean c.ty)
+
+-- sums are there of whole numbers
+abbrev pub has_sum : ShownColumn → Bool
+has_sum c = is_whole c.ty

@@ -1,132 +1,126 @@
-ghost use Rattle.std.specs.Prelude.{◌≡◌, ◌++◌, IfOk, OnOk, map};
-ghost use Rattle.hq_schema.specs.Schema.{arg_view, type_view};
-ghost use Rattle.hq_role_schema.specs.References.{fixed_name, input_type};
-ghost use Rattle.hq_role_schema.specs.FixedTypes.{fixed_scalar, scalar_types, order_by_type, plain_operators, text_operators, first_comparisons, other_comparisons, plain_fixed_types};
+ghost use Rattle.std.specs.Prelude.{◌≡◌, IfOk, map};
+ghost use Rattle.hq_schema.specs.Fixed.{all_fixed};
+ghost use Rattle.hq_schema.specs.Schema.{arg_view, field_view, type_view};
+ghost use Rattle.hq_role_schema.specs.FixedTypes.{fixed_values, fixed_inputs, fixed_fields, fixed_type, fixed_types};
 
-use crate::fixed::Fixed;
-use crate::member::{enum_type, input_type, push_type, scalar_type};
-use crate::rows::{Shape, inputs, texts};
-use crate::text::text;
-use hq_base::{List, Memory};
-use hq_schema::{ArgDefList, TypeDef, TypeDefList};
+use crate::introspection::introspection_fields;
+use crate::operators::operator_inputs;
+use crate::root::query_fields;
+use crate::shown::PlacedTableList;
+use crate::text::{text, texts};
+use hq_base::{List, Memory, Txt, Ty};
+use hq_schema::{ArgDef, FieldDef, Fixed, NamedList, TypeDef};
 use std::alloc::Global;
 
-fn scalars(alloc: Global, all: &[Fixed]) -> Result<TypeDefList, Memory>
-    ensures { IfOk result (λ types. map type_view types ≡ map fixed_scalar all.now) }
+#[tactic(auto, unfolding(crate::specs::FixedTypes::fixed_values))]
+fn fixed_values(alloc: Global, of: Fixed) -> Result<Vec<Txt>, Memory>
+    ensures { IfOk result (λ values. values.items ≡ fixed_values of) }
 {
-    let mut types = List::new(alloc);
-    for scalar in all {
-        types.push(scalar_type(alloc, text(alloc, scalar.name())?))?;
+    match of {
+        Fixed::OrderBy => texts(
+            alloc,
+            &[
+                "asc",
+                "asc_nulls_first",
+                "asc_nulls_last",
+                "desc",
+                "desc_nulls_first",
+                "desc_nulls_last",
+            ],
+        ),
+        Fixed::TypeKind => texts(
+            alloc,
+            &[
+                "ENUM",
+                "INPUT_OBJECT",
+                "INTERFACE",
+                "LIST",
+                "NON_NULL",
+                "OBJECT",
+                "SCALAR",
+                "UNION",
+            ],
+        ),
+        Fixed::DirectiveLocation => texts(
+            alloc,
+            &[
+                "ARGUMENT_DEFINITION",
+                "ENUM",
+                "ENUM_VALUE",
+                "FIELD",
+                "FIELD_DEFINITION",
+                "FRAGMENT_DEFINITION",
+                "FRAGMENT_SPREAD",
+                "INLINE_FRAGMENT",
+                "INPUT_FIELD_DEFINITION",
+                "INPUT_OBJECT",
+                "INTERFACE",
+                "MUTATION",
+                "OBJECT",
+                "QUERY",
+                "SCALAR",
+                "SCHEMA",
+                "SUBSCRIPTION",
+                "UNION",
+                "VARIABLE_DEFINITION",
+            ],
+        ),
+        _ => Ok(Vec::new(alloc)),
+    }
+}
+
+fn fixed_inputs(alloc: Global, of: Fixed) -> Result<Vec<ArgDef>, Memory>
+    ensures { IfOk result (λ inputs. map arg_view inputs.items ≡ fixed_inputs of) }
+{
+    match of {
+        Fixed::BooleanComparison => operator_inputs(alloc, Ty::Boolean),
+        Fixed::IntComparison => operator_inputs(alloc, Ty::Integer),
+        Fixed::StringComparison => operator_inputs(alloc, Ty::Text),
+        Fixed::BigintComparison => operator_inputs(alloc, Ty::Bigint),
+        _ => Ok(Vec::new(alloc)),
+    }
+}
+
+fn fixed_fields(alloc: Global, tables: &PlacedTableList, of: Fixed) -> Result<Vec<FieldDef>, Memory>
+    ensures { IfOk result (λ fields. map field_view fields.items ≡ fixed_fields tables.now of) }
+{
+    match of {
+        Fixed::QueryRoot => query_fields(alloc, tables),
+        _ => introspection_fields(alloc, of),
+    }
+}
+
+#[tactic(auto, unfolding(crate::specs::FixedTypes::fixed_type))]
+fn fixed_type(alloc: Global, tables: &PlacedTableList, of: Fixed) -> Result<TypeDef, Memory>
+    ensures { IfOk result (λ t. type_view t ≡ fixed_type tables.now of) }
+{
+    let fields = fixed_fields(alloc, tables, of)?;
+    let inputs = fixed_inputs(alloc, of)?;
+    let values = fixed_values(alloc, of)?;
+    Ok(TypeDef {
+        name: text(alloc, of.name())?,
+        kind: of.kind(),
+        fields: NamedList::new(alloc, fields)?,
+        inputs: NamedList::new(alloc, inputs)?,
+        values: NamedList::new(alloc, values)?,
+        columns: List::new(alloc),
+        origin: of.origin(),
+    })
+}
+
+fn types_of(alloc: Global, tables: &PlacedTableList, all: &[Fixed]) -> Result<Vec<TypeDef>, Memory>
+    ensures { IfOk result (λ types. map type_view types.items ≡ map (fixed_type tables.now) all.now) }
+{
+    let mut types = Vec::new(alloc);
+    for of in all {
+        types.push(fixed_type(alloc, tables, *of)?)?;
     }
     Ok(types)
 }
 
-fn scalar_types(alloc: Global) -> Result<TypeDefList, Memory>
-    ensures { IfOk result (λ types. map type_view types ≡ scalar_types) }
+/// The types that each schema has, where a role may see these tables.
+pub fn fixed_types(alloc: Global, tables: &PlacedTableList) -> Result<Vec<TypeDef>, Memory>
+    ensures { IfOk result (λ types. map type_view types.items ≡ fixed_types tables.now) }
 {
-    let all = [Fixed::Boolean, Fixed::Int, Fixed::String, Fixed::Bigint];
-    scalars(alloc, &all)
-}
-
-#[tactic(auto, unfolding(crate::specs::FixedTypes::order_by_type))]
-fn order_by_type(alloc: Global) -> Result<TypeDef, Memory>
-    ensures { IfOk result (λ t. type_view t ≡ order_by_type) }
-{
-    let directions = [
-        "asc",
-        "asc_nulls_first",
-        "asc_nulls_last",
-        "desc",
-        "desc_nulls_first",
-        "desc_nulls_last",
-    ];
-    let name = text(alloc, Fixed::OrderBy.name())?;
-    Ok(enum_type(alloc, name, texts(alloc, &directions)?))
-}
-
-#[tactic(auto, unfolding(crate::specs::FixedTypes::plain_operators))]
-fn plain_operators(alloc: Global, scalar: Fixed) -> Result<ArgDefList, Memory>
-    ensures { IfOk result (λ inputs. map arg_view inputs ≡ plain_operators scalar) }
-{
-    let operators = [
-        ("_eq", Shape::One, scalar),
-        ("_gt", Shape::One, scalar),
-        ("_gte", Shape::One, scalar),
-        ("_in", Shape::Items, scalar),
-        ("_is_null", Shape::One, Fixed::Boolean),
-        ("_lt", Shape::One, scalar),
-        ("_lte", Shape::One, scalar),
-        ("_neq", Shape::One, scalar),
-        ("_nin", Shape::Items, scalar),
-    ];
-    inputs(alloc, &operators)
-}
-
-#[tactic(auto, unfolding(crate::specs::FixedTypes::text_operators))]
-fn text_operators(alloc: Global) -> Result<ArgDefList, Memory>
-    ensures { IfOk result (λ inputs. map arg_view inputs ≡ text_operators) }
-{
-    let operators = [
-        ("_eq", Shape::One, Fixed::String),
-        ("_gt", Shape::One, Fixed::String),
-        ("_gte", Shape::One, Fixed::String),
-        ("_ilike", Shape::One, Fixed::String),
-        ("_in", Shape::Items, Fixed::String),
-        ("_is_null", Shape::One, Fixed::Boolean),
-        ("_like", Shape::One, Fixed::String),
-        ("_lt", Shape::One, Fixed::String),
-        ("_lte", Shape::One, Fixed::String),
-        ("_neq", Shape::One, Fixed::String),
-        ("_nilike", Shape::One, Fixed::String),
-        ("_nin", Shape::Items, Fixed::String),
-        ("_nlike", Shape::One, Fixed::String),
-    ];
-    inputs(alloc, &operators)
-}
-
-// The comparisons of a scalar that no pattern matches.
-fn comparisons(alloc: Global, comparison: Fixed, scalar: Fixed) -> Result<TypeDef, Memory>
-    ensures { IfOk result (λ t. type_view t ≡ input_type (fixed_name comparison) (plain_operators scalar)) }
-{
-    let operators = plain_operators(alloc, scalar)?;
-    Ok(input_type(alloc, text(alloc, comparison.name())?, operators))
-}
-
-fn text_comparisons(alloc: Global) -> Result<TypeDef, Memory>
-    ensures { IfOk result (λ t. type_view t ≡ input_type (fixed_name Fixed.StringComparison) text_operators) }
-{
-    let operators = text_operators(alloc)?;
-    let name = text(alloc, Fixed::StringComparison.name())?;
-    Ok(input_type(alloc, name, operators))
-}
-
-// Adds the comparisons of the first two scalars.
-fn push_first_comparisons(alloc: Global, types: &mut TypeDefList) -> Result<(), Memory>
-    ensures { OnOk result (map type_view types.new ≡ map type_view types.old ++ first_comparisons) }
-{
-    let boolean = comparisons(alloc, Fixed::BooleanComparison, Fixed::Boolean)?;
-    push_type(types, boolean)?;
-    push_type(types, comparisons(alloc, Fixed::IntComparison, Fixed::Int)?)?;
-    Ok(())
-}
-
-// Adds the comparisons of the others.
-fn push_other_comparisons(alloc: Global, types: &mut TypeDefList) -> Result<(), Memory>
-    ensures { OnOk result (map type_view types.new ≡ map type_view types.old ++ other_comparisons) }
-{
-    push_type(types, text_comparisons(alloc)?)?;
-    let bigint = comparisons(alloc, Fixed::BigintComparison, Fixed::Bigint)?;
-    push_type(types, bigint)?;
-    Ok(())
-}
-
-/// The types that each schema has, without those for introspection and the root type.
-pub fn plain_fixed_types(alloc: Global) -> Result<TypeDefList, Memory>
-    ensures { IfOk result (λ types. map type_view types ≡ plain_fixed_types) }
-{
-    let mut types = scalar_types(alloc)?;
-    push_type(&mut types, order_by_type(alloc)?)?;
-    push_first_comparisons(alloc, &mut types)?;
-    push_other_comparisons(alloc, &mut types)?;
-    Ok(types)
+    types_of(alloc, tables, &Fixed::all())
 }

@@ -2,25 +2,24 @@
 //! GraphQL API reference).
 #![tactic(auto)]
 
-mod aggregate;
-mod fixed;
+mod arguments;
+mod beside;
+mod columns;
+mod fields;
 mod fixed_types;
-mod input;
+mod inputs;
 mod introspection;
-mod laws;
+mod links;
 mod member;
-mod names;
-mod object;
-mod place;
+mod operators;
+mod parts;
+mod places;
 mod reference;
 mod role_schema;
 mod root;
 mod rows;
 mod see;
 mod shown;
-#[cfg(test)]
-mod tests;
 mod text;
 
-pub use laws::places_are_of_names;
 pub use role_schema::derive;

@@ -1,25 +1,24 @@
 ghost use Rattle.std.specs.Prelude.{◌≡◌, IfOk};
-ghost use Rattle.hq_schema.specs.Schema.{type_ref_view};
-ghost use Rattle.hq_schema.specs.Schema.{named, non_null};
-ghost use Rattle.hq_role_schema.specs.References.{fixed, items, all_items};
+ghost use Rattle.hq_schema.specs.Parts.{part_place};
+ghost use Rattle.hq_schema.specs.Schema.{named, non_null, type_ref_view};
+ghost use Rattle.hq_role_schema.specs.References.{fixed, items, all_items, part};
 
-use crate::fixed::Fixed;
 use hq_base::Memory;
-use hq_schema::{TypeId, TypeRef};
+use hq_schema::{Fixed, Part, TypeRef};
 use std::alloc::Global;
-
-/// A type by its place.
-pub fn named(t: TypeId) -> TypeRef
-    ensures { type_ref_view result ≡ named t }
-{
-    TypeRef::Named(t)
-}
 
 /// A type that each schema has.
 pub fn fixed(t: Fixed) -> TypeRef
     ensures { type_ref_view result ≡ fixed t }
 {
     TypeRef::Named(t.place())
+}
+
+/// A type of the table whose types begin at a place.
+pub fn part(first: u32, p: Part) -> TypeRef
+    ensures { type_ref_view result ≡ part first p }
+{
+    TypeRef::Named(p.place(first))
 }
 
 /// `R!`

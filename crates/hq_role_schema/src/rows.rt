@@ -1,46 +1,56 @@
-ghost use Rattle.std.specs.Prelude.{◌≡◌, ◌++◌, IfOk, OnOk, map, true};
+ghost use Rattle.std.specs.Prelude.{◌≡◌, IfOk, map, true};
 ghost use Rattle.std.specs.List.{list_all};
 ghost use Rattle.hq_schema.specs.Schema.{type_ref_view, arg_view, field_view};
-ghost use Rattle.hq_role_schema.specs.Rows.{is_clean, shaped, row_name, row_arg, row_field, clean_row};
+ghost use Rattle.hq_role_schema.specs.Rows.{shaped, shape_args, include_deprecated, row_field, clean_row};
 
-use crate::fixed::Fixed;
-use crate::member::{arg, plain_field};
 use crate::reference::{all_items, fixed, items, non_null};
 use crate::text::text;
-use hq_base::{List, Memory};
-use hq_schema::{ArgDef, ArgDefList, FieldDef, FieldDefList, TxtList, TypeRef};
+use hq_base::Memory;
+use hq_schema::{ArgDef, ArgDefList, ArgOrigin, FieldDef, FieldOrigin, Fixed, NamedList, TypeRef};
 use std::alloc::Global;
 
-/// How a reference wraps its type: `R`, `R!`, `[R!]` or `[R!]!`.
+/// How a reference wraps its type: `R`, `R!`, `[R!]` or `[R!]!`; and `[R!]` of what may be deprecated.
 #[derive(Clone, Copy, Debug, PartialEq, Eq)]
 pub enum Shape {
     One,
     Required,
     Items,
     AllItems,
+    Deprecable,
 }
 
-/// The name of a member, and what type it has.
+/// The name of a field, and what type it has.
 pub type Row<'a> = (&'a str, Shape, Fixed);
 
-/// A reference to a type that each schema has.
-pub fn shaped(alloc: Global, shape: Shape, of: Fixed) -> Result<TypeRef, Memory>
+fn shaped(alloc: Global, shape: Shape, of: Fixed) -> Result<TypeRef, Memory>
     ensures { IfOk result (λ r. type_ref_view r ≡ shaped shape of) }
 {
     match shape {
         Shape::One => Ok(fixed(of)),
         Shape::Required => non_null(alloc, fixed(of)),
-        Shape::Items => items(alloc, fixed(of)),
+        Shape::Items | Shape::Deprecable => items(alloc, fixed(of)),
         Shape::AllItems => all_items(alloc, fixed(of)),
     }
 }
 
-fn row_arg(alloc: Global, row: Row) -> Result<ArgDef, Memory>
-    requires { clean_row row ≡ true }
-    ensures { IfOk result (λ a. arg_view a ≡ row_arg row.entry) }
+fn include_deprecated(alloc: Global) -> Result<ArgDef, Memory>
+    ensures { IfOk result (λ a. arg_view a ≡ include_deprecated) }
 {
-    let (name, shape, of) = row;
-    arg(alloc, name, shaped(alloc, shape, of)?)
+    Ok(ArgDef {
+        name: text(alloc, "includeDeprecated")?,
+        ty: fixed(Fixed::Boolean),
+        default_false: true,
+        origin: ArgOrigin::IncludeDeprecated,
+    })
+}
+
+fn shape_args(alloc: Global, shape: Shape) -> Result<ArgDefList, Memory>
+    ensures { IfOk result (λ args. map arg_view args ≡ shape_args shape) }
+{
+    match shape {
+        Shape::Deprecable => NamedList::new(alloc, vec![in alloc; include_deprecated(alloc)?]?),
+        _ => Ok(NamedList::empty(alloc)),
+    }
 }
 
 fn row_field(alloc: Global, row: Row) -> Result<FieldDef, Memory>
@@ -48,40 +58,22 @@ fn row_field(alloc: Global, row: Row) -> Result<FieldDef, Memory>
     ensures { IfOk result (λ f. field_view f ≡ row_field row.entry) }
 {
     let (name, shape, of) = row;
-    plain_field(alloc, name, shaped(alloc, shape, of)?)
+    Ok(FieldDef {
+        name: text(alloc, name)?,
+        args: shape_args(alloc, shape)?,
+        ty: shaped(alloc, shape, of)?,
+        origin: FieldOrigin::Introspection,
+    })
 }
 
-/// Input fields without defaults.
-pub fn inputs(alloc: Global, rows: &[Row]) -> Result<ArgDefList, Memory>
+/// The fields of a type of introspection.
+pub fn row_fields(alloc: Global, rows: &[Row]) -> Result<Vec<FieldDef>, Memory>
     requires { list_all clean_row rows.now ≡ true }
-    ensures { IfOk result (λ inputs. map arg_view inputs ≡ map row_arg rows.now) }
+    ensures { IfOk result (λ fields. map field_view fields.items ≡ map row_field rows.now) }
 {
-    let mut inputs = List::new(alloc);
-    for row in rows {
-        inputs.push(row_arg(alloc, *row)?)?;
-    }
-    Ok(inputs)
-}
-
-/// Adds fields without arguments.
-pub fn push_fields(alloc: Global, fields: &mut FieldDefList, rows: &[Row]) -> Result<(), Memory>
-    requires { list_all clean_row rows.now ≡ true }
-    ensures { OnOk result (map field_view fields.new ≡ map field_view fields.old ++ map row_field rows.now) }
-{
+    let mut fields = Vec::new(alloc);
     for row in rows {
         fields.push(row_field(alloc, *row)?)?;
     }
-    Ok(())
-}
-
-/// Texts.
-pub fn texts(alloc: Global, pieces: &[&str]) -> Result<TxtList, Memory>
-    requires { list_all is_clean pieces.now ≡ true }
-    ensures { IfOk result (λ texts. texts ≡ map row_name pieces.now) }
-{
-    let mut texts = List::new(alloc);
-    for piece in pieces {
-        texts.push(text(alloc, piece)?)?;
-    }
-    Ok(texts)
+    Ok(fields)
 }

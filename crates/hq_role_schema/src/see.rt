@@ -14,16 +14,18 @@ use std::alloc::Global;
 // A column under its GraphQL name, where it has both.
 fn under_name(
     alloc: Global,
+    col: ColId,
     column: Option<&Column>,
     name: Option<&Txt>,
 ) -> Result<Option<ShownColumn>, Memory>
-    ensures { IfOk result (λ shown. shown ≡ under_name (option_copied column.entry) (option_copied name.entry)) }
+    ensures { IfOk result (λ shown. shown ≡ under_name col (option_copied column.entry) (option_copied name.entry)) }
 {
     match (column, name) {
         (Some(column), Some(name)) => Ok(Some(ShownColumn {
             name: name.copy(alloc)?,
             ty: column.ty,
             nullable: column.nullable,
+            col,
         })),
         _ => Ok(None),
     }
@@ -41,7 +43,7 @@ fn shown_columns(
     let mut columns = List::new(alloc);
     for col in cols.as_slice() {
         let name = tracked.column_names.get(col.at());
-        if let Some(column) = under_name(alloc, table.column(*col), name)? {
+        if let Some(column) = under_name(alloc, *col, table.column(*col), name)? {
             columns.push(column)?;
         }
     }

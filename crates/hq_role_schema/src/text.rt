@@ -1,5 +1,7 @@
-ghost use Rattle.std.specs.Prelude.{◌≡◌, ◌++◌, IfOk, false};
+ghost use Rattle.std.specs.Prelude.{◌≡◌, ◌++◌, IfOk, false, true, map};
+ghost use Rattle.std.specs.List.{list_all};
 ghost use Rattle.hq_base.specs.Text.{has_zero};
+ghost use Rattle.hq_role_schema.specs.Rows.{is_clean, piece_name};
 
 use hq_base::{Memory, Txt};
 use std::alloc::Global;
@@ -22,4 +24,16 @@ pub fn suffixed(alloc: Global, name: &Txt, suffix: &str) -> Result<Txt, Memory>
     let mut text = name.copy(alloc)?;
     text.push_str(suffix)?;
     Ok(text)
+}
+
+/// Texts.
+pub fn texts(alloc: Global, pieces: &[&str]) -> Result<Vec<Txt>, Memory>
+    requires { list_all is_clean pieces.now ≡ true }
+    ensures { IfOk result (λ texts. texts.items ≡ map piece_name pieces.now) }
+{
+    let mut texts = Vec::new(alloc);
+    for piece in pieces {
+        texts.push(text(alloc, piece)?)?;
+    }
+    Ok(texts)
 }

@@ -1,2 +1,5 @@
+pub mod Sorted
 pub mod Schema
 pub mod Look
+pub mod Fixed
+pub mod Parts

@@ -1,38 +1,23 @@
-ghost use Rattle.std.specs.Prelude.{◌≡◌, find, map, position, option_copied, option_map, slice_get, bytes_eq};
+ghost use Rattle.std.specs.Prelude.{◌≡◌, map, position, option_map, option_and_then, slice_get, bytes_eq};
 ghost use Rattle.hq_schema.specs.Schema.{arg_view, field_view, type_view, schema_view};
-ghost use Rattle.hq_schema.specs.Look.{type_named, type_at, arg_in, field_of, input_field_of, enum_value_of};
+ghost use Rattle.hq_schema.specs.Look.{type_named, type_at, arg_in, field_in, field_of, input_field_of, enum_value_of, enum_column_of};
 
-use crate::{
-    ArgDef, ArgDefList, FieldDef, FieldDefList, Schema, TxtList, TypeDef, TypeDefList, TypeId,
-};
+use crate::{ArgDef, ArgDefList, FieldDef, FieldDefList, Schema, TypeDef, TypeId};
 use hq_base::Txt;
+use hq_terms::ColId;
 
-// The place of the first type of this name.
-fn place_of_type(types: &TypeDefList, name: &Txt) -> Option<usize>
-    ensures { result ≡ position (λ t. bytes_eq t.name name.now) types.now }
+/// The argument or input field of this name.
+pub fn arg_named<'a>(args: &'a ArgDefList, name: &Txt) -> Option<&'a ArgDef>
+    ensures { option_map (λ a. arg_view a.now) result ≡ arg_in (map arg_view args.now) name.now }
 {
-    types.as_slice().iter().position(|t| t.name == *name)
+    args.find(name)
 }
 
-// The place of the first value of this name.
-fn place_of_value(values: &TxtList, name: &Txt) -> Option<usize>
-    ensures { result ≡ position (λ v. bytes_eq v name.now) values.now }
+/// The field of this name.
+pub fn field_named<'a>(fields: &'a FieldDefList, name: &Txt) -> Option<&'a FieldDef>
+    ensures { option_map (λ f. field_view f.now) result ≡ field_in (map field_view fields.now) name.now }
 {
-    values.as_slice().iter().position(|value| *value == *name)
-}
-
-// The first field of this name.
-fn field_named<'a>(fields: &'a FieldDefList, name: &Txt) -> Option<&'a FieldDef>
-    ensures { option_copied result ≡ find (λ f. bytes_eq f.name name.now) fields.now }
-{
-    fields.as_slice().iter().find(|field| field.name == *name)
-}
-
-// The first argument or input field of this name.
-fn arg_named<'a>(args: &'a ArgDefList, name: &Txt) -> Option<&'a ArgDef>
-    ensures { option_copied result ≡ find (λ a. bytes_eq a.name name.now) args.now }
-{
-    args.as_slice().iter().find(|arg| arg.name == *name)
+    fields.find(name)
 }
 
 impl Schema {
@@ -40,7 +25,7 @@ impl Schema {
     pub fn type_named(&self, name: &Txt) -> Option<TypeId>
         ensures { result ≡ type_named (schema_view self.now) name.now }
     {
-        match place_of_type(&self.types, name) {
+        match self.types.place(name) {
             Some(at) => Some(TypeId::new(at)),
             None => None,
         }
@@ -87,8 +72,28 @@ impl Schema {
         ensures { result ≡ enum_value_of (schema_view self.now) t name.now }
     {
         match self.type_at(t) {
-            Some(def) => place_of_value(&def.values, name),
+            Some(def) => def.values.place(name),
             None => None,
         }
+    }
+
+    /// The column for which the value of this name of a type stands.
+    pub fn enum_column(&self, t: TypeId, name: &Txt) -> Option<ColId>
+        ensures { result ≡ enum_column_of (schema_view self.now) t name.now }
+    {
+        match self.type_at(t) {
+            Some(def) => column_of(def, name),
+            None => None,
+        }
+    }
+}
+
+// The column for which the value of this name stands.
+fn column_of(def: &TypeDef, name: &Txt) -> Option<ColId>
+    ensures { result ≡ option_and_then (slice_get def.now.columns) (position (λ v. bytes_eq v name.now) def.now.values) }
+{
+    match def.values.place(name) {
+        Some(at) => def.columns.get(at).copied(),
+        None => None,
     }
 }

@@ -1,2 +1,4 @@
 pub mod Fields
 pub mod Sessions
+pub mod Hook
+pub mod Secret

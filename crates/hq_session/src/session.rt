@@ -7,8 +7,8 @@ use hq_base::{List, Memory, Txt};
 use hq_terms::{Session, Var, VarList};
 use std::alloc::Global;
 
-// The name of the role's header.
-fn role_name(alloc: Global) -> Result<Txt, Memory>
+/// The name of the role's header.
+pub fn role_name(alloc: Global) -> Result<Txt, Memory>
     ensures { IfOk result (λ name. name ≡ role_name) }
 {
     let mut name = Txt::new(alloc);

@@ -7,8 +7,6 @@ mod kept;
 mod order;
 mod page;
 mod seen;
-#[cfg(test)]
-mod tests;
 mod truth;
 
 pub use aggregate::{counted, greatest, least, summed};

@@ -1,10 +1,9 @@
 pub mod Stacked
-pub mod Listed
-pub mod Plain
 pub mod AliasLists
 pub mod Fronts
 pub mod Sorted
-pub mod Views
 pub mod Next
 pub mod JoinSteps
-pub mod Whole
+pub mod NamedRows
+pub mod Alike
+pub mod Within

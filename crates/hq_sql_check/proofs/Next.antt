@@ -6,7 +6,7 @@ use Rattle.hq_sql_tree.specs.declared.select.Pred.{Pred}
 use Rattle.hq_sql_tree.specs.Tree as tree
 use Rattle.hq_sql_tree.specs.Tree.{JoinTree, joins_of, preds_of}
 use Rattle.hq_sql_tree.specs.View.{select_view, join_view, pred_view}
-use Rattle.hq_sql_check.proofs.Views.{view_join}
+use Rattle.hq_sql_tree.proofs.Views.{view_join}
 
 -- it stands in front of those that are left
 pub next_item : {A : Type 0} (xs : List A) (i : ℕ) (x : A) → i < length xs → x ≡ get_or xs i x → drop i xs ≡ x ∷ drop (i + 1) xs

@@ -1,3 +1,4 @@
 pub mod Scopes
 pub mod Fronts
-pub mod Plain
+pub mod Scans
+pub mod Agree

@@ -1,12 +1,9 @@
 //! Statements that are well-formed for a catalog.
-ghost use Rattle.std.specs.Prelude.{◌≡◌, ◌&&◌, [], IfOk, nat_le};
-ghost use Rattle.hq_sql_tree.specs.Form.{is_select, select_depth};
+ghost use Rattle.std.specs.Prelude.{◌≡◌, [], IfOk};
 ghost use Rattle.hq_sql_tree.specs.View.{select_view};
 ghost use Rattle.hq_sql_tree.specs.WellFormed.{is_typed, is_well_typed, is_statement};
 
 use crate::aliases::aliases_differ;
-use crate::depth::select_within;
-use crate::form::{is_select, is_statement_form};
 use crate::scope::Scope;
 use crate::typed::select_names;
 use hq_base::Memory;
@@ -24,28 +21,24 @@ fn is_typed<'d>(alloc: Global, select: &'d Select, tables: &'d [Table]) -> Resul
     Ok(select_names(alloc, select, tables, &Scope::Nothing)?.is_some())
 }
 
-// Whether the select is one of the grammar that opens at most 2,000 parentheses at once. The depth comes first: the other
-// walks go as deep as the tree.
-#[tactic(auto, using(crate::proofs::Whole::and_true, crate::proofs::Whole::and_false))]
-fn has_form(select: &Select) -> bool
-    ensures { result ≡ (is_select (select_view select.now) && nat_le (select_depth (select_view select.now)) 2000) }
-{
-    select_within(select, MOST_OPEN) && is_select(select)
-}
-
-// Whether it has that form, its aliases all differ, and its parts have their types.
+// Whether the select is one of the grammar that opens at most 2,000 parentheses at once, its aliases all differ, and its parts
+// have their types.
 fn is_well_typed<'d>(alloc: Global, select: &'d Select, tables: &'d [Table]) -> Result<bool, Memory>
     ensures { IfOk result (λ well. well ≡ is_well_typed (select_view select.now) tables.now) }
 {
-    Ok(has_form(select) && aliases_differ(alloc, select)? && is_typed(alloc, select, tables)?)
+    Ok(
+        select.has_form(MOST_OPEN)
+            && aliases_differ(alloc, select)?
+            && is_typed(alloc, select, tables)?,
+    )
 }
 
 /// Whether a tree is a statement that is well-formed for a catalog: one row whose one output `v` is an object, with at
 /// most 2,000 parentheses open at once, whose aliases all differ and whose parts have their types in scope.
-#[tactic(auto, using(crate::proofs::Whole::and_true, crate::proofs::Whole::and_false))]
+#[tactic(auto, using(hq_sql_tree::proofs::Conjunctions::and_true, hq_sql_tree::proofs::Conjunctions::and_false))]
 pub fn well_formed(alloc: Global, select: &Select, catalog: &Catalog) -> Result<bool, Memory>
     ensures { IfOk result (λ well. well ≡ is_statement (select_view select.now) catalog.now.tables) }
 {
     select.fits();
-    Ok(is_statement_form(select) && is_well_typed(alloc, select, catalog.tables.as_slice())?)
+    Ok(select.is_statement_form() && is_well_typed(alloc, select, catalog.tables.as_slice())?)
 }

@@ -9,3 +9,4 @@ pub mod Meaning
 pub mod Statements
 pub mod Readable
 pub mod WellTyped
+pub mod Plains

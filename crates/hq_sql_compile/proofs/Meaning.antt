@@ -14,12 +14,13 @@ use Rattle.hq_terms.specs.Seen.{all_of, row_cell}
 use Rattle.hq_terms.specs.Selected.{selected, sorts_cmp}
 use Rattle.hq_terms.specs.Truth.{keeps}
 use Rattle.hq_terms.specs.declared.table.Table.{Table}
-use Rattle.hq_ask_tree.specs.Request.{FieldTrees, no_field, field, FieldTree, column as column_field, list}
-use Rattle.hq_ask_tree.specs.Resolve.{no_arguments, resolve_all, resolve}
+use Rattle.hq_ask_tree.specs.Fields.{from_table, along, FieldTrees, no_field, field, FieldTree, column as column_field, typename, no_queries, object as object_field, list, by_key as key_field, aggregate, introspect}
+use Rattle.hq_ask_tree.specs.Resolve.{resolve_all, resolve}
 use Rattle.hq_sql_tree.specs.Tree.{object, no_join, no_filter}
 use Rattle.hq_sql_tree.specs.Meaning.{NamedRow, cell_named, Scope, nothing, with_alias, World, value, members, or_null_row, first_value, order_cmp, outputs, kept}
 use Rattle.hq_sql_compile.specs.Compiled.{name_of, table_alias, join_alias, value_name, numbers_all, numbers, field_value, values_of, joins_of, field_joins}
 use Rattle.hq_sql_compile.specs.Correct.{IsPlain, ArePlain, IsPlainField, MeansResolved}
+use Rattle.hq_sql_compile.specs.Plain.{no_arguments}
 use Rattle.hq_sql_compile.proofs.Lists.{filter_all, sort_equal}
 use Rattle.hq_sql_compile.proofs.Names.{Shows, shows_bound, same_text, with_alias_same, with_alias_other, join_aliases_differ, join_is_no_table}
 use Rattle.hq_sql_compile.proofs.Sound.{Sound, sound_of}
@@ -63,7 +64,7 @@ module _ (s : Schema) (tables : List Table) (d : List (List Row)) (g : Grants) w
   -- the scope behind the joins of fields
   abbrev with_field : FieldTree → (t n : ℕ) → Row → Scope → Scope
   with_field (column_field c) t n row scope = scope
-  with_field (list u fs) t n row scope = with_alias scope (join_alias n) ((value_name, json (given (list u fs) t row)) ∷ [])
+  with_field f t n row scope = with_alias scope (join_alias n) ((value_name, json (given f t row)) ∷ [])
 
   abbrev with_fields : FieldTrees → (t n : ℕ) → Row → Scope → Scope
   with_fields no_field t n row scope = scope
@@ -72,7 +73,8 @@ module _ (s : Schema) (tables : List Table) (d : List (List Row)) (g : Grants) w
   -- the joins of fields leave every alias that is none of theirs
   field_other : (f : FieldTree) (t n : ℕ) (row : Row) (scope : Scope) (b : List ℕ) → ((m : ℕ) → n ≤ m → m < n + numbers f → bytes_eq (join_alias m) b ≡ false) → with_field f t n row scope b ≡ scope b
   field_other (column_field c) t n row scope b ne = refl
-  field_other (list u fs) t n row scope b ne = with_alias_other scope (join_alias n) b _ (ne n (omega arith) (omega arith))
+  field_other (list o a fs) t n row scope b ne = with_alias_other scope (join_alias n) b _ (ne n (omega arith) (omega arith))
+  field_other f t n row scope b ne = with_alias_other scope (join_alias n) b _ (ne n (omega arith) (omega arith))
 
   fields_other : (fs : FieldTrees) (t n : ℕ) (row : Row) (scope : Scope) (b : List ℕ) → ((m : ℕ) → n ≤ m → m < n + numbers_all fs → bytes_eq (join_alias m) b ≡ false) → with_fields fs t n row scope b ≡ scope b
   fields_other no_field t n row scope b ne = refl
@@ -89,10 +91,10 @@ module _ (s : Schema) (tables : List Table) (d : List (List Row)) (g : Grants) w
   value_one (column_field c) fs t p n scope row bound shows own =
       ap (λ r. json_of (cell_named r (name_of (table s t).columns c))) (fields_other fs t (n + 0) row scope (table_alias p) (λ m h k. join_is_no_table m p))
       ∙ ap json_of (shows c) ∙ ap json_of (sym (own c))
-  value_one (list u gs) fs t p n scope row bound shows own =
+  value_one f fs t p n scope row bound shows own =
       ap (λ r. json_of (cell_named r value_name))
-      (fields_other fs t (n + numbers (list u gs)) row (with_field (list u gs) t n row scope) (join_alias n) (λ m h k. join_aliases_differ n m (omega arith) (omega arith))
-      ∙ with_alias_same scope (join_alias n) ((value_name, json (given (list u gs) t row)) ∷ []))
+      (fields_other fs t (n + numbers f) row (with_field f t n row scope) (join_alias n) (λ m h k. join_aliases_differ n m (omega arith) (omega arith))
+      ∙ with_alias_same scope (join_alias n) ((value_name, json (given f t row)) ∷ []))
       ∙ rw (same_text value_name) refl
 
   values_all : (fs : FieldTrees) (t p n : ℕ) (scope : Scope) (row : Row) → n + numbers_all fs ≤ 2 ^ 64 → Shows s scope t (table_alias p) row → Unmasked t row
@@ -113,14 +115,22 @@ module _ (s : Schema) (tables : List Table) (d : List (List Row)) (g : Grants) w
 
       field_extends : (f : FieldTree) (t p n : ℕ) → p < n → n + numbers f ≤ 2 ^ 64 → IsPlainField f s g → Extends s world (field_joins f s n) t p n (numbers f) (with_field f t n)
       field_extends (column_field c) t p n lt bound plain = extends_none s world t p n
-      field_extends (list u fs) t p n lt bound plain =
-          let x = fields_extend fs u n (n + 1) (omega arith) (omega arith) plain.2 in
-          extends_one s world _ t p n (numbers (list u fs)) (λ row. (value_name, json (given (list u fs) t row)) ∷ []) (omega arith)
+      field_extends (list (from_table u) a fs) t p n lt bound plain =
+          let x = fields_extend fs u n (n + 1) (omega arith) (omega arith) plain.3 in
+          extends_one s world _ t p n (numbers (list (from_table u) a fs)) (λ row. (value_name, json (given (list (from_table u) a fs) t row)) ∷ []) (omega arith)
           (λ scope row shows.
-          ap or_null_row (list_means s tables d sound u n plain.1 (joins_of fs s (n + 1)) (n + 1) (numbers_all fs) (with_fields fs u (n + 1)) x
+          ap or_null_row (list_means s tables d sound u n plain.2 (joins_of fs s (n + 1)) (n + 1) (numbers_all fs) (with_fields fs u (n + 1)) x
           (values_of fs s u (table_alias n) (n + 1)) (given_all fs u) scope
-          (λ far narrow. values_all fs u n (n + 1) _ far (omega arith) (shows_bound s scope u (table_alias n) far (sound.differ u) narrow) (plain_cell s g d u plain.0 far)))
-          ∙ ap (λ l. ((value_name, json (arr (elements_of (map (λ far. obj (given_all fs u far)) l)))) ∷ []) ∷ []) (sym (plain_selected s g d u plain.0)))
+          (λ far narrow. values_all fs u n (n + 1) _ far (omega arith) (shows_bound s scope u (table_alias n) far (sound.differ u) narrow) (plain_cell s g d u plain.1 far)))
+          ∙ ap (λ l. ((value_name, json (arr (elements_of (map (λ far. obj (given_all fs u far)) l)))) ∷ []) ∷ [])
+          (sym (ap (λ b. selected s (seen_by s g d) u b (limits g u) (permitted s g d u)) plain.0 ∙ plain_selected s g d u plain.1)))
+      field_extends (list (along r) a fs) t p n lt bound plain = absurd plain
+      field_extends (typename name) t p n lt bound plain = absurd plain
+      field_extends no_queries t p n lt bound plain = absurd plain
+      field_extends (object_field r fs) t p n lt bound plain = absurd plain
+      field_extends (key_field u key fs) t p n lt bound plain = absurd plain
+      field_extends (aggregate o a ps) t p n lt bound plain = absurd plain
+      field_extends (introspect f) t p n lt bound plain = absurd plain
 
 -- no row of a table stands above the root fields
 past_end : {A : Type 0} (xs : List A) (beyond : A) → slice_index_or xs (length xs) beyond ≡ beyond

@@ -6,7 +6,7 @@ use Rattle.std.proofs.lemmas.Bool.{le-leb}
 use Rattle.hq_terms.specs.Catalog.{is_catalog, is_table}
 use Rattle.hq_terms.specs.declared.table.Column.{Column}
 use Rattle.hq_terms.specs.declared.table.Table.{Table}
-use Rattle.hq_ask_tree.specs.declared.ask.AskColumn.{AskColumn}
+use Rattle.hq_sql_compile.specs.declared.plain.PlainColumn.{PlainColumn}
 use Rattle.hq_sql_tree.specs.Tree.{SelectTree, pairs_of, orders_of, no_join}
 use Rattle.hq_sql_tree.specs.Form.{is_expr, are_pairs, are_orders, expr_depth, pairs_depth, orders_depth, greatest, is_select, select_depth, select_fits}
 use Rattle.hq_sql_text.specs.Readable.{is_readable}
@@ -15,11 +15,11 @@ use Rattle.hq_sql_compile.specs.Compiled.{table_alias, fold_alias, list_rows, li
 
 -- ---- the columns as pairs
 
-pairs_are : (columns : List Column) (alias : List ℕ) (cs : List AskColumn) → are_pairs (pairs_of (column_pairs columns alias cs)) ≡ true
+pairs_are : (columns : List Column) (alias : List ℕ) (cs : List PlainColumn) → are_pairs (pairs_of (column_pairs columns alias cs)) ≡ true
 pairs_are columns alias [] = refl
 pairs_are columns alias (c ∷ cs) = pairs_are columns alias cs
 
-pairs_low : (columns : List Column) (alias : List ℕ) (cs : List AskColumn) → pairs_depth (pairs_of (column_pairs columns alias cs)) ≡ 0
+pairs_low : (columns : List Column) (alias : List ℕ) (cs : List PlainColumn) → pairs_depth (pairs_of (column_pairs columns alias cs)) ≡ 0
 pairs_low columns alias [] = refl
 pairs_low columns alias (c ∷ cs) = ap (max 0) (pairs_low columns alias cs)
 
@@ -51,7 +51,7 @@ orders_low columns alias (c ∷ cs) i = ap (max 0) (orders_low columns alias cs 
 
 -- ---- the selects of a list, whose key has a column
 
-module _ (schema name : List ℕ) (columns : List Column) (k : ℕ) (ks : List ℕ) (fields : List AskColumn) where
+module _ (schema name : List ℕ) (columns : List Column) (k : ℕ) (ks : List ℕ) (fields : List PlainColumn) where
   abbrev inner : SelectTree
   inner = list_rows schema name columns (k ∷ ks) 1 (pairs_of (column_pairs columns (table_alias 1) fields)) no_join
 
@@ -86,7 +86,7 @@ has_key tables t x valid lt e = table_has_key tables x (all_at (is_table tables)
 -- ---- the statement
 
 -- the statement of a list is read back, where its texts and numbers fit
-pub list_is_readable : (response schema name : List ℕ) (columns : List Column) (key : List ℕ) (fields : List AskColumn)
+pub list_is_readable : (response schema name : List ℕ) (columns : List Column) (key : List ℕ) (fields : List PlainColumn)
     → nat_lt 0 (length key) ≡ true → select_fits (list_statement response schema name columns key fields) ≡ true → is_readable (list_statement response schema name columns key fields) ≡ true
 list_is_readable response schema name columns [] fields some fits = absurd cc
 list_is_readable response schema name columns (k ∷ ks) fields some fits =

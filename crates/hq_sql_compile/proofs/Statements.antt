@@ -6,9 +6,9 @@ use Rattle.hq_terms.specs.Grants.{Grants, grant}
 use Rattle.hq_terms.specs.Meta.{MetaTree}
 use Rattle.hq_terms.specs.Schema.{Schema, schema_of, table}
 use Rattle.hq_terms.specs.declared.table.Table.{Table}
-use Rattle.hq_ask_tree.specs.declared.ask.Ask.{Ask}
-use Rattle.hq_ask_tree.specs.declared.ask.AskColumn.{AskColumn}
-use Rattle.hq_ask_tree.specs.Request.{columns_of, ask_view}
+use Rattle.hq_sql_compile.specs.declared.plain.PlainColumn.{PlainColumn}
+use Rattle.hq_sql_compile.specs.declared.plain.PlainList.{PlainList}
+use Rattle.hq_sql_compile.specs.Plain.{fields_of_columns, request_of}
 use Rattle.hq_ask_tree.specs.Resolve.{resolved}
 use Rattle.hq_sql_tree.specs.Tree.{pair, pairs_of, object, column, rows, one, JoinTrees, no_join, join, no_filter, no_pair}
 use Rattle.hq_sql_tree.specs.Meaning.{meaning}
@@ -17,23 +17,23 @@ use Rattle.hq_sql_compile.specs.Correct.{IsPlain, ArePlain}
 use Rattle.hq_sql_compile.proofs.Sound.{IsOf}
 use Rattle.hq_sql_compile.proofs.Meaning.{means_resolved}
 
-columns_values : (cs : List AskColumn) (s : Schema) (t : ℕ) (alias : List ℕ) (n : ℕ) → values_of (columns_of cs) s t alias n ≡ pairs_of (column_pairs (table s t).columns alias cs)
+columns_values : (cs : List PlainColumn) (s : Schema) (t : ℕ) (alias : List ℕ) (n : ℕ) → values_of (fields_of_columns cs) s t alias n ≡ pairs_of (column_pairs (table s t).columns alias cs)
 columns_values [] s t alias n = refl
 columns_values (c ∷ cs) s t alias n = ap (pair c.key (column_at (table s t).columns alias c.column)) (columns_values cs s t alias (n + 0))
 
-columns_joins : (cs : List AskColumn) (s : Schema) (n : ℕ) (js : JoinTrees) → joins_of (columns_of cs) s n js ≡ js
+columns_joins : (cs : List PlainColumn) (s : Schema) (n : ℕ) (js : JoinTrees) → joins_of (fields_of_columns cs) s n js ≡ js
 columns_joins [] s n js = refl
 columns_joins (c ∷ cs) s n js = columns_joins cs s (n + 0) js
 
-columns_numbers : (cs : List AskColumn) → numbers_all (columns_of cs) ≡ 0
+columns_numbers : (cs : List PlainColumn) → numbers_all (fields_of_columns cs) ≡ 0
 columns_numbers [] = refl
 columns_numbers (c ∷ cs) = let rest = columns_numbers cs in omega arith
 
-columns_plain : (cs : List AskColumn) (s : Schema) (g : Grants) → ArePlain (columns_of cs) s g
+columns_plain : (cs : List PlainColumn) (s : Schema) (g : Grants) → ArePlain (fields_of_columns cs) s g
 columns_plain [] s g = tt
 columns_plain (c ∷ cs) s g = (tt, columns_plain cs s g)
 
-pub statement_is : (a : Ask) (s : Schema) → statement (ask_view a) s ≡ list_statement a.key (table s a.table).schema (table s a.table).name (table s a.table).columns (table s a.table).key a.columns
+pub statement_is : (a : PlainList) (s : Schema) → statement (request_of a) s ≡ list_statement a.key (table s a.table).schema (table s a.table).name (table s a.table).columns (table s a.table).key a.columns
 statement_is a s =
     let t : ℕ = a.table in
     ap₂ (λ values joins.
@@ -44,16 +44,16 @@ statement_is a s =
     (columns_values a.columns s t (table_alias 1) 2) (columns_joins a.columns s 2 no_join)
 
 -- the same of a table of the catalog
-pub catalog_statement : (a : Ask) (tables : List Table) (meta : MetaTree) (x : Table) → IsOf (table (schema_of tables meta) a.table) x
-    → list_statement a.key x.schema x.name x.columns x.key a.columns ≡ statement (ask_view a) (schema_of tables meta)
+pub catalog_statement : (a : PlainList) (tables : List Table) (meta : MetaTree) (x : Table) → IsOf (table (schema_of tables meta) a.table) x
+    → list_statement a.key x.schema x.name x.columns x.key a.columns ≡ statement (request_of a) (schema_of tables meta)
 catalog_statement a tables meta x of =
     sym (statement_is a (schema_of tables meta) ∙ rw (of.schema, of.name, of.columns, of.key) refl)
 
-pub list_resolved : (a : Ask) (tables : List Table) (meta : MetaTree) (g : Grants) (d : List (List Row)) (x : Table) → IsOf (table (schema_of tables meta) a.table) x → length x.key ≤ 2 ^ 64
+pub list_resolved : (a : PlainList) (tables : List Table) (meta : MetaTree) (g : Grants) (d : List (List Row)) (x : Table) → IsOf (table (schema_of tables meta) a.table) x → length x.key ≤ 2 ^ 64
     → is_catalog tables ≡ true → is_database tables d ≡ true → IsPlain (grant g a.table)
-    → meaning (statement (ask_view a) (schema_of tables meta)) (record { tables = tables; database = d }) ≡ resolved (ask_view a) (schema_of tables meta) g d
+    → meaning (statement (request_of a) (schema_of tables meta)) (record { tables = tables; database = d }) ≡ resolved (request_of a) (schema_of tables meta) g d
 list_resolved a tables meta g d x of few catalog database plain =
     let s : Schema = schema_of tables meta in
-    let none : numbers_all (columns_of a.columns) ≡ 0 = columns_numbers a.columns in
+    let none : numbers_all (fields_of_columns a.columns) ≡ 0 = columns_numbers a.columns in
     let short : length (table s a.table).key ≤ 2 ^ 64 = subst (λ (k : List ℕ). length k ≤ 2 ^ 64) (sym of.key) few in
-    means_resolved (ask_view a) tables meta g d catalog database ((plain, short, columns_plain a.columns s g), tt) (omega arith)
+    means_resolved (request_of a) tables meta g d catalog database ((refl, plain, short, columns_plain a.columns s g), tt) (omega arith)

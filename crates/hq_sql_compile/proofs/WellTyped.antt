@@ -11,8 +11,8 @@ use Rattle.hq_terms.specs.Database.{is_text}
 use Rattle.hq_terms.specs.Schema.{no_column}
 use Rattle.hq_terms.specs.declared.table.Column.{Column}
 use Rattle.hq_terms.specs.declared.table.Table.{Table}
-use Rattle.hq_ask_tree.specs.declared.ask.Ask.{Ask}
-use Rattle.hq_ask_tree.specs.declared.ask.AskColumn.{AskColumn}
+use Rattle.hq_sql_compile.specs.declared.plain.PlainList.{PlainList}
+use Rattle.hq_sql_compile.specs.declared.plain.PlainColumn.{PlainColumn}
 use Rattle.hq_sql_tree.specs.Tree as tree
 use Rattle.hq_sql_tree.specs.Tree.{ExprTree, PairTree, OrderTree, OutTree, SelectTree, pairs_of, orders_of}
 use Rattle.hq_sql_tree.specs.Form.{is_select, select_depth, select_fits}
@@ -85,7 +85,7 @@ keys_differ : (columns : List Column) (alias : List ℕ) (cs : List ℕ) (i : �
 keys_differ columns alias [] i few = refl
 keys_differ columns alias (c ∷ cs) i few = rw (no_later columns alias i cs (i + 1) (omega arith) (omega arith), keys_differ columns alias cs (i + 1) (omega arith)) refl
 
-pairs_named : (columns : List Column) (alias : List ℕ) (fields : List AskColumn) → pair_names (pairs_of (column_pairs columns alias fields)) ≡ map (λ c. c.key) fields
+pairs_named : (columns : List Column) (alias : List ℕ) (fields : List PlainColumn) → pair_names (pairs_of (column_pairs columns alias fields)) ≡ map (λ c. c.key) fields
 pairs_named columns alias [] = refl
 pairs_named columns alias (c ∷ cs) = ap (λ names. c.key ∷ names) (pairs_named columns alias cs)
 
@@ -95,7 +95,7 @@ module _ (scope : Aliases) (alias : List ℕ) (columns : List Column) (shown : (
   kind_shown : (c : ℕ) → c < length columns → kind_at scope alias (name_of columns c) ≡ Some (kind_of columns c)
   kind_shown c lt = shown (name_of columns c) ∙ column_kind columns c differ lt
 
-  values_shown : (fields : List AskColumn) → list_all (λ c. nat_lt c.column (length columns)) fields ≡ true → are_values scope (pairs_of (column_pairs columns alias fields)) ≡ true
+  values_shown : (fields : List PlainColumn) → list_all (λ c. nat_lt c.column (length columns)) fields ≡ true → are_values scope (pairs_of (column_pairs columns alias fields)) ≡ true
   values_shown [] h = refl
   values_shown (c ∷ cs) h =
       let parts = both (nat_lt c.column (length columns)) (list_all (λ d. nat_lt d.column (length columns)) cs) h in
@@ -145,7 +145,7 @@ parts_hold scope outs keys values names compare = five true (begin_with [] [] ke
 abbrev beside_one : Aliases
 beside_one = (table_alias 0, (codes "u", Some well.truth) ∷ []) ∷ []
 
-module _ (tables : List Table) (x : Table) (response : List ℕ) (fields : List AskColumn) (found : list_any (well.is_table x.schema x.name) tables ≡ true) (names : table_names tables x.schema x.name ≡ kinds_of x.columns) (is : IsNamed x) (few : length x.key ≤ 2 ^ 64)
+module _ (tables : List Table) (x : Table) (response : List ℕ) (fields : List PlainColumn) (found : list_any (well.is_table x.schema x.name) tables ≡ true) (names : table_names tables x.schema x.name ≡ kinds_of x.columns) (is : IsNamed x) (few : length x.key ≤ 2 ^ 64)
     (asked : list_all (λ c. nat_lt c.column (length x.columns)) fields ≡ true) (apart : all_differ bytes_eq (map (λ c. c.key) fields) ≡ true) where
   -- the scope of the rows
   abbrev within : Aliases
@@ -207,12 +207,12 @@ module _ (tables : List Table) (x : Table) (response : List ℕ) (fields : List 
   statement_typed = rw (outer_typed, value_joined) refl
 
 -- the aliases of the statement differ
-aliases_differ : (response schema name : List ℕ) (columns : List Column) (key : List ℕ) (fields : List AskColumn) → all_differ bytes_eq (aliases_in (list_statement response schema name columns key fields) []) ≡ true
+aliases_differ : (response schema name : List ℕ) (columns : List Column) (key : List ℕ) (fields : List PlainColumn) → all_differ bytes_eq (aliases_in (list_statement response schema name columns key fields) []) ≡ true
 unfolding table_alias fold_alias join_alias
 aliases_differ response schema name columns key fields = rw (head_differs 0 1 (omega arith) (omega arith)) refl
 
 -- it has the form of a statement
-statement_form : (response schema name : List ℕ) (columns : List Column) (key : List ℕ) (fields : List AskColumn) → is_statement_form (list_statement response schema name columns key fields) ≡ true
+statement_form : (response schema name : List ℕ) (columns : List Column) (key : List ℕ) (fields : List PlainColumn) → is_statement_form (list_statement response schema name columns key fields) ≡ true
 unfolding value_name
 statement_form response schema name columns key fields = refl
 
@@ -220,7 +220,7 @@ whole : (form grammar aliases typed fits : Bool) → form ≡ true → grammar �
 whole form grammar aliases typed fits a b c d e = rw (a, b, c, d, e) refl
 
 -- The statement of a list of columns is well-formed for the catalog of its table.
-pub list_is_statement : (tables : List Table) (a : Ask) → is_catalog tables ≡ true → IsList tables a → length (table_at tables a.table).key ≤ 2 ^ 64 → is_readable (list_over tables a) ≡ true → is_statement (list_over tables a) tables ≡ true
+pub list_is_statement : (tables : List Table) (a : PlainList) → is_catalog tables ≡ true → IsList tables a → length (table_at tables a.table).key ≤ 2 ^ 64 → is_readable (list_over tables a) ≡ true → is_statement (list_over tables a) tables ≡ true
 list_is_statement tables a valid list few readable =
     let x : Table = table_at tables a.table in
     let parts = both _ _ valid in

@@ -6,10 +6,10 @@ use Rattle.hq_terms.specs.Database.{is_text}
 use Rattle.hq_terms.specs.Schema.{Schema, table, no_column}
 use Rattle.hq_terms.specs.declared.table.Column.{Column}
 use Rattle.hq_terms.specs.declared.table.Table.{Table}
-use Rattle.hq_ask_tree.specs.declared.ask.Ask.{Ask}
-use Rattle.hq_ask_tree.specs.declared.ask.AskColumn.{AskColumn}
-use Rattle.hq_ask_tree.specs.Request.{FieldTrees, no_field, field, FieldTree, column as column_field, list}
+use Rattle.hq_ask_tree.specs.Fields.{from_table, FieldTrees, no_field, field, FieldTree, column as column_field, list}
 use Rattle.hq_sql_tree.specs.Tree.{ExprTree, column, object, aggregate, PairTree, PairTrees, no_pair, pair, pairs_of, json_agg, orders_of, OrderTree, OutTree, SelectTree, rows, fold, table as from_table, one, JoinTrees, no_join, join, no_filter}
+use Rattle.hq_sql_compile.specs.declared.plain.PlainColumn.{PlainColumn}
+use Rattle.hq_sql_compile.specs.declared.plain.PlainList.{PlainList}
 
 unfoldable pub table_alias : ℕ → List ℕ
 table_alias n = 116 ∷ decimal n
@@ -59,7 +59,7 @@ output_orders columns alias (c ∷ cs) i =
     ascending_key (column alias (key_name i) (is_text_column columns c)) ∷ output_orders columns alias cs (i + 1)
 
 -- columns under their response keys
-abbrev pub column_pairs : List Column → (alias : List ℕ) → List AskColumn → List PairTree
+abbrev pub column_pairs : List Column → (alias : List ℕ) → List PlainColumn → List PairTree
 column_pairs columns alias [] = []
 column_pairs columns alias (c ∷ cs) = record { name = c.key; value = column_at columns alias c.column } ∷ column_pairs columns alias cs
 
@@ -86,27 +86,28 @@ abbrev mutual
 
   pub numbers : FieldTree → ℕ
   numbers (column_field c) = 0
-  numbers (list t fs) = 1 + numbers_all fs
+  numbers (list o a fs) = 1 + numbers_all fs
+  numbers _ = 1
 
 -- the values of fields at an alias that shows a row of table t, their numbers from n on
 abbrev pub field_value : FieldTree → Schema → (t : ℕ) → (alias : List ℕ) → (n : ℕ) → ExprTree
 field_value (column_field c) s t alias n = column_at (table s t).columns alias c
-field_value (list u fs) s t alias n = column (join_alias n) value_name false
+field_value _ s t alias n = column (join_alias n) value_name false
 
 abbrev pub values_of : FieldTrees → Schema → (t : ℕ) → (alias : List ℕ) → (n : ℕ) → PairTrees
 values_of no_field s t alias n = no_pair
 values_of (field key f fs) s t alias n = pair key (field_value f s t alias n) (values_of fs s t alias (n + numbers f))
 
--- the lateral joins of fields, in front of further ones
+-- the lateral joins of fields, in front of further ones: so far each list of a table's rows has one
 abbrev mutual
   pub joins_of : FieldTrees → Schema → (n : ℕ) → JoinTrees → JoinTrees
   joins_of no_field s n js = js
   joins_of (field key f fs) s n js = field_joins f s n (joins_of fs s (n + numbers f) js)
 
   pub field_joins : FieldTree → Schema → (n : ℕ) → JoinTrees → JoinTrees
-  field_joins (column_field c) s n js = js
-  field_joins (list u fs) s n js =
+  field_joins (list (from_table u) a fs) s n js =
       join (list_select s u n (values_of fs s u (table_alias n) (n + 1)) (joins_of fs s (n + 1) no_join)) (join_alias n) js
+  field_joins _ s n js = js
 
 -- the statement: one row whose one output is the object of the root fields
 abbrev pub statement : FieldTrees → Schema → SelectTree
@@ -115,7 +116,7 @@ statement fs s =
     (one (table_alias 0)) (joins_of fs s 1 no_join) no_filter [] None None
 
 -- the statement of one list of columns, from what the catalog says of its table
-abbrev pub list_statement : (response schema name : List ℕ) → List Column → (key : List ℕ) → List AskColumn → SelectTree
+abbrev pub list_statement : (response schema name : List ℕ) → List Column → (key : List ℕ) → List PlainColumn → SelectTree
 list_statement response schema name columns key fields =
     rows [] (record { value = object (pair response (column (join_alias 1) value_name false) no_pair); name = value_name } ∷ [])
     (one (table_alias 0))
@@ -130,6 +131,6 @@ abbrev pub table_at : List Table → ℕ → Table
 table_at tables t = slice_index_or tables t no_table
 
 -- the statement of a request for a list of columns of a catalog's table
-abbrev pub list_over : List Table → Ask → SelectTree
+abbrev pub list_over : List Table → PlainList → SelectTree
 list_over tables a =
     list_statement a.key (table_at tables a.table).schema (table_at tables a.table).name (table_at tables a.table).columns (table_at tables a.table).key a.columns

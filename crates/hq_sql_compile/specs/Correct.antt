@@ -10,11 +10,12 @@ use Rattle.hq_terms.specs.Meta.{MetaTree}
 use Rattle.hq_terms.specs.Permission.{Permission}
 use Rattle.hq_terms.specs.Schema.{Schema, schema_of, table}
 use Rattle.hq_terms.specs.declared.table.Table.{Table}
-use Rattle.hq_ask_tree.specs.declared.ask.Ask.{Ask}
-use Rattle.hq_ask_tree.specs.Request.{FieldTrees, no_field, field, FieldTree, column, list}
+use Rattle.hq_ask_tree.specs.Fields.{from_table, FieldTrees, no_field, field, FieldTree, column, list}
 use Rattle.hq_ask_tree.specs.Resolve.{resolved}
 use Rattle.hq_sql_tree.specs.Meaning.{meaning}
 use Rattle.hq_sql_compile.specs.Compiled.{numbers_all, statement, table_at}
+use Rattle.hq_sql_compile.specs.Plain.{no_arguments}
+use Rattle.hq_sql_compile.specs.declared.plain.PlainList.{PlainList}
 
 -- a permission without a filter, masks and a limit
 pub record IsPlain (p : Permission) : Type 0 where
@@ -23,12 +24,13 @@ pub record IsPlain (p : Permission) : Type 0 where
   pub limit : p.limit ≡ None
 
 -- a list of columns of a table of the catalog, under response keys that differ
-pub record IsList (tables : List Table) (a : Ask) : Type 0 where
+pub record IsList (tables : List Table) (a : PlainList) : Type 0 where
   pub table : a.table < length tables
   pub columns : list_all (λ c. nat_lt c.column (length (table_at tables a.table).columns)) a.columns ≡ true
   pub keys : all_differ bytes_eq (map (λ c. c.key) a.columns) ≡ true
 
--- each list is of a table on which the permission is plain, and whose key has fewer than 2 ^ 64 columns
+-- each field is a column, or a list without arguments of a table on which the permission is plain, and whose key has fewer
+-- than 2 ^ 64 columns
 abbrev mutual
   pub ArePlain : FieldTrees → Schema → Grants → Type 0
   ArePlain no_field s g = Unit {0}
@@ -36,7 +38,8 @@ abbrev mutual
 
   pub IsPlainField : FieldTree → Schema → Grants → Type 0
   IsPlainField (column c) s g = Unit {0}
-  IsPlainField (list t fs) s g = IsPlain (grant g t) × (length (table s t).key ≤ 2 ^ 64) × ArePlain fs s g
+  IsPlainField (list (from_table t) a fs) s g = (a ≡ no_arguments) × IsPlain (grant g t) × (length (table s t).key ≤ 2 ^ 64) × ArePlain fs s g
+  IsPlainField _ s g = ⊥
 
 -- The statement means, over every database of the catalog, what nested resolvers give over the permitted rows.
 abbrev pub MeansResolved : FieldTrees → List Table → MetaTree → Grants → List (List Row) → Type 0

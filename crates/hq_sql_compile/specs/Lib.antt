@@ -1,2 +1,3 @@
+pub mod Plain
 pub mod Compiled
 pub mod Correct

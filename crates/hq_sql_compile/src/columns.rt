@@ -5,7 +5,7 @@ ghost use Rattle.hq_sql_tree.specs.View.{expr_view, order_view, out_view, pair_v
 ghost use Rattle.hq_sql_compile.specs.Compiled.{key_name, name_of, is_text_column, column_at, compared_at, ascending_key, key_orders, key_outputs, output_orders, column_pairs};
 
 use crate::alias::key_name;
-use hq_ask_tree::AskColumn;
+use crate::plain::PlainColumn;
 use hq_base::{Memory, Txt, Ty};
 use hq_sql_tree::{Expr, ExprPair, ExprPairList, Order, OrderList, Out, OutList};
 use hq_terms::{ColId, Column};
@@ -162,7 +162,7 @@ fn column_pair(
     alloc: Global,
     columns: &[Column],
     alias: &Txt,
-    column: &AskColumn,
+    column: &PlainColumn,
 ) -> Result<ExprPair, Memory>
     ensures { IfOk result (λ pair. pair_view pair ≡ record { name = column.now.key; value = column_at columns.now alias.now column.now.column }) }
 {
@@ -176,7 +176,7 @@ pub(crate) fn column_pairs(
     alloc: Global,
     columns: &[Column],
     alias: &Txt,
-    fields: &[AskColumn],
+    fields: &[PlainColumn],
 ) -> Result<ExprPairList, Memory>
     ensures { IfOk result (λ pairs. map pair_view pairs.items ≡ column_pairs columns.now alias.now fields.now) }
 {

@@ -4,6 +4,8 @@
 mod alias;
 mod columns;
 mod list;
+mod plain;
 mod statement;
 
+pub use plain::{PlainColumn, PlainList};
 pub use statement::compile;

@@ -6,7 +6,7 @@ ghost use Rattle.hq_sql_compile.specs.Compiled.{table_alias, fold_alias, join_al
 
 use crate::alias::{fold_alias, join_alias, table_alias, value_name};
 use crate::columns::{column_pairs, key_orders, output_orders, push_key_outputs};
-use hq_ask_tree::AskColumn;
+use crate::plain::PlainColumn;
 use hq_base::{Memory, Txt};
 use hq_sql_tree::{Agg, Expr, ExprPairList, From, Join, OrderList, Out, OutList, Select};
 use hq_terms::Table;
@@ -28,7 +28,7 @@ fn row_outputs(
     alloc: Global,
     table: &Table,
     alias: &Txt,
-    fields: &[AskColumn],
+    fields: &[PlainColumn],
 ) -> Result<OutList, Memory>
     ensures { IfOk result (λ outs. map out_view outs.items ≡
         record { value = tree.object (tree.pairs_of (column_pairs table.now.columns alias.now fields.now)); name = value_name }
@@ -76,7 +76,7 @@ fn list_rows(
     alloc: Global,
     table: &Table,
     number: u64,
-    fields: &[AskColumn],
+    fields: &[PlainColumn],
 ) -> Result<Select, Memory>
     ensures { IfOk result (λ select. select_view select ≡ list_rows table.now.schema table.now.name table.now.columns table.now.key number
         (tree.pairs_of (column_pairs table.now.columns (table_alias number) fields.now)) tree.no_join) }
@@ -124,7 +124,7 @@ fn list_select(
     alloc: Global,
     table: &Table,
     number: u64,
-    fields: &[AskColumn],
+    fields: &[PlainColumn],
 ) -> Result<Select, Memory>
     ensures { IfOk result (λ select. select_view select ≡ list_of_rows table.now.schema table.now.name table.now.columns table.now.key number
         (tree.pairs_of (column_pairs table.now.columns (table_alias number) fields.now)) tree.no_join) }
@@ -146,7 +146,7 @@ pub(crate) fn list_join(
     alloc: Global,
     table: &Table,
     number: u64,
-    fields: &[AskColumn],
+    fields: &[PlainColumn],
 ) -> Result<Join, Memory>
     ensures { IfOk result (λ join. join_view join ≡ record {
       select = list_of_rows table.now.schema table.now.name table.now.columns table.now.key number

@@ -26,6 +26,7 @@ use Rattle.hq_sql_eval.specs.declared.place.Place.{Place}
 use Rattle.hq_sql_eval.specs.Joined.{put_off}
 use Rattle.hq_sql_eval.specs.Keys.{member_at, output_at, outputs_of}
 use Rattle.hq_sql_eval.specs.Single.{is_single}
+use Rattle.hq_sql_eval.specs.Positions.{kept_of}
 use Rattle.hq_sql_eval.specs.Sources.{alias_in, made_rows, rows_given, has_items}
 use Rattle.hq_sql_eval.proofs.JoinedRows.{beside_put_off, joined_single}
 
@@ -116,19 +117,19 @@ row_in_is source.One (suc i) h = absurd (omega arith)
 
 module _ (js : JoinTrees) (w : World) (n : Scope) (a : List ℕ) (keeps : Scope → Bool) where
   -- the rows that WHERE keeps of these rows of FROM
-  abbrev pub kept_of : List NamedRow → List Scope
-  kept_of rs = filter keeps (flat_map (joined js w) (map (with_alias n a) rs))
+  abbrev kept_here : List NamedRow → List Scope
+  kept_here = kept_of js w n a keeps
 
-  kept_append : (rs qs : List NamedRow) → kept_of (rs ++ qs) ≡ kept_of rs ++ kept_of qs
+  kept_append : (rs qs : List NamedRow) → kept_here (rs ++ qs) ≡ kept_here rs ++ kept_here qs
   kept_append rs qs =
       let F = joined js w in
       ap (λ l. filter keeps (flat_map F l)) (map-append (with_alias n a) rs qs) ∙ ap (filter keeps) (flat_map-append F (map (with_alias n a) rs) (map (with_alias n a) qs))
       ∙ filter-append keeps (flat_map F (map (with_alias n a) rs)) (flat_map F (map (with_alias n a) qs))
 
   -- one more row of FROM
-  pub kept_step : (rs : List NamedRow) (i : ℕ) → i < length rs → kept_of (take (i + 1) rs) ≡ kept_of (take i rs) ++ filter keeps (joined js w (with_alias n a (get_or rs i [])))
+  pub kept_step : (rs : List NamedRow) (i : ℕ) → i < length rs → kept_here (take (i + 1) rs) ≡ kept_here (take i rs) ++ filter keeps (joined js w (with_alias n a (get_or rs i [])))
   kept_step rs i h =
-      ap (λ k. kept_of (take k rs)) (add-one i) ∙ ap kept_of (take-suc rs i [] h) ∙ kept_append (take i rs) (get_or rs i [] ∷ []) ∙ ap (λ l. kept_of (take i rs) ++ filter keeps l) (append-nil (joined js w (with_alias n a (get_or rs i []))))
+      ap (λ k. kept_here (take k rs)) (add-one i) ∙ ap kept_here (take-suc rs i [] h) ∙ kept_append (take i rs) (get_or rs i [] ∷ []) ∙ ap (λ l. kept_here (take i rs) ++ filter keeps l) (append-nil (joined js w (with_alias n a (get_or rs i []))))
 
   has_front : (xs ys zs : List Scope) → has_items ys ≡ true → xs ≡ [] → has_items ((xs ++ ys) ++ zs) ≡ true
   has_front [] [] zs h e = cc
@@ -136,27 +137,28 @@ module _ (js : JoinTrees) (w : World) (n : Scope) (a : List ℕ) (keeps : Scope 
   has_front (x ∷ xs) ys zs h e = cc
 
   -- a row of FROM that WHERE keeps
-  pub any_found : (rs : List NamedRow) (i : ℕ) (r : NamedRow) (here : List Scope) → i < length rs → r ≡ get_or rs i [] → here ≡ filter keeps (joined js w (with_alias n a r)) → has_items here ≡ true → kept_of (take i rs) ≡ [] → true ≡ has_items (kept_of rs)
+  pub any_found : (rs : List NamedRow) (i : ℕ) (r : NamedRow) (here : List Scope) → i < length rs → r ≡ get_or rs i [] → here ≡ filter keeps (joined js w (with_alias n a r)) → has_items here ≡ true → kept_here (take i rs) ≡ [] → true ≡ has_items (kept_here rs)
   any_found rs i r here lt e h k none =
-      let parts : kept_of rs ≡ (kept_of (take i rs) ++ filter keeps (joined js w (with_alias n a (get_or rs i [])))) ++ kept_of (drop (i + 1) rs) =
-      ap kept_of (sym (take-append-drop (i + 1) rs)) ∙ kept_append (take (i + 1) rs) (drop (i + 1) rs) ∙ ap (λ l. l ++ kept_of (drop (i + 1) rs)) (kept_step rs i lt) in
+      let parts : kept_here rs ≡ (kept_here (take i rs) ++ filter keeps (joined js w (with_alias n a (get_or rs i [])))) ++ kept_here (drop (i + 1) rs) =
+      ap kept_here (sym (take-append-drop (i + 1) rs)) ∙ kept_append (take (i + 1) rs) (drop (i + 1) rs) ∙ ap (λ l. l ++ kept_here (drop (i + 1) rs)) (kept_step rs i lt) in
       let found : has_items (filter keeps (joined js w (with_alias n a (get_or rs i [])))) ≡ true = ap has_items (ap (λ q. filter keeps (joined js w (with_alias n a q))) (sym e) ∙ sym h) ∙ k in
-      sym (ap has_items parts ∙ has_front (kept_of (take i rs)) _ (kept_of (drop (i + 1) rs)) found none)
+      sym (ap has_items parts ∙ has_front (kept_here (take i rs)) _ (kept_here (drop (i + 1) rs)) found none)
 
   -- one that it does not keep
-  pub any_passed : (rs : List NamedRow) (i : ℕ) (r : NamedRow) (here : List Scope) → i < length rs → r ≡ get_or rs i [] → here ≡ filter keeps (joined js w (with_alias n a r)) → here ≡ [] → kept_of (take i rs) ≡ [] → kept_of (take (i + 1) rs) ≡ []
+  pub any_passed : (rs : List NamedRow) (i : ℕ) (r : NamedRow) (here : List Scope) → i < length rs → r ≡ get_or rs i [] → here ≡ filter keeps (joined js w (with_alias n a r)) → here ≡ [] → kept_here (take i rs) ≡ [] → kept_here (take (i + 1) rs) ≡ []
   any_passed rs i r here lt e h k none =
       kept_step rs i lt ∙ ap₂ (λ x y. x ++ y) none (ap (λ q. filter keeps (joined js w (with_alias n a q))) (sym e) ∙ sym h ∙ k)
 
   -- the places of one more row of FROM
-  pub scan_step : (from : Source) (i : ℕ) (r : NamedRow) (old : List Place) (lists : List (Vec (Option Made))) → i < length (source_view from) → r ≡ row_in from i → map (beside js w (with_alias n a r)) (map joined_view lists) ≡ filter keeps (joined js w (with_alias n a r))
-      → map (names_at from a js w n) old ≡ kept_of (take i (source_view from)) → map (names_at from a js w n) (old ++ map (place_of i) lists) ≡ kept_of (take (i + 1) (source_view from))
-  scan_step from i r old lists lt e h k =
-      let there : r ≡ get_or (source_view from) i [] = e ∙ sym (row_in_is from i lt) in
-      let placed : map (names_at from a js w n) (map (place_of i) lists) ≡ filter keeps (joined js w (with_alias n a (get_or (source_view from) i []))) =
-      map_map (names_at from a js w n) (place_of i) lists ∙ ap (λ q. map (λ l. beside js w (with_alias n a q) (joined_view l)) lists) (sym e) ∙ sym (map_map (beside js w (with_alias n a r)) joined_view lists) ∙ h
+  pub scan_step : (from : Source) (rs : List NamedRow) (i p : ℕ) (r : NamedRow) (old : List Place) (lists : List (Vec (Option Made))) → i < length rs → row_in from p ≡ get_or rs i [] → r ≡ row_in from p
+      → map (beside js w (with_alias n a r)) (map joined_view lists) ≡ filter keeps (joined js w (with_alias n a r))
+      → map (names_at from a js w n) old ≡ kept_here (take i rs) → map (names_at from a js w n) (old ++ map (place_of p) lists) ≡ kept_here (take (i + 1) rs)
+  scan_step from rs i p r old lists lt at e h k =
+      let there : r ≡ get_or rs i [] = e ∙ at in
+      let placed : map (names_at from a js w n) (map (place_of p) lists) ≡ filter keeps (joined js w (with_alias n a (get_or rs i []))) =
+      map_map (names_at from a js w n) (place_of p) lists ∙ ap (λ q. map (λ l. beside js w (with_alias n a q) (joined_view l)) lists) (sym e) ∙ sym (map_map (beside js w (with_alias n a r)) joined_view lists) ∙ h
       ∙ ap (λ q. filter keeps (joined js w (with_alias n a q))) there in
-      map-append (names_at from a js w n) old (map (place_of i) lists) ∙ ap₂ (λ x y. x ++ y) k placed ∙ sym (kept_step (source_view from) i lt)
+      map-append (names_at from a js w n) old (map (place_of p) lists) ∙ ap₂ (λ x y. x ++ y) k placed ∙ sym (kept_step rs i lt)
 
 pub no_images : {A B C : Type 0} (f : B → C) (g : A → B) (xs : List A) → (length xs == 0) ≡ true → map f (map g xs) ≡ []
 no_images f g [] e = refl

@@ -6,7 +6,8 @@ use Rattle.hq_sql_tree.specs.Tree.{ExprTree, OutTree, OrderTree, SelectTree, row
 use Rattle.hq_sql_tree.specs.Meaning.{NamedRow, Scope, with_alias, World, rows_of, scopes_of, joined, kept, or_null_row, order_cmp, distinct_on, same_values, limited, offset_by, outputs}
 use Rattle.hq_sql_eval.specs.View.{first_row, beside}
 use Rattle.hq_sql_eval.specs.Joined.{put_off, first_joined, other_joined}
-use Rattle.hq_sql_eval.specs.Single.{is_single, are_single, is_one, is_one_at_most}
+use Rattle.hq_sql_eval.specs.Single.{is_single, are_single, is_one_at_most}
+use Rattle.hq_sql_tree.specs.Form.{is_one}
 
 -- a join that is put off has the first row of its select
 pub beside_put_off : (s : SelectTree) (a : List ℕ) (js : JoinTrees) (w : World) (n : Scope) (rs : List (Option NamedRow)) → beside (join s a js) w n (put_off rs) ≡ beside js w (with_alias n a (first_row (rows_of s w n))) rs

@@ -4,3 +4,5 @@ pub mod JoinedRows
 pub mod Ordered
 pub mod Evaluated
 pub mod Stored
+pub mod Asked
+pub mod Looked

@@ -6,8 +6,8 @@ use Rattle.hq_terms.specs.Database.{Row}
 use Rattle.hq_terms.specs.declared.table.Table.{Table}
 use Rattle.hq_sql_tree.specs.Meaning.{meaning}
 use Rattle.hq_sql_tree.specs.Tree.{SelectTree}
-use Rattle.hq_sql_scans.specs.Agree.{HasRows, MeansAlike}
-use Rattle.hq_sql_scans.specs.Scans.{scans}
+use Rattle.hq_sql_check.specs.Agree.{HasRows, MeansAlike}
+use Rattle.hq_sql_check.specs.Scans.{scans}
 
 -- an item in front of the end, and the one at the end
 at_front : (xs : List (List Row)) (x : List Row) (t : ℕ) → t < length xs → slice_index_or (xs ++ x ∷ []) t [] ≡ slice_index_or xs t []

@@ -4,3 +4,5 @@ pub mod Joined
 pub mod Single
 pub mod Keys
 pub mod Weight
+pub mod Equations
+pub mod Positions

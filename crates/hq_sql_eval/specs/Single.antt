@@ -1,17 +1,12 @@
 -- Selects that give one row at most, as seen by their form.
 use Rattle.std.specs.Prelude.{ℕ, Bool, true, false, ◌&&◌, ◌||◌, nat_lt, Option, Some, None}
-use Rattle.hq_sql_tree.specs.Tree.{SelectTree, rows, fold, FromTree, table, sub, one, JoinTrees, no_join, join}
+use Rattle.hq_sql_tree.specs.Tree.{SelectTree, rows, fold, JoinTrees, no_join, join}
+use Rattle.hq_sql_tree.specs.Form.{is_one}
 
 -- LIMIT 0 or 1
 abbrev pub is_one_at_most : Option ℕ → Bool
 is_one_at_most None = false
 is_one_at_most (Some n) = nat_lt n 2
-
--- One: the one row whose column `u` is true
-abbrev pub is_one : FromTree → Bool
-is_one (table schema name alias) = false
-is_one (sub select alias) = false
-is_one (one alias) = true
 
 abbrev mutual
   -- a fold, rows under LIMIT 0 or 1, or rows over One whose joins are such selects

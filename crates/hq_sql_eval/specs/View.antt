@@ -1,5 +1,6 @@
 -- What rows and scopes in memory are seen as (PostgreSQL, SELECT: FROM, and LATERAL joins).
 use Rattle.std.specs.Prelude.{ℕ, true, List, [], ◌∷◌, map, Option, Some, None, option_map, codes, slice_index_or}
+use Rattle.std.specs.Borrow.{Bor}
 use Rattle.std.specs.Global.{Vec}
 use Rattle.hq_base.specs.Cells as cell
 use Rattle.hq_base.specs.Cells.{CellTree}
@@ -9,9 +10,11 @@ use Rattle.hq_sql_tree.specs.View.{select_view}
 use Rattle.hq_sql_tree.specs.Meaning.{NamedRow, Scope as Names, nothing, with_alias, named_row, World, rows_of}
 use Rattle.hq_sql_eval.specs.declared.row.Named.{Named}
 use Rattle.hq_sql_eval.specs.declared.row.Made.{Made}
-use Rattle.hq_sql_eval.specs.declared.row.Row.{Row}
+use Rattle.hq_sql_eval.specs.declared.row.Row.{Row as Lent}
+use Rattle.hq_terms.specs.Database.{Row}
 use Rattle.hq_sql_eval.specs.declared.row.Row.TheVariants as row
 use Rattle.hq_sql_eval.specs.declared.scope.Stored.{Stored}
+use Rattle.hq_sql_eval.specs.declared.scope.Pinned.{Pinned}
 use Rattle.hq_sql_eval.specs.declared.scope.Source.{Source}
 use Rattle.hq_sql_eval.specs.declared.scope.Source.TheVariants as source
 use Rattle.hq_sql_eval.specs.declared.scope.Group.{Group}
@@ -32,24 +35,33 @@ abbrev pub row_of_one : NamedRow
 row_of_one = (codes "u", cell.bool true) ∷ []
 
 -- a row that is lent
-abbrev pub row_view : Row → NamedRow
+abbrev pub row_view : Lent → NamedRow
 row_view (row.Stored columns values) = named_row columns.now values.now
 row_view (row.Made cells) = map named_view cells.now
 row_view row.One = row_of_one
 
+-- the rows that are lent, none where none are
+abbrev pub rows_lent : Option (Bor (List Row)) → List Row
+rows_lent None = []
+rows_lent (Some rows) = rows.now
+
 -- tables with their rows
-abbrev pub world_of : List Stored → World
-world_of stored = record { tables = map (λ s. s.table.now) stored; database = map (λ s. s.rows.now) stored }
+abbrev pub world_in : List Stored → World
+world_in stored = record { tables = map (λ s. s.table.now) stored; database = map (λ s. rows_lent s.rows) stored }
+
+-- those that are pinned
+abbrev pub world_of : Pinned → World
+world_of pinned = world_in pinned.tables.now
 
 -- the rows of a FROM
 abbrev pub source_view : Source → List NamedRow
-source_view (source.Stored stored) = map (named_row stored.table.now.columns) stored.rows.now
+source_view (source.Stored stored) = map (named_row stored.table.now.columns) (rows_lent stored.rows)
 source_view (source.Made rows) = map made_view rows.now
 source_view source.One = row_of_one ∷ []
 
 -- the row at a place, without cells where there is none
 abbrev pub row_in : Source → ℕ → NamedRow
-row_in (source.Stored stored) position = slice_index_or (map (named_row stored.table.now.columns) stored.rows.now) position []
+row_in (source.Stored stored) position = slice_index_or (map (named_row stored.table.now.columns) (rows_lent stored.rows)) position []
 row_in (source.Made rows) position = slice_index_or (map made_view rows.now) position []
 row_in source.One position = row_of_one
 
@@ -90,5 +102,5 @@ names_at from alias joins world names place =
     beside joins world (with_alias names alias (row_in from place.position)) (joined_view place.joined)
 
 -- what is in scope, over tables with their rows
-abbrev pub names_of : Scope → List Stored → Names
-names_of scope stored = scope_of scope (world_of stored)
+abbrev pub names_of : Scope → Pinned → Names
+names_of scope pinned = scope_of scope (world_of pinned)

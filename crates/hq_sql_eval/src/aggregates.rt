@@ -8,7 +8,7 @@ ghost use Rattle.hq_sql_eval.specs.Keys.{with_json, json_at};
 
 use crate::cells::{sorted, sum_of};
 use crate::row::{Made, Row};
-use crate::scope::{Group, Scope, Stored};
+use crate::scope::{Group, Pinned, Scope};
 use crate::values::{keys, value};
 use hq_base::{Json, Memory, Txt};
 use hq_sql_cells::{Cell, Kept, counted, greatest, least};
@@ -20,7 +20,7 @@ use std::alloc::Global;
 pub fn taken<'d>(
     alloc: Global,
     agg: &'d Agg,
-    world: &'d [Stored<'d>],
+    world: &'d Pinned<'d>,
     alias: &'d Txt,
     rows: &[Made<'d>],
     scope: &Scope<'_, 'd>,
@@ -51,7 +51,7 @@ pub fn taken<'d>(
 fn each_value<'d>(
     alloc: Global,
     expr: &'d Expr,
-    world: &'d [Stored<'d>],
+    world: &'d Pinned<'d>,
     alias: &'d Txt,
     rows: &[Made<'d>],
     scope: &Scope<'_, 'd>,
@@ -76,7 +76,7 @@ fn each_json<'d>(
     alloc: Global,
     expr: &'d Expr,
     order: &'d OrderList,
-    world: &'d [Stored<'d>],
+    world: &'d Pinned<'d>,
     alias: &'d Txt,
     rows: &[Made<'d>],
     scope: &Scope<'_, 'd>,

@@ -11,8 +11,9 @@ ghost use Rattle.hq_sql_eval.specs.Keys.{with_cells, taken_at, outputs_of};
 use crate::cells::arranged;
 use crate::joins::{Asked, asked_at, gather, outputs_at};
 use crate::place::{Place, add_places};
+use crate::positions::{looked_at, number_of, position_at};
 use crate::row::{Made, first_row, one_row};
-use crate::scope::{Group, Scope, Source, Stored, alias_of, count, row_at, source_of};
+use crate::scope::{Group, Pinned, Scope, Source, alias_of, row_at, source_of};
 use crate::stages::{Parts, Stage, stages};
 use crate::values::value;
 use hq_base::{Memory, Txt};
@@ -25,7 +26,7 @@ use std::alloc::Global;
 pub fn rows<'d>(
     alloc: Global,
     select: &'d Select,
-    world: &'d [Stored<'d>],
+    world: &'d Pinned<'d>,
     scope: &Scope<'_, 'd>,
 ) -> Result<Vec<Made<'d>>, Memory>
     ensures { IfOk result (λ rows. map made_view rows.items ≡ rows_of (select_view select.now) (world_of world.now) (names_of scope.now world.now)) }
@@ -63,7 +64,7 @@ pub fn rows<'d>(
 pub fn first<'d>(
     alloc: Global,
     select: &'d Select,
-    world: &'d [Stored<'d>],
+    world: &'d Pinned<'d>,
     scope: &Scope<'_, 'd>,
 ) -> Result<Made<'d>, Memory>
     ensures { IfOk result (λ row. made_view row ≡ first_row (rows_of (select_view select.now) (world_of world.now) (names_of scope.now world.now))) }
@@ -78,7 +79,7 @@ fn folded<'d>(
     out: &'d Out,
     select: &'d Select,
     alias: &'d Txt,
-    world: &'d [Stored<'d>],
+    world: &'d Pinned<'d>,
     scope: &Scope<'_, 'd>,
 ) -> Result<Vec<Made<'d>>, Memory>
     ensures { IfOk result (λ rows. map made_view rows.items ≡ rows_of (fold (out_view out.now) (select_view select.now) alias.now) (world_of world.now) (names_of scope.now world.now)) }
@@ -94,7 +95,7 @@ fn folded<'d>(
 pub fn made_of<'d>(
     alloc: Global,
     from: &'d From,
-    world: &'d [Stored<'d>],
+    world: &'d Pinned<'d>,
     scope: &Scope<'_, 'd>,
 ) -> Result<Vec<Made<'d>>, Memory>
     ensures { IfOk result (λ made. map made_view made.items ≡ made_rows (from_view from.now) (world_of world.now) (names_of scope.now world.now)) }
@@ -115,7 +116,7 @@ fn rows_over<'s, 'd>(
     limit: Option<u64>,
     offset: Option<u64>,
     made: &'s [Made<'d>],
-    world: &'d [Stored<'d>],
+    world: &'d Pinned<'d>,
     scope: &'s Scope<'s, 'd>,
 ) -> Result<Vec<Made<'d>>, Memory>
     ensures { IfOk result (λ rows. map made_view rows.items ≡ map (outputs (map out_view parts.entry.outs.now.items) []) (limited limit (offset_by offset (distinct_on (map expr_view parts.entry.distinct.now.items) (sort (order_cmp (map order_view parts.entry.order.now.items)) (kept_items (kept (filter_view parts.entry.filter.now) (world_of world.now)) (flat_map (joined (joins_of (map join_view joins.now)) (world_of world.now)) (map (with_alias (names_of scope.now world.now) (alias_in (from_view from.now))) (rows_given (from_view from.now) (world_of world.now) (map made_view made.now)))))))))) }
@@ -160,13 +161,15 @@ fn scan<'s, 'd>(
     joins: &'d [Join],
     stages: &[Stage],
     filter: &'d Option<Pred>,
-    world: &'d [Stored<'d>],
+    world: &'d Pinned<'d>,
     scope: &'s Scope<'s, 'd>,
 ) -> Result<Vec<Place<'d>>, Memory>
     ensures { IfOk result (λ places. map (names_at source.entry alias.now (joins_of (map join_view joins.now)) (world_of world.now) (names_of scope.now world.now)) places.items ≡ kept_items (kept (filter_view filter.now) (world_of world.now)) (flat_map (joined (joins_of (map join_view joins.now)) (world_of world.now)) (map (with_alias (names_of scope.now world.now) alias.now) (source_view source.entry)))) }
 {
+    let looked = looked_at(alloc, source, alias, joins, filter, world.looked, &*scope)?;
     let mut places = Vec::new(alloc);
-    for position in 0..count(source) {
+    for turn in 0..number_of(looked) {
+        let position = position_at(looked, turn);
         let at = Scope::Bound {
             alias,
             row: row_at(source, position),
@@ -187,15 +190,16 @@ pub fn any_row<'s, 'd>(
     joins: &'d [Join],
     stages: &[Stage],
     filter: &'d Option<Pred>,
-    world: &'d [Stored<'d>],
+    world: &'d Pinned<'d>,
     scope: &'s Scope<'s, 'd>,
 ) -> Result<bool, Memory>
     ensures { IfOk result (λ b. b ≡ has_items (kept_items (kept (filter_view filter.now) (world_of world.now)) (flat_map (joined (joins_of (map join_view joins.now)) (world_of world.now)) (map (with_alias (names_of scope.now world.now) alias.now) (source_view source.entry))))) }
 {
-    for position in 0..count(source) {
+    let looked = looked_at(alloc, source, alias, joins, filter, world.looked, &*scope)?;
+    for turn in 0..number_of(looked) {
         let at = Scope::Bound {
             alias,
-            row: row_at(source, position),
+            row: row_at(source, position_at(looked, turn)),
             outer: &*scope,
         };
         if !gather(alloc, joins, stages, filter, world, &at)?.is_empty() {
@@ -215,7 +219,7 @@ fn in_order<'s, 'd>(
     distinct: &'d ExprList,
     order: &'d OrderList,
     places: Vec<Place<'d>>,
-    world: &'d [Stored<'d>],
+    world: &'d Pinned<'d>,
     scope: &'s Scope<'s, 'd>,
 ) -> Result<Vec<Place<'d>>, Memory>
     ensures { IfOk result (λ sorted. map (names_at source.entry alias.now (joins_of (map join_view joins.now)) (world_of world.now) (names_of scope.now world.now)) sorted.items ≡ distinct_on (map expr_view distinct.now.items) (sort (order_cmp (map order_view order.now.items)) (map (names_at source.entry alias.now (joins_of (map join_view joins.now)) (world_of world.now) (names_of scope.now world.now)) places.entry.items))) }
@@ -239,7 +243,7 @@ fn keyed<'s, 'd>(
     distinct: &'d ExprList,
     order: &'d OrderList,
     places: Vec<Place<'d>>,
-    world: &'d [Stored<'d>],
+    world: &'d Pinned<'d>,
     scope: &'s Scope<'s, 'd>,
 ) -> Result<Vec<Kept<'d, Place<'d>>>, Memory>
     ensures { IfOk result (λ kept. map with_cells kept.items ≡ map (taken_at (names_at source.entry alias.now (joins_of (map join_view joins.now)) (world_of world.now) (names_of scope.now world.now)) (map order_view order.now.items) (map expr_view distinct.now.items)) places.entry.items) }
@@ -279,7 +283,7 @@ fn all_outputs<'s, 'd>(
     stages: &[Stage],
     outs: &'d OutList,
     places: &[Place<'d>],
-    world: &'d [Stored<'d>],
+    world: &'d Pinned<'d>,
     scope: &'s Scope<'s, 'd>,
 ) -> Result<Vec<Made<'d>>, Memory>
     ensures { IfOk result (λ made. map made_view made.items ≡ map (outputs_of (map out_view outs.now.items)) (map (names_at source.entry alias.now (joins_of (map join_view joins.now)) (world_of world.now) (names_of scope.now world.now)) places.now)) }

@@ -4,9 +4,11 @@
 mod aggregates;
 mod cells;
 mod clauses;
+mod equations;
 mod joins;
 mod mentions;
 mod place;
+mod positions;
 mod row;
 mod scope;
 mod single;
@@ -16,6 +18,3 @@ mod truths;
 mod values;
 
 pub use statement::eval;
-
-#[cfg(test)]
-mod tests;

@@ -1,10 +1,10 @@
 //! Selects that give one row at most.
 ghost use Rattle.std.specs.Prelude.{◌≡◌, true, None, map};
 ghost use Rattle.hq_sql_tree.specs.Tree.{joins_of};
-ghost use Rattle.hq_sql_tree.specs.View.{select_view, from_view, join_view};
-ghost use Rattle.hq_sql_eval.specs.Single.{is_single, are_single, is_one, is_one_at_most};
+ghost use Rattle.hq_sql_tree.specs.View.{select_view, join_view};
+ghost use Rattle.hq_sql_eval.specs.Single.{is_single, are_single, is_one_at_most};
 
-use hq_sql_tree::{From, JoinList, Select};
+use hq_sql_tree::{JoinList, Select};
 
 // Whether the number of LIMIT is 0 or 1.
 fn is_one_at_most(limit: Option<u64>) -> bool
@@ -40,16 +40,7 @@ pub fn is_single(select: &Select) -> bool
             joins,
             limit,
             ..
-        } => is_one_at_most(*limit) || (is_one(from) && are_single(joins)),
-    }
-}
-
-fn is_one(from: &From) -> bool
-    ensures { result ≡ is_one (from_view from.now) }
-{
-    match from {
-        From::One { .. } => true,
-        From::Table { .. } | From::Sub { .. } => false,
+        } => is_one_at_most(*limit) || (from.is_one() && are_single(joins)),
     }
 }
 

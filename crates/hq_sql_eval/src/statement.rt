@@ -1,22 +1,23 @@
 //! The value of a statement.
-ghost use Rattle.std.specs.Prelude.{◌≡◌, ◌<◌, ℕ, length, List as Items, [], true, cond, codes, map, IfOk, slice_index_or};
+ghost use Rattle.std.specs.Prelude.{◌≡◌, ◌<◌, ◌≤◌, ℕ, length, List as Items, [], true, cond, codes, map, IfOk, slice_index_or};
 ghost use Rattle.hq_base.specs.Json.{json_view};
 ghost use Rattle.hq_terms.specs.Database.{Row};
 ghost use Rattle.hq_sql_tree.specs.View.{select_view};
 ghost use Rattle.hq_sql_tree.specs.Meaning.{first_value, meaning};
-ghost use Rattle.hq_sql_scans.specs.Agree.{HasRows};
-ghost use Rattle.hq_sql_scans.specs.Scans.{scans};
-ghost use Rattle.hq_sql_eval.specs.View.{made_view, world_of};
+ghost use Rattle.hq_sql_check.specs.Agree.{HasRows};
+ghost use Rattle.hq_sql_check.specs.Scans.{scans};
+ghost use Rattle.hq_sql_eval.specs.View.{made_view, rows_lent, world_in, world_of};
 
 use crate::clauses::rows;
 use crate::row::{Made, cell_taken};
-use crate::scope::{Scope, Stored};
+use crate::scope::{Pinned, Scope, Stored};
 use hq_base::{Json, Memory, Txt};
-use hq_sql_scans::{only_scanned_tables_matter, scanned};
+use hq_sql_check::{only_scanned_tables_matter, scanned};
 use hq_sql_tree::Select;
-use hq_tables::{Tables, ValList};
+use hq_tables::{Rows, Tables};
 use hq_terms::TableId;
 use std::alloc::Global;
+use std::cell::Cell;
 
 // The name of a statement's output.
 fn value_name(alloc: Global) -> Result<Txt, Memory>
@@ -39,14 +40,14 @@ fn first_value<'d>(alloc: Global, rows: Vec<Made<'d>>) -> Result<Json, Memory>
 }
 
 // The rows of a table, none where the statement takes no rows from it.
-fn stored_rows<T: Tables>(tables: &T, is_scanned: bool, at: usize) -> &[ValList]
+fn stored_rows<T: Tables>(tables: &T, is_scanned: bool, at: usize) -> Option<&Rows>
     requires { is_scanned ≡ true → T.is_pinned tables.now at ≡ true }
-    ensures { result.now ≡ cond is_scanned (T.rows tables.now at) [] }
+    ensures { rows_lent result ≡ cond is_scanned (T.rows tables.now at) [] }
 {
     if is_scanned {
-        return tables.pinned(TableId::new(at)).as_slice();
+        return Some(tables.pinned(TableId::new(at)));
     }
-    &[]
+    None
 }
 
 // The tables of the catalog, each with its rows where the statement takes rows from it.
@@ -56,8 +57,8 @@ fn stored<'d, T: Tables>(
     tables: &'d T,
 ) -> Result<Vec<Stored<'d>>, Memory>
     requires { (t : ℕ) → t < length (T.tables tables.now) → scans (select_view select.now) (T.tables tables.now) t ≡ true → T.is_pinned tables.now t ≡ true }
-    ensures tables { IfOk result (λ world. (world_of world.items).tables ≡ T.tables tables.now) }
-    ensures rows { IfOk result (λ world. HasRows (select_view select.now) (T.tables tables.now) (T.rows tables.now) (world_of world.items).database) }
+    ensures tables { IfOk result (λ world. (world_in world.items).tables ≡ T.tables tables.now) }
+    ensures rows { IfOk result (λ world. HasRows (select_view select.now) (T.tables tables.now) (T.rows tables.now) (world_in world.items).database) }
 {
     let list = tables.catalog().tables.as_slice();
     let marks = scanned(alloc, select, list)?;
@@ -75,7 +76,7 @@ fn stored<'d, T: Tables>(
 pub(crate) fn eval_over<'d>(
     alloc: Global,
     select: &'d Select,
-    world: &'d [Stored<'d>],
+    world: &'d Pinned<'d>,
 ) -> Result<Json, Memory>
     ensures { IfOk result (λ json. json_view json ≡ meaning (select_view select.now) (world_of world.now)) }
 {
@@ -85,13 +86,27 @@ pub(crate) fn eval_over<'d>(
 }
 
 /// What a statement means over pinned tables: over each database in which the tables that it takes rows from have the rows
-/// that are pinned. Memory comes also where a number on the way does not fit 128 bits.
-pub fn eval<T: Tables>(alloc: Global, select: &Select, tables: &T) -> Result<Json, Memory>
+/// that are pinned. Memory comes also where a number on the way does not fit 128 bits. `looked` grows by the comparisons that
+/// look-ups by index made, also where the call ends in Memory, and stays at the greatest number.
+pub fn eval<T: Tables>(
+    alloc: Global,
+    select: &Select,
+    tables: &T,
+    looked: &mut u64,
+) -> Result<Json, Memory>
     requires pinned { (t : ℕ) → t < length (T.tables tables.now) → scans (select_view select.now) (T.tables tables.now) t ≡ true → T.is_pinned tables.now t ≡ true }
     ensures value { IfOk result (λ json. (d : Items (Items Row)) → HasRows (select_view select.now) (T.tables tables.now) (T.rows tables.now) d
         → json_view json ≡ meaning (select_view select.now) (record { tables = T.tables tables.now; database = d })) }
+    ensures looked { looked.old ≤ looked.new }
 {
     only_scanned_tables_matter();
-    let world = stored(alloc, select, tables)?;
-    eval_over(alloc, select, &world)
+    let stored = stored(alloc, select, tables)?;
+    let compared = Cell::new(0);
+    let world = Pinned {
+        tables: stored.as_slice(),
+        looked: &compared,
+    };
+    let json = eval_over(alloc, select, &world);
+    *looked = looked.saturating_add(compared.get());
+    json
 }

@@ -6,7 +6,7 @@ ghost use Rattle.hq_sql_tree.specs.Meaning.{kept, truth_at, all_true, any_true, 
 ghost use Rattle.hq_sql_eval.specs.View.{world_of, names_of};
 
 use crate::clauses::{any_row, made_of, rows};
-use crate::scope::{Group, Scope, Stored, alias_of, source_of};
+use crate::scope::{Group, Pinned, Scope, alias_of, source_of};
 use crate::single::is_whole;
 use crate::stages::{Parts, stages};
 use crate::values::{value, values};
@@ -21,7 +21,7 @@ use std::alloc::Global;
 pub fn kept<'d>(
     alloc: Global,
     filter: &'d Option<Pred>,
-    world: &'d [Stored<'d>],
+    world: &'d Pinned<'d>,
     scope: &Scope<'_, 'd>,
 ) -> Result<bool, Memory>
     ensures { IfOk result (λ b. b ≡ kept (filter_view filter.now) (world_of world.now) (names_of scope.now world.now)) }
@@ -36,7 +36,7 @@ pub fn kept<'d>(
 fn truth<'d>(
     alloc: Global,
     pred: &'d Pred,
-    world: &'d [Stored<'d>],
+    world: &'d Pinned<'d>,
     scope: &Scope<'_, 'd>,
 ) -> Result<Truth, Memory>
     ensures { IfOk result (λ t. t ≡ truth_at (pred_view pred.now) (world_of world.now) (names_of scope.now world.now)) }
@@ -75,7 +75,7 @@ fn truth<'d>(
 fn all_true<'d>(
     alloc: Global,
     preds: &'d PredList,
-    world: &'d [Stored<'d>],
+    world: &'d Pinned<'d>,
     scope: &Scope<'_, 'd>,
 ) -> Result<Truth, Memory>
     ensures { IfOk result (λ t. t ≡ all_true (preds_of (map pred_view preds.now.items)) (world_of world.now) (names_of scope.now world.now)) }
@@ -95,7 +95,7 @@ fn all_true<'d>(
 fn any_true<'d>(
     alloc: Global,
     preds: &'d PredList,
-    world: &'d [Stored<'d>],
+    world: &'d Pinned<'d>,
     scope: &Scope<'_, 'd>,
 ) -> Result<Truth, Memory>
     ensures { IfOk result (λ t. t ≡ any_true (preds_of (map pred_view preds.now.items)) (world_of world.now) (names_of scope.now world.now)) }
@@ -115,7 +115,7 @@ fn any_true<'d>(
 fn exists<'d>(
     alloc: Global,
     select: &'d Select,
-    world: &'d [Stored<'d>],
+    world: &'d Pinned<'d>,
     scope: &Scope<'_, 'd>,
 ) -> Result<bool, Memory>
     ensures { IfOk result (λ b. b ≡ has_rows (rows_of (select_view select.now) (world_of world.now) (names_of scope.now world.now))) }

@@ -12,6 +12,3 @@ mod tested;
 pub use hq_sql_expr::ReadRefusal;
 pub use printing::print;
 pub use statement::{one_spelling, one_tree, read};
-
-#[cfg(test)]
-mod tests;

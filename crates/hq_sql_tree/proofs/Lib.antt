@@ -1,1 +1,5 @@
 mod Worked
+pub mod Views
+pub mod Listed
+pub mod Plain
+pub mod Conjunctions

@@ -56,6 +56,11 @@ abbrev pub is_sub_of_rows : FromTree → Bool
 is_sub_of_rows (tree.sub s alias) = is_rows s
 is_sub_of_rows _ = false
 
+-- One: the one row whose column `u` is true
+abbrev pub is_one : FromTree → Bool
+is_one (tree.one alias) = true
+is_one _ = false
+
 abbrev pub is_no_join : JoinTrees → Bool
 is_no_join tree.no_join = true
 is_no_join (tree.join s alias js) = false

@@ -2,7 +2,7 @@
 ghost use Rattle.std.specs.Prelude.{◌≡◌, ◌==◌, map, length, is_none};
 ghost use Rattle.hq_sql_tree.specs.Tree.{pairs_of, joins_of};
 ghost use Rattle.hq_sql_tree.specs.View.{expr_view, pair_view, order_view, out_view, select_view, from_view, join_view, filter_view};
-ghost use Rattle.hq_sql_tree.specs.Form.{holds_agg, hold_agg, is_rows, is_lone_agg, is_sub_of_rows, is_no_join, is_no_filter, reads_as_fold};
+ghost use Rattle.hq_sql_tree.specs.Form.{holds_agg, hold_agg, is_rows, is_lone_agg, is_sub_of_rows, is_one, is_no_join, is_no_filter, reads_as_fold};
 
 use crate::{Expr, ExprList, ExprPairList, From, JoinList, OrderList, OutList, Pred, Select};
 
@@ -56,7 +56,8 @@ fn has_no_join(joins: &JoinList) -> bool
     joins.as_slice().is_empty()
 }
 
-fn has_no_filter(filter: &Option<Pred>) -> bool
+/// Whether there is no WHERE.
+pub(crate) fn has_no_filter(filter: &Option<Pred>) -> bool
     ensures { result ≡ is_no_filter (filter_view filter.now) }
 {
     match filter {
@@ -75,6 +76,18 @@ fn has_no_key(keys: &OrderList) -> bool
     ensures { result ≡ (length (map order_view keys.now.items) == 0) }
 {
     keys.is_empty()
+}
+
+impl From {
+    /// Whether it is One: the one row whose column `u` is true.
+    pub fn is_one(&self) -> bool
+        ensures { result ≡ is_one (from_view self.now) }
+    {
+        match self {
+            From::One { .. } => true,
+            From::Table { .. } | From::Sub { .. } => false,
+        }
+    }
 }
 
 impl Select {

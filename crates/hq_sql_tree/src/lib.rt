@@ -2,10 +2,14 @@
 #![tactic(auto)]
 
 mod copy;
+mod depth;
 mod expr;
+mod exprs;
 mod fits;
 mod form;
+mod grammar;
 mod select;
+mod statement;
 mod word;
 
 pub use expr::{Agg, Expr, ExprList, ExprPair, ExprPairList, Order, OrderList};

@@ -3,7 +3,7 @@ ghost use Rattle.std.specs.Prelude.{◌≡◌};
 ghost use Rattle.hq_sql_tree.specs.Word.{word_text};
 
 /// A fixed piece of the text of a select: keywords with the spaces and parentheses beside them.
-#[derive(Clone, Copy, Debug, PartialEq, Eq)]
+#[derive(Clone, Copy)]
 pub enum Word {
     Select,
     DistinctOn,

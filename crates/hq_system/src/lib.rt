@@ -9,6 +9,3 @@ mod tcp;
 pub use files::DirFiles;
 pub use streams::{StdSink, StdSource};
 pub use tcp::{TcpDoor, TcpLink};
-
-#[cfg(test)]
-mod tests;

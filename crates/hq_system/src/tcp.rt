@@ -5,8 +5,10 @@ ghost use Rattle.hq_outside.specs.Causes.{HasCause};
 
 use crate::interrupted;
 use hq_outside::{Door, DoorFailed, Link, ReadFailed, WriteFailed, count_fault};
+use std::io;
 use std::io::{Read, Write};
-use std::net::{Net, OpenListener, TcpListener};
+use std::net::{Net, OpenListener, OpenStream, TcpListener};
+use std::time::Duration;
 
 /// A connection of the system, whose faults are counted. That it takes nothing of a piece is one of them.
 #[derive(Drop)]
@@ -67,7 +69,24 @@ impl<S: Read + Write> Link for TcpLink<S> {
     }
 }
 
-/// A port of this machine, at 127.0.0.1 alone.
+// How long a read or a write waits for the peer, in seconds. One that waits longer is a fault.
+const PATIENCE: u64 = 60;
+
+// Limits how long the peer is waited for, and lets each reply leave at once.
+fn set_limits<S: OpenStream>(stream: &S) -> io::Result<()> {
+    stream.set_read_timeout(Some(Duration::from_secs(PATIENCE)))?;
+    stream.set_write_timeout(Some(Duration::from_secs(PATIENCE)))?;
+    stream.set_nodelay(true)
+}
+
+// The next connection of a listener, with its limits.
+fn next_stream<R: Net>(listener: &R::Listener) -> io::Result<R::Stream> {
+    let (stream, _) = listener.accept()?;
+    set_limits(&stream)?;
+    Ok(stream)
+}
+
+/// A port of this machine, at 127.0.0.1 alone. A read or a write of a connection waits for its peer for 60 seconds.
 #[derive(Drop)]
 pub struct TcpDoor<R: Net> {
     rt: R,
@@ -131,7 +150,7 @@ impl<R: Net> Door for TcpDoor<R> {
 
     fn accept(&mut self) -> Result<(), DoorFailed> {
         if let Some(listener) = &self.listener {
-            if let Ok((stream, _)) = listener.accept() {
+            if let Ok(stream) = next_stream::<R>(listener) {
                 self.present = Some(TcpLink {
                     stream,
                     read_faults: 0,

@@ -8,3 +8,4 @@ pub mod Arranged
 pub mod Keys
 pub mod NextRows
 pub mod Valid
+pub mod Indexed

@@ -8,3 +8,4 @@ pub mod Load
 pub mod Places
 pub mod Keys
 pub mod Layouts
+pub mod Indexed

@@ -14,6 +14,3 @@ pub use load::{LoadRefusal, load_table};
 pub use mem_tables::MemTables;
 pub use rows::{RowList, Rows, RowsList, ValList};
 pub use tables::{StoreRefusal, Tables};
-
-#[cfg(test)]
-mod tests;

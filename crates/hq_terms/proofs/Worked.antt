@@ -10,18 +10,18 @@ use Rattle.hq_terms.specs.declared.session.Session.{Session}
 use Rattle.hq_terms.specs.declared.bexp.Operand.TheVariants as operand
 use Rattle.hq_terms.specs.declared.bind.BindRefusal.TheVariants.{NoVariable, BadVariable}
 use Rattle.hq_terms.specs.declared.want.Want.TheVariants as want
-use Rattle.hq_terms.specs.Bexp.{BexpTree, always, or_of, not_of, comparison, through, no_bexp, bexp}
+use Rattle.hq_terms.specs.Bexp.{BexpTree, always, or_of, not_of, comparison, is_null, through, no_bexp, bexp}
 use Rattle.hq_terms.specs.Binding.{bound}
 use Rattle.hq_terms.specs.Catalog.{is_catalog}
 use Rattle.hq_terms.specs.Database.{Row, is_database}
 use Rattle.hq_terms.specs.Fits.{fits}
 use Rattle.hq_terms.specs.Grants.{Grants, grants_of, limits}
-use Rattle.hq_terms.specs.Meta.{MetaTree}
+use Rattle.hq_terms.specs.Meta.{MetaTree, PermTree, TrackedTree}
 use Rattle.hq_terms.specs.Permitted.{permitted, seen_by, shown}
 use Rattle.hq_terms.specs.Related.{related}
 use Rattle.hq_terms.specs.Schema.{Schema, schema_of}
 use Rattle.hq_terms.specs.Seen.{row_cell}
-use Rattle.hq_terms.specs.Selected.{Selection, selected}
+use Rattle.hq_terms.specs.Selected.{ListArguments, selected}
 use Rattle.hq_terms.specs.View.{Agree, view, seen_in}
 
 -- the authors
@@ -157,16 +157,16 @@ articles_of_3 : articles_of 3 ≡ []
 articles_of_3 = refl
 
 -- a list without arguments
-abbrev plain : Selection
+abbrev plain : ListArguments
 plain = record { wanted = always; sorts = []; distinct = []; limit = None; offset = None }
 
 -- the ids of a list of articles as a user sees it
-abbrev listed : List ℕ → Selection → List CellTree
+abbrev listed : List ℕ → ListArguments → List CellTree
 listed id a =
     ids (selected schema (seen_by schema (grants id) database) 1 a (limits (grants id) 1) (permitted schema (grants id) database 1))
 
 -- a list sorted by rating
-abbrev by_rating : (desc nulls_first : Bool) → Selection
+abbrev by_rating : (desc nulls_first : Bool) → ListArguments
 by_rating desc nulls_first =
     record plain { sorts = record { through = []; column = 4; desc = desc; nulls_first = nulls_first } ∷ [] }
 
@@ -278,7 +278,7 @@ masked =
     }) ∷ []
 
 -- the ids of a list under that grant
-abbrev listed_masked : Selection → List CellTree
+abbrev listed_masked : ListArguments → List CellTree
 listed_masked a = ids (selected schema (seen_by schema masked database) 1 a None (permitted schema masked database 1))
 
 -- the shown ratings of articles 10 to 13
@@ -292,3 +292,100 @@ masked_in_where = refl
 -- so does a sort
 masked_in_order : listed_masked (by_rating true true) ≡ numbers (11 ∷ 12 ∷ 13 ∷ 10 ∷ [])
 masked_in_order = refl
+
+-- permissions of more roles on the two tables: finder sees the authors with an article that has no rating, and no article;
+-- others sees all authors but the first, and all articles
+abbrev perm_of : (role : List ℕ) → List ℕ → BexpTree → PermTree
+perm_of role cols filter = record { role = role; cols = cols; filter = filter; limit = None; aggregations = false }
+
+abbrev more_of : List PermTree → TrackedTree → TrackedTree
+more_of perms tracked = record tracked { perms = perms }
+
+abbrev author_perms : List PermTree
+author_perms =
+    perm_of (codes "user") (0 ∷ 1 ∷ []) always
+    ∷ perm_of (codes "finder") (0 ∷ []) (through 0 (is_null 4 true))
+    ∷ perm_of (codes "others") (0 ∷ []) (comparison 0 Ne (operand.Const (val.Int (pos 1)))) ∷ []
+
+abbrev article_perms : List PermTree
+article_perms = perm_of (codes "user") (0 ∷ 2 ∷ 4 ∷ []) own_or_published ∷ perm_of (codes "others") (0 ∷ []) always ∷ []
+
+abbrev with_perms : List TrackedTree → List TrackedTree
+with_perms (a ∷ b ∷ []) = more_of author_perms a ∷ more_of article_perms b ∷ []
+with_perms others = others
+
+abbrev more : MetaTree
+more = record { tracked = with_perms meta.tracked }
+
+-- what a role is granted, without a variable and with a user id
+abbrev granted : List ℕ → Grants
+granted role = grants_of (record { role = role; vars = [] }) tables more
+
+abbrev granted_as : (role id : List ℕ) → Grants
+granted_as role id = grants_of (record (user id) { role = role }) tables more
+
+-- the ids of the permitted rows of both tables
+abbrev seen_ids : Grants → List CellTree × List CellTree
+seen_ids g = (ids (permitted schema g database 0), ids (permitted schema g database 1))
+
+-- admin sees all rows of both, and none beyond the catalog
+admin_sees : seen_ids (granted (codes "admin")) ≡ (numbers (1 ∷ 2 ∷ 3 ∷ []), numbers (10 ∷ 11 ∷ 12 ∷ 13 ∷ []))
+admin_sees = refl
+
+beyond_sees : ids (permitted schema (granted (codes "admin")) database 2) ≡ []
+beyond_sees = refl
+
+-- a filter that does not bind shows nothing; one without a session name always binds
+unbound_sees : seen_ids (granted (codes "user")) ≡ (numbers (1 ∷ 2 ∷ 3 ∷ []), [])
+unbound_sees = refl
+
+misread_sees : seen_ids (granted_as (codes "user") (codes "one")) ≡ (numbers (1 ∷ 2 ∷ 3 ∷ []), [])
+misread_sees = refl
+
+-- another role's name is no front of a role's name, and longer than none
+front_sees : seen_ids (granted_as (codes "use") (codes "1")) ≡ ([], [])
+front_sees = refl
+
+longer_sees : seen_ids (granted_as (codes "users") (codes "1")) ≡ ([], [])
+longer_sees = refl
+
+-- in a filter all remote rows count, also those of a table that the role may not see
+finder_sees : seen_ids (granted (codes "finder")) ≡ (numbers (1 ∷ []), [])
+finder_sees = refl
+
+others_sees : seen_ids (granted (codes "others")) ≡ (numbers (2 ∷ 3 ∷ []), numbers (10 ∷ 11 ∷ 12 ∷ 13 ∷ []))
+others_sees = refl
+
+-- behind a relationship only permitted rows count
+articles_to_finder : ids (related schema (seen_by schema (granted (codes "finder")) database) 0 0 (val.Int (pos 1) ∷ [])) ≡ []
+articles_to_finder = refl
+
+-- the author of an article as others sees it
+abbrev author_to_others : ℕ → List CellTree
+author_to_others n = ids (related schema (seen_by schema (granted (codes "others")) database) 1 0 (val.Null ∷ val.Int (pos n) ∷ []))
+
+authors_to_others : author_to_others 1 ∷ author_to_others 2 ∷ [] ≡ [] ∷ numbers (2 ∷ []) ∷ []
+authors_to_others = refl
+
+-- in where a relationship reaches permitted rows alone: of author 1's articles the one without a rating is hidden from user 2
+abbrev unrated_to : Grants → List CellTree
+unrated_to g =
+    ids (selected schema (seen_by schema g database) 0 (record plain { wanted = through 0 (is_null 4 true) }) None (permitted schema g database 0))
+
+unrated : map unrated_to (granted (codes "admin") ∷ grants (codes "1") ∷ grants (codes "2") ∷ granted (codes "finder") ∷ []) ≡ numbers (1 ∷ []) ∷ numbers (1 ∷ []) ∷ [] ∷ [] ∷ []
+unrated = refl
+
+-- a sort through a relationship takes the permitted row: to others the articles of author 1 sort as those without an author
+abbrev by_author : (desc nulls_first : Bool) → Grants → List CellTree
+by_author desc nulls_first g =
+    ids (selected schema (seen_by schema g database) 1 (record plain { sorts = record { through = 0 ∷ []; column = 1; desc = desc; nulls_first = nulls_first } ∷ [] }) None (permitted schema g database 1))
+
+by_author_to_others : by_author false false (granted (codes "others")) ∷ by_author true true (granted (codes "others")) ∷ [] ≡ numbers (12 ∷ 10 ∷ 11 ∷ 13 ∷ []) ∷ numbers (10 ∷ 11 ∷ 13 ∷ 12 ∷ []) ∷ []
+by_author_to_others = refl
+
+-- a session name that is not bound stands for NULL, and its negation is unknown too
+abbrev own_name : BexpTree
+own_name = comparison 0 Eq (operand.Session (codes "x"))
+
+unbound_name : map (λ b. listed (codes "1") (record plain { wanted = b })) (own_name ∷ not_of own_name ∷ []) ≡ [] ∷ [] ∷ []
+unbound_name = refl

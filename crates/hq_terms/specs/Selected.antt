@@ -20,7 +20,7 @@ pub record SortKey : Type 0 where
   pub nulls_first : Bool
 
 -- the arguments of a list: where, order_by, distinct_on, limit and offset
-pub record Selection : Type 0 where
+pub record ListArguments : Type 0 where
   pub wanted : BexpTree
   pub sorts : List SortKey
   pub distinct : List ℕ
@@ -48,7 +48,7 @@ sorts_or [] others = others
 sorts_or (k ∷ ks) others = k ∷ ks
 
 -- the entries that count: with none in order_by, those of the distinct columns
-abbrev pub entries : Selection → List SortKey
+abbrev pub entries : ListArguments → List SortKey
 entries a = sorts_or a.sorts (ascending a.distinct)
 
 -- two rows have the same cells in these columns, NULL like NULL
@@ -79,10 +79,10 @@ smaller (Some a) (Some b) = Some (min a b)
 
 -- the selected rows of those that a list starts with, before offset and limit: those at which where is true, sorted
 -- stably, the first of each group
-abbrev pub ordered : {R : Type 0} → Schema → Sees R → ℕ → Selection → List R → List R
+abbrev pub ordered : {R : Type 0} → Schema → Sees R → ℕ → ListArguments → List R → List R
 ordered s S t a start = distinct_rows a.distinct S t (sort (sorts_cmp (entries a) s S t) (filter (keeps a.wanted s S t) start))
 
 -- the selected rows under a limit of the list's own and one of the permission's
-abbrev pub selected : {R : Type 0} → Schema → Sees R → ℕ → Selection → (permission_limit : Option ℕ) → List R → List R
+abbrev pub selected : {R : Type 0} → Schema → Sees R → ℕ → ListArguments → (permission_limit : Option ℕ) → List R → List R
 selected s S t a permission_limit start =
     limited (smaller a.limit permission_limit) (offset_by a.offset (ordered s S t a start))

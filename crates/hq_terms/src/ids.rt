@@ -1,4 +1,5 @@
-ghost use Rattle.std.specs.Prelude.{◌≡◌};
+ghost use Rattle.std.specs.Prelude.{◌≡◌, ◌==◌};
+ghost use Rattle.std.specs.List.{list_any};
 
 use hq_base::List;
 use std::marker::Model;
@@ -69,6 +70,13 @@ impl ColId {
 
 /// A list of columns.
 pub type ColList = List<ColId>;
+
+/// Whether a column is among these.
+pub fn has_column(columns: &[ColId], column: ColId) -> bool
+    ensures { result ≡ list_any (λ c. c == column) columns.now }
+{
+    columns.iter().any(|c| c.at() == column.at())
+}
 
 /// A relationship of its tracked table, by its place from 0.
 #[derive(Clone, Copy, Debug, PartialEq, Eq)]

@@ -18,8 +18,6 @@ mod role;
 mod scope;
 mod session;
 mod table;
-#[cfg(test)]
-mod tests;
 mod truth;
 mod want;
 
@@ -27,7 +25,7 @@ pub use bexp::{Bexp, BexpList, Operand, Operands};
 pub use bind::BindRefusal;
 pub use catalog::Catalog;
 pub use copy::{TryCopy, copy_list};
-pub use ids::{ColId, ColList, RelId, TableId};
+pub use ids::{ColId, ColList, RelId, TableId, has_column};
 pub use meta::{
     Meta, Pair, PairList, Perm, PermList, Rel, RelList, RootNames, Tracked, TrackedList, TxtList,
 };
@@ -38,6 +36,9 @@ pub use reading::{truth_value, whole_number};
 pub use role::Role;
 pub use scope::Scope;
 pub use session::{Session, Var, VarList};
-pub use table::{Column, ColumnList, ForeignKey, ForeignKeyList, Table, TableList};
+pub use table::{
+    Column, ColumnList, ForeignKey, ForeignKeyList, Table, TableList, are_comparable, can_pair,
+    table_place,
+};
 pub use truth::Truth;
 pub use want::Want;

@@ -6,7 +6,7 @@ ghost use Rattle.hq_terms.specs.PermView.{permission_view};
 
 use crate::{
     Bexp, ColId, ColList, Meta, Perm, PermList, PermView, Role, TableId, Tracked, TrackedList,
-    is_free_name,
+    has_column, is_free_name,
 };
 use hq_base::{List, Memory, Txt};
 use std::alloc::Global;
@@ -25,20 +25,13 @@ fn named_columns(alloc: Global, tracked: &Tracked) -> Result<ColList, Memory>
     Ok(cols)
 }
 
-// Whether a list has this column.
-fn has_column(cols: &ColList, col: ColId) -> bool
-    ensures { result ≡ list_any (λ c. c == col) cols.now }
-{
-    cols.as_slice().iter().any(|c| c.at() == col.at())
-}
-
 // Those of the columns that a permission lists.
 fn told_columns(alloc: Global, named: &ColList, told: &ColList) -> Result<ColList, Memory>
     ensures { IfOk result (λ cols. cols ≡ filter (λ c. list_any (λ d. d == c) told.now) named.now) }
 {
     let mut cols = List::new(alloc);
     for col in named.as_slice() {
-        if has_column(told, *col) {
+        if has_column(told.as_slice(), *col) {
             cols.push(*col)?;
         }
     }

@@ -1,5 +1,5 @@
 use Rattle.std.proofs.Common.{rules, ◌≡◌, ◌==◌, ◌≤◌, ◌+◌, ◌<◌, ◌∷◌, [], Some, None, true, false, IfOk, option_map, map, length, ◌++◌, filter as kept_items, flat_map, get_or, subst, sym, ap, ap₂, ◌∙◌, arith}
-use Rattle.std.proofs.lemmas.List.{map-append}
+use Rattle.std.proofs.lemmas.List.{map-append, length-map, take_all}
 use Rattle.std.proofs.lemmas.Result.{IfOk-weaker}
 use Rattle.std.specs.Vec.Iter.{into_iter_items}
 use Rattle.hq_base.specs.Cells as cell
@@ -17,16 +17,18 @@ use Rattle.hq_sql_tree.specs.declared.select.Select.{the_lemmas as select_lemmas
 use Rattle.hq_sql_tree.specs.Tree.{pairs_of, orders_of, joins_of, rows}
 use Rattle.hq_sql_tree.specs.View.{agg_view, expr_view, pair_view, order_view, out_view, select_view, from_view, join_view, filter_view}
 use Rattle.hq_sql_tree.specs.Meaning.{with_alias, value, members, taken, orders_cmp, order_cmp, distinct_on, limited, offset_by, outputs, has_rows, kept, rows_of, joined}
-use Rattle.hq_sql_eval.specs.View.{made_view, named_view, first_row, source_view, row_view, joined_view, world_of, names_of, names_at, group_of, beside}
+use Rattle.hq_sql_eval.specs.View.{made_view, named_view, first_row, source_view, row_in, row_view, joined_view, world_of, names_of, names_at, group_of, beside}
 use Rattle.hq_sql_eval.specs.Joined.{join_in, first_joined}
 use Rattle.hq_sql_eval.proofs.JoinedRows.{beside_row}
 use Rattle.hq_sql_eval.specs.Keys.{with_json, json_at, outputs_of}
 use Rattle.hq_sql_eval.specs.Single.{is_single}
 use Rattle.hq_sql_eval.specs.Sources.{alias_in, rows_given, has_items}
+use Rattle.hq_sql_eval.specs.Positions.{positions_of, rows_at, kept_of}
+use Rattle.hq_sql_eval.proofs.Looked.{at_place}
 use Rattle.hq_sql_eval.specs.Weight.{total, expr_weight, pair_weight, order_weight, out_weight, pred_weight}
 use Rattle.hq_sql_eval.proofs.Weights.{pair_item, order_item, out_item, expr_item, pred_item}
 use Rattle.hq_sql_eval.proofs.Ordered.{elements_are, arranged_is}
-use Rattle.hq_sql_eval.proofs.Evaluated.{members_mapped, outputs_all, later_is, keys_is, spread_step, row_in_is, any_found, any_passed, scan_step, no_images, some_images, no_order, rows_are, exists_is, steps_are}
+use Rattle.hq_sql_eval.proofs.Evaluated.{members_mapped, outputs_all, later_is, keys_is, spread_step, any_found, any_passed, scan_step, no_images, some_images, no_order, rows_are, exists_is, steps_are}
 use Rattle.hq_sql_eval.proofs.+eval.Goals as goal
 
 -- ---- an item weighs at most its list
@@ -230,38 +232,73 @@ clauses::any_row-returns-then-not-is_empty t c =
     let w = world_of c.args.world.now in
     let n = names_of c.args.scope.now c.args.world.now in
     let keeps = kept (filter_view c.args.filter.now) w in
-    let i = c.loop-position.position in
+    let i = c.loop-turn.turn in
+    let ps = positions_of c.in_ok-looked.looked in
+    let rs = rows_at c.args.source c.in_ok-looked.looked in
     let row = row_view c.row_at.result in
-    let lt : i < length (source_view c.args.source) = omega (arith, c.loop-position-test.true, c.count-position-end.ensures) in
+    let long : length rs ≡ length ps = length-map ps (row_in c.args.source) in
+    let within : i < length ps = omega (arith, c.loop-turn-test.true, c.number_of-turn-end.ensures) in
+    let lt : i < length rs = omega (arith, within, long) in
     let len : c.in_ok-gather.field-0.len ≡ length c.in_ok-gather.field-0.items = omega (arith, c.in_ok-gather.field-0.ok.0) in
-    let is : row ≡ get_or (source_view c.args.source) i [] = c.row_at.ensures ∙ sym (row_in_is c.args.source i lt) in
-    any_found js w n c.args.alias.now keeps (source_view c.args.source) i row (map (beside js w (with_alias n c.args.alias.now row)) (map joined_view c.in_ok-gather.field-0.items)) lt is c.in_ok-gather.ensures
-    (some_images (beside js w (with_alias n c.args.alias.now row)) joined_view c.in_ok-gather.field-0.items (subst (λ k. (k == 0) ≡ false) len (sym c.is_empty.ensures ∙ c.if-not-is_empty.true))) c.loop-position.invariant
+    let is : row ≡ get_or rs i [] = c.row_at.ensures ∙ ap (row_in c.args.source) c.position_at.ensures ∙ sym (at_place c.args.source ps i within) in
+    any_found js w n c.args.alias.now keeps rs i row (map (beside js w (with_alias n c.args.alias.now row)) (map joined_view c.in_ok-gather.field-0.items)) lt is c.in_ok-gather.ensures
+    (some_images (beside js w (with_alias n c.args.alias.now row)) joined_view c.in_ok-gather.field-0.items (subst (λ k. (k == 0) ≡ false) len (sym c.is_empty.ensures ∙ c.if-not-is_empty.true))) c.loop-turn.invariant
+    ∙ ap has_items (c.in_ok-looked.ensures w)
 
-pub clauses::any_row-loop-position-preserved : goal.clauses::any_row-loop-position-preserved
-clauses::any_row-loop-position-preserved t c =
+pub clauses::any_row-loop-turn-preserved : goal.clauses::any_row-loop-turn-preserved
+clauses::any_row-loop-turn-preserved t c =
     let js = joins_of (map join_view c.args.joins.now) in
     let w = world_of c.args.world.now in
     let n = names_of c.args.scope.now c.args.world.now in
     let keeps = kept (filter_view c.args.filter.now) w in
-    let i = c.loop-position.position in
+    let i = c.loop-turn.turn in
+    let ps = positions_of c.in_ok-looked.looked in
+    let rs = rows_at c.args.source c.in_ok-looked.looked in
     let row = row_view c.row_at.result in
-    let lt : i < length (source_view c.args.source) = omega (arith, c.loop-position-test.true, c.count-position-end.ensures) in
+    let long : length rs ≡ length ps = length-map ps (row_in c.args.source) in
+    let within : i < length ps = omega (arith, c.loop-turn-test.true, c.number_of-turn-end.ensures) in
+    let lt : i < length rs = omega (arith, within, long) in
     let len : c.in_ok-gather.field-0.len ≡ length c.in_ok-gather.field-0.items = omega (arith, c.in_ok-gather.field-0.ok.0) in
-    let is : row ≡ get_or (source_view c.args.source) i [] = c.row_at.ensures ∙ sym (row_in_is c.args.source i lt) in
-    any_passed js w n c.args.alias.now keeps (source_view c.args.source) i row (map (beside js w (with_alias n c.args.alias.now row)) (map joined_view c.in_ok-gather.field-0.items)) lt is c.in_ok-gather.ensures
-    (no_images (beside js w (with_alias n c.args.alias.now row)) joined_view c.in_ok-gather.field-0.items (subst (λ k. (k == 0) ≡ true) len (sym c.is_empty.ensures ∙ c.if-not-is_empty.false))) c.loop-position.invariant
+    let is : row ≡ get_or rs i [] = c.row_at.ensures ∙ ap (row_in c.args.source) c.position_at.ensures ∙ sym (at_place c.args.source ps i within) in
+    any_passed js w n c.args.alias.now keeps rs i row (map (beside js w (with_alias n c.args.alias.now row)) (map joined_view c.in_ok-gather.field-0.items)) lt is c.in_ok-gather.ensures
+    (no_images (beside js w (with_alias n c.args.alias.now row)) joined_view c.in_ok-gather.field-0.items (subst (λ k. (k == 0) ≡ true) len (sym c.is_empty.ensures ∙ c.if-not-is_empty.false))) c.loop-turn.invariant
 
-pub clauses::scan-loop-position-preserved : goal.clauses::scan-loop-position-preserved
-clauses::scan-loop-position-preserved t c =
+pub clauses::any_row-returns : goal.clauses::any_row-returns
+clauses::any_row-returns t c =
+    let w = world_of c.args.world.now in
+    let ps = positions_of c.in_ok-looked.looked in
+    let rs = rows_at c.args.source c.in_ok-looked.looked in
+    let long : length rs ≡ length ps = length-map ps (row_in c.args.source) in
+    let all : length rs ≤ c.loop-turn.turn = omega (arith, long, c.loop-turn-test.false, c.number_of-turn-end.ensures) in
+    let none = subst (λ l. kept_of (joins_of (map join_view c.args.joins.now)) w (names_of c.args.scope.now c.args.world.now) c.args.alias.now (kept (filter_view c.args.filter.now) w) l ≡ []) (take_all c.loop-turn.turn rs all) c.loop-turn.invariant in
+    ap has_items (sym none ∙ c.in_ok-looked.ensures w)
+
+pub clauses::scan-loop-turn-preserved : goal.clauses::scan-loop-turn-preserved
+clauses::scan-loop-turn-preserved t c =
     let js = joins_of (map join_view c.args.joins.now) in
     let w = world_of c.args.world.now in
     let n = names_of c.args.scope.now c.args.world.now in
     let keeps = kept (filter_view c.args.filter.now) w in
-    let i = c.loop-position.position in
-    let lt : i < length (source_view c.args.source) = omega (arith, c.loop-position-test.true, c.count-position-end.ensures) in
+    let i = c.loop-turn.turn in
+    let ps = positions_of c.in_ok-looked.looked in
+    let rs = rows_at c.args.source c.in_ok-looked.looked in
+    let long : length rs ≡ length ps = length-map ps (row_in c.args.source) in
+    let within : i < length ps = omega (arith, c.loop-turn-test.true, c.number_of-turn-end.ensures) in
+    let lt : i < length rs = omega (arith, within, long) in
+    let at : row_in c.args.source c.position_at-position.result ≡ get_or rs i [] = ap (row_in c.args.source) c.position_at-position.ensures ∙ sym (at_place c.args.source ps i within) in
     ap (map (names_at c.args.source c.args.alias.now js w n)) c.in_ok-add_places.ensures
-    ∙ scan_step js w n c.args.alias.now keeps c.args.source i (row_view c.row_at.result) c.loop-position.places.items c.in_ok-lists.lists.items lt c.row_at.ensures c.in_ok-lists.ensures c.loop-position.invariant
+    ∙ scan_step js w n c.args.alias.now keeps c.args.source rs i c.position_at-position.result (row_view c.row_at.result) c.loop-turn.places.items c.in_ok-lists.lists.items lt at c.row_at.ensures c.in_ok-lists.ensures c.loop-turn.invariant
+
+pub clauses::scan-returns : goal.clauses::scan-returns
+clauses::scan-returns t c =
+    let js = joins_of (map join_view c.args.joins.now) in
+    let w = world_of c.args.world.now in
+    let n = names_of c.args.scope.now c.args.world.now in
+    let ps = positions_of c.in_ok-looked.looked in
+    let rs = rows_at c.args.source c.in_ok-looked.looked in
+    let long : length rs ≡ length ps = length-map ps (row_in c.args.source) in
+    let all : length rs ≤ c.loop-turn.turn = omega (arith, long, c.loop-turn-test.false, c.number_of-turn-end.ensures) in
+    c.loop-turn.invariant ∙ ap (kept_of js w n c.args.alias.now (kept (filter_view c.args.filter.now) w)) (take_all c.loop-turn.turn rs all) ∙ c.in_ok-looked.ensures w
 
 -- ---- whole selects
 

@@ -6,9 +6,10 @@ use Rattle.hq_sql_cells.specs.View.{cell_view}
 use Rattle.hq_sql_tree.specs.Tree.{joins_of, preds_of}
 use Rattle.hq_sql_tree.specs.View.{expr_view, pair_view, order_view, out_view, join_view, pred_view, filter_view}
 use Rattle.hq_sql_tree.specs.Meaning.{value, with_alias, joined, kept, all_true, any_true}
-use Rattle.hq_sql_eval.specs.View.{made_view, named_view, joined_view, source_view, world_of, names_of, names_at, group_of, beside}
+use Rattle.hq_sql_eval.specs.View.{made_view, named_view, joined_view, world_of, names_of, names_at, group_of, beside}
 use Rattle.hq_sql_eval.specs.Joined.{join_in}
 use Rattle.hq_sql_eval.specs.Keys.{expr_values, key_values, member_at, output_at, outputs_of, with_json, json_at, with_cells, taken_at}
+use Rattle.hq_sql_eval.specs.Positions.{rows_at, kept_of}
 use Rattle.hq_sql_eval.specs.Weight.{total, agg_weight, expr_weight, pair_weight, order_weight, out_weight, from_weight, select_weight, join_weight, pred_weight, filter_weight, scope_weight, asked_weight}
 use Rattle.hq_sql_eval.proofs.+eval.Given as goal
 
@@ -44,14 +45,14 @@ invariant-joins::spread-loop-row l =
 abbrev pub invariant-joins::outputs-loop-out : goal.invariant-joins::outputs-loop-out
 invariant-joins::outputs-loop-out l = map named_view l.cells.items ≡ map (output_at (names_of l.scope l.world)) (map out_view (take l.out-index l.out-items))
 
-abbrev pub invariant-clauses::scan-loop-position : goal.invariant-clauses::scan-loop-position
-invariant-clauses::scan-loop-position l =
+abbrev pub invariant-clauses::scan-loop-turn : goal.invariant-clauses::scan-loop-turn
+invariant-clauses::scan-loop-turn l =
     map (names_at l.source l.alias (joins_of (map join_view l.joins)) (world_of l.world) (names_of l.scope l.world)) l.places.items
-    ≡ filter (kept (filter_view l.filter) (world_of l.world)) (flat_map (joined (joins_of (map join_view l.joins)) (world_of l.world)) (map (with_alias (names_of l.scope l.world) l.alias) (take l.position (source_view l.source))))
+    ≡ kept_of (joins_of (map join_view l.joins)) (world_of l.world) (names_of l.scope l.world) l.alias (kept (filter_view l.filter) (world_of l.world)) (take l.turn (rows_at l.source l.looked))
 
-abbrev pub invariant-clauses::any_row-loop-position : goal.invariant-clauses::any_row-loop-position
-invariant-clauses::any_row-loop-position l =
-    filter (kept (filter_view l.filter) (world_of l.world)) (flat_map (joined (joins_of (map join_view l.joins)) (world_of l.world)) (map (with_alias (names_of l.scope l.world) l.alias) (take l.position (source_view l.source)))) ≡ []
+abbrev pub invariant-clauses::any_row-loop-turn : goal.invariant-clauses::any_row-loop-turn
+invariant-clauses::any_row-loop-turn l =
+    kept_of (joins_of (map join_view l.joins)) (world_of l.world) (names_of l.scope l.world) l.alias (kept (filter_view l.filter) (world_of l.world)) (take l.turn (rows_at l.source l.looked)) ≡ []
 
 abbrev pub invariant-clauses::keyed-loop-place : goal.invariant-clauses::keyed-loop-place
 invariant-clauses::keyed-loop-place l =

@@ -2,7 +2,7 @@ use Rattle.std.proofs.Common.{◌≡◌, List, [], true, sym, subst, ◌∙◌}
 use Rattle.std.specs.Prelude.{IfSome, slice_index_or}
 use Rattle.hq_base.specs.Json.{json_view}
 use Rattle.hq_terms.specs.Database.{Row}
-use Rattle.hq_sql_scans.specs.Agree.{HasRows}
+use Rattle.hq_sql_check.specs.Agree.{HasRows}
 use Rattle.hq_sql_tree.specs.Meaning.{meaning}
 use Rattle.hq_sql_tree.specs.View.{select_view}
 use Rattle.hq_sql_tree.specs.WellFormed.{is_statement}

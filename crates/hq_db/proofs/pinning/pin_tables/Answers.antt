@@ -1,6 +1,6 @@
 use Rattle.std.proofs.Common.{◌≡◌, ℕ, false, length, ap, subst, ◌∙◌, arith}
 use Rattle.std.specs.Prelude.{slice_index_or}
-use Rattle.hq_sql_scans.specs.Scans.{scans}
+use Rattle.hq_sql_check.specs.Scans.{scans}
 use Rattle.hq_sql_tree.specs.View.{select_view}
 use Rattle.hq_db.proofs.Meant.{pinned_all, scanned_within}
 use Rattle.hq_db.proofs.pinning.pin_tables.Goals as goal

@@ -42,7 +42,7 @@ some_selections-returns t c =
     finished (law_selection_at c.args.depth) selection_takes (until_punct CloseBrace) (map selection_view l.found.items) l.rest.now _ l.invariant (stands (ahead.Punct CloseBrace) l.rest.now c.is_at.result c.is_at.ensures c.loop-alloc-test.false)
 
 pub set-returns-then-depth-eq0 : goal.set-returns-then-depth-eq0
-set-returns-then-depth-eq0 t c = inr (set_none c.args.depth c.args.tokens.now c.if-depth-eq0.true ∙ ap (λ s. Err s) (sym c.closed.ensures))
+set-returns-then-depth-eq0 t c = inr (set_none c.args.depth c.args.tokens.now c.if-depth-eq0.true ∙ ap (λ s. Err s) (sym c.too_deep_or_unexpected.ensures))
 
 pub set-returns : goal.set-returns
 set-returns t c =

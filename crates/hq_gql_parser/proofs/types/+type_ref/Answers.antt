@@ -7,7 +7,7 @@ use Rattle.hq_gql_parser.proofs.types.+type_ref.Goals as goal
 
 pub list_type-returns-then-depth-eq0 : goal.list_type-returns-then-depth-eq0
 list_type-returns-then-depth-eq0 t c =
-    inr (list_type_none c.args.depth c.args.tokens.now c.if-depth-eq0.true ∙ ap (λ s. Err s) (sym c.closed.ensures))
+    inr (list_type_none c.args.depth c.args.tokens.now c.if-depth-eq0.true ∙ ap (λ s. Err s) (sym c.too_deep_or_unexpected.ensures))
 
 pub list_type-returns : goal.list_type-returns
 list_type-returns t c =

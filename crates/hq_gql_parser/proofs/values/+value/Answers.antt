@@ -14,7 +14,7 @@ use Rattle.hq_gql_parser.proofs.ValueLaws.{law_value, value_takes, law_argument,
 use Rattle.hq_gql_parser.proofs.values.+value.Goals as goal
 
 pub list-returns-then-depth-eq0 : goal.list-returns-then-depth-eq0
-list-returns-then-depth-eq0 t c = inr (list_none c.args.constant c.args.depth c.args.tokens.now c.if-depth-eq0.true ∙ ap (λ s. Err s) (sym c.closed.ensures))
+list-returns-then-depth-eq0 t c = inr (list_none c.args.constant c.args.depth c.args.tokens.now c.if-depth-eq0.true ∙ ap (λ s. Err s) (sym c.too_deep_or_unexpected.ensures))
 
 pub list-returns : goal.list-returns
 list-returns t c =
@@ -22,7 +22,7 @@ list-returns t c =
     subst (λ due. Gives (λ x. (placed_view x.0, x.1.now)) Memory due c.opened_list.result) (sym (list_is c.args.constant c.args.depth c.args.tokens.now lt)) c.opened_list.ensures
 
 pub object-returns-then-depth-eq0 : goal.object-returns-then-depth-eq0
-object-returns-then-depth-eq0 t c = inr (object_none c.args.constant c.args.depth c.args.tokens.now c.if-depth-eq0.true ∙ ap (λ s. Err s) (sym c.closed.ensures))
+object-returns-then-depth-eq0 t c = inr (object_none c.args.constant c.args.depth c.args.tokens.now c.if-depth-eq0.true ∙ ap (λ s. Err s) (sym c.too_deep_or_unexpected.ensures))
 
 pub object-returns : goal.object-returns
 object-returns t c =

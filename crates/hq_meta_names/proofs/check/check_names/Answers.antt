@@ -1,8 +1,8 @@
-use Rattle.std.proofs.Common.{◌≡◌, ◌∙◌, ℕ, List, [], map, true, Ok, sym, ap}
+use Rattle.std.proofs.Common.{◌≡◌, ◌∙◌, ℕ, List, [], map, true, sym, ap}
 use Rattle.std.proofs.lemmas.Result.{IfOk-at_ok}
 use Rattle.hq_terms.specs.Meta.{TrackedTree, tracked_view, meta_view}
 use Rattle.hq_terms.specs.Schema.{schema_of}
-use Rattle.hq_terms.specs.SchemaNames.{fixed_types, names_differ}
+use Rattle.hq_terms.specs.SchemaNames.{names_differ}
 use Rattle.hq_meta_names.specs.declared.known.Shared.{Shared}
 use Rattle.hq_meta_names.specs.Repeats.{with_tables}
 use Rattle.hq_meta_names.proofs.Grown.{tables-names_differ}

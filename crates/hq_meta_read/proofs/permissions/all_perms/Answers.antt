@@ -8,7 +8,7 @@ use Rattle.std.proofs.lemmas.Slice.Zip.{all_zipped_more}
 use Rattle.hq_base.specs.Json.{JsonTree, json_view}
 use Rattle.hq_terms.specs.Meta.{PermTree, meta_view, perm_view}
 use Rattle.hq_terms.specs.Schema.{schema_of}
-use Rattle.hq_meta_read.specs.declared.refusal.MetaRefusal.TheVariants.{Memory}
+use Rattle.hq_meta_tables.specs.declared.refusal.MetaRefusal.TheVariants.{Memory}
 use Rattle.hq_meta_read.specs.Permitted.{perms_at}
 use Rattle.hq_meta_read.specs.Sound.{Shallow, AllSound}
 use Rattle.hq_meta_read.proofs.Loops.{zip_refused, zip_given, zip_skipped, zip_more, zip_same, take_past, refused_more}

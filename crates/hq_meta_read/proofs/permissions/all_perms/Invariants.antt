@@ -3,7 +3,7 @@ use Rattle.std.specs.List.{AllZip, zip}
 use Rattle.hq_base.specs.Json.{json_view}
 use Rattle.hq_terms.specs.Meta.{meta_view, perm_view}
 use Rattle.hq_terms.specs.Schema.{schema_of}
-use Rattle.hq_meta_read.specs.Each.{each, each_after}
+use Rattle.hq_meta_tables.specs.Each.{each, each_after}
 use Rattle.hq_meta_read.specs.Permitted.{perms_at}
 use Rattle.hq_meta_read.specs.Sound.{AllSound}
 use Rattle.hq_meta_read.proofs.permissions.all_perms.Given as goal

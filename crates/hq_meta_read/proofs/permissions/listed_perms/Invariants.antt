@@ -2,7 +2,7 @@ use Rattle.std.proofs.Common.{◌≡◌, [], map, drop}
 use Rattle.hq_base.specs.Json.{json_view}
 use Rattle.hq_terms.specs.Meta.{meta_view, perm_view}
 use Rattle.hq_terms.specs.Schema.{schema_of}
-use Rattle.hq_meta_read.specs.Each.{each_after}
+use Rattle.hq_meta_tables.specs.Each.{each_after}
 use Rattle.hq_meta_read.specs.Permitted.{perm_at}
 use Rattle.hq_meta_read.specs.Sound.{AllSound}
 use Rattle.hq_meta_read.proofs.permissions.listed_perms.Given as goal

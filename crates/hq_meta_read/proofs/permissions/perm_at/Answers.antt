@@ -1,6 +1,6 @@
 use Rattle.std.proofs.lemmas.Result.{IfOk-at_ok}
 use Rattle.hq_base.specs.Json.{json_view}
-use Rattle.hq_meta_read.specs.declared.field.Field.TheVariants as field
+use Rattle.hq_meta_tables.specs.declared.field.Field.TheVariants as field
 use Rattle.hq_meta_read.specs.Sound.{Shallow}
 use Rattle.hq_meta_read.proofs.Nesting.{object_at-shallow, object_member-shallow}
 use Rattle.hq_meta_read.proofs.permissions.perm_at.Goals as goal

@@ -3,7 +3,7 @@ use Rattle.std.proofs.lemmas.Result.{IfOk-at_ok}
 use Rattle.hq_base.specs.Json.{json_view}
 use Rattle.hq_filter_read.specs.Nesting.{nesting}
 use Rattle.hq_terms.specs.Bexp.{bexp_view, depth}
-use Rattle.hq_meta_read.specs.declared.field.Field.TheVariants as field
+use Rattle.hq_meta_tables.specs.declared.field.Field.TheVariants as field
 use Rattle.hq_meta_read.proofs.Nesting.{member_at-nests}
 use Rattle.hq_meta_read.proofs.Sounds.{shallow_filter}
 use Rattle.hq_meta_read.proofs.permissions.permission_at.Goals as goal

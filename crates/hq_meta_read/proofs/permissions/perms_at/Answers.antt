@@ -1,7 +1,7 @@
 use Rattle.std.specs.List.{AllByRecursion}
 use Rattle.std.proofs.lemmas.Result.{IfOk-at_ok}
 use Rattle.hq_base.specs.Json.{json_view}
-use Rattle.hq_meta_read.specs.declared.field.Field.TheVariants as field
+use Rattle.hq_meta_tables.specs.declared.field.Field.TheVariants as field
 use Rattle.hq_meta_read.specs.Sound.{Shallow}
 use Rattle.hq_meta_read.proofs.Nesting.{entries_member-shallow, all_seen}
 use Rattle.hq_meta_read.proofs.permissions.perms_at.Goals as goal

@@ -3,7 +3,7 @@ use Rattle.std.specs.List.{AllByRecursion}
 use Rattle.std.proofs.lemmas.Result.{IfOk-at_ok}
 use Rattle.hq_base.specs.Json.{json_view}
 use Rattle.hq_meta_read.specs.Sound.{Shallow}
-use Rattle.hq_meta_read.specs.Top.{table_entries}
+use Rattle.hq_meta_tables.specs.Top.{table_entries}
 use Rattle.hq_meta_read.proofs.Nesting.{table_entries-shallow, all_seen}
 use Rattle.hq_meta_read.proofs.read.meta_of.Goals as goal
 

@@ -5,7 +5,7 @@ use Rattle.hq_terms.specs.Fits.{fits}
 use Rattle.hq_terms.specs.Meta.{meta_view}
 use Rattle.hq_terms.specs.Schema.{schema_of}
 use Rattle.hq_terms.specs.SchemaNames.{names_differ}
-use Rattle.hq_meta_read.specs.declared.refusal.MetaRefusal.TheVariants.{Memory}
+use Rattle.hq_meta_tables.specs.declared.refusal.MetaRefusal.TheVariants.{Memory}
 use Rattle.hq_meta_read.specs.Reading.{meta_of}
 use Rattle.hq_meta_read.specs.Sound.{TablesSound}
 use Rattle.hq_meta_read.proofs.Fitting.{FitsIf, meta_of-FitsIf}

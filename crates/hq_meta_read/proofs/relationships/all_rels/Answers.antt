@@ -4,7 +4,7 @@ use Rattle.std.proofs.lemmas.Option.{slice_get-map, slice_get_read, slice_get_pa
 use Rattle.std.proofs.lemmas.Result.{err_from_is_err_and}
 use Rattle.hq_base.specs.Json.{json_view}
 use Rattle.hq_terms.specs.Meta.{meta_view}
-use Rattle.hq_meta_read.specs.declared.refusal.MetaRefusal.TheVariants.{Memory}
+use Rattle.hq_meta_tables.specs.declared.refusal.MetaRefusal.TheVariants.{Memory}
 use Rattle.hq_meta_read.specs.Related.{rels_at}
 use Rattle.hq_meta_read.proofs.Loops.{zip_refused, zip_given, zip_skipped, refused_more}
 use Rattle.hq_meta_read.proofs.relationships.all_rels.Goals as goal

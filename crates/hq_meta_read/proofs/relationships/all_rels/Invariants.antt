@@ -2,7 +2,7 @@ use Rattle.std.proofs.Common.{◌≡◌, map, drop}
 use Rattle.std.specs.List.{zip}
 use Rattle.hq_base.specs.Json.{json_view}
 use Rattle.hq_terms.specs.Meta.{meta_view}
-use Rattle.hq_meta_read.specs.Each.{each, each_after}
+use Rattle.hq_meta_tables.specs.Each.{each, each_after}
 use Rattle.hq_meta_read.specs.Related.{rels_at}
 use Rattle.hq_meta_read.proofs.relationships.all_rels.Given as goal
 

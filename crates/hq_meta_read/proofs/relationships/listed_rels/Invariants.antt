@@ -1,7 +1,7 @@
 use Rattle.std.proofs.Common.{◌≡◌, map, drop}
 use Rattle.hq_base.specs.Json.{json_view}
 use Rattle.hq_terms.specs.Meta.{meta_view}
-use Rattle.hq_meta_read.specs.Each.{each_after}
+use Rattle.hq_meta_tables.specs.Each.{each_after}
 use Rattle.hq_meta_read.specs.Related.{rel_at}
 use Rattle.hq_meta_read.proofs.relationships.listed_rels.Given as goal
 

@@ -5,7 +5,7 @@ use Rattle.hq_sql_tree.specs.WellFormed.{aliases_in, aliases_in_joins, aliases_i
 use Rattle.hq_sql_check.specs.Scopes.{texts}
 use Rattle.hq_sql_check.proofs.AliasLists.{pieces, beside, beside_end, behind}
 use Rattle.hq_sql_check.proofs.Next.{next_join, next_pred}
-use Rattle.hq_sql_check.proofs.Views.{view_rows, view_fold}
+use Rattle.hq_sql_tree.proofs.Views.{view_rows, view_fold}
 use Rattle.hq_sql_check.proofs.aliases.+push_aliases.Goals as goal
 
 pub push_aliases-returns-in_ok-push_of_filter-in-Rows : goal.push_aliases-returns-in_ok-push_of_filter-in-Rows

@@ -1,0 +1,42 @@
+//! Catalogs and sessions that cases name.
+
+use crate::{Case, Stop};
+use hq_base::Txt;
+use hq_catalog_read::{CatalogRefusal, read_catalog};
+use hq_session::{Header, Headers, HeadersRefusal};
+use hq_terms::{Catalog, Session};
+use std::alloc::Global;
+
+/// The catalog that the value of the member `catalog` writes.
+pub fn given_catalog(alloc: Global, case: &Case) -> Result<Catalog, Stop> {
+    match read_catalog(alloc, case.json_text(alloc, "catalog")?.as_slice()) {
+        Ok(catalog) => Ok(catalog),
+        Err(CatalogRefusal::Memory) => Err(Stop::Memory),
+        Err(_) => Err(Stop::Shape),
+    }
+}
+
+/// The headers that these texts write, or the refusal of one too many.
+pub fn given_headers(
+    alloc: Global,
+    lines: &[Txt],
+) -> Result<Result<Headers, HeadersRefusal>, Stop> {
+    let mut headers = Headers::new(alloc);
+    for line in lines {
+        let Some(header) = Header::read(alloc, line)? else {
+            return Err(Stop::Shape);
+        };
+        if let Err(refusal) = headers.push(header) {
+            return Ok(Err(refusal));
+        }
+    }
+    Ok(Ok(headers))
+}
+
+/// The session of the headers that the elements of the member `headers` write.
+pub fn given_session(alloc: Global, case: &Case) -> Result<Session, Stop> {
+    match given_headers(alloc, case.texts(alloc, "headers")?.as_slice())? {
+        Ok(headers) => Ok(headers.session(alloc)?),
+        Err(_) => Err(Stop::Shape),
+    }
+}

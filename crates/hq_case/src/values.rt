@@ -1,0 +1,41 @@
+//! Values and JSON in words.
+
+use crate::Stop;
+use hq_base::{Bytes, Json, Txt, Val};
+use std::alloc::Global;
+
+/// The value of a table that a JSON value writes.
+pub fn value(alloc: Global, json: &Json) -> Result<Val, Stop> {
+    match json {
+        Json::Null => Ok(Val::Null),
+        Json::Bool(b) => Ok(Val::Bool(*b)),
+        Json::Int(n) => match i64::try_from(*n) {
+            Ok(n) => Ok(Val::Int(n)),
+            Err(_) => Err(Stop::Shape),
+        },
+        Json::Str(text) => Ok(Val::Text(text.copy(alloc)?)),
+        _ => Err(Stop::Shape),
+    }
+}
+
+/// Adds a value: texts stand in quotes.
+pub fn push_value(value: &Val, out: &mut String) -> Result<(), Stop> {
+    match value {
+        Val::Null => Ok(out.push_str("NULL")?),
+        Val::Int(n) => Ok(write!(out, "{n}")?),
+        Val::Text(text) => Ok(write!(out, "'{}'", text.as_str())?),
+        Val::Bool(b) => Ok(write!(out, "{b}")?),
+    }
+}
+
+/// Adds bytes, which are to be a text.
+pub fn push_bytes(alloc: Global, bytes: &[u8], out: &mut String) -> Result<(), Stop> {
+    Ok(out.push_str(Txt::of(alloc, bytes)?.as_str())?)
+}
+
+/// Adds the compact text of a JSON value.
+pub fn push_json(alloc: Global, json: &Json, out: &mut String) -> Result<(), Stop> {
+    let mut bytes = Bytes::new(alloc);
+    json.write_to(alloc, &mut bytes)?;
+    push_bytes(alloc, bytes.as_slice(), out)
+}

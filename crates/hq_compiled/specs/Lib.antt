@@ -1,0 +1,16 @@
+pub mod Names
+pub mod Looks
+pub mod Rights
+pub mod Conditions
+pub mod Predicates
+pub mod Masks
+pub mod Selects
+pub mod Sorts
+pub mod Lists
+pub mod Aggregates
+pub mod Fields
+pub mod Statement
+pub mod Correct
+pub mod Shallow
+pub mod Fine
+pub mod WellFormed

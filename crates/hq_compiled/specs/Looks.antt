@@ -1,0 +1,40 @@
+-- How the columns of a row are looked at in SQL: each by an alias and a name there.
+use Rattle.std.specs.Prelude.{ℕ, List, Bool, false, ◌==◌, slice_index_or}
+use Rattle.std.specs.List.{list_any}
+use Rattle.hq_terms.specs.Database.{is_text}
+use Rattle.hq_terms.specs.Schema.{no_column}
+use Rattle.hq_terms.specs.declared.table.Column.{Column}
+use Rattle.hq_sql_tree.specs.Tree.{ExprTree, column}
+use Rattle.hq_compiled.specs.Names.{table_alias}
+
+-- a name of an alias
+pub record Place : Type 0 where
+  pub alias : List ℕ
+  pub name : List ℕ
+
+-- for each column of a table the place where its cell stands
+abbrev pub Look : Type 0
+Look = ℕ → Place
+
+-- the name of a column; empty beyond the table's columns
+abbrev pub name_of : List Column → ℕ → List ℕ
+name_of columns c = (slice_index_or columns c no_column).name
+
+-- whether a column is of texts, which are compared by COLLATE "C"
+abbrev pub is_text_column : List Column → ℕ → Bool
+is_text_column columns c = is_text (slice_index_or columns c no_column).ty
+
+-- the table's own column at the alias of number p
+abbrev pub own_look : List Column → (p : ℕ) → Look
+own_look columns p c = record { alias = table_alias p; name = name_of columns c }
+
+-- the cell at a place, and as it is compared
+abbrev pub cell_at : Place → ExprTree
+cell_at p = column p.alias p.name false
+
+abbrev pub compared_at : List Column → Place → ℕ → ExprTree
+compared_at columns p c = column p.alias p.name (is_text_column columns c)
+
+-- whether a column is among those that are used
+abbrev pub is_used : ℕ → List ℕ → Bool
+is_used c cs = list_any (λ d. c == d) cs

@@ -1,0 +1,11 @@
+use Rattle.std.proofs.Common.{ap, ◌∙◌}
+use Rattle.std.proofs.Math.Logic.{∥∥₁_elim}
+use Rattle.hq_role_schema.specs.RoleSchema.{role_schema}
+use Rattle.hq_schema.specs.Schema.{schema_view}
+use Rattle.hq_terms.specs.Meta.{meta_view}
+use Rattle.hq_engine.proofs.SchemaSets.{schema_set}
+use Rattle.hq_engine.proofs.engine.Engine.schema.Goals as goal
+
+pub returns : goal.returns
+returns c =
+    ∥∥₁_elim c.args.self.now.each_role (schema_set _ _) (λ each. ap schema_view c.find.ensures ∙ each c.args.role.now)

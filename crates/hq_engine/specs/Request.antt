@@ -1,0 +1,38 @@
+-- What a body makes for a session: a typed request, or why it makes none. Each step takes what those before it gave, and the
+-- first that refuses decides. No database is looked at.
+use Rattle.std.specs.Prelude.{ℕ, List, Bool, true, false, Option, Some, None, Result, Ok, Err}
+use Rattle.hq_ask_tree.specs.Request.{AskTree}
+use Rattle.hq_base.specs.Due.{◌>>=◌}
+use Rattle.hq_terms.specs.Meta.{MetaTree}
+use Rattle.hq_terms.specs.declared.session.Session.{Session}
+use Rattle.hq_terms.specs.declared.table.Table.{Table}
+use Rattle.hq_engine.specs.ListRequest.{list_due}
+use Rattle.hq_engine.specs.Reading.{json_due, query_due, document_due}
+use Rattle.hq_engine.specs.declared.faults.RequestFault.{RequestFault}
+use Rattle.hq_engine.specs.declared.refusal.RequestRefusal.{RequestRefusal}
+use Rattle.hq_engine.specs.declared.refusal.RequestRefusal.TheVariants.{Fault, NotBuilt, Memory}
+
+unfoldable pub request_due : List Table → MetaTree → Session → (body : List ℕ) → Result AskTree RequestRefusal
+request_due tables meta session body = do
+  json ← json_due body
+  text ← query_due json
+  document ← document_due text
+  list_due meta session json document
+
+-- the fault by which a step refused
+abbrev pub fault_in : {X : Type 0} → Result X RequestRefusal → Option RequestFault
+fault_in (Ok x) = None
+fault_in (Err (Fault f)) = Some f
+fault_in (Err NotBuilt) = None
+fault_in (Err Memory) = None
+
+-- a request or a fault: all that is answered so far
+abbrev pub is_built : {X : Type 0} → Result X RequestRefusal → Bool
+is_built (Ok x) = true
+is_built (Err (Fault f)) = true
+is_built (Err NotBuilt) = false
+is_built (Err Memory) = false
+
+-- the first fault of a body, where it has one
+abbrev pub first_fault : List Table → MetaTree → Session → (body : List ℕ) → Option RequestFault
+first_fault tables meta session body = fault_in (request_due tables meta session body)

@@ -1,0 +1,65 @@
+//! The statement of a request: its text, and asking it.
+ghost use Rattle.std.specs.Prelude.{◌≡◌, ◌⊎◌, ◌≤◌, Err, IfOk, IfErr, IfSome, OnOk, Some};
+ghost use Rattle.hq_ask_tree.specs.Request.{ask_view};
+ghost use Rattle.hq_base.specs.Json.{json_view};
+ghost use Rattle.hq_link.specs.Asked.{Asked, NotAsked};
+ghost use Rattle.hq_link.specs.Typed.{IsTyped};
+ghost use Rattle.hq_sql_text.specs.Readable.{Spells};
+ghost use Rattle.hq_sql_tree.specs.Meaning.{meaning};
+ghost use Rattle.hq_sql_tree.specs.Tree.{SelectTree};
+ghost use Rattle.hq_terms.specs.Meta.{meta_view};
+ghost use Rattle.hq_engine.specs.Asking.{compiled, statement_text};
+ghost use Rattle.hq_engine.specs.Failures.{IsOfDatabase, TellsDatabase};
+ghost use Rattle.hq_engine.specs.Statements.{IsListRequest, IsStatement};
+
+use crate::EngineRefusal;
+use hq_ask_tree::Ask;
+use hq_base::{Bytes, Json, Memory};
+use hq_link::{Database, DbRefusal};
+use hq_sql_compile::compile;
+use hq_sql_text::{one_tree, print};
+use hq_terms::{Catalog, Meta, Session};
+use std::alloc::Global;
+
+/// The text of a request for a list of columns, of a table on which the session has a plain permission.
+pub(crate) fn statement_text(
+    alloc: Global,
+    catalog: &Catalog,
+    meta: &Meta,
+    session: &Session,
+    request: &Ask,
+) -> Result<Bytes, Memory>
+    requires { IsListRequest catalog.now.tables (meta_view meta.now) session.now (ask_view request.now).fields }
+    ensures text { IfOk result (λ text. statement_text catalog.now.tables (meta_view meta.now) (ask_view request.now) ≡ Some text) }
+    ensures statement { OnOk result (IsStatement catalog.now.tables (meta_view meta.now) session.now (ask_view request.now)) }
+    ensures typed { OnOk result (IsTyped catalog.now.tables (compiled catalog.now.tables (meta_view meta.now) (ask_view request.now))) }
+{
+    let _ = session;
+    let select = compile(alloc, request, catalog, meta)?;
+    print(alloc, &select)
+}
+
+/// Asks a text of a statement that fits the database's catalog.
+pub(crate) fn ask<D: Database>(
+    alloc: Global,
+    db: &mut D,
+    text: &[u8],
+) -> Result<Json, EngineRefusal>
+    requires { (s : SelectTree) × Spells text.now s × IsTyped (D.tables db.old) s }
+    ensures asked { Asked (D.asks db.old) (D.asks db.new) (D.last db.new) text.now ⊎ ((result ≡ Err EngineRefusal.Memory) × NotAsked (D.asks db.old) (D.asks db.new) (D.last db.old) (D.last db.new)) }
+    ensures answered { IfOk result (λ json. IfSome (D.database db.old) (λ d. (s : SelectTree) → Spells text.now s → json_view json ≡ meaning s (record { tables = D.tables db.old; database = d }))) }
+    ensures built { IfErr result IsOfDatabase }
+    ensures failed { IfErr result (TellsDatabase (D.faults db.old) (D.faults db.new)) }
+    ensures tables { D.tables db.new ≡ D.tables db.old }
+    ensures database { D.database db.new ≡ D.database db.old }
+    ensures later { D.faults db.old ≤ D.faults db.new }
+{
+    one_tree();
+    match db.run(alloc, text) {
+        Ok(data) => Ok(data),
+        Err(DbRefusal::Failed { before, after }) => Err(EngineRefusal::Database { before, after }),
+        Err(DbRefusal::Memory) => Err(EngineRefusal::Memory),
+        Err(DbRefusal::NotSql) => unreachable!(),
+        Err(DbRefusal::NotTyped) => unreachable!(),
+    }
+}

@@ -1,0 +1,4 @@
+pub mod Lesser
+pub mod Grown
+pub mod Walks
+pub mod Lists

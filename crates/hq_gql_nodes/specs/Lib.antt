@@ -1,0 +1,7 @@
+pub mod Known
+pub mod Nodes
+pub mod Least
+pub mod Names
+pub mod Reach
+pub mod Marks
+pub mod Fragments

@@ -1,0 +1,4 @@
+pub mod Requests
+pub mod Holds
+pub mod Reads
+pub mod Laws

@@ -1,0 +1,13 @@
+/// What a request is answered with that gets no reply of its own.
+#[derive(Clone, Copy, Debug, PartialEq, Eq)]
+pub enum Fault {
+    BadRequest,
+    Denied,
+    NotFound,
+    NotAllowed,
+    LengthRequired,
+    BodyTooLarge,
+    HeadTooLarge,
+    Failed,
+    Unavailable,
+}

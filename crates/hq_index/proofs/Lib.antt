@@ -1,0 +1,6 @@
+pub mod Chunked
+pub mod Counted
+pub mod CellOrders
+pub mod Closures
+pub mod Sorted
+pub mod Spans

@@ -1,0 +1,5 @@
+pub mod Chunks
+pub mod Grids
+pub mod Keys
+pub mod Indexes
+pub mod Places

@@ -1,0 +1,62 @@
+//! Row numbers in the order of their keys.
+ghost use Rattle.std.specs.Prelude.{◌≡◌, ◌^◌, ◌<◌, IfOk, OnOk, filter, length, not};
+ghost use Rattle.hq_base.specs.Lists.{sort};
+ghost use Rattle.hq_index.specs.Grids.{rows_in};
+ghost use Rattle.hq_index.specs.Indexes.{counted, key_at, by_key, sorted_rows, indexed_rows};
+ghost use Rattle.hq_index.specs.Keys.{has_null};
+
+use crate::Grid;
+use crate::key::{row_has_null, rows_cmp};
+use hq_base::Memory;
+use hq_terms::ColId;
+use std::alloc::Global;
+use std::cmp::Ordering;
+
+// The numbers from 0 on, so many.
+#[tactic(auto, using(crate::proofs::Counted::counted_more))]
+fn numbers(alloc: Global, count: u32) -> Result<Vec<u32>, Memory>
+    ensures { IfOk result (λ all. all.items ≡ counted 0 count) }
+{
+    let mut all = Vec::with_capacity(alloc, count as usize)?;
+    for n in 0..count {
+        all.push(n)?;
+    }
+    Ok(all)
+}
+
+// The order of two rows by their keys.
+fn order(grid: &Grid, columns: &[ColId], left: u32, right: u32) -> Ordering
+    ensures { result ≡ by_key columns.now (rows_in grid.now) left right }
+{
+    rows_cmp(columns, grid.row(left as usize), grid.row(right as usize))
+}
+
+fn sort_rows(grid: &Grid, columns: &[ColId], rows: &mut Vec<u32>) -> Result<(), Memory>
+    ensures { OnOk result (rows.new.items ≡ sort (by_key columns.now (rows_in grid.now)) rows.old.items) }
+{
+    rows.sort_by(|left, right| order(grid, columns, *left, *right))?;
+    Ok(())
+}
+
+/// All rows in the order of their keys, those of one key in file order.
+pub(crate) fn sorted_rows(alloc: Global, grid: &Grid, columns: &[ColId]) -> Result<Vec<u32>, Memory>
+    requires { length (rows_in grid.now) < 2 ^ 32 }
+    ensures { IfOk result (λ rows. rows.items ≡ sorted_rows columns.now (rows_in grid.now)) }
+{
+    let mut rows = numbers(alloc, grid.len() as u32)?;
+    sort_rows(grid, columns, &mut rows)?;
+    Ok(rows)
+}
+
+fn lacks_null(grid: &Grid, columns: &[ColId], row: u32) -> bool
+    ensures { result ≡ not (has_null (key_at columns.now (rows_in grid.now) row)) }
+{
+    !row_has_null(columns, grid.row(row as usize))
+}
+
+/// Leaves the rows whose key has no NULL.
+pub(crate) fn leave_keys(grid: &Grid, columns: &[ColId], rows: &mut Vec<u32>)
+    ensures { rows.new.items ≡ filter (λ n. not (has_null (key_at columns.now (rows_in grid.now) n))) rows.old.items }
+{
+    rows.retain(|row| lacks_null(grid, columns, *row));
+}

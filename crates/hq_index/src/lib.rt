@@ -1,0 +1,14 @@
+//! Rows held one after the other, and indexes over them: row numbers in the order of their keys.
+#![tactic(auto)]
+
+mod build;
+mod grid;
+mod index;
+mod key;
+mod place;
+mod steps;
+
+pub use grid::Grid;
+pub use index::{Found, Index, Span};
+pub use key::KeyCell;
+pub use steps::Steps;

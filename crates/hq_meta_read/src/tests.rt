@@ -1,6 +1,0 @@
-mod cases;
-mod export;
-mod large;
-mod permissions;
-mod relationships;
-mod tell;

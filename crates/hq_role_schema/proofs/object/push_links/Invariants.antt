@@ -1,8 +1,0 @@
-use Rattle.std.proofs.Common.{◌≡◌, ◌++◌, map, drop}
-use Rattle.std.specs.Prelude.{flat_map}
-use Rattle.hq_schema.specs.Schema.{field_view}
-use Rattle.hq_role_schema.specs.ObjectTypes.{link_fields}
-use Rattle.hq_role_schema.proofs.object.push_links.Given as goal
-
-abbrev pub invariant-loop-link : goal.invariant-loop-link
-invariant-loop-link l = map field_view l.fields ++ flat_map link_fields (drop l.link-index l.link-items) ≡ map field_view l.initial.fields ++ flat_map link_fields l.link-items

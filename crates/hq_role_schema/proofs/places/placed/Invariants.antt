@@ -1,0 +1,10 @@
+use Rattle.std.proofs.Common.{◌≡◌}
+use Rattle.hq_role_schema.specs.Placed.{placed_from}
+use Rattle.hq_role_schema.proofs.Placing.{count_of}
+use Rattle.hq_role_schema.proofs.places.placed.Given as goal
+
+abbrev pub invariant-loop-shown : goal.invariant-loop-shown
+invariant-loop-shown l = record {
+  so_far : l.placed ≡ placed_from 18 l.yielded;
+  next : l.first ≡ count_of 18 l.yielded;
+}

@@ -1,0 +1,68 @@
+ghost use Rattle.std.specs.Prelude.{◌≡◌, ◌++◌, OnOk, IfOk, map, take, ◌≤◌};
+ghost use Rattle.hq_schema.specs.Parts.{all_parts};
+ghost use Rattle.hq_schema.specs.Schema.{type_view};
+ghost use Rattle.hq_role_schema.specs.Placed.{part_count};
+ghost use Rattle.hq_role_schema.specs.RoleSchema.{part_type, types_with};
+
+use crate::columns::part_count;
+use crate::fields::part_fields;
+use crate::inputs::{part_columns, part_inputs, part_values};
+use crate::shown::{LinkList, PlacedTable};
+use crate::text::suffixed;
+use hq_base::Memory;
+use hq_schema::{NamedList, Part, TypeDef};
+use std::alloc::Global;
+
+#[tactic(auto, unfolding(crate::specs::RoleSchema::part_type))]
+fn part_type(
+    alloc: Global,
+    placed: &PlacedTable,
+    links: &LinkList,
+    part: Part,
+) -> Result<TypeDef, Memory>
+    ensures { IfOk result (λ t. type_view t ≡ part_type placed.now links.now part) }
+{
+    let shown = &placed.shown;
+    let fields = part_fields(alloc, placed.first, &shown.columns, links, part)?;
+    let inputs = part_inputs(alloc, placed.first, &shown.columns, links, part)?;
+    let values = part_values(alloc, &shown.columns, part)?;
+    Ok(TypeDef {
+        name: suffixed(alloc, &shown.name, part.suffix())?,
+        kind: part.kind(),
+        fields: NamedList::new(alloc, fields)?,
+        inputs: NamedList::new(alloc, inputs)?,
+        values: NamedList::new(alloc, values)?,
+        columns: part_columns(alloc, &shown.columns, part)?,
+        origin: part.origin(shown.table),
+    })
+}
+
+// Adds these types of a table.
+fn push_parts(
+    alloc: Global,
+    types: &mut Vec<TypeDef>,
+    placed: &PlacedTable,
+    links: &LinkList,
+    parts: &[Part],
+) -> Result<(), Memory>
+    ensures { OnOk result (map type_view types.new.items ≡ map type_view types.old.items ++ map (part_type placed.now links.now) parts.now) }
+{
+    for part in parts {
+        types.push(part_type(alloc, placed, links, *part)?)?;
+    }
+    Ok(())
+}
+
+/// Adds the types of a table, with the relationships that they show.
+pub fn push_types(
+    alloc: Global,
+    types: &mut Vec<TypeDef>,
+    placed: &PlacedTable,
+    links: &LinkList,
+) -> Result<(), Memory>
+    ensures { OnOk result (map type_view types.new.items ≡ map type_view types.old.items ++ types_with placed.now links.now) }
+{
+    let parts = Part::all();
+    let count = part_count(&placed.shown) as usize;
+    push_parts(alloc, types, placed, links, &parts[..count])
+}

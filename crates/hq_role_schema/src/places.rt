@@ -1,0 +1,26 @@
+ghost use Rattle.std.specs.Prelude.{◌≡◌, IfOk};
+ghost use Rattle.hq_role_schema.specs.Placed.{placed};
+
+use crate::columns::part_count;
+use crate::shown::{PlacedTable, PlacedTableList, ShownTableList};
+use hq_base::{List, Memory};
+use std::alloc::Global;
+
+// How many types each schema has.
+const FIXED: u32 = 18;
+
+/// The tables with the places of their types.
+pub fn placed(alloc: Global, tables: ShownTableList) -> Result<PlacedTableList, Memory>
+    ensures { IfOk result (λ ps. ps ≡ placed tables) }
+{
+    let mut placed = List::new(alloc);
+    let mut first = FIXED;
+    for shown in tables.into_vec() {
+        let Some(next) = first.checked_add(part_count(&shown)) else {
+            return Err(Memory);
+        };
+        placed.push(PlacedTable { shown, first })?;
+        first = next;
+    }
+    Ok(placed)
+}

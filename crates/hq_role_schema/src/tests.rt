@@ -1,4 +1,0 @@
-mod fixed_types;
-mod fixture;
-mod roles;
-mod written;

@@ -1,0 +1,10 @@
+use Rattle.std.proofs.Common.{◌≡◌, map, take}
+use Rattle.std.specs.List.{filter_map}
+use Rattle.hq_gql_tree.specs.Documents.{definition_view}
+use Rattle.hq_gql_nodes.specs.Names.{name_view}
+use Rattle.hq_rules_doc.specs.Operations.{operation_name}
+use Rattle.hq_rules_doc.proofs.rules.unique_operation_names.operation_names.Given as goal
+
+-- the names so far
+abbrev pub invariant-loop-definition : goal.invariant-loop-definition
+invariant-loop-definition l = map name_view l.names.items ≡ filter_map operation_name (map definition_view (take l.definition-index l.definition-items))

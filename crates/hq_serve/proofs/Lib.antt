@@ -1,0 +1,3 @@
+pub mod Links
+pub mod LineLemmas
+pub mod Runs

@@ -1,0 +1,34 @@
+use crate::{connections, secrets, words};
+use hq_case::{Case, Stop, Subject};
+
+/// What cases are about: a file of `data/`, and the public calls that its cases go through.
+#[derive(Clone, Copy)]
+pub enum About {
+    Words,
+    Secrets,
+    Connections,
+}
+
+impl About {
+    /// Each subject, in the order of its line.
+    pub const ALL: [About; 3] = [About::Words, About::Secrets, About::Connections];
+}
+
+impl Subject for About {
+    fn name(self) -> &'static str {
+        match self {
+            About::Words => "words",
+            About::Secrets => "secrets",
+            About::Connections => "connections",
+        }
+    }
+
+    fn told(self, rt: &HostRuntime, case: &Case) -> Result<String, Stop> {
+        let alloc = rt.alloc();
+        match self {
+            About::Words => words::command(alloc, case),
+            About::Secrets => secrets::caller(alloc, case),
+            About::Connections => connections::connection(alloc, case),
+        }
+    }
+}

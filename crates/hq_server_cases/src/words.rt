@@ -1,0 +1,53 @@
+//! The words behind the program's name.
+
+use hq_base::Txt;
+use hq_case::{Case, Stop};
+use hq_session::Headers;
+use hq_words::{Command, WordsRefusal};
+use std::alloc::Global;
+
+/// What words ask, or that they are bad.
+pub fn command(alloc: Global, case: &Case) -> Result<String, Stop> {
+    let words = case.texts(alloc, "in")?;
+    let mut out = String::new(alloc);
+    match Command::read(alloc, &words) {
+        Ok(command) => push_command(&command, &mut out)?,
+        Err(WordsRefusal::BadWords) => out.push_str("bad")?,
+        Err(WordsRefusal::Memory) => return Err(Stop::Memory),
+    }
+    Ok(out)
+}
+
+fn push_command(command: &Command, out: &mut String) -> Result<(), Stop> {
+    match command {
+        Command::Query { dir, headers } => push_request("query", dir, headers, out),
+        Command::Sql { dir, headers } => push_request("sql", dir, headers, out),
+        Command::Check { dir } => Ok(write!(out, "check {}", dir.as_str())?),
+        Command::Serve {
+            dir,
+            port,
+            connections,
+            secret,
+            unauthorized,
+        } => {
+            write!(out, "serve {} at {port} for {connections}", dir.as_str())?;
+            push_text("secret", secret, out)?;
+            push_text("unauthorized", unauthorized, out)
+        }
+    }
+}
+
+fn push_request(word: &str, dir: &Txt, headers: &Headers, out: &mut String) -> Result<(), Stop> {
+    write!(out, "{word} {}", dir.as_str())?;
+    for header in headers.as_slice() {
+        write!(out, " {}={}", header.name.as_str(), header.value.as_str())?;
+    }
+    Ok(())
+}
+
+fn push_text(word: &str, text: &Option<Txt>, out: &mut String) -> Result<(), Stop> {
+    match text {
+        Some(text) => Ok(write!(out, ", {word} '{}'", text.as_str())?),
+        None => Ok(()),
+    }
+}

@@ -1,0 +1,114 @@
+//! What the evaluator does with cells. The text `{}` stands for an empty JSON object.
+
+use hq_base::{Json, Val};
+use hq_case::{Case, Stop, push_json, value};
+use hq_sql_cells::{Cell, among, compared, counted, greatest, least, matched, summed};
+use hq_terms::{Op, Truth};
+use std::alloc::Global;
+
+/// The values of a list.
+pub fn values(alloc: Global, list: &[Json]) -> Result<Vec<Val>, Stop> {
+    let mut values = Vec::new(alloc);
+    for json in list {
+        values.push(value(alloc, json)?)?;
+    }
+    Ok(values)
+}
+
+/// The cells of values.
+pub fn cells<'d>(alloc: Global, values: &'d [Val]) -> Result<Vec<Cell<'d>>, Stop> {
+    let mut cells = Vec::new(alloc);
+    for value in values {
+        cells.push(cell_of(alloc, value))?;
+    }
+    Ok(cells)
+}
+
+fn cell_of<'d>(alloc: Global, value: &'d Val) -> Cell<'d> {
+    match value {
+        Val::Text(text) if text.as_str() == "{}" => Cell::Json(Json::Obj(Vec::new(alloc))),
+        _ => Cell::of(value),
+    }
+}
+
+/// A comparison of two cells, whether the first is among those behind it, or is like the second.
+pub fn test(alloc: Global, case: &Case) -> Result<String, Stop> {
+    let values = values(alloc, case.list("in")?)?;
+    let cells = cells(alloc, &values)?;
+    let op = case.text(alloc, "op")?;
+    let truth = match op.as_str() {
+        "IN" => is_among(&cells)?,
+        "LIKE" => is_like(alloc, false, &cells)?,
+        "ILIKE" => is_like(alloc, true, &cells)?,
+        op => comparison(op, &cells)?,
+    };
+    Ok(format!(in alloc; "{truth:?}")?)
+}
+
+fn is_among(cells: &[Cell<'_>]) -> Result<Truth, Stop> {
+    match cells {
+        [value, items @ ..] => Ok(among(items, value)),
+        [] => Err(Stop::Shape),
+    }
+}
+
+fn is_like(alloc: Global, fold: bool, cells: &[Cell<'_>]) -> Result<Truth, Stop> {
+    match cells {
+        [text, pattern] => Ok(matched(alloc, fold, text, pattern)?),
+        _ => Err(Stop::Shape),
+    }
+}
+
+fn comparison(op: &str, cells: &[Cell<'_>]) -> Result<Truth, Stop> {
+    match cells {
+        [left, right] => Ok(compared(op_of(op)?, left, right)),
+        _ => Err(Stop::Shape),
+    }
+}
+
+fn op_of(op: &str) -> Result<Op, Stop> {
+    match op {
+        "=" => Ok(Op::Eq),
+        "<>" => Ok(Op::Ne),
+        "<" => Ok(Op::Lt),
+        "<=" => Ok(Op::Le),
+        ">" => Ok(Op::Gt),
+        ">=" => Ok(Op::Ge),
+        _ => Err(Stop::Shape),
+    }
+}
+
+fn push_cell(alloc: Global, cell: Cell<'_>, out: &mut String) -> Result<(), Stop> {
+    push_json(alloc, &cell.into_json(alloc)?, out)?;
+    Ok(out.push_str(" ")?)
+}
+
+/// The JSON of copies of cells.
+pub fn json(alloc: Global, case: &Case) -> Result<String, Stop> {
+    let values = values(alloc, case.list("in")?)?;
+    let mut out = String::new(alloc);
+    for cell in cells(alloc, &values)? {
+        push_cell(alloc, cell.copy(alloc)?, &mut out)?;
+    }
+    Ok(out)
+}
+
+/// How many cells are not NULL, how many different ones are compared, the least and the greatest.
+pub fn aggregates(alloc: Global, case: &Case) -> Result<String, Stop> {
+    let values = values(alloc, case.list("in")?)?;
+    let mut out = String::new(alloc);
+    for distinct in [false, true] {
+        push_cell(alloc, counted(distinct, cells(alloc, &values)?)?, &mut out)?;
+    }
+    push_cell(alloc, least(cells(alloc, &values)?), &mut out)?;
+    push_cell(alloc, greatest(cells(alloc, &values)?), &mut out)?;
+    Ok(out)
+}
+
+/// The sum of whole numbers.
+pub fn sum(alloc: Global, case: &Case) -> Result<String, Stop> {
+    let values = values(alloc, case.list("in")?)?;
+    let mut out = String::new(alloc);
+    push_cell(alloc, summed(&cells(alloc, &values)?)?, &mut out)?;
+    Ok(out)
+}

@@ -1,6 +1,0 @@
-mod aggregates;
-mod cells;
-mod fixture;
-mod pages;
-mod sorts;
-mod truths;

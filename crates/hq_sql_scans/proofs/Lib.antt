@@ -1,3 +1,0 @@
-pub mod NamedRows
-pub mod Alike
-pub mod Within

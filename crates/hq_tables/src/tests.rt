@@ -1,4 +1,0 @@
-mod fixture;
-mod load;
-mod rows;
-mod stores;

@@ -1,4 +1,0 @@
-mod Values
-mod Patterns
-mod Granted
-mod Sees

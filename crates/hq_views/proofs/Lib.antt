@@ -1,0 +1,3 @@
+mod Views
+mod Sessions
+mod Worked

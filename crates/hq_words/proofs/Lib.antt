@@ -1,0 +1,3 @@
+pub mod Commands
+pub mod Taken
+pub mod Numbers

@@ -1,0 +1,80 @@
+-- What the words behind the program's name ask: the command's name, and words of its grammar. A header is `name: value`,
+-- at most 64 are given, and no secret and no role is empty.
+use Rattle.std.specs.Prelude.{ℕ, List, [], ◌∷◌, length, Bool, true, false, nat_le, Option, Some, None, option_and_then, option_map, unwrap_or, cond, bytes_eq, codes}
+use Rattle.std.specs.Str.Parse.{digits_value, without_leading_plus}
+use Rattle.clap.specs.Words.{Kinds, Row, Text, first_of, all_of, one_of}
+use Rattle.hq_session.specs.Fields.{header_in}
+use Rattle.hq_session.specs.declared.header.Header.{Header}
+use Rattle.hq_words.specs.declared.command.Command.{Command}
+use Rattle.hq_words.specs.declared.command.Command.TheVariants.{Query, Sql, Check, Serve}
+use Rattle.hq_words.specs.Grammar.{request_faults, request_rows, check_faults, check_rows, serve_faults, serve_rows}
+
+-- the words are in the grammar
+abbrev pub are_taken : Kinds → Bool
+are_taken [] = true
+are_taken (kind ∷ kinds) = false
+
+-- ---- what the rows say
+
+abbrev pub dir_in : List Row → Option Text
+dir_in rows = first_of (codes "dir") rows
+
+abbrev pub header_words_in : List Row → List Text
+header_words_in rows = unwrap_or (all_of (codes "headers") rows) []
+
+-- the number of an option
+abbrev pub number_in : (id : Text) → List Row → Option ℕ
+number_in id rows = option_map (λ text. digits_value 10 (without_leading_plus text)) (one_of id rows)
+
+-- the headers of these words, where each is one
+abbrev pub headers_in : List Text → Option (List Header)
+headers_in [] = Some []
+headers_in (word ∷ words) = option_and_then (λ h. option_map (λ hs. h ∷ hs) (headers_in words)) (header_in word)
+
+-- at most 64 are given
+abbrev pub headers_of : List Text → Option (List Header)
+headers_of words = cond (nat_le (length words) 64) (headers_in words) None
+
+-- an option's text, where it is given, and none that is empty
+abbrev pub filled : Option Text → Option (Option Text)
+filled None = Some None
+filled (Some []) = None
+filled (Some (b ∷ bs)) = Some (Some (b ∷ bs))
+
+-- ---- the commands
+
+-- the directory and the headers of a request
+abbrev pub request_in : List Row → Option (Text × List Header)
+request_in rows = option_and_then (λ dir. option_map (λ headers. (dir, headers)) (headers_of (header_words_in rows))) (dir_in rows)
+
+abbrev pub request_of : List Text → Option (Text × List Header)
+request_of words = cond (are_taken (request_faults words)) (request_in (request_rows words)) None
+
+abbrev pub check_of : List Text → Option Command
+check_of words = cond (are_taken (check_faults words)) (option_map Check (dir_in (check_rows words))) None
+
+-- a command that serves, of its parts
+abbrev pub serve_with : (dir : Option Text) → (port connections : Option ℕ) → (secret unauthorized : Option (Option Text)) → Option Command
+serve_with dir port connections secret unauthorized =
+    option_and_then (λ d. option_and_then (λ p. option_and_then (λ n. option_and_then (λ s. option_map (λ u. Serve d p n s u) unauthorized) secret) connections) port) dir
+
+abbrev pub serve_in : List Row → Option Command
+serve_in rows =
+    serve_with (dir_in rows) (number_in (codes "port") rows) (number_in (codes "connections") rows)
+    (filled (first_of (codes "admin-secret") rows)) (filled (first_of (codes "unauthorized-role") rows))
+
+abbrev pub serve_of : List Text → Option Command
+serve_of words = cond (are_taken (serve_faults words)) (serve_in (serve_rows words)) None
+
+-- the command of this name with these words
+abbrev pub command_named : (name : Text) → List Text → Option Command
+command_named name words =
+    cond (bytes_eq name (codes "query")) (option_map (λ r. Query r.0 r.1) (request_of words)) (
+    cond (bytes_eq name (codes "sql")) (option_map (λ r. Sql r.0 r.1) (request_of words)) (
+    cond (bytes_eq name (codes "check")) (check_of words) (
+    cond (bytes_eq name (codes "serve")) (serve_of words) None)))
+
+-- the command that words ask for
+abbrev pub command_of : List Text → Option Command
+command_of [] = None
+command_of (name ∷ words) = command_named name words

@@ -1,0 +1,139 @@
+ghost use Rattle.std.specs.Prelude.{◌≡◌, option_map, ok_or};
+ghost use Rattle.clap.specs.Words.{found_of, rows_of};
+ghost use Rattle.hq_base.specs.Due.{Gives};
+ghost use Rattle.hq_words.specs.Asked.{check_of, command_named, command_of, request_in, request_of, serve_in, serve_of};
+
+use crate::WordsRefusal;
+use crate::parse::{check_matches, request_matches, serve_matches};
+use crate::values::{connections_of, filled, given_headers, port_of, text_of};
+use clap::ArgMatches;
+use hq_base::Txt;
+use hq_session::Headers;
+use std::alloc::Global;
+
+/// What words ask of the program.
+#[derive(Debug, Drop)]
+pub enum Command {
+    /// To answer a request over a directory, for the session of the headers.
+    Query {
+        dir: Txt,
+        headers: Headers,
+    },
+    /// To write the statement that answers a request.
+    Sql {
+        dir: Txt,
+        headers: Headers,
+    },
+    /// To check a directory.
+    Check {
+        dir: Txt,
+    },
+    /// To serve a directory at a port, for so many connections.
+    Serve {
+        dir: Txt,
+        port: u16,
+        connections: u32,
+        secret: Option<Txt>,
+        unauthorized: Option<Txt>,
+    },
+}
+
+// The directory and the headers of a request, as the matches say.
+fn request_from(alloc: Global, matches: &ArgMatches<'_>) -> Result<(Txt, Headers), WordsRefusal>
+    ensures { Gives (λ request. request) WordsRefusal.Memory (ok_or (request_in (rows_of (found_of matches.now))) WordsRefusal.BadWords) result }
+{
+    let Some(dir) = text_of(alloc, matches, "dir")? else {
+        return Err(WordsRefusal::Memory);
+    };
+    let headers = given_headers(alloc, matches)?;
+    Ok((dir, headers))
+}
+
+// The directory and the headers of the words behind `query` or `sql`.
+fn request(alloc: Global, words: &[Txt]) -> Result<(Txt, Headers), WordsRefusal>
+    ensures { Gives (λ request. request) WordsRefusal.Memory (ok_or (request_of words.now) WordsRefusal.BadWords) result }
+{
+    match request_matches(alloc, words) {
+        Ok(matches) => request_from(alloc, &matches),
+        Err(refusal) => Err(refusal),
+    }
+}
+
+// What the words behind `check` ask.
+fn check(alloc: Global, words: &[Txt]) -> Result<Command, WordsRefusal>
+    ensures { Gives (λ command. command) WordsRefusal.Memory (ok_or (check_of words.now) WordsRefusal.BadWords) result }
+{
+    match check_matches(alloc, words) {
+        Ok(matches) => match text_of(alloc, &matches, "dir")? {
+            Some(dir) => Ok(Command::Check { dir }),
+            None => Err(WordsRefusal::Memory),
+        },
+        Err(refusal) => Err(refusal),
+    }
+}
+
+// What is to be served, as the matches say.
+fn serve_from(alloc: Global, matches: &ArgMatches<'_>) -> Result<Command, WordsRefusal>
+    ensures { Gives (λ command. command) WordsRefusal.Memory (ok_or (serve_in (rows_of (found_of matches.now))) WordsRefusal.BadWords) result }
+{
+    let Some(dir) = text_of(alloc, matches, "dir")? else {
+        return Err(WordsRefusal::Memory);
+    };
+    let Some(port) = port_of(matches) else {
+        return Err(WordsRefusal::Memory);
+    };
+    let Some(connections) = connections_of(matches) else {
+        return Err(WordsRefusal::Memory);
+    };
+    let secret = filled(text_of(alloc, matches, "admin-secret")?)?;
+    let unauthorized = filled(text_of(alloc, matches, "unauthorized-role")?)?;
+    Ok(Command::Serve {
+        dir,
+        port,
+        connections,
+        secret,
+        unauthorized,
+    })
+}
+
+// What the words behind `serve` ask.
+fn serve(alloc: Global, words: &[Txt]) -> Result<Command, WordsRefusal>
+    ensures { Gives (λ command. command) WordsRefusal.Memory (ok_or (serve_of words.now) WordsRefusal.BadWords) result }
+{
+    match serve_matches(alloc, words) {
+        Ok(matches) => serve_from(alloc, &matches),
+        Err(refusal) => Err(refusal),
+    }
+}
+
+// What the words behind a command's name ask.
+fn command_named(alloc: Global, name: &str, words: &[Txt]) -> Result<Command, WordsRefusal>
+    ensures { Gives (λ command. command) WordsRefusal.Memory (ok_or (command_named name.now words.now) WordsRefusal.BadWords) result }
+{
+    match name {
+        "query" => {
+            let (dir, headers) = request(alloc, words)?;
+            Ok(Command::Query { dir, headers })
+        }
+        "sql" => {
+            let (dir, headers) = request(alloc, words)?;
+            Ok(Command::Sql { dir, headers })
+        }
+        "check" => check(alloc, words),
+        "serve" => serve(alloc, words),
+        _ => Err(WordsRefusal::BadWords),
+    }
+}
+
+impl Command {
+    /// What these words ask, which are those behind the program's name. BadWords exactly where they are not in the grammar of a
+    /// command.
+    pub fn read(alloc: Global, words: &[Txt]) -> Result<Command, WordsRefusal>
+        ensures { Gives (λ command. command) WordsRefusal.Memory (ok_or (command_of words.now) WordsRefusal.BadWords) result }
+    {
+        match words {
+            [name, words @ ..] => command_named(alloc, name.as_str(), words),
+            [] => Err(WordsRefusal::BadWords),
+        }
+    }
+}

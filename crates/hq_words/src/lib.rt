@@ -1,0 +1,15 @@
+//! The words behind the program's name, as the crate `clap` takes them.
+//!
+//! The first word is the command, byte for byte. The words behind it are in its grammar exactly where the simple command
+//! of `clap` with these arguments takes them, each header has its form, at most 64 are given, and no secret and no role is
+//! empty.
+#![tactic(auto)]
+
+mod arguments;
+mod command;
+mod parse;
+mod refusal;
+mod values;
+
+pub use command::Command;
+pub use refusal::WordsRefusal;
