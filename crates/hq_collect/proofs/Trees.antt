@@ -1,9 +1,9 @@
 -- Trees of collected fields.
-use Rattle.std.proofs.Common.{◌≡◌, ◌∙◌, refl, ap, suc, length, List, [], ◌∷◌, ◌++◌, map}
+use Rattle.std.proofs.Common.{◌≡◌, ◌∙◌, ◌≤◌, arith, false, refl, ap, suc, length, List, [], ◌∷◌, ◌++◌, map}
 use Rattle.hq_collect.specs.Keys.{keys_of}
-use Rattle.hq_collect.specs.Tree.{CollectedTrees, no_collected, collected}
-use Rattle.hq_collect.specs.TreeSeen.{FieldSeen, trees_of, collected_view}
-use Rattle.hq_collect.specs.declared.tree.CollectedField.{CollectedField}
+use Rattle.hq_collect.specs.Tree.{CollectedTrees, no_collected, collected, is_empty}
+use Rattle.hq_collect.specs.TreeSeen.{FieldSeen, trees_of, collected_step, collected_view, parts_seen}
+use Rattle.hq_collect.specs.declared.tree.CollectedField.{CollectedField, fold_out-CollectedField}
 use Rattle.std.proofs.lemmas.List.{map-append}
 
 -- fields, and others behind them
@@ -30,3 +30,12 @@ grown done more n s rest longer is =
 pub many_keys : (fs : List CollectedField) → length (keys_of (trees_of (map collected_view fs))) ≡ length fs
 many_keys [] = refl
 many_keys (f ∷ fs) = ap suc (many_keys fs)
+
+-- a collected field by its parts
+pub view_out : (f : CollectedField) → collected_view f ≡ parts_seen f
+view_out f = fold_out-CollectedField FieldSeen collected_step f
+
+-- no fields stand where the list is empty, and some where it is not
+pub some_there : (fs : List CollectedField) → 1 ≤ length fs → false ≡ is_empty (trees_of (map collected_view fs))
+some_there [] more = absurd (omega (arith, more))
+some_there (f ∷ fs) more = refl

@@ -1,11 +1,12 @@
 -- CollectFields (GraphQL October 2021, 6.3.2). Type conditions are not looked at: a fragment that may stand in an object type is
 -- on that type itself.
 use Rattle.std.specs.Prelude.{ℕ, zero, suc, List, [], ◌∷◌, Bool, false, ◌||◌, cond, bytes_eq}
+use Rattle.hq_coerce.specs.Variables.{VarTree}
 use Rattle.hq_gql_tree.specs.Documents.{DocumentTree}
 use Rattle.hq_gql_tree.specs.Selections.{SelectionTree, field, spread, inline, selections_in, FieldTree}
 use Rattle.hq_collect.specs.Fragments.{fragment_selections}
 use Rattle.hq_collect.specs.Groups.{Group, response_key, grouped}
-use Rattle.hq_collect.specs.Included.{VarTree, directives_in, is_included}
+use Rattle.hq_collect.specs.Included.{directives_in, is_included}
 
 -- a document, and the coerced variables
 pub record Request : Type 0 where

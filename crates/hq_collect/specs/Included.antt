@@ -1,30 +1,23 @@
 -- Which selections count, by their directives `@skip` and `@include` (GraphQL October 2021, 3.13.1, 3.13.2, 6.3.2).
 use Rattle.std.specs.Prelude.{ℕ, List, find, Bool, true, false, ◌&&◌, not, Option, Some, None, bytes_eq, codes}
-use Rattle.hq_base.specs.Json.{JsonTree, json_view}
+use Rattle.hq_base.specs.Json.{JsonTree}
 use Rattle.hq_base.specs.Json as json
+use Rattle.hq_coerce.specs.Variables.{VarTree, var_value}
 use Rattle.hq_gql_tree.specs.Values.{ValueTree, variable, ArgumentTree, DirectiveTree}
 use Rattle.hq_gql_tree.specs.Selections.{SelectionTree, field, spread, inline}
 use Rattle.hq_gql_tree.specs.Values as value
-use Rattle.hq_collect.specs.declared.included.VarValue.{VarValue}
-
--- a variable with its coerced value
-pub record VarTree : Type 0 where
-  pub name : List ℕ
-  pub value : JsonTree
-
-abbrev pub var_view : VarValue → VarTree
-var_view v = record { name = v.name; value = json_view v.value }
 
 abbrev pub is_true_json : JsonTree → Bool
 is_true_json (json.bool b) = b
 is_true_json _ = false
 
-abbrev pub is_true_var : Option VarTree → Bool
-is_true_var (Some v) = is_true_json v.value
-is_true_var None = false
+-- a variable without a value is not true
+abbrev pub is_true_value : Option JsonTree → Bool
+is_true_value (Some j) = is_true_json j
+is_true_value None = false
 
 unfoldable pub variable_holds : List VarTree → (name : List ℕ) → Bool
-variable_holds vs name = is_true_var (find (λ v. bytes_eq v.name name) vs)
+variable_holds vs name = is_true_value (var_value vs name)
 
 -- whether a value is true
 abbrev pub value_holds : List VarTree → ValueTree → Bool

@@ -1,5 +1,6 @@
 -- What requests and collected fields are seen as.
 use Rattle.std.specs.Prelude.{ℕ, List, ◌∷◌, map}
+use Rattle.hq_coerce.specs.Variables.{var_view}
 use Rattle.hq_gql_nodes.specs.Names.{has_name}
 use Rattle.hq_gql_tree.specs.Documents.{DocumentTree}
 use Rattle.hq_gql_tree.specs.Selections.{FieldTree, field_view}
@@ -10,7 +11,6 @@ use Rattle.hq_collect.specs.declared.fragments.Fragments.{Fragments}
 use Rattle.hq_collect.specs.declared.groups.Nodes.{Nodes}
 use Rattle.hq_collect.specs.Collect as tree
 use Rattle.hq_collect.specs.Groups.{Group}
-use Rattle.hq_collect.specs.Included.{var_view}
 
 -- the document whose fragments they are
 abbrev pub document_of : Fragments → DocumentTree

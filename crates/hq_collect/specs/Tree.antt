@@ -1,6 +1,6 @@
 -- The collected fields of an operation: each response key with its first field, and the collected fields below it (GraphQL
 -- October 2021, 6.3 and 6.4.3). No schema is looked at.
-use Rattle.std.specs.Prelude.{ℕ, zero, suc, List, [], ◌∷◌}
+use Rattle.std.specs.Prelude.{ℕ, zero, suc, List, [], ◌∷◌, Bool, true, false}
 use Rattle.hq_gql_tree.specs.Selections.{FieldHead, SelectionTree}
 use Rattle.hq_collect.specs.Groups.{Group, merged}
 use Rattle.hq_collect.specs.Collect.{Request, collect, none}
@@ -9,6 +9,10 @@ use Rattle.hq_collect.specs.Collect.{Request, collect, none}
 pub data CollectedTrees : Type 0 where
   no_collected : CollectedTrees
   collected : (key : List ℕ) → FieldHead → (below : CollectedTrees) → (others : CollectedTrees) → CollectedTrees
+
+abbrev pub is_empty : CollectedTrees → Bool
+is_empty no_collected = true
+is_empty (collected key h below others) = false
 
 -- the fields of these keys, where `inner` collects what stands below
 abbrev pub fields_of : (inner : List SelectionTree → CollectedTrees) → List Group → CollectedTrees

@@ -1,7 +1,7 @@
 -- What collected fields are seen as.
-use Rattle.std.specs.Prelude.{ℕ, List, [], ◌∷◌}
+use Rattle.std.specs.Prelude.{ℕ, List, [], ◌∷◌, map}
 use Rattle.hq_gql_tree.specs.Selections.{FieldHead, field_view}
-use Rattle.hq_collect.specs.declared.tree.CollectedField.{CollectedField, fold-CollectedField}
+use Rattle.hq_collect.specs.declared.tree.CollectedField.{CollectedField, fold-CollectedField, out-CollectedField}
 use Rattle.hq_collect.specs.declared.tree.CollectedField.TheOpen.{CollectedField-F}
 use Rattle.hq_collect.specs.Tree.{CollectedTrees, no_collected, collected}
 
@@ -20,3 +20,11 @@ collected_step f = record { key = f.key; head = (field_view f.first.now).0; belo
 
 abbrev pub collected_view : CollectedField → FieldSeen
 collected_view = fold-CollectedField FieldSeen collected_step
+
+-- a collected field by its parts, as it is seen
+abbrev pub parts_seen : CollectedField → FieldSeen
+parts_seen f = record {
+  key = (out-CollectedField f).key;
+  head = (field_view (out-CollectedField f).first.now).0;
+  below = trees_of (map collected_view (out-CollectedField f).below.items);
+}

@@ -8,9 +8,10 @@ ghost use Rattle.hq_collect.specs.Seen.{request_seen, groups_seen, seen};
 
 use crate::fragments::Fragments;
 use crate::groups::{Groups, add, response_key};
-use crate::included::{VarValue, is_selected};
+use crate::included::is_selected;
 use crate::selections::inline_selections;
 use hq_base::{Memory, Txt};
+use hq_coerce::VarValues;
 use hq_gql_nodes::{Names, note};
 use hq_gql_tree::{Field, Selection, Spread};
 use indexmap::IndexMap;
@@ -21,7 +22,7 @@ use std::collections::HashMap;
 #[derive(Clone, Copy, Drop)]
 pub struct Request<'a> {
     pub fragments: &'a Fragments<'a>,
-    pub vars: &'a [VarValue],
+    pub vars: &'a VarValues,
 }
 
 /// The fields that are collected so far, and the fragments that were put in.

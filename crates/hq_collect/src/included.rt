@@ -2,18 +2,13 @@
 ghost use Rattle.std.specs.Prelude.{◌≡◌, map, find, option_map, option_copied, codes, bytes_eq};
 ghost use Rattle.hq_base.specs.Json.{json_view};
 ghost use Rattle.hq_gql_tree.specs.Values.{value_view, argument_view, directive_view};
-ghost use Rattle.hq_collect.specs.Included.{var_view, is_true_json, variable_holds, value_holds, if_holds, condition, directives_in, is_included};
+ghost use Rattle.hq_coerce.specs.Variables.{var_view};
+ghost use Rattle.hq_collect.specs.Included.{is_true_json, variable_holds, value_holds, if_holds, condition, directives_in, is_included};
 ghost use Rattle.hq_gql_tree.specs.Selections.{selection_view, field_view, inline_view};
 
 use hq_base::{Json, Txt};
+use hq_coerce::{VarValue, VarValues};
 use hq_gql_tree::{Argument, Directive, Field, Inline, Selection, Value};
-
-/// A variable with its coerced value.
-#[derive(Debug, Drop)]
-pub struct VarValue {
-    pub name: Txt,
-    pub value: Json,
-}
 
 fn is_true(json: &Json) -> bool
     ensures { result ≡ is_true_json (json_view json.now) }
@@ -24,14 +19,14 @@ fn is_true(json: &Json) -> bool
     }
 }
 
-fn variable_named<'a>(vars: &'a [VarValue], name: &Txt) -> Option<&'a VarValue>
+fn variable_named<'a>(vars: &'a VarValues, name: &Txt) -> Option<&'a VarValue>
     ensures { option_copied result ≡ find (λ v. bytes_eq v.name name.now) vars.now }
 {
-    vars.iter().find(|var| var.name == *name)
+    vars.find(name)
 }
 
 #[tactic(auto, unfolding(crate::specs::Included::variable_holds))]
-fn variable_holds(vars: &[VarValue], name: &Txt) -> bool
+fn variable_holds(vars: &VarValues, name: &Txt) -> bool
     ensures { result ≡ variable_holds (map var_view vars.now) name.now }
 {
     match variable_named(vars, name) {
@@ -40,7 +35,7 @@ fn variable_holds(vars: &[VarValue], name: &Txt) -> bool
     }
 }
 
-fn value_holds(vars: &[VarValue], value: &Value) -> bool
+fn value_holds(vars: &VarValues, value: &Value) -> bool
     ensures { result ≡ value_holds (map var_view vars.now) (value_view value.now) }
 {
     match value {
@@ -58,7 +53,7 @@ fn argument_if(args: &[Argument]) -> Option<&Argument>
 }
 
 #[tactic(auto, unfolding(crate::specs::Included::if_holds))]
-fn if_holds(vars: &[VarValue], args: &[Argument]) -> bool
+fn if_holds(vars: &VarValues, args: &[Argument]) -> bool
     ensures { result ≡ if_holds (map var_view vars.now) (map argument_view args.now) }
 {
     match argument_if(args) {
@@ -76,7 +71,7 @@ fn directive_named<'a>(directives: &'a [Directive], name: &[u8]) -> Option<&'a D
 }
 
 #[tactic(auto, unfolding(crate::specs::Included::condition))]
-fn condition(vars: &[VarValue], name: &[u8], directives: &[Directive]) -> Option<bool>
+fn condition(vars: &VarValues, name: &[u8], directives: &[Directive]) -> Option<bool>
     ensures { result ≡ condition (map var_view vars.now) name.now (map directive_view directives.now) }
 {
     match directive_named(directives, name) {
@@ -87,7 +82,7 @@ fn condition(vars: &[VarValue], name: &[u8], directives: &[Directive]) -> Option
 
 /// Whether a selection with these directives is included and not skipped.
 #[tactic(auto, unfolding(crate::specs::Included::is_included))]
-pub fn is_included(vars: &[VarValue], directives: &[Directive]) -> bool
+pub fn is_included(vars: &VarValues, directives: &[Directive]) -> bool
     ensures { result ≡ is_included (map var_view vars.now) (map directive_view directives.now) }
 {
     let skipped = condition(vars, b"skip", directives).unwrap_or(false);
@@ -118,7 +113,7 @@ fn directives_in(selection: &Selection) -> &[Directive]
 }
 
 /// Whether a selection is included and not skipped.
-pub fn is_selected(vars: &[VarValue], selection: &Selection) -> bool
+pub fn is_selected(vars: &VarValues, selection: &Selection) -> bool
     ensures { result ≡ is_included (map var_view vars.now) (directives_in (selection_view selection.now)) }
 {
     is_included(vars, directives_in(selection))

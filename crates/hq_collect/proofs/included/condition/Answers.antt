@@ -1,7 +1,8 @@
 use Rattle.std.proofs.Common.{◌∙◌, refl, ap, map, bytes_eq, Some, None}
 use Rattle.hq_gql_tree.specs.declared.value.Directive.{Directive}
 use Rattle.hq_gql_tree.specs.Values.{DirectiveTree, argument_view, directive_view}
-use Rattle.hq_collect.specs.Included.{var_view, if_holds, condition_of, condition}
+use Rattle.hq_coerce.specs.Variables.{var_view}
+use Rattle.hq_collect.specs.Included.{if_holds, condition_of, condition}
 use Rattle.hq_collect.proofs.Lists.{found_seen}
 use Rattle.hq_collect.proofs.included.condition.Goals as goal
 

@@ -1,7 +1,8 @@
 use Rattle.std.proofs.Common.{◌∙◌, ap, sym, map, bytes_eq, codes, Some, None}
 use Rattle.hq_gql_tree.specs.declared.value.Argument.{Argument}
 use Rattle.hq_gql_tree.specs.Values.{ArgumentTree, argument_view}
-use Rattle.hq_collect.specs.Included.{var_view, value_holds, arg_holds, if_holds}
+use Rattle.hq_coerce.specs.Variables.{var_view}
+use Rattle.hq_collect.specs.Included.{value_holds, arg_holds, if_holds}
 use Rattle.hq_collect.proofs.Lists.{found_seen}
 use Rattle.hq_collect.proofs.Views.{argument_name, argument_value}
 use Rattle.hq_collect.proofs.included.if_holds.Goals as goal
