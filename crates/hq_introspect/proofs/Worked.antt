@@ -1,7 +1,7 @@
 -- The definitions at work on a small schema: authors by their number, sorted or filtered.
-use Rattle.std.specs.Prelude.{◌≡◌, ℕ, List, [], ◌∷◌, Bool, true, false, Option, Some, None, codes, refl}
+use Rattle.std.specs.Prelude.{◌≡◌, ℕ, List, [], ◌∷◌, Bool, true, false, Some, None, codes, refl}
 use Rattle.hq_base.specs.Compact.{compact, escaped}
-use Rattle.hq_ask_tree.specs.Introspection.{IntrospectionTree, look, IntrospectionTrees, looks_of}
+use Rattle.hq_ask_tree.specs.Introspection.{IntrospectionTree, look, looks_of}
 use Rattle.hq_schema.specs.Schema.{ArgTree, FieldTree, TypeTree, SchemaTree, TypeRefTree, named, list_of, non_null}
 use Rattle.hq_schema.specs.declared.origin.ArgOrigin.TheVariants as arg_origin
 use Rattle.hq_schema.specs.declared.origin.FieldOrigin.TheVariants as field_origin

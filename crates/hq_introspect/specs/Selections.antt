@@ -1,5 +1,5 @@
 -- The JSON of a selection on an object of introspection (GraphQL October 2021, 4.2, and 6.4: executing fields).
-use Rattle.std.specs.Prelude.{ℕ, List, map, Option}
+use Rattle.std.specs.Prelude.{ℕ, List, map}
 use Rattle.std.specs.Option.{option_map_or}
 use Rattle.hq_base.specs.Json.{JsonTree, arr, obj, elements_of, MemberTrees, no_member, member}
 use Rattle.hq_ask_tree.specs.Introspection.{IntrospectionTree, look, IntrospectionTrees, no_look, looks}
@@ -41,6 +41,9 @@ abbrev mutual
   pub value : IntrospectionTree → SchemaTree → NodeTree → JsonTree
   value (look name type_name deprecated fs) s n = completed (λ below. obj (members fs s below)) (resolved s n name)
 
--- an object with these members
+-- an object with these fields, and what is resolved as JSON where these fields are selected below it
 abbrev pub object_of : IntrospectionTrees → SchemaTree → NodeTree → JsonTree
 object_of fs s n = obj (members fs s n)
+
+abbrev pub json_of : IntrospectionTrees → SchemaTree → ResolvedTree → JsonTree
+json_of fs s r = completed (object_of fs s) r

@@ -1,10 +1,10 @@
 ghost use Rattle.std.specs.Prelude.{◌≡◌, IfOk, map};
 ghost use Rattle.hq_base.specs.Json.{json_view};
-ghost use Rattle.hq_ask_tree.specs.Introspection.{introspection_view, keyed_introspection_view, looks_of};
+ghost use Rattle.hq_ask_tree.specs.Introspection.{introspection_view};
 ghost use Rattle.hq_schema.specs.Schema.{schema_view};
-ghost use Rattle.hq_introspect.specs.Selections.{node_value, resolved, object_of, value, completed};
+ghost use Rattle.hq_introspect.specs.Selections.{node_value, resolved, object_of, json_of, value};
 ghost use Rattle.hq_introspect.specs.Nodes.{many};
-ghost use Rattle.hq_introspect.specs.Views.{node_view, resolved_view};
+ghost use Rattle.hq_introspect.specs.Views.{node_view, resolved_view, fields_view};
 
 use crate::field_name::FieldName;
 use crate::members::{directive_value, enum_value, field_value, input_value};
@@ -60,7 +60,7 @@ pub fn object(
     node: Node<'_>,
     fields: &IntroFields,
 ) -> Result<Json, Memory>
-    ensures { IfOk result (λ j. json_view j ≡ object_of (looks_of (map keyed_introspection_view fields.now.items)) (schema_view schema.now) (node_view node.entry)) }
+    ensures { IfOk result (λ j. json_view j ≡ object_of (fields_view fields.now.items) (schema_view schema.now) (node_view node.entry)) }
 {
     let mut members = Vec::with_capacity(alloc, fields.len())?;
     for keyed in fields {
@@ -87,7 +87,7 @@ pub fn completed(
     resolved: Resolved<'_>,
     fields: &IntroFields,
 ) -> Result<Json, Memory>
-    ensures { IfOk result (λ j. json_view j ≡ completed (object_of (looks_of (map keyed_introspection_view fields.now.items)) (schema_view schema.now)) (resolved_view resolved.entry)) }
+    ensures { IfOk result (λ j. json_view j ≡ json_of (fields_view fields.now.items) (schema_view schema.now) (resolved_view resolved.entry)) }
 {
     match resolved {
         Resolved::Leaf(json) => Ok(json),
@@ -103,7 +103,7 @@ fn objects(
     nodes: &[Node<'_>],
     fields: &IntroFields,
 ) -> Result<Json, Memory>
-    ensures { IfOk result (λ j. json_view j ≡ completed (object_of (looks_of (map keyed_introspection_view fields.now.items)) (schema_view schema.now)) (many (map node_view nodes.now))) }
+    ensures { IfOk result (λ j. json_view j ≡ json_of (fields_view fields.now.items) (schema_view schema.now) (many (map node_view nodes.now))) }
 {
     let mut elements = Vec::with_capacity(alloc, nodes.len())?;
     for node in nodes {

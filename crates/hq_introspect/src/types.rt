@@ -4,7 +4,7 @@ ghost use Rattle.hq_schema.specs.Schema.{arg_view, field_view, type_view, type_r
 ghost use Rattle.hq_introspect.specs.Directives.{all_directives};
 ghost use Rattle.hq_introspect.specs.Nodes.{many, field_node, input_node, value_node, directive_node, type_node, type_or_null};
 ghost use Rattle.hq_introspect.specs.Types.{referred, schema_value, object_fields, object_interfaces, enum_values, input_fields, type_value, wrapper_value};
-ghost use Rattle.hq_introspect.specs.Views.{resolved_view};
+ghost use Rattle.hq_introspect.specs.Views.{resolved_view, types_view};
 
 use crate::directive::Directive;
 use crate::field_name::FieldName;
@@ -44,7 +44,7 @@ pub fn referred<'a>(schema: &'a Schema, ty: &'a TypeRef) -> Resolved<'a>
 }
 
 fn type_nodes<'a>(alloc: Global, types: &[&'a TypeDef]) -> Result<Resolved<'a>, Memory>
-    ensures { IfOk result (λ r. resolved_view r ≡ many (map type_node (map (λ t. type_view t.now) types.now))) }
+    ensures { IfOk result (λ r. resolved_view r ≡ many (map type_node (types_view types.now))) }
 {
     let mut nodes = Vec::with_capacity(alloc, types.len())?;
     for def in types {
@@ -137,7 +137,7 @@ pub fn schema_value<'a>(
     types: &[&'a TypeDef],
     field: FieldName,
 ) -> Result<Resolved<'a>, Memory>
-    ensures { IfOk result (λ r. resolved_view r ≡ schema_value (schema_view schema.now) (map (λ t. type_view t.now) types.now) field) }
+    ensures { IfOk result (λ r. resolved_view r ≡ schema_value (schema_view schema.now) (types_view types.now) field) }
 {
     match field {
         FieldName::Typename => text(alloc, Fixed::Schema.name()),

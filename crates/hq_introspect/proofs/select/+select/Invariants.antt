@@ -1,9 +1,9 @@
 use Rattle.std.proofs.Common.{◌≡◌, map, take}
 use Rattle.hq_base.specs.Json.{json_view, member_view}
-use Rattle.hq_ask_tree.specs.Introspection.{keyed_introspection_view, looks_of}
+use Rattle.hq_ask_tree.specs.Introspection.{keyed_introspection_view}
 use Rattle.hq_schema.specs.Schema.{schema_view}
 use Rattle.hq_introspect.specs.Selections.{object_of}
-use Rattle.hq_introspect.specs.Views.{node_view}
+use Rattle.hq_introspect.specs.Views.{node_view, fields_view}
 use Rattle.hq_introspect.proofs.Selected.{selected}
 use Rattle.hq_introspect.proofs.select.+select.Given as goal
 
@@ -15,4 +15,4 @@ invariant-object-loop-keyed l =
 -- the objects so far
 abbrev pub invariant-objects-loop-node : goal.invariant-objects-loop-node
 invariant-objects-loop-node l =
-    map json_view l.elements.items ≡ map (object_of (looks_of (map keyed_introspection_view l.fields.items)) (schema_view l.schema)) (map node_view (take l.node-index l.nodes))
+    map json_view l.elements.items ≡ map (object_of (fields_view l.fields.items) (schema_view l.schema)) (map node_view (take l.node-index l.nodes))
