@@ -8,6 +8,7 @@ use Rattle.hq_schema.specs.Schema.{TypeRefTree, named, list_of, non_null, base, 
 use Rattle.hq_schema.specs.Look.{type_named, type_at, arg_in, field_in, field_of, input_field_of}
 use Rattle.hq_gql_tree.specs.declared.document.OpKind.{OpKind}
 use Rattle.hq_gql_tree.specs.declared.document.OpKind.TheVariants as op
+use Rattle.hq_gql_tree.specs.Values.{ValueTree, null}
 use Rattle.hq_gql_tree.specs.Types.{TypeTree}
 use Rattle.hq_gql_tree.specs.Types.{named as type_name, list as list_type, non_null as non_null_type}
 use Rattle.hq_gql_nodes.specs.declared.place.Place.{Place}
@@ -22,6 +23,17 @@ place_view p = record { ty = type_ref_view p.ty.now; default_false = p.default_f
 
 abbrev pub place_of_arg : ArgTree → PlaceTree
 place_of_arg a = record { ty = a.ty; default_false = a.default_false }
+
+-- a type without null
+abbrev pub is_non_null : TypeRefTree → Bool
+is_non_null (named t) = false
+is_non_null (list_of r) = false
+is_non_null (non_null r) = true
+
+-- the literal null
+abbrev pub is_null : ValueTree → Bool
+is_null null = true
+is_null v = false
 
 -- the type of the elements of a list, none where it is no list
 abbrev pub element_type : TypeRefTree → Option TypeRefTree

@@ -5,3 +5,4 @@ pub mod Names
 pub mod Reach
 pub mod Marks
 pub mod Fragments
+pub mod Faults

@@ -1,10 +1,11 @@
 //! Look-ups in what is known: the parent types of fields, and the types of places.
 ghost use Rattle.std.specs.Prelude.{◌≡◌, map, option_map};
 ghost use Rattle.hq_schema.specs.Schema.{arg_view, field_view, type_ref_view, schema_view};
-ghost use Rattle.hq_gql_nodes.specs.Known.{element_type, is_object, is_input, object_at, input_at, meta_field, known_field, args_of_field, below_field, is_condition, args_of_directive, object_named, root_of, is_input_type};
+ghost use Rattle.hq_gql_tree.specs.Values.{value_view};
+ghost use Rattle.hq_gql_nodes.specs.Known.{is_non_null, is_null, element_type, is_object, is_input, object_at, input_at, meta_field, known_field, args_of_field, below_field, is_condition, args_of_directive, object_named, root_of, is_input_type};
 
 use hq_base::Txt;
-use hq_gql_tree::OpKind;
+use hq_gql_tree::{OpKind, Value};
 use hq_schema::{ArgDefList, FieldDef, Kind, Schema, TypeId, TypeRef, field_named};
 
 /// The type of the elements of a list.
@@ -16,6 +17,23 @@ pub fn element_type(ty: &TypeRef) -> Option<&TypeRef>
         TypeRef::List(inner) => Some(inner),
         TypeRef::NonNull(inner) => element_type(inner),
     }
+}
+
+/// Whether a type is without null.
+pub fn is_non_null(ty: &TypeRef) -> bool
+    ensures { result ≡ is_non_null (type_ref_view ty.now) }
+{
+    match ty {
+        TypeRef::Named(_) | TypeRef::List(_) => false,
+        TypeRef::NonNull(_) => true,
+    }
+}
+
+/// Whether a value is the literal null.
+pub fn is_null(value: &Value) -> bool
+    ensures { result ≡ is_null (value_view value.now) }
+{
+    matches!(value, Value::Null)
 }
 
 fn is_object(kind: Kind) -> bool

@@ -1,6 +1,7 @@
 //! The nodes of a document that the rules of validation look at, each with what it stands in (GraphQL October 2021, section 5).
 #![tactic(auto)]
 
+mod fault;
 mod fragments;
 mod known;
 mod least;
@@ -13,10 +14,11 @@ mod selections;
 mod values;
 mod variables;
 
+pub use fault::fault_at;
 pub use fragments::{fragment_place, fragment_places, graph_of};
 pub use known::{
     args_of_directive, args_of_field, below_field, element_type, input_at, is_condition,
-    is_input_type, known_field, object_at, object_named, root_of,
+    is_input_type, is_non_null, is_null, known_field, object_at, object_named, root_of,
 };
 pub use least::{at_if, earlier};
 pub use names::{NameAt, NamePlaces, Names, least_repeat, note, note_first};

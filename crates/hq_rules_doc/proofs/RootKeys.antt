@@ -5,7 +5,7 @@ use Rattle.std.proofs.lemmas.Slice.Eq.{bytes_eq-Decides}
 use mathlib.Core.Path.{fun_ext}
 use Rattle.hq_rules_doc.specs.RootFields.{RootFieldTree}
 use Rattle.hq_rules_doc.specs.Subscriptions.{have_other_keys, is_introspection, are_wrong_root_fields}
-use Rattle.hq_rules_doc.proofs.SameMembers.{SameMembers, any_same_flat}
+use Rattle.hq_rules_reach.proofs.SameMembers.{SameMembers, any_same_flat}
 
 or_none : (a b : Bool) → (a || b) ≡ false → (a ≡ false) × (b ≡ false)
 or_none true b h = absurd (cc)

@@ -1,31 +1,22 @@
 -- The first rule of documents that a document violates, and the least place at which it does. The order is that of the rules'
 -- numbers (GraphQL October 2021, section 5).
-use Rattle.std.specs.Prelude.{ℕ, List, Option, Some, None}
+use Rattle.std.specs.Prelude.{List, Option, None}
 use Rattle.std.specs.Option.{option_or}
 use Rattle.hq_schema.specs.Schema.{SchemaTree}
-use Rattle.hq_gql_tree.specs.declared.rule.RuleId.{RuleId}
 use Rattle.hq_gql_tree.specs.declared.rule.RuleId.TheVariants as number
 use Rattle.hq_gql_tree.specs.declared.fault.Fault.{Fault}
 use Rattle.hq_gql_tree.specs.Documents.{DocumentTree}
+use Rattle.hq_gql_nodes.specs.Faults.{or_later}
 use Rattle.hq_gql_nodes.specs.Fragments.{Places, fragment_named, graph_of}
 use Rattle.hq_gql_nodes.specs.Nodes.{PartTree, document_parts}
 use Rattle.hq_gql_nodes.specs.Reach.{Graph}
 use Rattle.hq_rules_doc.specs.NodeRules.{rule_place}
 use Rattle.hq_rules_doc.specs.Operations.{unique_operation_names, lone_anonymous_operation, unique_fragment_names, unique_variable_names}
 use Rattle.hq_rules_doc.specs.Subscriptions.{root_graph, single_field_subscriptions}
-use Rattle.hq_rules_doc.specs.Spreads.{no_unused_fragments, no_fragment_cycles}
-use Rattle.hq_rules_doc.specs.Uses.{all_uses}
-use Rattle.hq_rules_doc.specs.Variables.{no_undefined_variables, no_unused_variables, variables_in_allowed_position}
+use Rattle.hq_rules_reach.specs.Spreads.{no_unused_fragments, no_fragment_cycles}
+use Rattle.hq_rules_reach.specs.Uses.{all_uses}
+use Rattle.hq_rules_reach.specs.Variables.{no_undefined_variables, no_unused_variables, variables_in_allowed_position}
 use Rattle.hq_rules_doc.specs.declared.rules.NodeRule.TheVariants as rule
-
--- a fault of a rule at a place
-abbrev pub fault_at : RuleId → ℕ → Fault
-fault_at r at = record { rule = r; at = Some at; name = None; want = None }
-
--- a rule's place, and else what the later rules give
-abbrev pub or_later : RuleId → Option ℕ → Option Fault → Option Fault
-or_later r None later = later
-or_later r (Some at) later = Some (fault_at r at)
 
 -- the rules of operations, of fragments, of directives and of variables, by the places of the fragments by name, the parts and the
 -- graph of a document

@@ -11,7 +11,7 @@ use Rattle.hq_gql_nodes.specs.Least.{at_if}
 use Rattle.hq_gql_nodes.specs.Fragments.{Places}
 use Rattle.hq_gql_nodes.specs.Reach.{Graph, reached}
 use Rattle.hq_rules_doc.specs.RootFields.{RootFieldTree}
-use Rattle.hq_rules_doc.specs.Spreads.{least_at}
+use Rattle.hq_rules_reach.specs.Spreads.{least_at}
 
 -- a field's response key
 abbrev pub response_key : FieldHead → List ℕ

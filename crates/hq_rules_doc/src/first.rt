@@ -5,33 +5,24 @@ ghost use Rattle.hq_gql_tree.specs.View.{document_view};
 ghost use Rattle.hq_gql_nodes.specs.Names.{get_name};
 ghost use Rattle.hq_gql_nodes.specs.Nodes.{part_view, variable_types};
 ghost use Rattle.hq_gql_nodes.specs.Reach.{graph_view};
-ghost use Rattle.hq_rules_doc.specs.First.{fault_at, operation_fault, fragment_fault, directive_fault, variable_fault, fault_by, first_doc_fault};
+ghost use Rattle.hq_rules_doc.specs.First.{operation_fault, fragment_fault, directive_fault, variable_fault, fault_by, first_doc_fault};
 
 use crate::rules::NodeRule;
 use crate::rules::lone_anonymous_operation::lone_anonymous_operation;
-use crate::rules::no_fragment_cycles::no_fragment_cycles;
-use crate::rules::no_unused_fragments::no_unused_fragments;
 use crate::rules::single_field_subscriptions::single_field_subscriptions;
 use crate::rules::unique_fragment_names::unique_fragment_names;
 use crate::rules::unique_operation_names::unique_operation_names;
 use crate::rules::unique_variable_names::unique_variable_names;
-use crate::variables::variable_places_of;
 use hq_base::Memory;
-use hq_gql_nodes::{NamePlaces, Part, document_parts, fragment_places, graph_of, variable_types};
+use hq_gql_nodes::{
+    NamePlaces, Part, document_parts, fault_at, fragment_places, graph_of, variable_types,
+};
 use hq_gql_tree::{Document, Fault, RuleId};
+use hq_rules_reach::no_fragment_cycles::no_fragment_cycles;
+use hq_rules_reach::no_unused_fragments::no_unused_fragments;
+use hq_rules_reach::variable_places_of;
 use hq_schema::{Schema, TypeRef};
 use std::alloc::Global;
-
-fn fault_at(rule: RuleId, at: u64) -> Fault
-    ensures { result ≡ fault_at rule at }
-{
-    Fault {
-        rule,
-        at: Some(at),
-        name: None,
-        want: None,
-    }
-}
 
 // The first fault of the rules of operations.
 fn operation_fault(

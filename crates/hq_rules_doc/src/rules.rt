@@ -13,10 +13,6 @@ mod known_directives;
 mod known_fragment_names;
 mod known_type_names;
 pub mod lone_anonymous_operation;
-pub mod no_fragment_cycles;
-pub mod no_undefined_variables;
-pub mod no_unused_fragments;
-pub mod no_unused_variables;
 mod possible_fragment_spreads;
 pub mod single_field_subscriptions;
 mod unique_directives;
@@ -24,7 +20,6 @@ pub mod unique_fragment_names;
 pub mod unique_operation_names;
 pub mod unique_variable_names;
 mod variables_are_input_types;
-pub mod variables_in_allowed_position;
 
 use directives_in_locations::directives_in_locations;
 use fragments_on_composite_types::fragments_on_composite_types;

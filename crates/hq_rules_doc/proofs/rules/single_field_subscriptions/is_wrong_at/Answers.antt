@@ -4,7 +4,7 @@ use Rattle.hq_gql_nodes.specs.Reach.{graph_view, reached}
 use Rattle.hq_rules_doc.specs.RootFields.{root_field_view}
 use Rattle.hq_rules_doc.specs.Subscriptions.{root_fields_at, are_wrong_root_fields}
 use Rattle.hq_rules_doc.proofs.RootKeys.{wrong_same}
-use Rattle.hq_rules_doc.proofs.SameMembers.{SameMembers}
+use Rattle.hq_rules_reach.proofs.SameMembers.{SameMembers}
 use Rattle.hq_rules_doc.proofs.rules.single_field_subscriptions.is_wrong_at.Goals as goal
 
 pub returns : goal.returns

@@ -1,7 +1,7 @@
 use Rattle.std.proofs.Common.{◌≡◌}
 use Rattle.hq_gql_tree.specs.View.{document_view}
 use Rattle.hq_gql_nodes.specs.Reach.{graph_view}
-use Rattle.hq_rules_doc.specs.Spreads.{least_below, place_at}
+use Rattle.hq_rules_reach.specs.Spreads.{least_below, place_at}
 use Rattle.hq_rules_doc.specs.Subscriptions.{subscription_at}
 use Rattle.hq_rules_doc.proofs.rules.single_field_subscriptions.least_wrong.Given as goal
 

@@ -1,0 +1,10 @@
+pub mod Groups
+pub mod Included
+pub mod Fragments
+pub mod Collect
+pub mod Seen
+pub mod Size
+pub mod Tree
+pub mod TreeSeen
+pub mod Keys
+pub mod Laws

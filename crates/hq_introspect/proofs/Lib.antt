@@ -1,0 +1,3 @@
+mod Selected
+mod ByName
+mod Worked

@@ -1,0 +1,5 @@
+pub mod SameMembers
+mod Falls
+pub mod LeastBelow
+mod VariableLemmas
+mod ByNumber

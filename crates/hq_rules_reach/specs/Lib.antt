@@ -1,0 +1,4 @@
+pub mod Spreads
+pub mod Rises
+pub mod Uses
+pub mod Variables
