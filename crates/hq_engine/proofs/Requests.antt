@@ -23,6 +23,7 @@ use Rattle.hq_terms.specs.declared.session.Var.{Var}
 use Rattle.hq_terms.specs.declared.table.Table.{Table}
 use Rattle.hq_ask_tree.specs.Fields.{FieldTrees, no_field, field, column, list as list_of, from_table, fields_of}
 use Rattle.hq_ask_tree.specs.Request.{AskTree}
+use Rattle.hq_role_schema.specs.RoleSchema.{role_schema}
 use Rattle.hq_sql_compile.specs.Compiled.{table_at}
 use Rattle.hq_sql_compile.specs.Correct.{IsPlain, IsList}
 use Rattle.hq_sql_compile.specs.Plain.{no_arguments, fields_of_columns, plain_columns, plain_list}
@@ -34,6 +35,7 @@ use Rattle.hq_gql_tree.specs.Selections.{FieldHead, SelectionTree, field, spread
 use Rattle.hq_engine.specs.PlainList.{is_plain_query, is_list, columns_of, list_with, list_of_columns, list_under, list_of_root, list_of_roots, list_of_operation, list_of_definition, list_of as document_list}
 use Rattle.hq_engine.specs.Reading.{json_due, query_due, document_due}
 use Rattle.hq_engine.specs.Request.{request_due}
+use Rattle.hq_engine.specs.Validation.{valid_due}
 use Rattle.hq_engine.specs.RequestForm.{names_operation}
 use Rattle.hq_engine.specs.declared.refusal.RequestRefusal.{RequestRefusal}
 use Rattle.hq_engine.specs.declared.refusal.RequestRefusal.TheVariants.{NotBuilt}
@@ -175,7 +177,8 @@ then_holds (Err e) f y P h next = absurd cc
 made : (tables : List Table) (m : MetaTree) (session : Session) (body : List ℕ) (ask : AskTree) → fits tables m ≡ true → request_due tables m session body ≡ Ok ask → Made tables m (role_of session.role) ask
 unfolding request_due
 made tables m session body ask fit e =
-    then_holds (json_due body) _ ask _ e (λ json read. then_holds (query_due json) _ ask _ read (λ text found. then_holds (document_due text) _ ask _ found (λ document is. made_document tables m session json document ask fit is)))
+    then_holds (json_due body) _ ask _ e (λ json read. then_holds (query_due json) _ ask _ read (λ text found. then_holds (document_due text) _ ask _ found (λ document is.
+    then_holds (valid_due (role_schema tables m (role_of session.role)) document) _ ask _ is (λ valid ok. made_document tables m session json valid ask fit ok))))
 
 -- ---- its table and its columns are of the catalog
 

@@ -2,6 +2,7 @@ pub mod Faults
 pub mod FaultTexts
 pub mod RequestForm
 pub mod Reading
+pub mod Validation
 pub mod PlainList
 pub mod ListRequest
 pub mod Request

@@ -3,11 +3,14 @@
 use Rattle.std.specs.Prelude.{ℕ, List, Bool, true, false, Option, Some, None, Result, Ok, Err}
 use Rattle.hq_ask_tree.specs.Request.{AskTree}
 use Rattle.hq_base.specs.Due.{◌>>=◌}
+use Rattle.hq_role_schema.specs.RoleSchema.{role_schema}
 use Rattle.hq_terms.specs.Meta.{MetaTree}
+use Rattle.hq_terms.specs.Permission.{role_of}
 use Rattle.hq_terms.specs.declared.session.Session.{Session}
 use Rattle.hq_terms.specs.declared.table.Table.{Table}
 use Rattle.hq_engine.specs.ListRequest.{list_due}
 use Rattle.hq_engine.specs.Reading.{json_due, query_due, document_due}
+use Rattle.hq_engine.specs.Validation.{valid_due}
 use Rattle.hq_engine.specs.declared.faults.RequestFault.{RequestFault}
 use Rattle.hq_engine.specs.declared.refusal.RequestRefusal.{RequestRefusal}
 use Rattle.hq_engine.specs.declared.refusal.RequestRefusal.TheVariants.{Fault, NotBuilt, Memory}
@@ -17,7 +20,8 @@ request_due tables meta session body = do
   json ← json_due body
   text ← query_due json
   document ← document_due text
-  list_due meta session json document
+  valid ← valid_due (role_schema tables meta (role_of session.role)) document
+  list_due meta session json valid
 
 -- the fault by which a step refused
 abbrev pub fault_in : {X : Type 0} → Result X RequestRefusal → Option RequestFault

@@ -9,6 +9,7 @@ use crate::refusal::RequestRefusal;
 use crate::reply::{data_reply, fault_reply};
 use crate::roles::RoleSchemas;
 use crate::statement::{ask, statement_text};
+use crate::validation::valid_due;
 use crate::{EngineRefusal, Stated, StatementRefusal};
 use hq_ask_tree::Ask;
 use hq_base::{Memory, Reply};
@@ -72,6 +73,8 @@ impl Engine {
         let json = json_due(alloc, body)?;
         let text = query_due(&json)?;
         let document = document_due(alloc, text.as_bytes())?;
+        let role = Role::of(alloc, session)?;
+        valid_due(alloc, self.schema(&role), &document)?;
         list_due(alloc, &self.meta, session, &json, &document)
     }
 

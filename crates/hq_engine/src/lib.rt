@@ -13,6 +13,7 @@ mod reply;
 mod roles;
 mod stated;
 mod statement;
+mod validation;
 
 pub use engine::Engine;
 pub use faults::{BodyFault, RequestFault};
