@@ -1,19 +1,18 @@
 -- Roles that have no permission have one schema.
 use Rattle.std.proofs.Common.{◌≡◌, ℕ, List, [], ◌∷◌, ◌++◌, map, find, Bool, true, false, not, cond, ◌&&◌, Option, Some, None, is_some, option_and_then, option_map, refl, sym, ap, subst, ◌∙◌, bytes_eq, codes}
-use Rattle.std.specs.Prelude.{◌||◌, ◌==◌, flat_map, slice_get, nat_eq}
+use Rattle.std.specs.Prelude.{◌||◌, ◌==◌, flat_map, slice_get}
 use Rattle.std.specs.HashMap.{HashMap}
 use Rattle.std.specs.List.{cons_option, filter_map, list_all, list_any}
 use Rattle.hq_base.specs.Lists.{Each}
 use Rattle.std.proofs.lemmas.Slice.Eq.{bytes_eq-Decides}
 use Rattle.hq_role_schema.specs.Placed.{placed}
 use Rattle.hq_role_schema.specs.RoleSchema.{schema_over, role_schema}
-use Rattle.hq_role_schema.specs.Shown.{shown_table, shown_entry, shown_tables}
-use Rattle.hq_role_schema.specs.declared.shown.ShownTable.{ShownTable}
+use Rattle.hq_role_schema.specs.Shown.{shown_table, shown_entry}
 use Rattle.hq_schema.specs.declared.schema.Schema.{Schema}
 use Rattle.hq_terms.specs.Fits.{fits, fits_tracked, fits_perm}
 use Rattle.hq_terms.specs.Meta.{PermTree, TrackedTree, MetaTree}
 use Rattle.hq_terms.specs.Names.{is_admin_name}
-use Rattle.hq_terms.specs.Permission.{Permission, told_permission, permission_in, permission}
+use Rattle.hq_terms.specs.Permission.{told_permission, permission_in, permission}
 use Rattle.hq_terms.specs.Schema as schema
 use Rattle.hq_terms.specs.Schema.{schema_of}
 use Rattle.hq_terms.specs.declared.role.Role.TheVariants.{Named}

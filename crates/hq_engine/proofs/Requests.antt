@@ -21,7 +21,7 @@ use Rattle.hq_terms.specs.declared.role.Role.{Role}
 use Rattle.hq_terms.specs.declared.session.Session.{Session}
 use Rattle.hq_terms.specs.declared.session.Var.{Var}
 use Rattle.hq_terms.specs.declared.table.Table.{Table}
-use Rattle.hq_ask_tree.specs.Fields.{FieldTrees, no_field, field, column, list as list_of, from_table, fields_of}
+use Rattle.hq_ask_tree.specs.Fields.{no_field, field, column, list as list_of, from_table, fields_of}
 use Rattle.hq_ask_tree.specs.Request.{AskTree}
 use Rattle.hq_role_schema.specs.RoleSchema.{role_schema}
 use Rattle.hq_sql_compile.specs.Compiled.{table_at}
@@ -30,9 +30,9 @@ use Rattle.hq_sql_compile.specs.Plain.{no_arguments, fields_of_columns, plain_co
 use Rattle.hq_sql_compile.specs.declared.plain.PlainColumn.{PlainColumn}
 use Rattle.hq_sql_compile.specs.declared.plain.PlainList.{PlainList}
 use Rattle.hq_base.specs.Lists.{all_differ}
-use Rattle.hq_gql_tree.specs.Documents.{OperationTree, DefinitionTree, DocumentTree, operation, fragment}
-use Rattle.hq_gql_tree.specs.Selections.{FieldHead, SelectionTree, field, spread, inline, selections_in}
-use Rattle.hq_engine.specs.PlainList.{is_plain_query, is_list, columns_of, list_with, list_of_columns, list_under, list_of_root, list_of_roots, list_of_operation, list_of_definition, list_of as document_list}
+use Rattle.hq_gql_tree.specs.Documents.{DefinitionTree, DocumentTree, operation, fragment}
+use Rattle.hq_gql_tree.specs.Selections.{SelectionTree, field, spread, inline, selections_in}
+use Rattle.hq_engine.specs.PlainList.{is_plain_query, is_list, columns_of, list_with, list_of_columns, list_of_root, list_of_roots, list_of_definition, list_of as document_list}
 use Rattle.hq_engine.specs.Reading.{json_due, query_due, document_due}
 use Rattle.hq_engine.specs.Request.{request_due}
 use Rattle.hq_engine.specs.Validation.{valid_due}

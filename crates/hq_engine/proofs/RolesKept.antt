@@ -4,11 +4,10 @@ use Rattle.std.proofs.lemmas.Slice.Eq.{bytes_eq-Decides}
 use Rattle.std.specs.Prelude.{unwrap_or}
 use Rattle.std.specs.HashMap.{HashMap}
 use Rattle.hq_role_schema.specs.RoleSchema.{role_schema}
-use Rattle.hq_schema.specs.Schema.{SchemaTree, schema_view}
+use Rattle.hq_schema.specs.Schema.{schema_view}
 use Rattle.hq_schema.specs.declared.schema.Schema.{Schema}
 use Rattle.hq_terms.specs.Fits.{fits}
 use Rattle.hq_terms.specs.Meta.{MetaTree}
-use Rattle.hq_terms.specs.declared.role.Role.{Role}
 use Rattle.hq_terms.specs.declared.role.Role.TheVariants.{Admin, Named}
 use Rattle.hq_terms.specs.declared.table.Table.{Table}
 use Rattle.hq_engine.specs.Roles.{roles_in, kept_for, keeps_each, KeepsRoles, AreRoleSchemas}

@@ -1,6 +1,6 @@
 -- The schema of each role that a session may have, as an engine keeps them: that of `admin`, that of each role that has a
 -- permission, by its name, and the one of all other roles.
-use Rattle.std.specs.Prelude.{◌≡◌, ℕ, List, [], ◌∷◌, ◌++◌, map, flat_map, Bool, true, cond, bytes_eq, Option, Some, is_some, unwrap_or}
+use Rattle.std.specs.Prelude.{◌≡◌, ℕ, List, [], ◌∷◌, ◌++◌, map, flat_map, Bool, cond, bytes_eq, Option, Some, is_some, unwrap_or}
 use Rattle.std.specs.HashMap.{HashMap, get}
 use Rattle.std.specs.List.{list_all, list_any}
 use Rattle.hq_role_schema.specs.RoleSchema.{role_schema}

@@ -13,6 +13,7 @@ use crate::validation::valid_due;
 use crate::{EngineRefusal, Stated, StatementRefusal};
 use hq_ask_tree::Ask;
 use hq_base::{Memory, Reply};
+use hq_gql_tree::Document;
 use hq_link::Database;
 use hq_schema::Schema;
 use hq_terms::{Catalog, Meta, Role, Session};
@@ -32,12 +33,13 @@ impl Engine {
     ghost use Rattle.std.specs.Prelude.{◌≡◌, ◌≤◌, length, true, false, is_some, IfOk, IfErr, IfSome, IsErrOf, OnOk, Ok, Some};
     ghost use Rattle.hq_ask_tree.specs.Request.{ask_view};
     ghost use Rattle.hq_base.specs.Due.{Gives};
+    ghost use Rattle.hq_gql_tree.specs.View.{document_view};
     ghost use Rattle.hq_role_schema.specs.RoleSchema.{role_schema};
     ghost use Rattle.hq_schema.specs.Schema.{schema_view};
     ghost use Rattle.hq_terms.specs.Fits.{fits};
     ghost use Rattle.hq_terms.specs.Meta.{meta_view};
     ghost use Rattle.hq_engine.specs.Asking.{Asks, text_for};
-    ghost use Rattle.hq_engine.specs.Engines.{engine_fault, engine_reply, engine_request, engine_text};
+    ghost use Rattle.hq_engine.specs.Engines.{engine_fault, engine_reply, engine_request, engine_text, engine_validation};
     ghost use Rattle.hq_engine.specs.Failures.{IsOfDatabase, TellsDatabase};
     ghost use Rattle.hq_engine.specs.FaultTexts.{fault_text, tells_fault};
     ghost use Rattle.hq_engine.specs.Replies.{data_text, resolved_for};
@@ -65,6 +67,19 @@ impl Engine {
         self.schemas.find(role)
     }
 
+    // Whether a document violates no rule for the role of a session, or the first fault.
+    fn validate(
+        &self,
+        alloc: Global,
+        session: &Session,
+        document: &Document,
+    ) -> Result<(), RequestRefusal>
+        ensures { Gives (λ _. document_view document.now) RequestRefusal.Memory (engine_validation self.now session.now (document_view document.now)) result }
+    {
+        let role = Role::of(alloc, session)?;
+        valid_due(alloc, self.schema(&role), document)
+    }
+
     // The typed request that a body makes for a session, or why it makes none.
     #[tactic(auto, unfolding(crate::specs::Request::request_due))]
     fn request(&self, alloc: Global, session: &Session, body: &[u8]) -> Result<Ask, RequestRefusal>
@@ -73,8 +88,7 @@ impl Engine {
         let json = json_due(alloc, body)?;
         let text = query_due(&json)?;
         let document = document_due(alloc, text.as_bytes())?;
-        let role = Role::of(alloc, session)?;
-        valid_due(alloc, self.schema(&role), &document)?;
+        self.validate(alloc, session, &document)?;
         list_due(alloc, &self.meta, session, &json, &document)
     }
 

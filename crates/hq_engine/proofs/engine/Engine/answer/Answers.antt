@@ -1,4 +1,3 @@
-use Rattle.std.proofs.Common.{◌≡◌}
 use Rattle.hq_ask_tree.specs.Request.{ask_view}
 use Rattle.hq_terms.specs.Meta.{meta_view}
 use Rattle.hq_engine.proofs.Requests.{request_is_list}

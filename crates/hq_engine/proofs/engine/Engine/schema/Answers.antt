@@ -1,8 +1,6 @@
 use Rattle.std.proofs.Common.{ap, ◌∙◌}
 use Rattle.std.proofs.Math.Logic.{∥∥₁_elim}
-use Rattle.hq_role_schema.specs.RoleSchema.{role_schema}
 use Rattle.hq_schema.specs.Schema.{schema_view}
-use Rattle.hq_terms.specs.Meta.{meta_view}
 use Rattle.hq_engine.proofs.SchemaSets.{schema_set}
 use Rattle.hq_engine.proofs.engine.Engine.schema.Goals as goal
 
