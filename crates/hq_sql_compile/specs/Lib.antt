@@ -1,3 +1,4 @@
-pub mod Plain
-pub mod Compiled
-pub mod Correct
+pub mod Bodies
+pub mod Takings
+pub mod Starts
+pub mod GrantedTrees

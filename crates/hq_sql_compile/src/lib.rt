@@ -1,11 +1,14 @@
 //! The compiler: a typed request to the one statement that answers it.
 #![tactic(auto)]
 
-mod alias;
-mod columns;
+mod few;
+mod fields;
+mod grants;
 mod list;
-mod plain;
+mod needed;
+mod row;
+mod start;
 mod statement;
+mod summary;
 
-pub use plain::{PlainColumn, PlainList};
 pub use statement::compile;

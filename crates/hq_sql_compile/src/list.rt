@@ -1,117 +1,165 @@
-//! The select of a list of columns.
-ghost use Rattle.std.specs.Prelude.{◌≡◌, ◌∷◌, [], IfOk, map, None, false};
+//! The select of a list: the array of its rows' objects in order.
+ghost use Rattle.std.specs.Prelude.{◌≡◌, ◌+◌, ◌++◌, ◌∷◌, [], IfOk, OnOk, map, false, option_and_then};
+ghost use Rattle.hq_terms.specs.Schema.{table};
+ghost use Rattle.hq_terms.specs.Selected.{smaller};
+ghost use Rattle.hq_ask_tree.specs.Arguments.{arguments_view};
 ghost use Rattle.hq_sql_tree.specs.Tree as tree;
-ghost use Rattle.hq_sql_tree.specs.View.{expr_view, order_view, out_view, pair_view, select_view, join_view, from_view};
-ghost use Rattle.hq_sql_compile.specs.Compiled.{table_alias, fold_alias, join_alias, value_name, key_orders, key_outputs, output_orders, column_pairs, list_rows, list_of_rows};
+ghost use Rattle.hq_sql_tree.specs.View.{expr_view, order_view, out_view, select_view, join_view, pred_view};
+ghost use Rattle.hq_compiled.specs.Looks.{own_look};
+ghost use Rattle.hq_compiled.specs.Lists.{list_sorts, distinct_columns, children_from};
+ghost use Rattle.hq_compiled.specs.Names.{fold_alias, value_name};
+ghost use Rattle.hq_compile_parts.specs.Contexts.{context_schema, context_rights};
+ghost use Rattle.hq_compile_parts.specs.RowSorts.{row_sort_view};
+ghost use Rattle.hq_sql_compile.specs.Bodies.{body_view, body_tree, row_view, rows_tree, list_tree};
 
-use crate::alias::{fold_alias, join_alias, table_alias, value_name};
-use crate::columns::{column_pairs, key_orders, output_orders, push_key_outputs};
-use crate::plain::PlainColumn;
-use hq_base::{Memory, Txt};
-use hq_sql_tree::{Agg, Expr, ExprPairList, From, Join, OrderList, Out, OutList, Select};
-use hq_terms::Table;
+use crate::row::{Row, object};
+use hq_ask_tree::Args;
+use hq_base::Memory;
+use hq_compile_parts::{
+    Context, RowSort, SortParts, compared_column, conjunction, filter_predicate, fold_alias,
+    from_table, output_orders, sort_parts, value_name, where_predicate,
+};
+use hq_sql_tree::{Agg, Expr, ExprList, From, JoinList, OrderList, Out, OutList, Pred, Select};
+use hq_terms::{ColId, Column, TableId};
 use std::alloc::Global;
 
-// An output of the object of these pairs.
-fn object_output(alloc: Global, pairs: ExprPairList) -> Result<Out, Memory>
-    ensures { IfOk result (λ out. out_view out ≡ record { value = tree.object (tree.pairs_of (map pair_view pairs.items)); name = value_name }) }
+/// What stands in the select of a list's rows beside its outputs and the joins of its children.
+#[derive(Drop)]
+pub struct ListBody {
+    pub distinct: ExprList,
+    pub filter: Option<Pred>,
+    pub sorts: SortParts,
+}
+
+// The columns of DISTINCT ON.
+fn distinct_columns(
+    alloc: Global,
+    columns: &[Column],
+    number: u64,
+    distinct: &[ColId],
+) -> Result<ExprList, Memory>
+    ensures { IfOk result (λ es. map expr_view es.items ≡ distinct_columns columns.now (own_look columns.now number) distinct.now) }
 {
-    let name = value_name(alloc)?;
-    Ok(Out {
-        value: Expr::Object(pairs),
-        name,
+    let mut exprs = Vec::new(alloc);
+    for column in distinct {
+        exprs.push(compared_column(alloc, columns, number, *column)?)?;
+    }
+    Ok(exprs)
+}
+
+/// The body of a list of rows of table t at the alias of number n.
+pub(crate) fn list_body(
+    alloc: Global,
+    context: &Context,
+    t: TableId,
+    n: u64,
+    tie: Pred,
+    args: &Args,
+    sorts: &[RowSort],
+    next: &mut u64,
+) -> Result<ListBody, Memory>
+    requires number { next.old ≡ n + 1 }
+    requires sorts { map row_sort_view sorts.now ≡ list_sorts (context_schema context.now) t (arguments_view args.now) }
+    ensures body { IfOk result (λ body. body_view body ≡ body_tree (context_schema context.now) (context_rights context.now) t (arguments_view args.now) n (pred_view tie)) }
+    ensures numbers { OnOk result (next.new ≡ children_from (context_schema context.now) (context_rights context.now) t [] (arguments_view args.now) n) }
+{
+    let filter = filter_predicate(alloc, context, t, n, next)?;
+    let wanted = where_predicate(alloc, context, t, n, &args.filter, next)?;
+    let filter = conjunction(alloc, tie, filter, wanted)?;
+    let sorts = sort_parts(alloc, context, t, n, sorts, next)?;
+    let distinct = distinct_columns(alloc, context.columns(t), n, args.distinct.as_slice())?;
+    Ok(ListBody {
+        distinct,
+        filter,
+        sorts,
     })
 }
 
-// The outputs of a list's rows: the object of its columns, then the sort keys.
-fn row_outputs(
-    alloc: Global,
-    table: &Table,
-    alias: &Txt,
-    fields: &[PlainColumn],
-) -> Result<OutList, Memory>
-    ensures { IfOk result (λ outs. map out_view outs.items ≡
-        record { value = tree.object (tree.pairs_of (column_pairs table.now.columns alias.now fields.now)); name = value_name }
-        ∷ key_outputs table.now.columns alias.now table.now.key 0) }
+// The sort keys' joins and then those of children.
+fn all_joins(mut sorts: JoinList, mut children: JoinList) -> Result<JoinList, Memory>
+    ensures { IfOk result (λ joins. map join_view joins.items ≡ map join_view sorts.items ++ map join_view children.items) }
 {
-    let columns = table.columns.as_slice();
-    let pairs = column_pairs(alloc, columns, alias, fields)?;
-    let mut outs = Vec::new(alloc);
-    outs.push(object_output(alloc, pairs)?)?;
-    push_key_outputs(alloc, &mut outs, columns, alias, table.key.as_slice())?;
-    Ok(outs)
+    sorts.append(&mut children)?;
+    Ok(sorts)
 }
 
-// A select of all rows of a table, in this order.
-fn ordered_rows(alloc: Global, outs: OutList, from: From, order: OrderList) -> Select
-    ensures { select_view result ≡ tree.rows [] (map out_view outs.items) (from_view from) tree.no_join tree.no_filter (map order_view order.items) None None }
+/// The rows of a list, with these outputs.
+pub(crate) fn list_rows(
+    alloc: Global,
+    context: &Context,
+    t: TableId,
+    n: u64,
+    body: ListBody,
+    outs: OutList,
+    children: JoinList,
+    limit: Option<u64>,
+    offset: Option<u32>,
+) -> Result<Select, Memory>
+    ensures { IfOk result (λ select. select_view select ≡ rows_tree (context_schema context.now) t n (body_view body) (map out_view outs.items) (map join_view children.items) limit offset) }
 {
-    Select::Rows {
-        distinct: Vec::new(alloc),
+    let from = from_table(alloc, context, t, n)?;
+    let ListBody {
+        distinct,
+        filter,
+        sorts,
+    } = body;
+    let joins = all_joins(sorts.joins, children)?;
+    Ok(Select::Rows {
+        distinct,
         outs,
         from,
-        joins: Vec::new(alloc),
-        filter: None,
-        order,
-        limit: None,
-        offset: None,
+        joins,
+        filter,
+        order: sorts.orders,
+        limit,
+        offset: wide(offset),
+    })
+}
+
+/// A number of rows in 64 bits.
+pub(crate) fn wide(rows: Option<u32>) -> Option<u64>
+    ensures { result ≡ rows }
+{
+    match rows {
+        Some(rows) => Some(u64::from(rows)),
+        None => None,
     }
 }
 
-// What a list's rows are taken from.
-fn from_table(alloc: Global, table: &Table, alias: Txt) -> Result<From, Memory>
-    ensures { IfOk result (λ from. from_view from ≡ tree.table table.now.schema table.now.name alias) }
+// The smaller of a list's own limit and the permission's.
+fn smaller(own: Option<u32>, permission: Option<u64>) -> Option<u64>
+    ensures { result ≡ smaller own permission }
 {
-    let schema = table.schema.copy(alloc)?;
-    let name = table.name.copy(alloc)?;
-    Ok(From::Table {
-        schema,
-        table: name,
-        alias,
-    })
+    match (own, permission) {
+        (None, limit) => limit,
+        (Some(limit), None) => Some(u64::from(limit)),
+        (Some(own), Some(permission)) => Some(u64::from(own).min(permission)),
+    }
 }
 
-// The rows of a list.
-fn list_rows(
-    alloc: Global,
-    table: &Table,
-    number: u64,
-    fields: &[PlainColumn],
-) -> Result<Select, Memory>
-    ensures { IfOk result (λ select. select_view select ≡ list_rows table.now.schema table.now.name table.now.columns table.now.key number
-        (tree.pairs_of (column_pairs table.now.columns (table_alias number) fields.now)) tree.no_join) }
+// The permission's limit on the rows of a list.
+fn permission_limit(context: &Context, t: TableId) -> Option<u64>
+    ensures { result ≡ (context_rights context.now).limit t }
 {
-    let alias = table_alias(alloc, number)?;
-    let outs = row_outputs(alloc, table, &alias, fields)?;
-    let order = key_orders(
-        alloc,
-        table.columns.as_slice(),
-        &alias,
-        table.key.as_slice(),
-    )?;
-    let from = from_table(alloc, table, alias)?;
-    Ok(ordered_rows(alloc, outs, from, order))
+    match context.granted(t) {
+        Some(granted) => granted.limit,
+        None => None,
+    }
 }
 
-// A column of the value of an alias.
-fn value_of(alloc: Global, alias: &Txt) -> Result<Expr, Memory>
-    ensures { IfOk result (λ e. expr_view e ≡ tree.column alias.now value_name false) }
+// The array of the values of the fold of number n, in this order.
+fn array_output(alloc: Global, n: u64, order: OrderList) -> Result<Out, Memory>
+    ensures { IfOk result (λ out. out_view out ≡
+        record { value = tree.aggregate (tree.json_agg (tree.column (fold_alias n) value_name false) (tree.orders_of (map order_view order.items))); name = value_name }) }
 {
-    let alias = alias.copy(alloc)?;
+    let alias = fold_alias(alloc, n)?;
     let name = value_name(alloc)?;
-    Ok(Expr::Column {
+    let value = Expr::Column {
         alias,
         name,
         collate: false,
-    })
-}
-
-// The array of the values of an alias, in this order.
-fn array_output(alloc: Global, alias: &Txt, order: OrderList) -> Result<Out, Memory>
-    ensures { IfOk result (λ out. out_view out ≡
-        record { value = tree.aggregate (tree.json_agg (tree.column alias.now value_name false) (tree.orders_of (map order_view order.items))); name = value_name }) }
-{
-    let value = Box::new(alloc, value_of(alloc, alias)?)?;
+    };
+    let value = Box::new(alloc, value)?;
     let name = value_name(alloc)?;
     Ok(Out {
         value: Expr::Agg(Agg::JsonAgg { value, order }),
@@ -119,42 +167,54 @@ fn array_output(alloc: Global, alias: &Txt, order: OrderList) -> Result<Out, Mem
     })
 }
 
-// A list: the array of its rows' objects, in the order of their keys.
-fn list_select(
-    alloc: Global,
-    table: &Table,
-    number: u64,
-    fields: &[PlainColumn],
-) -> Result<Select, Memory>
-    ensures { IfOk result (λ select. select_view select ≡ list_of_rows table.now.schema table.now.name table.now.columns table.now.key number
-        (tree.pairs_of (column_pairs table.now.columns (table_alias number) fields.now)) tree.no_join) }
+// The outputs of a list's rows: the object, then the sort keys.
+fn row_outputs(alloc: Global, value: Expr, keys: &mut OutList) -> Result<OutList, Memory>
+    ensures { IfOk result (λ outs. map out_view outs.items ≡ record { value = expr_view value; name = value_name } ∷ map out_view keys.old.items) }
 {
-    let alias = fold_alias(alloc, number)?;
-    let order = output_orders(
-        alloc,
-        table.columns.as_slice(),
-        &alias,
-        table.key.as_slice(),
-    )?;
-    let out = array_output(alloc, &alias, order)?;
-    let rows = Box::new(alloc, list_rows(alloc, table, number, fields)?)?;
+    let name = value_name(alloc)?;
+    let mut outs = Vec::new(alloc);
+    outs.push(Out { value, name })?;
+    outs.append(keys)?;
+    Ok(outs)
+}
+
+/// The fold of number n over rows.
+pub(crate) fn fold(alloc: Global, out: Out, rows: Select, n: u64) -> Result<Select, Memory>
+    ensures { IfOk result (λ select. select_view select ≡ tree.fold (out_view out) (select_view rows) (fold_alias n)) }
+{
+    let rows = Box::new(alloc, rows)?;
+    let alias = fold_alias(alloc, n)?;
     Ok(Select::Fold { out, rows, alias })
 }
 
-/// The join of a list of columns, and the value that it gives.
-pub(crate) fn list_join(
+/// A list of rows of table t, with the values and the joins of its children.
+pub(crate) fn list_select(
     alloc: Global,
-    table: &Table,
-    number: u64,
-    fields: &[PlainColumn],
-) -> Result<Join, Memory>
-    ensures { IfOk result (λ join. join_view join ≡ record {
-      select = list_of_rows table.now.schema table.now.name table.now.columns table.now.key number
-          (tree.pairs_of (column_pairs table.now.columns (table_alias number) fields.now)) tree.no_join;
-      alias = join_alias number;
-    }) }
+    context: &Context,
+    t: TableId,
+    n: u64,
+    args: &Args,
+    sorts: &[RowSort],
+    mut body: ListBody,
+    row: Row,
+) -> Result<Select, Memory>
+    ensures { IfOk result (λ select. select_view select ≡
+        list_tree (context_schema context.now) (context_rights context.now) t (arguments_view args.now) n (map row_sort_view sorts.now) (body_view body) (row_view row)) }
 {
-    let select = Box::new(alloc, list_select(alloc, table, number, fields)?)?;
-    let alias = join_alias(alloc, number)?;
-    Ok(Join { select, alias })
+    let outs = row_outputs(alloc, object(row.pairs), &mut body.sorts.outputs)?;
+    let limit = smaller(args.limit, permission_limit(context, t));
+    let rows = list_rows(
+        alloc,
+        context,
+        t,
+        n,
+        body,
+        outs,
+        row.joins,
+        limit,
+        args.offset,
+    )?;
+    let order = output_orders(alloc, context, t, n, sorts)?;
+    let out = array_output(alloc, n, order)?;
+    fold(alloc, out, rows, n)
 }

@@ -1,0 +1,8 @@
+mod Relationships
+mod FineConditions
+mod Distinct
+mod FineRequests
+mod LowRequests
+mod FineGrants
+mod TableRequests
+mod Asked

@@ -1,0 +1,39 @@
+use Rattle.std.proofs.Common.{◌≡◌, ◌+◌, ◌++◌, drop, map}
+use Rattle.hq_terms.specs.Schema.{Schema, table}
+use Rattle.hq_ask_tree.specs.Arguments.{arguments_view}
+use Rattle.hq_ask_tree.specs.Fields.{fields_of, parts_of, keyed_field_view, keyed_part_view}
+use Rattle.hq_sql_tree.specs.View.{pair_view, join_view}
+use Rattle.hq_compiled.specs.Fields.{fields_numbers, fields_values, fields_joins, parts_numbers, parts_values, parts_joins}
+use Rattle.hq_compiled.specs.Looks.{own_look}
+use Rattle.hq_compiled.specs.Rights.{Rights}
+use Rattle.hq_compile_parts.specs.Contexts.{context_schema, context_rights}
+use Rattle.hq_sql_compile.specs.Starts.{start_origin, start_table}
+use Rattle.hq_sql_compile.proofs.fields.+fields.Given as goal
+
+abbrev pub invariant-push_fields-loop-keyed : goal.invariant-push_fields-loop-keyed
+invariant-push_fields-loop-keyed l =
+    let s : Schema = context_schema l.context in
+    let g : Rights = context_rights l.context in
+    let rest = fields_of (map keyed_field_view (drop l.keyed-index l.keyed-items)) in
+    let all = fields_of (map keyed_field_view l.fields.items) in
+    let look = own_look (table s l.t).columns l.p in
+    record {
+      pairs : map pair_view l.row.pairs.items ++ fields_values rest s g look l.t l.next ≡ map pair_view l.fn.row.pairs.items ++ fields_values all s g look l.t l.fn.next;
+      joins : map join_view l.row.joins.items ++ fields_joins rest s g l.t l.p l.next ≡ map join_view l.fn.row.joins.items ++ fields_joins all s g l.t l.p l.fn.next;
+      numbers : l.next + fields_numbers rest s g l.t ≡ l.fn.next + fields_numbers all s g l.t;
+    }
+
+abbrev pub invariant-push_parts-loop-keyed : goal.invariant-push_parts-loop-keyed
+invariant-push_parts-loop-keyed l =
+    let s : Schema = context_schema l.context in
+    let g : Rights = context_rights l.context in
+    let rest = parts_of (map keyed_part_view (drop l.keyed-index l.keyed-items)) in
+    let all = parts_of (map keyed_part_view l.parts.items) in
+    let u = start_table s l.start in
+    let o = start_origin l.start in
+    let a = arguments_view l.start.args.now in
+    record {
+      pairs : map pair_view l.row.pairs.items ++ parts_values rest s g u a l.next ≡ map pair_view l.fn.row.pairs.items ++ parts_values all s g u a l.fn.next;
+      joins : map join_view l.row.joins.items ++ parts_joins rest s g o l.start.row_table l.start.row_number a l.next ≡ map join_view l.fn.row.joins.items ++ parts_joins all s g o l.start.row_table l.start.row_number a l.fn.next;
+      numbers : l.next + parts_numbers rest s g u a ≡ l.fn.next + parts_numbers all s g u a;
+    }
