@@ -1,5 +1,5 @@
 -- The statement of a typed request is well-formed for the catalog, and means what nested resolvers give.
-use Rattle.std.proofs.Common.{◌≡◌, ℕ, ◌+◌, ◌*◌, ◌≤◌, List, [], length, true, refl, sym, ap, subst, ◌∙◌, suc, arith}
+use Rattle.std.proofs.Common.{◌≡◌, ℕ, ◌+◌, ◌*◌, ◌≤◌, List, [], ◌∷◌, length, refl, sym, ap, subst, ◌∙◌, suc, arith}
 use Rattle.hq_base.specs.Lists.{Each}
 use Rattle.hq_terms.specs.Bexp.{depth}
 use Rattle.hq_terms.specs.Database.{Row}

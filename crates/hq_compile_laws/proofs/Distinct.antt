@@ -1,10 +1,10 @@
 -- Where `order_by` begins with the distinct columns, ORDER BY begins with the columns of DISTINCT ON.
-use Rattle.std.proofs.Common.{◌≡◌, ℕ, zero, suc, ◌≤◌, List, [], ◌∷◌, map, take, length, Bool, true, false, ◌==◌, ◌&&◌, ◌||◌, refl, sym, ap, subst, ◌∙◌, arith}
+use Rattle.std.proofs.Common.{◌≡◌, ℕ, zero, suc, List, [], ◌∷◌, take, length, Bool, true, false, ◌==◌, ◌&&◌, ◌||◌, refl, sym, ap, subst, ◌∙◌}
 use Rattle.std.specs.List.{list_all, list_any}
 use Rattle.std.proofs.lemmas.Bool.{and_parts, false≢true, eq-eqb, eqb-true}
 use Rattle.hq_base.specs.Lists.{firsts}
-use Rattle.hq_terms.specs.Selected.{SortKey, ListArguments, ascending, sorts_or, entries}
-use Rattle.hq_ask_laws.specs.Conditions.{is_plain_sort, are_sorts_of, fits_distinct}
+use Rattle.hq_terms.specs.Selected.{SortKey, ascending, sorts_or}
+use Rattle.hq_ask_laws.specs.Conditions.{is_plain_sort, fits_distinct}
 use Rattle.hq_compiled.specs.Looks.{is_used}
 use Rattle.hq_compiled.specs.Fine.{begin_columns}
 
@@ -53,11 +53,13 @@ begun distinct front (suc n) [] plain covered = all_weaken (Covered front (suc n
 begun distinct front zero (k ∷ ks) plain covered =
     left_true _ _ (all_weaken (Covered front zero (k ∷ ks)) (λ c. is_used c front) distinct (λ c h. or_false (is_used c front) h) covered)
 begun distinct front (suc n) (k ∷ ks) plain covered =
-    let parts = and_parts _ _ plain in
-    let here = and_parts _ _ parts.0 in
+    let parts = and_parts (is_plain_sort k && is_used k.column distinct) (list_all (λ j. is_plain_sort j && is_used j.column distinct) (take n ks)) plain in
+    let here = and_parts (is_plain_sort k) (is_used k.column distinct) parts.0 in
     let next : list_all (Covered (k.column ∷ front) n ks) distinct ≡ true = all_weaken (Covered front (suc n) (k ∷ ks)) (Covered (k.column ∷ front) n ks) distinct
     (λ c h. subst (λ b. ((b || is_used c front) || list_any (λ j. j.column == c) (take n ks)) ≡ true) (same_sym k.column c) (moved (is_used c front) (k.column == c) (list_any (λ j. j.column == c) (take n ks)) h)) covered in
-    or_true _ _ (rw (here.0, here.1) (begun distinct (k.column ∷ front) n ks parts.1 next))
+    let later : ((length k.through == 0) && is_used k.column distinct && begin_columns distinct (k.column ∷ front) ks) ≡ true =
+    rw (here.0, here.1) (begun distinct (k.column ∷ front) n ks parts.1 next) in
+    or_true (list_all (λ c. is_used c front) distinct) ((length k.through == 0) && is_used k.column distinct && begin_columns distinct (k.column ∷ front) ks) later
 
 plain_used : (distinct : List ℕ) (ks : List SortKey) → list_all (λ k. is_plain_sort k && list_any (λ c. c == k.column) distinct) ks ≡ true → list_all (λ k. is_plain_sort k && is_used k.column distinct) ks ≡ true
 plain_used distinct ks h =
@@ -81,7 +83,7 @@ self_used (d ∷ ds) =
 
 ascending_plain : (distinct ds : List ℕ) → list_all (λ c. is_used c distinct) ds ≡ true → list_all (λ k. is_plain_sort k && is_used k.column distinct) (ascending ds) ≡ true
 ascending_plain distinct [] h = refl
-ascending_plain distinct (d ∷ ds) h = let parts = and_parts _ _ h in rw (parts.0, ascending_plain distinct ds parts.1) refl
+ascending_plain distinct (d ∷ ds) h = let parts = and_parts (is_used d distinct) (list_all (λ c. is_used c distinct) ds) h in rw (parts.0, ascending_plain distinct ds parts.1) refl
 
 ascending_has : (c : ℕ) (ds : List ℕ) → list_any (λ k. k.column == c) (ascending ds) ≡ list_any (λ d. d == c) ds
 ascending_has c [] = refl
@@ -89,9 +91,10 @@ ascending_has c (d ∷ ds) = ap (λ b. (d == c) || b) (ascending_has c ds)
 
 by_themselves : (ds : List ℕ) → begin_columns ds [] (ascending ds) ≡ true
 by_themselves ds =
-    let same = taken_all ds in
-    begun ds [] (length ds) (ascending ds) (rw same (ascending_plain ds ds (self_used ds)))
-    (rw same (all_weaken (λ c. is_used c ds) (λ c. list_any (λ k. k.column == c) (ascending ds)) ds (λ c h. (ascending_has c ds ∙ among_used c ds) ∙ h) (self_used ds)))
+    let plain = subst (λ (l : List SortKey). list_all (λ k. is_plain_sort k && is_used k.column ds) l ≡ true) (sym (taken_all ds)) (ascending_plain ds ds (self_used ds)) in
+    let has : list_all (λ c. list_any (λ k. k.column == c) (ascending ds)) ds ≡ true =
+    all_weaken (λ c. is_used c ds) (λ c. list_any (λ k. k.column == c) (ascending ds)) ds (λ c h. (ascending_has c ds ∙ among_used c ds) ∙ h) (self_used ds) in
+    begun ds [] (length ds) (ascending ds) plain (subst (λ (l : List SortKey). list_all (λ c. list_any (λ k. k.column == c) l) ds ≡ true) (sym (taken_all ds)) has)
 
 -- ---- the entries that count
 

@@ -1,10 +1,9 @@
 -- A condition over a table of the catalog is one whose columns, operands and relationships are there and of their kinds.
-use Rattle.std.proofs.Common.{◌≡◌, ℕ, List, [], ◌∷◌, Bool, true, false, Option, Some, None, is_some, refl, sym, ap, subst, ◌∙◌, ◌≤◌, arith}
-use Rattle.std.specs.Prelude.{slice_get, nat_le, is_ok}
+use Rattle.std.proofs.Common.{◌≡◌, ℕ, List, [], ◌∷◌, Bool, true, Option, Some, None, is_some, refl, sym, subst, ◌∙◌, ◌≤◌}
+use Rattle.std.specs.Prelude.{slice_get, nat_le}
 use Rattle.std.specs.List.{list_all}
-use Rattle.std.proofs.lemmas.Bool.{and_parts, false≢true}
+use Rattle.std.proofs.lemmas.Bool.{and_parts, leb-true, false≢true}
 use Rattle.hq_base.specs.Lists.{Each}
-use Rattle.hq_base.specs.Patterns.{pattern_of}
 use Rattle.hq_base.specs.declared.value.Ty.{Ty}
 use Rattle.hq_base.specs.declared.value.Ty.TheVariants.{Integer, Bigint, Text, Boolean}
 use Rattle.hq_base.specs.declared.value.Val.{Val}
@@ -16,13 +15,13 @@ use Rattle.hq_terms.specs.Schema.{Schema, table, rel}
 use Rattle.hq_terms.specs.declared.bexp.Operand.{Operand}
 use Rattle.hq_terms.specs.declared.bexp.Operand.TheVariants.{Const, Session}
 use Rattle.hq_ask_laws.specs.Conditions.{is_constant, is_bound, are_bound, is_condition}
-use Rattle.hq_sql_tree.specs.WellFormed.{kind_of_type, text}
-use Rattle.hq_compiled.specs.Fine.{Has, kind_of, OperandFits, PatternFits, FineRel, FineBexp, FineBexps}
+use Rattle.hq_sql_tree.specs.WellFormed.{Kind, kind_of_type, text}
+use Rattle.hq_compiled.specs.Fine.{OperandFits, PatternFits, FineRel, FineBexp, FineBexps}
 use Rattle.hq_compile_laws.proofs.Relationships.{column_is, column_there}
 
 -- a number that is tested to be at most another is
 pub at_most : (n k : ℕ) → nat_le n k ≡ true → n ≤ k
-at_most n k h = grind (arith, h)
+at_most n k h = leb-true n k h
 
 -- ---- operands
 
@@ -85,11 +84,11 @@ module _ (s : Schema) (rels : (t r : ℕ) → is_some (slice_get (table s t).rel
     filter_fine (comparison c op v) t h g =
         let at = of_column (λ ty. OperandFits (kind_of_type ty) v) (λ ty. operand_fits ty v) s t c (λ ty f. operand_fine ty v f g) h in
         let is = column_is s t c at.0 at.1 in
-        (is.0, subst (λ k. OperandFits k v) (sym is.1) at.2)
+        (is.0, subst (λ (k : Kind). OperandFits k v) (sym is.1) at.2)
     filter_fine (within c vs negated) t h g =
         let at = of_column (λ ty. Each (OperandFits (kind_of_type ty)) vs) (λ ty. list_all (operand_fits ty) vs) s t c (λ ty f. operands_fine ty vs f g) h in
         let is = column_is s t c at.0 at.1 in
-        (is.0, subst (λ k. Each (OperandFits k) vs) (sym is.1) at.2)
+        (is.0, subst (λ (k : Kind). Each (OperandFits k) vs) (sym is.1) at.2)
     filter_fine (is_null c wanted) t h g = column_there s t c h
     filter_fine (like c fold negated v) t h g =
         let parts = and_parts _ _ h in

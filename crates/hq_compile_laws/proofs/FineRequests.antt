@@ -1,6 +1,6 @@
 -- A typed request is of its catalog: its columns, relationships and tables are there, and its values and sorts are of their kinds.
-use Rattle.std.proofs.Common.{◌≡◌, ℕ, ◌≤◌, ◌^◌, List, [], ◌∷◌, map, length, Bool, true, false, not, ◌&&◌, Option, Some, None, is_some, refl, sym, ap, subst, ◌∙◌}
-use Rattle.std.specs.Prelude.{bytes_eq, slice_get}
+use Rattle.std.proofs.Common.{◌≡◌, ℕ, ◌≤◌, ◌^◌, List, [], ◌∷◌, map, length, Bool, true, not, Option, Some, None, refl, sym, ap, subst, ◌∙◌}
+use Rattle.std.specs.Prelude.{bytes_eq}
 use Rattle.std.specs.List.{list_all}
 use Rattle.std.proofs.lemmas.Bool.{and_parts, false≢true}
 use Rattle.hq_base.specs.Lists.{all_differ, Each}
@@ -22,7 +22,7 @@ use Rattle.hq_ask_laws.specs.Conditions.{is_key, is_summary, FieldFits, PartFits
 use Rattle.hq_ask_laws.specs.Everywhere.{Everywhere, Below, EveryPart, BelowPart}
 use Rattle.hq_ask_laws.specs.ResponseKeys as response
 use Rattle.hq_ask_laws.specs.ResponseKeys.{are_keys, TakenKeys, EachSummaryKeys, FieldKeys, PartKeys}
-use Rattle.hq_ask_laws.specs.Uses.{UsesColumns, UsesPath, UsesSorts, UsesOrigin, UsesTaken, UsesOneSummary, UsesSummary, UsesHere, UsesPart}
+use Rattle.hq_ask_laws.specs.Uses.{UsesColumns, UsesPath, UsesSorts, UsesOrigin, UsesOneSummary, UsesSummary, UsesHere, UsesPart}
 use Rattle.hq_ask_tree.specs.Fields.{Origin, from_table, along, FieldTrees, no_field, field, FieldTree, column, typename, no_queries, object, list, by_key, aggregate, introspect, PartTrees, no_part, part, PartTree, summary, nodes, part_typename}
 use Rattle.hq_ask_tree.specs.Resolve.{origin_table}
 use Rattle.hq_ask_tree.specs.declared.aggregate.AggCol.{AggCol}
@@ -31,10 +31,9 @@ use Rattle.hq_ask_tree.specs.declared.aggregate.AggField.{AggField}
 use Rattle.hq_ask_tree.specs.declared.aggregate.AggField.TheVariants as take
 use Rattle.hq_ask_tree.specs.declared.aggregate.KeyedAggCol.{KeyedAggCol}
 use Rattle.hq_ask_tree.specs.declared.aggregate.KeyedAggField.{KeyedAggField}
-use Rattle.hq_sql_tree.specs.WellFormed as well
 use Rattle.hq_sql_tree.specs.WellFormed.{Kind, kind_of_type, is_summed, has_extremes}
 use Rattle.hq_compiled.specs.Correct.{AreFew, IsFew, AreFewParts, IsFewPart}
-use Rattle.hq_compiled.specs.Fine.{Known, Has, kind_of, OperandFits, FineRel, FineChain, FineArguments, FineOrigin, FineKey, FineTaken, FineTakens, FineSummary, FineSummaries, keys_of, part_keys_of, FineFields, FineField, FineParts, FinePart}
+use Rattle.hq_compiled.specs.Fine.{Has, kind_of, OperandFits, FineRel, FineChain, FineArguments, FineOrigin, FineKey, FineTaken, FineSummary, keys_of, part_keys_of, FineFields, FineField, FineParts, FinePart}
 use Rattle.hq_compiled.specs.Lists.{list_sorts}
 use Rattle.hq_compile_laws.proofs.Relationships.{less, column_is, column_there, fitting_rel, rel_fine}
 use Rattle.hq_compile_laws.proofs.FineConditions.{constant_fine, of_column, condition_fine}
@@ -120,7 +119,7 @@ module _ (tables : List Table) (m : MetaTree) (fitting : fits tables m ≡ true)
       let parts = and_parts _ _ h in
       let at = of_column (λ ty. OperandFits (kind_of_type ty) (Const v)) (λ ty. constant_fits ty v) s t c (λ ty f. constant_fine ty v f) parts.0 in
       let is = column_is s t c at.0 at.1 in
-      (subst (λ k. OperandFits k (Const v)) (sym is.1) at.2, key_fine t cs vs parts.1)
+      (subst (λ (k : Kind). OperandFits k (Const v)) (sym is.1) at.2, key_fine t cs vs parts.1)
 
   -- ---- aggregates
 
@@ -129,7 +128,7 @@ module _ (tables : List Table) (m : MetaTree) (fitting : fits tables m ≡ true)
     taken_fine t c h =
         let at = of_column (λ ty. test (Some (kind_of_type ty)) ≡ true) ty_test s t c step h in
         let is = column_is s t c at.0 at.1 in
-        (is.0, subst (λ k. test (Some k) ≡ true) (sym is.1) at.2)
+        (is.0, subst (λ (k : Kind). test (Some k) ≡ true) (sym is.1) at.2)
 
   sum_fine : (t : ℕ) (c : AggCol) → fit.is_summed s t c ≡ true → FineTaken is_summed s t c
   sum_fine t (of.Column c) h = taken_fine is_summed is_whole whole_summed t c h

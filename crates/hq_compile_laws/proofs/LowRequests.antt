@@ -1,5 +1,5 @@
 -- A typed request is nested few enough.
-use Rattle.std.proofs.Common.{◌≡◌, ℕ, suc, ◌+◌, ◌≤◌, max, List, [], ◌∷◌, length, true, arith, refl}
+use Rattle.std.proofs.Common.{◌≡◌, ℕ, ◌≤◌, max, List, [], ◌∷◌, length, true, arith}
 use Rattle.std.specs.List.{list_all}
 use Rattle.std.proofs.lemmas.Bool.{and_parts}
 use Rattle.std.proofs.Math.Nat.{max-le, le-max_left, le-max_right}
@@ -9,7 +9,7 @@ use Rattle.hq_terms.specs.Selected.{SortKey, ListArguments}
 use Rattle.hq_ask_laws.specs.Conditions.{is_short, are_arguments, FieldFits, PartFits}
 use Rattle.hq_ask_laws.specs.Everywhere.{Everywhere, Below, EveryPart, BelowPart}
 use Rattle.hq_ask_laws.specs.Levels.{levels, field_levels, part_levels, one_part_levels}
-use Rattle.hq_ask_tree.specs.Fields.{Origin, from_table, along, FieldTrees, no_field, field, FieldTree, column, typename, no_queries, object, list, by_key, aggregate, introspect, PartTrees, no_part, part, PartTree, summary, nodes, part_typename}
+use Rattle.hq_ask_tree.specs.Fields.{FieldTrees, no_field, field, FieldTree, column, typename, no_queries, object, list, by_key, aggregate, introspect, PartTrees, no_part, part, PartTree, summary, nodes, part_typename}
 use Rattle.hq_ask_tree.specs.Resolve.{origin_table}
 use Rattle.hq_compiled.specs.Shallow.{fields_height, field_height, parts_height, part_height, AreShort, AreLow, IsLow, AreLowParts, IsLowPart}
 use Rattle.hq_compile_laws.proofs.FineConditions.{at_most, condition_low}

@@ -1,8 +1,8 @@
 -- What a metadata that fits its catalog says of relationships and columns.
-use Rattle.std.proofs.Common.{◌≡◌, ℕ, suc, zero, ◌<◌, List, [], ◌∷◌, length, map, find, Bool, true, false, cond, ◌==◌, ◌&&◌, nat_lt, Option, Some, None, is_some, refl, sym, ap, subst, ◌∙◌, arith}
+use Rattle.std.proofs.Common.{◌≡◌, ℕ, suc, zero, ◌<◌, List, [], ◌∷◌, length, find, Bool, true, false, cond, ◌==◌, nat_lt, Option, Some, None, is_some, refl, sym, ap, subst, ◌∙◌, arith}
 use Rattle.std.specs.List.{list_all}
 use Rattle.std.specs.Prelude.{option_map, slice_get, slice_index_or, unwrap_or}
-use Rattle.std.proofs.lemmas.Bool.{and_parts, eqb-true, false≢true}
+use Rattle.std.proofs.lemmas.Bool.{and_parts, eqb-true, ltb-true, false≢true}
 use Rattle.std.proofs.lemmas.Option.{get_or_from_slice_get}
 use Rattle.hq_base.specs.Lists.{Each}
 use Rattle.hq_base.specs.declared.value.Ty.{Ty}
@@ -22,7 +22,7 @@ use Rattle.hq_compiled.specs.Fine.{Known, Has, kind_of, FinePair, FineRel}
 
 -- a number that is tested to be less is
 pub less : (n k : ℕ) → nat_lt n k ≡ true → n < k
-less n k h = grind (arith, h)
+less n k h = ltb-true n k h
 
 -- an item that is found passes the test, and each test that all items pass
 pub found : {A : Type 0} (p q : A → Bool) (xs : List A) (x : A) → list_all q xs ≡ true → find p xs ≡ Some x → (p x ≡ true) × (q x ≡ true)
@@ -44,7 +44,10 @@ all_at q (y ∷ ys) (suc i) x all is = all_at q ys i x (and_parts (q y) (list_al
 column_in : (cs : List Column) (c : ℕ) (ty : Ty) → option_map (λ column. column.ty) (slice_get cs c) ≡ Some ty → (c < length cs) × ((slice_index_or cs c no_column).ty ≡ ty)
 column_in [] c ty is = absurd (false≢true (ap is_some is))
 column_in (x ∷ cs) zero ty is = (omega arith, ap (λ o. unwrap_or o x.ty) is)
-column_in (x ∷ cs) (suc c) ty is = let later = column_in cs c ty is in (omega arith, later.1)
+column_in (x ∷ cs) (suc c) ty is =
+    let later = column_in cs c ty is in
+    let lt : c < length cs = later.0 in
+    (omega arith, later.1)
 
 -- a column that has a type is there, and of its kind
 pub column_is : (s : Schema) (t c : ℕ) (ty : Ty) → column_ty s t c ≡ Some ty → Has s t c × (kind_of s t c ≡ kind_of_type ty)
@@ -81,12 +84,12 @@ pair_fine s t u p h =
     elim [
       | None ↦ λ e b f g. absurd (false≢true g)
       | Some x ↦ λ e. elim [
-          | None ↦ λ f g. absurd (false≢true g)
-          | Some y ↦ λ f g.
-              let own = column_is s t p.own x e in
-              let far = column_is s u p.remote y f in
-              (own.0, far.0, rw (own.1, far.1) (comparable_kinds x y g))
-        ]
+        | None ↦ λ f g. absurd (false≢true g)
+        | Some y ↦ λ f g.
+            let own = column_is s t p.own x e in
+            let far = column_is s u p.remote y f in
+            (own.0, far.0, rw (own.1, far.1) (comparable_kinds x y g))
+      ]
     ] in
     by (column_ty s t p.own) refl (column_ty s u p.remote) refl h
 

@@ -1,23 +1,27 @@
 -- The root fields of a typed request that start at a table are a typed request.
-use Rattle.std.proofs.Common.{◌≡◌, ℕ, ◌≤◌, ◌+◌, max, List, [], ◌∷◌, ◌++◌, map, length, Bool, true, false, cond, not, ◌==◌, ◌&&◌, refl, sym, ap, subst, ◌∙◌, arith}
-use Rattle.std.specs.Prelude.{bytes_eq, nat_le}
-use Rattle.std.specs.List.{list_any, list_all}
+use Rattle.std.proofs.Common.{◌≡◌, ℕ, ◌≤◌, max, List, [], ◌∷◌, ◌++◌, length, Bool, true, false, cond, not, ◌==◌, ◌||◌, refl, sym, ap, ◌∙◌, arith}
+use Rattle.std.specs.Prelude.{bytes_eq}
+use Rattle.std.specs.List.{list_any}
 use Rattle.std.proofs.lemmas.Bool.{and_parts, le-leb, false≢true}
 use Rattle.std.proofs.Math.Nat.{max-le, le-max_left, le-max_right}
 use Rattle.hq_base.specs.Lists.{all_differ, firsts}
 use Rattle.hq_terms.specs.Meta.{MetaTree}
 use Rattle.hq_terms.specs.Schema.{Schema, schema_of}
 use Rattle.hq_terms.specs.declared.table.Table.{Table}
-use Rattle.hq_ask_laws.specs.Everywhere.{Everywhere, Below, FromRoot}
+use Rattle.hq_ask_laws.specs.Allowed.{Allowed, allowed_to}
+use Rattle.hq_ask_laws.specs.Conditions.{FieldFits, PartFits}
+use Rattle.hq_ask_laws.specs.Everywhere.{Everywhere, FromRoot}
+use Rattle.hq_ask_laws.specs.IntrospectionTypes.{RootLooks, AnyField, AnyPart}
 use Rattle.hq_ask_laws.specs.Levels.{levels, field_levels}
-use Rattle.hq_ask_laws.specs.ResponseKeys.{keys_of, are_keys}
+use Rattle.hq_ask_laws.specs.ResponseKeys.{keys_of, are_keys, FieldKeys, PartKeys}
 use Rattle.hq_ask_laws.specs.Standing.{StandsAtRoot, StandsBelow, PartStands}
-use Rattle.hq_ask_laws.specs.Touched.{tables_of, field_tables, touched}
-use Rattle.hq_ask_laws.specs.WellFormed.{IsRequest}
-use Rattle.hq_ask_tree.specs.Fields.{Origin, from_table, along, FieldTrees, no_field, field, FieldTree, column, typename, no_queries, object, list, by_key, aggregate, introspect, PartTree}
+use Rattle.hq_ask_laws.specs.Touched.{tables_of, field_tables}
+use Rattle.hq_ask_laws.specs.TypeNames.{RootNamed, FieldNamed, PartNamed}
+use Rattle.hq_ask_laws.specs.Uses.{UsesHere, UsesPart}
+use Rattle.hq_ask_tree.specs.Fields.{FieldTrees, no_field, field, FieldTree, column, typename, no_queries, object, list, by_key, aggregate, introspect, PartTree}
 use Rattle.hq_ask_tree.specs.Request.{AskTree}
 use Rattle.hq_ask_tree.specs.Root.{is_table_field, table_fields}
-use Rattle.hq_compile_laws.specs.Asked.{table_request, TablesAsked}
+use Rattle.hq_compile_laws.specs.Asked.{TablesAsked}
 use Rattle.hq_compile_laws.proofs.FineConditions.{at_most}
 
 -- ---- facts of all fields
@@ -45,11 +49,14 @@ none_among k no_field h = refl
 none_among k (field key f fs) h =
     let split : (a : Bool) → bytes_eq k key ≡ a → list_any (bytes_eq k) (keys_of (table_fields (field key f fs))) ≡ false =
     elim [
-      | true ↦ λ e. absurd (false≢true (sym h ∙ rw e refl))
+      | true ↦ λ e.
+          let here : list_any (bytes_eq k) (key ∷ keys_of fs) ≡ true = ap (λ c. c || list_any (bytes_eq k) (keys_of fs)) e in
+          absurd (false≢true (sym h ∙ here))
       | false ↦ λ e.
-          let later : list_any (bytes_eq k) (keys_of fs) ≡ false = sym (rw e refl) ∙ h in
+          let gone : list_any (bytes_eq k) (key ∷ keys_of fs) ≡ list_any (bytes_eq k) (keys_of fs) = ap (λ c. c || list_any (bytes_eq k) (keys_of fs)) e in
+          let later : list_any (bytes_eq k) (keys_of fs) ≡ false = sym gone ∙ h in
           let by : (b : Bool) → list_any (bytes_eq k) (keys_of (cond b (field key f (table_fields fs)) (table_fields fs))) ≡ false =
-          elim [ true ↦ rw e (none_among k fs later) | false ↦ none_among k fs later ] in
+          elim [ true ↦ ap (λ c. c || list_any (bytes_eq k) (keys_of (table_fields fs))) e ∙ none_among k fs later | false ↦ none_among k fs later ] in
           by (is_table_field f)
     ] in
     split (bytes_eq k key) refl
@@ -122,15 +129,17 @@ pub tables_asked : (tables : List Table) (m : MetaTree) (a : AskTree) → Tables
 tables_asked tables m a h =
     let s : Schema = schema_of tables m in
     let root : ℕ = length tables in
+    let ok : Allowed = allowed_to a.role m s in
     let fewer = levels_tables a.fields in
+    let shallow = h.shallow in
     record {
-      uses = everywhere_tables _ _ s root a.fields h.uses;
-      stand = root_tables _ _ _ s root a.fields h.stand;
-      fit = everywhere_tables _ _ s root a.fields h.fit;
-      keys = (keys_tables a.fields h.keys.0, everywhere_tables _ _ s root a.fields h.keys.1);
-      named = root_tables _ _ _ s root a.fields h.named;
-      looks = root_tables _ _ _ s root a.fields h.looks;
-      shallow = omega (arith, fewer, h.shallow);
+      uses = everywhere_tables (UsesHere s ok) (UsesPart ok) s root a.fields h.uses;
+      stand = root_tables (StandsAtRoot s) (StandsBelow s) PartStands s root a.fields h.stand;
+      fit = everywhere_tables (FieldFits s) (PartFits s) s root a.fields h.fit;
+      keys = (keys_tables a.fields h.keys.0, everywhere_tables FieldKeys PartKeys s root a.fields h.keys.1);
+      named = root_tables RootNamed (FieldNamed m) (PartNamed m) s root a.fields h.named;
+      looks = root_tables RootLooks AnyField AnyPart s root a.fields h.looks;
+      shallow = omega (arith, fewer, shallow);
       touched = h.touched ∙ ap (firsts (λ t u. t == u)) (sym (tables_tables s root a.fields h.stand));
       bound = h.bound;
     }

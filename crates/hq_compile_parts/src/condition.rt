@@ -1,5 +1,5 @@
 //! Conditions: literals, lists of conditions in one, WHERE, and tests of one column.
-ghost use Rattle.std.specs.Prelude.{◌≡◌, ◌++◌, [], IfOk, OnOk, map, not};
+ghost use Rattle.std.specs.Prelude.{◌≡◌, ◌++◌, [], IfOk, OnOk, map, not, cond};
 ghost use Rattle.hq_sql_tree.specs.Tree as tree;
 ghost use Rattle.hq_sql_tree.specs.View.{expr_view, pred_view, filter_view};
 ghost use Rattle.hq_compiled.specs.Conditions.{literal, operand_literal, joined_by_and, joined_by_or, with_member, where_of, negation_if, within_list};
@@ -144,7 +144,7 @@ pub(crate) fn comparison(
 
 // IN no value: nothing is in it.
 fn within_nothing(negated: bool) -> Pred
-    ensures { (e : tree.ExprTree) → pred_view result ≡ within_list e [] negated }
+    ensures { pred_view result ≡ cond negated tree.always tree.never }
 {
     if negated { Pred::True } else { Pred::False }
 }

@@ -8,6 +8,7 @@ ghost use Rattle.hq_compiled.specs.Names.{fold_alias, key_name};
 ghost use Rattle.hq_compiled.specs.Sorts.{end_of, is_text_sort, sort_place, sort_numbers, sort_joins, sorts_numbers, sorts_joins, orders, key_outputs, output_orders};
 ghost use Rattle.hq_compile_parts.specs.Contexts.{context_schema, context_rights};
 ghost use Rattle.hq_compile_parts.specs.RowSorts.{row_sort_view};
+ghost use Rattle.hq_compile_parts.specs.SortSteps.{step_view, step_tree, step_join, after_step};
 
 use crate::columns::{column_at, is_text, value_at};
 use crate::context::Context;
@@ -16,7 +17,7 @@ use crate::predicate::filter_predicate;
 use crate::sorts::{RowSort, RowSortList};
 use crate::table::{first_select, link, one_join};
 use hq_base::Memory;
-use hq_sql_tree::{Expr, JoinList, Order, OrderList, Out, OutList};
+use hq_sql_tree::{Expr, JoinList, Order, OrderList, Out, OutList, Pred};
 use hq_terms::{ColId, RelId, TableId};
 use std::alloc::Global;
 
@@ -55,6 +56,67 @@ fn sort_column(
     }
 }
 
+// The first relationship of a sort key: its table and number, the link, the table's filter, and the cell that is passed on.
+#[derive(Drop)]
+struct SortStep {
+    table: TableId,
+    number: u64,
+    link: Pred,
+    filter: Pred,
+    value: Expr,
+}
+
+fn sort_step(
+    alloc: Global,
+    context: &Context,
+    t: TableId,
+    p: u64,
+    r: RelId,
+    rest: &[RelId],
+    column: ColId,
+    next: &mut u64,
+) -> Result<SortStep, Memory>
+    ensures step { IfOk result (λ step. step_view step ≡ step_tree (context_schema context.now) (context_rights context.now) t p r rest.now next.old column) }
+    ensures numbers { OnOk result (next.new ≡ after_step (context_schema context.now) (context_rights context.now) t r next.old) }
+{
+    let number = take_number(next)?;
+    let table = context.remote(t, r);
+    let link = link(alloc, context, t, r, p, number)?;
+    let filter = filter_predicate(alloc, context, table, number, next)?;
+    let value = sort_column(
+        alloc, context, table, number, false, rest, *next, column, false,
+    )?;
+    Ok(SortStep {
+        table,
+        number,
+        link,
+        filter,
+        value,
+    })
+}
+
+// The join of such a relationship, with those of the next ones inside it.
+fn step_joins(
+    alloc: Global,
+    context: &Context,
+    step: SortStep,
+    inner: JoinList,
+) -> Result<JoinList, Memory>
+    ensures { IfOk result (λ joins. map join_view joins.items ≡ step_join (context_schema context.now) (step_view step) (map join_view inner.items) ∷ []) }
+{
+    let SortStep {
+        table,
+        number,
+        link,
+        filter,
+        value,
+    } = step;
+    let select = first_select(alloc, context, table, number, link, filter, value, inner)?;
+    let mut joins = Vec::new(alloc);
+    joins.push(one_join(alloc, select, number)?)?;
+    Ok(joins)
+}
+
 // The join of a sort key through relationships, with that of the next relationship inside it; none without one.
 fn sort_joins(
     alloc: Global,
@@ -68,19 +130,12 @@ fn sort_joins(
     ensures joins { IfOk result (λ joins. map join_view joins.items ≡ sort_joins through.now (context_schema context.now) (context_rights context.now) t p next.old column) }
     ensures numbers { OnOk result (next.new ≡ next.old + sort_numbers through.now (context_schema context.now) (context_rights context.now) t column) }
 {
-    let mut joins = Vec::new(alloc);
     match through {
-        [] => Ok(joins),
+        [] => Ok(Vec::new(alloc)),
         [r, rest @ ..] => {
-            let n = take_number(next)?;
-            let remote = context.remote(t, *r);
-            let link = link(alloc, context, t, *r, p, n)?;
-            let filter = filter_predicate(alloc, context, remote, n, next)?;
-            let value = sort_column(alloc, context, remote, n, false, rest, *next, column, false)?;
-            let inner = sort_joins(alloc, context, remote, n, rest, column, next)?;
-            let select = first_select(alloc, context, remote, n, link, filter, value, inner)?;
-            joins.push(one_join(alloc, select, n)?)?;
-            Ok(joins)
+            let step = sort_step(alloc, context, t, p, *r, rest, column, next)?;
+            let inner = sort_joins(alloc, context, step.table, step.number, rest, column, next)?;
+            step_joins(alloc, context, step, inner)
         }
     }
 }

@@ -1,1 +1,2 @@
 mod GrantedRights
+mod Requests
