@@ -38,10 +38,10 @@ fn too_large(operation: &Operation) -> AskRefusal
 }
 
 // The collected fields of an operation, where they are within the limits.
-fn collected<'a>(
+fn collected<'b, 'a>(
     alloc: Global,
-    fragments: &'a Fragments<'a>,
-    vars: &'a VarValues,
+    fragments: &'b Fragments<'a>,
+    vars: &'b VarValues,
     operation: &'a Operation,
 ) -> Result<CollectedList<'a>, AskRefusal>
     ensures { Gives (λ v. trees_of (map collected_view v.items)) refusal.Memory (collected_due (document_of fragments.now) (map var_view vars.now) (operation_view operation.now)) result }
