@@ -1,0 +1,5 @@
+mod Steps
+mod Different
+mod Distinct
+mod Objects
+mod Named

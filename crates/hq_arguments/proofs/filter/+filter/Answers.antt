@@ -1,0 +1,38 @@
+use Rattle.std.proofs.Common.{◌≡◌, ◌∙◌, ap, refl, subst, List, map, Err, inl, inr, rules}
+use Rattle.std.specs.Prelude.{◌⊎◌}
+use Rattle.std.proofs.lemmas.List.{map-append}
+use Rattle.hq_base.specs.Due.{Gives}
+use Rattle.hq_base.specs.Json.{member_view, members_of}
+use Rattle.hq_base.specs.declared.json.Member.{Member}
+use Rattle.hq_terms.specs.Bexp.{bexp_view}
+use Rattle.hq_arguments.specs.Context.{context_view}
+use Rattle.hq_arguments.specs.Where.{members_due, named_due}
+use Rattle.hq_arguments.specs.declared.refusal.ArgRefusal.{ArgRefusal}
+use Rattle.hq_arguments.specs.declared.refusal.ArgRefusal.TheVariants.{Memory}
+use Rattle.hq_arguments.proofs.Named.{filter_named}
+use Rattle.hq_arguments.proofs.Steps.{read_more, read_refused}
+use Rattle.hq_arguments.proofs.filter.+filter.Goals as goal
+
+pub member_filters-loop-member-preserved : goal.member_filters-loop-member-preserved
+member_filters-loop-member-preserved t c =
+    let x = context_view c.args.context.now in
+    read_more (λ (ms : List Member). members_due (members_of (map member_view ms)) x c.args.p c.args.t) (λ (m : Member). named_due x c.args.p c.args.t (member_view m).0 (member_view m).1) (λ m ms. refl)
+    c.deref-member-items.result.now c.loop-member.member-index c.member-item.result _ _ (bexp_view c.in_ok-bexp.bexp) _ c.loop-member.invariant c.loop-member-test.true c.member-item.is c.in_ok-bexp.ensures (ap (map bexp_view) c.in_ok-push.ensures.items ∙ map-append bexp_view _ _)
+
+pub member_filters-returns-in_err-bexp : goal.member_filters-returns-in_err-bexp
+member_filters-returns-in_err-bexp t c =
+    let x = context_view c.args.context.now in
+    let e : ArgRefusal = c.in_err-bexp.field-0.0 in
+    let refused : (e ≡ Memory) ⊎ (members_due (members_of (map member_view c.args.members.now.items)) x c.args.p c.args.t ≡ Err e) =
+    elim c.in_err-bexp.ensures [
+      | inl m ↦ inl m
+      | inr given ↦ inr (read_refused (λ (ms : List Member). members_due (members_of (map member_view ms)) x c.args.p c.args.t) (λ (m : Member). named_due x c.args.p c.args.t (member_view m).0 (member_view m).1) (λ m ms. refl)
+          c.deref-member-items.result.now c.loop-member.member-index c.member-item.result _ e _ c.loop-member.invariant c.loop-member-test.true c.member-item.is given)
+    ] in
+    search rules
+
+pub member_filter-returns-in-Some : goal.member_filter-returns-in-Some
+member_filter-returns-in-Some t c =
+    subst (λ due. Gives bexp_view Memory due c.filter_by.result)
+    (filter_named (context_view c.args.context.now) c.args.p c.args.t c.base.result c.args.member.now c.in-Some.arg.now c.in-Some.ensures c.base.ensures)
+    c.filter_by.ensures

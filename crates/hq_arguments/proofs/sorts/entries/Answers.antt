@@ -1,0 +1,29 @@
+use Rattle.std.proofs.Common.{◌≡◌, refl, [], List, map, Err, inl, inr, rules}
+use Rattle.std.specs.Prelude.{◌⊎◌}
+use Rattle.hq_base.specs.Json.{json_view}
+use Rattle.hq_base.specs.declared.json.Json.{Json}
+use Rattle.hq_arguments.specs.Context.{context_view}
+use Rattle.hq_arguments.specs.SortLists.{sorts_view}
+use Rattle.hq_arguments.specs.Sorts.{entries_due, entry_due}
+use Rattle.hq_arguments.specs.declared.refusal.ArgRefusal.{ArgRefusal}
+use Rattle.hq_arguments.specs.declared.refusal.ArgRefusal.TheVariants.{Memory}
+use Rattle.hq_arguments.proofs.Steps.{join_more, join_refused}
+use Rattle.hq_arguments.proofs.sorts.entries.Goals as goal
+
+pub loop-json-preserved : goal.loop-json-preserved
+loop-json-preserved c =
+    let x = context_view c.args.context.now in
+    join_more (λ (js : List Json). entries_due x c.args.p c.args.t (map json_view js)) (λ (j : Json). entry_due (json_view j) x [] c.args.p c.args.t) (λ j js. refl)
+    c.args.items.now c.loop-json.json-index c.json-item.result (sorts_view c.loop-json.sorts) (sorts_view c.in_ok-next.next) _ c.loop-json.invariant c.loop-json-test.true c.json-item.is c.in_ok-next.ensures
+
+pub returns-in_err-next : goal.returns-in_err-next
+returns-in_err-next c =
+    let x = context_view c.args.context.now in
+    let e : ArgRefusal = c.in_err-next.field-0.0 in
+    let refused : (e ≡ Memory) ⊎ (entries_due x c.args.p c.args.t (map json_view c.args.items.now) ≡ Err e) =
+    elim c.in_err-next.ensures [
+      | inl m ↦ inl m
+      | inr given ↦ inr (join_refused (λ (js : List Json). entries_due x c.args.p c.args.t (map json_view js)) (λ (j : Json). entry_due (json_view j) x [] c.args.p c.args.t) (λ j js. refl)
+          c.args.items.now c.loop-json.json-index c.json-item.result (sorts_view c.loop-json.sorts) e _ c.loop-json.invariant c.loop-json-test.true c.json-item.is given)
+    ] in
+    search rules

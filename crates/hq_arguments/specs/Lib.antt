@@ -1,0 +1,14 @@
+pub mod Context
+pub mod Reading
+pub mod Given
+pub mod Operands
+pub mod Comparisons
+pub mod Where
+pub mod Sorts
+pub mod SortLists
+pub mod Page
+pub mod Columns
+pub mod Keys
+pub mod Plain
+pub mod FieldArguments
+pub mod Due
