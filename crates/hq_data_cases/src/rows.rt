@@ -1,0 +1,50 @@
+//! Files of tables, read over the first table of a catalog.
+
+use hq_base::Val;
+use hq_case::{Case, Stop, given_catalog, push_value};
+use hq_outside::LARGEST_FILE;
+use hq_tables::{LoadRefusal, Rows, load_table};
+use hq_terms::{Catalog, TableId};
+use std::alloc::Global;
+
+fn push_row(row: &[Val], out: &mut String) -> Result<(), Stop> {
+    for value in row {
+        push_value(value, out)?;
+        out.push_str(" ")?;
+    }
+    Ok(out.push_str(";")?)
+}
+
+// The values of the rows, a space behind each and a semicolon behind each row.
+fn push_rows(rows: &Rows, out: &mut String) -> Result<(), Stop> {
+    for at in 0..rows.len() {
+        push_row(rows.row(at), out)?;
+    }
+    Ok(())
+}
+
+// The rows that a file gives for the first table of a catalog.
+fn loaded(
+    alloc: Global,
+    bytes: &[u8],
+    catalog: &Catalog,
+) -> Result<Result<Rows, LoadRefusal>, Stop> {
+    let Some(table) = catalog.table(TableId::new(0)) else {
+        return Err(Stop::Shape);
+    };
+    if bytes.len() > LARGEST_FILE {
+        return Err(Stop::Shape);
+    }
+    Ok(load_table(alloc, bytes, table))
+}
+
+/// The rows of a table's file, or its first refusal as it is told.
+pub fn table_file(alloc: Global, case: &Case) -> Result<String, Stop> {
+    let catalog = given_catalog(alloc, case)?;
+    let mut out = String::new(alloc);
+    match loaded(alloc, case.bytes(alloc, "in")?.as_slice(), &catalog)? {
+        Ok(rows) => push_rows(&rows, &mut out)?,
+        Err(refusal) => write!(out, "{refusal:?}: {refusal}")?,
+    }
+    Ok(out)
+}

@@ -1,0 +1,138 @@
+//! Schemas of roles, as the schema definition language writes types (GraphQL October 2021, 3), and look-ups in them.
+
+use crate::given::{given_meta, given_role};
+use hq_case::{Case, Stop, given_catalog};
+use hq_role_schema::derive;
+use hq_schema::{
+    ArgDef, ArgDefList, FieldDef, FieldDefList, Kind, Schema, TxtList, TypeDef, TypeDefList,
+    TypeRef,
+};
+use std::alloc::Global;
+
+// The schema of the role of a case.
+fn schema_of(alloc: Global, case: &Case) -> Result<Schema, Stop> {
+    let catalog = given_catalog(alloc, case)?;
+    let meta = given_meta(alloc, case, &catalog)?;
+    let role = given_role(alloc, case)?;
+    Ok(derive(alloc, &catalog, &meta, &role)?)
+}
+
+// The name of the type at a place.
+fn name_at(types: &TypeDefList, at: usize) -> &str {
+    match types.get(at) {
+        Some(def) => def.name.as_str(),
+        None => "?",
+    }
+}
+
+#[cycle(reference)]
+fn push_list(types: &TypeDefList, inner: &TypeRef, out: &mut String) -> Result<(), Stop> {
+    out.push_str("[")?;
+    push_ref(types, inner, out)?;
+    Ok(out.push_str("]")?)
+}
+
+#[cycle(reference)]
+fn push_non_null(types: &TypeDefList, inner: &TypeRef, out: &mut String) -> Result<(), Stop> {
+    push_ref(types, inner, out)?;
+    Ok(out.push_str("!")?)
+}
+
+#[cycle(reference)]
+fn push_ref(types: &TypeDefList, reference: &TypeRef, out: &mut String) -> Result<(), Stop> {
+    match reference {
+        TypeRef::Named(t) => Ok(out.push_str(name_at(types, t.at()))?),
+        TypeRef::List(inner) => push_list(types, inner, out),
+        TypeRef::NonNull(inner) => push_non_null(types, inner, out),
+    }
+}
+
+fn push_arg(types: &TypeDefList, arg: &ArgDef, out: &mut String) -> Result<(), Stop> {
+    let default = if arg.default_false { "=false" } else { "" };
+    write!(out, " {}:", arg.name.as_str())?;
+    push_ref(types, &arg.ty, out)?;
+    Ok(out.push_str(default)?)
+}
+
+fn push_args(types: &TypeDefList, args: &ArgDefList, out: &mut String) -> Result<(), Stop> {
+    for arg in args.as_slice() {
+        push_arg(types, arg, out)?;
+    }
+    Ok(())
+}
+
+fn push_in_brackets(types: &TypeDefList, args: &ArgDefList, out: &mut String) -> Result<(), Stop> {
+    if args.len() == 0 {
+        return Ok(());
+    }
+    out.push_str("(")?;
+    push_args(types, args, out)?;
+    Ok(out.push_str(" )")?)
+}
+
+fn push_field(types: &TypeDefList, field: &FieldDef, out: &mut String) -> Result<(), Stop> {
+    write!(out, "\n  {}", field.name.as_str())?;
+    push_in_brackets(types, &field.args, out)?;
+    out.push_str(": ")?;
+    push_ref(types, &field.ty, out)
+}
+
+fn push_fields(types: &TypeDefList, fields: &FieldDefList, out: &mut String) -> Result<(), Stop> {
+    for field in fields.as_slice() {
+        push_field(types, field, out)?;
+    }
+    Ok(())
+}
+
+fn push_values(values: &TxtList, out: &mut String) -> Result<(), Stop> {
+    for value in values.as_slice() {
+        write!(out, " {}", value.as_str())?;
+    }
+    Ok(())
+}
+
+fn word(kind: Kind) -> &'static str {
+    match kind {
+        Kind::Scalar => "scalar",
+        Kind::Object => "type",
+        Kind::Enum => "enum",
+        Kind::Input => "input",
+    }
+}
+
+// A type on a line of its own, as are the fields of an object.
+fn push_type(types: &TypeDefList, def: &TypeDef, out: &mut String) -> Result<(), Stop> {
+    write!(out, "{} {}", word(def.kind), def.name.as_str())?;
+    push_fields(types, &def.fields, out)?;
+    push_args(types, &def.inputs, out)?;
+    push_values(&def.values, out)?;
+    Ok(out.push_str("\n")?)
+}
+
+/// The types of a role's schema whose places are from `from` up to `to`.
+pub fn role_schema(alloc: Global, case: &Case) -> Result<String, Stop> {
+    let schema = schema_of(alloc, case)?;
+    let mut out = String::new(alloc);
+    for at in case.place("from")?..case.place("to")? {
+        if let Some(def) = schema.types.get(at) {
+            push_type(&schema.types, def, &mut out)?;
+        }
+    }
+    Ok(out)
+}
+
+/// What is found in a role's schema by the names of a type and of a member.
+pub fn look_ups(alloc: Global, case: &Case) -> Result<String, Stop> {
+    let schema = schema_of(alloc, case)?;
+    let mut out = String::new(alloc);
+    let Some(t) = schema.type_named(&case.text(alloc, "in")?) else {
+        out.push_str("no type")?;
+        return Ok(out);
+    };
+    let name = case.text(alloc, "member")?;
+    let field = schema.field(t, &name).is_some();
+    let input = schema.input_field(t, &name).is_some();
+    let value = schema.enum_value(t, &name);
+    write!(out, "field {field}, input {input}, value {value:?}")?;
+    Ok(out)
+}
