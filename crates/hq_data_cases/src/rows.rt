@@ -4,7 +4,7 @@ use hq_base::Val;
 use hq_case::{Case, Stop, given_catalog, push_value};
 use hq_outside::LARGEST_FILE;
 use hq_tables::{LoadRefusal, Rows, load_table};
-use hq_terms::{Catalog, TableId};
+use hq_terms::Catalog;
 use std::alloc::Global;
 
 fn push_row(row: &[Val], out: &mut String) -> Result<(), Stop> {
@@ -29,7 +29,7 @@ fn loaded(
     bytes: &[u8],
     catalog: &Catalog,
 ) -> Result<Result<Rows, LoadRefusal>, Stop> {
-    let Some(table) = catalog.table(TableId::new(0)) else {
+    let Some(table) = catalog.tables.get(0) else {
         return Err(Stop::Shape);
     };
     if bytes.len() > LARGEST_FILE {
