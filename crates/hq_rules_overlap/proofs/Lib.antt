@@ -1,0 +1,5 @@
+mod ShapeLemmas
+mod ValueLemmas
+mod Steps
+mod Closed
+mod Floors

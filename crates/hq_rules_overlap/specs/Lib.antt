@@ -1,0 +1,6 @@
+pub mod Literals
+pub mod Shapes
+pub mod Sets
+pub mod Pairs
+pub mod Floor
+pub mod Walk
