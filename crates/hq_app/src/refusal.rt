@@ -1,35 +1,11 @@
-ghost use Rattle.std.specs.Prelude.{◌≡◌};
-ghost use Rattle.hq_app.specs.declared.refusal.LoadingRefusal.TheVariants as refusal;
-
-use crate::WordsRefusal;
-use crate::file_fault::FileFault;
-use crate::parts::{Field, Fields};
-use crate::phrase::Phrase;
 use hq_base::{Memory, Txt};
 use hq_engine::{EngineRefusal, StatementRefusal};
+use hq_line::{Field, Fields, Phrase};
+use hq_loading::{FileFault, LoadingRefusal};
 use hq_outside::{InputRefusal, WriteFailed};
+use hq_serve::ServeRefusal;
+use hq_words::WordsRefusal;
 use thiserror::Error;
-
-/// Why a directory was not loaded.
-#[derive(Debug, Drop, Error)]
-pub enum LoadingRefusal {
-    /// A file is absent, too large, or refused by its reader.
-    #[error("{fault}")]
-    File { file: Txt, fault: FileFault },
-    /// A load failed, and the count of faults rose.
-    #[error("load failed")]
-    Failed,
-    #[error("out of memory")]
-    Memory,
-}
-
-impl From<Memory> for LoadingRefusal {
-    ghost from_gives = { λ _ e. e ≡ refusal.Memory };
-
-    fn from(_: Memory) -> Self {
-        LoadingRefusal::Memory
-    }
-}
 
 /// Why the program ends with another status than 0.
 #[derive(Debug, Drop, Error)]
@@ -210,6 +186,21 @@ impl From<StatementRefusal> for Refusal {
         match refusal {
             StatementRefusal::NotBuilt => Refusal::NotBuilt,
             StatementRefusal::Memory => Refusal::Memory,
+        }
+    }
+}
+
+impl From<ServeRefusal> for Refusal {
+    ghost use Rattle.std.specs.Prelude.{◌≡◌};
+    ghost use Rattle.hq_app.specs.Serving.{of_serving};
+
+    ghost from_gives = { λ r e. e ≡ of_serving r };
+
+    fn from(refusal: ServeRefusal) -> Self {
+        match refusal {
+            ServeRefusal::DoorFailed => Refusal::ReadFailed,
+            ServeRefusal::WriteFailed => Refusal::WriteFailed,
+            ServeRefusal::Memory => Refusal::Memory,
         }
     }
 }

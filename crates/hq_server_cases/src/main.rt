@@ -1,8 +1,11 @@
-//! Runs the cases of `data/` about the words of a run, who the caller is, and connections.
+//! Runs the cases of `data/` about the words of a run, who the caller is, connections, and runs that serve.
 #![tactic(auto)]
 
 mod connections;
+mod links;
+mod loopback;
 mod replies;
+mod runs;
 mod secrets;
 mod subject;
 mod words;

@@ -1,0 +1,74 @@
+-- What the program's responder may answer: the reply that is due for a session that the hook's rule allows (GraphQL October
+-- 2021, section 7.1; Hasura, API reference: GraphQL endpoint).
+use Rattle.std.specs.Prelude.{◌≡◌, ◌++◌, ℕ, List, codes, Option, IfSome, Result}
+use Rattle.std.specs.declared.result.Result.TheVariants.{Ok, Err}
+use Rattle.std.specs.Borrow.{Bor}
+use Rattle.std.specs.Fn.{Shared}
+use Rattle.hq_ask_tree.specs.Request.{AskTree}
+use Rattle.hq_base.specs.declared.reply.Reply.{Reply}
+use Rattle.hq_terms.specs.Database.{Row}
+use Rattle.hq_terms.specs.Meta.{MetaTree, meta_view}
+use Rattle.hq_terms.specs.declared.session.Session.{Session}
+use Rattle.hq_terms.specs.declared.table.Table.{Table}
+use Rattle.hq_engine.specs.FaultTexts.{fault_text}
+use Rattle.hq_engine.specs.Replies.{data_text, resolved_for}
+use Rattle.hq_engine.specs.Request.{request_due}
+use Rattle.hq_engine.specs.declared.engine.Engine.{Engine}
+use Rattle.hq_engine.specs.declared.refusal.RequestRefusal.{RequestRefusal}
+use Rattle.hq_engine.specs.declared.refusal.RequestRefusal.TheVariants.{Fault, NotBuilt, Memory}
+use Rattle.hq_http.specs.Replies.{fault_with}
+use Rattle.hq_session.specs.Hook.{KeepsRule}
+use Rattle.hq_session.specs.Secret.{AllowedBySecret}
+use Rattle.hq_session.specs.declared.header.Header.{Header}
+use Rattle.hq_session.specs.declared.hook.HookAnswer.{HookAnswer}
+use Rattle.hq_session.specs.declared.hook.HookAnswer.TheVariants as answer
+use Rattle.hq_session.specs.declared.secret.SecretRule.{SecretRule}
+use Rattle.hq_responder.specs.declared.responder.EngineResponder.{EngineResponder}
+
+-- ---- the reply that is due
+
+-- the body of the reply to a request that is not built
+unfoldable pub not_built_text : List ℕ
+not_built_text = fault_with (codes "not built") (codes "unexpected") (codes "501")
+
+abbrev pub IsNotBuilt : Reply → Type 0
+IsNotBuilt reply = (reply.status ≡ 501) × (reply.body ≡ not_built_text)
+
+module _ (tables : List Table) (meta : MetaTree) (session : Session) (database : Option (List (List Row))) where
+  -- the reply to what a body makes: the data of a request, where the database is told, or the first fault
+  abbrev pub IsReply : Result AskTree RequestRefusal → Reply → Type 0
+  IsReply (Ok ask) reply = (reply.status ≡ 200) × IfSome database (λ d. reply.body ≡ data_text (resolved_for tables meta session d ask))
+  IsReply (Err (Fault f)) reply = (reply.status ≡ 200) × (reply.body ≡ fault_text f)
+  IsReply (Err NotBuilt) reply = IsNotBuilt reply
+  IsReply (Err Memory) reply = IsNotBuilt reply
+
+  -- the reply that is due for a body
+  abbrev pub is_due : (body : List ℕ) → Reply → Type 0
+  is_due body reply = IsReply (request_due tables meta session body) reply
+
+-- the same by an engine
+abbrev pub is_due_of : Engine → Session → Option (List (List Row)) → (body : List ℕ) → Reply → Type 0
+is_due_of engine session database body reply = is_due engine.catalog.tables (meta_view engine.meta) session database body reply
+
+-- ---- the responder
+
+-- its hook keeps its rule, and its database has the engine's catalog
+pub record IsReady {P F D : Type 0} (g : Shared F (Bor (List Header) × Unit {0}) HookAnswer) (allows : P → List Header → HookAnswer → Type 0) (tables : D → List Table) (r : EngineResponder P F D) : Type 0 where
+  pub hook : KeepsRule g allows r.hook
+  pub catalog : tables r.db ≡ r.engine.catalog.tables
+
+-- it may give the reply that is due for a session which the rule allows for the headers
+abbrev pub MayGive : {P : Type 0} → (P → List Header → HookAnswer → Type 0) → P → Engine → Option (List (List Row)) → List Header → (body : List ℕ) → Reply → Type 0
+MayGive allows rule engine database headers body reply =
+    (session : Session) × allows rule headers (answer.Session session) × is_due_of engine session database body reply
+
+-- ---- by an admin secret
+
+-- a caller with these headers may be denied
+abbrev pub denies : SecretRule → List Header → Type 0
+denies rule headers = AllowedBySecret rule headers answer.Denied
+
+-- it may get this reply: the one that is due for the caller's session
+abbrev pub gives : SecretRule → List Table → MetaTree → Option (List (List Row)) → List Header → (body : List ℕ) → Reply → Type 0
+gives rule tables meta database headers body reply =
+    (session : Session) × AllowedBySecret rule headers (answer.Session session) × is_due tables meta session database body reply
