@@ -1,0 +1,12 @@
+use Rattle.hq_responder.proofs.Replies.{answered, body_weaker, unanswered}
+use Rattle.std.proofs.Common.{refl}
+use Rattle.hq_responder.proofs.reply.answer_for.Goals as goal
+
+pub returns-in-Ok-clause-body : goal.returns-in-Ok-clause-body
+returns-in-Ok-clause-body g c =
+    let ensured = c.in-Ok.ensures in
+    answered c.args.engine.now c.args.session.now (g.D.Database.database c.args.db.now) c.args.body.now c.in-Ok.reply ensured.status ensured.built ensured.fault ensured.reply
+
+pub returns-in-NotBuilt-clause-body : goal.returns-in-NotBuilt-clause-body
+returns-in-NotBuilt-clause-body g c =
+    body_weaker c.not_built.result _ _ (unanswered c.args.engine.now c.args.session.now (g.D.Database.database c.args.db.now) c.args.body.now (c.in-NotBuilt.ensures.not_built refl)) c.not_built.ensures.body
