@@ -1,7 +1,6 @@
 //! Serving a directory.
-ghost use Rattle.std.specs.Prelude.{◌≡◌, ◌≢◌, ◌≤◌, ◌⊎◌, IfErr, IsErrOf, Err};
+ghost use Rattle.std.specs.Prelude.{◌≡◌, ◌≤◌, ◌⊎◌, IfErr, IsErrOf};
 ghost use Rattle.hq_outside.specs.Causes.{Rose};
-ghost use Rattle.hq_serve.specs.declared.serving.ServeRefusal.TheVariants as serve;
 ghost use Rattle.hq_terms.specs.Meta.{meta_view};
 ghost use Rattle.hq_loading.specs.Loading.{contents};
 ghost use Rattle.hq_app.specs.Ending.{NotDatabase};

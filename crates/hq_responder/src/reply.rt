@@ -11,6 +11,7 @@ use hq_terms::Session;
 use std::alloc::Global;
 
 // The reply to a request that is not built.
+#[tactic(auto, unfolding(crate::specs::Due::not_built_text))]
 fn not_built_reply(alloc: Global) -> Result<Reply, Memory>
     ensures { IfOk result IsNotBuilt }
 {

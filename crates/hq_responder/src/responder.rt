@@ -13,7 +13,8 @@ pub struct EngineResponder<P, F, D> {
     pub db: D,
 }
 
-impl<P: HookRule, F: Fn(&Headers) -> HookAnswer, D: Database> Responder for EngineResponder<P, F, D> {
+impl<P: HookRule, F: Fn(&Headers) -> HookAnswer, D: Database> Responder
+    for EngineResponder<P, F, D> {
     ghost use Rattle.std.specs.Prelude.{◌≡◌};
     ghost use Rattle.hq_session.specs.declared.hook.HookAnswer.TheVariants as answer;
     ghost use Rattle.hq_responder.specs.Due.{IsReady, MayGive};

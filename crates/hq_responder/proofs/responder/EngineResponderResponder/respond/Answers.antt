@@ -3,7 +3,7 @@ use Rattle.hq_responder.proofs.responder.EngineResponderResponder.respond.Goals 
 
 pub returns-in-Session-clause-body : goal.returns-in-Session-clause-body
 returns-in-Session-clause-body g c =
-    body_weaker c.answer_for.result _ _ (λ reply is. (c.in-Session.session, (c.in-Session.ensures, is))) c.answer_for.ensures.body
+    body_weaker c.answer_for.result _ _ (λ reply is. (c.in-Session.session, c.in-Session.ensures, is)) c.answer_for.ensures.body
 
 pub returns-in-Session-clause-same_give : goal.returns-in-Session-clause-same_give
 returns-in-Session-clause-same_give g c =
