@@ -1,3 +1,5 @@
+ghost use Rattle.std.specs.Prelude.{◌≡◌};
+
 use hq_base::{Memory, Txt};
 use hq_engine::{EngineRefusal, StatementRefusal};
 use hq_line::{Field, Fields, Phrase};
@@ -52,8 +54,9 @@ impl Refusal {
 }
 
 impl Refusal {
-    ghost use Rattle.std.specs.Prelude.{◌≡◌, option_copied};
-    ghost use Rattle.hq_app.specs.Line.{field_texts, refusal_fields, refusal_file, refusal_name};
+    ghost use Rattle.std.specs.Prelude.{option_copied};
+    ghost use Rattle.hq_line.specs.Line.{field_texts};
+    ghost use Rattle.hq_app.specs.Line.{refusal_fields, refusal_file, refusal_name};
 
     /// The file that it is of.
     pub fn file(&self) -> Option<&Txt>
@@ -96,7 +99,6 @@ impl Refusal {
 }
 
 impl From<Memory> for Refusal {
-    ghost use Rattle.std.specs.Prelude.{◌≡◌};
     ghost use Rattle.hq_app.specs.declared.refusal.Refusal.TheVariants as ending;
 
     ghost from_gives = { λ _ e. e ≡ ending.Memory };
@@ -107,7 +109,6 @@ impl From<Memory> for Refusal {
 }
 
 impl From<WriteFailed> for Refusal {
-    ghost use Rattle.std.specs.Prelude.{◌≡◌};
     ghost use Rattle.hq_app.specs.declared.refusal.Refusal.TheVariants as ending;
 
     ghost from_gives = { λ _ e. e ≡ ending.WriteFailed };
@@ -118,7 +119,6 @@ impl From<WriteFailed> for Refusal {
 }
 
 impl From<WordsRefusal> for Refusal {
-    ghost use Rattle.std.specs.Prelude.{◌≡◌};
     ghost use Rattle.hq_app.specs.Output.{of_words};
 
     ghost from_gives = { λ r e. e ≡ of_words r };
@@ -132,7 +132,6 @@ impl From<WordsRefusal> for Refusal {
 }
 
 impl From<LoadingRefusal> for Refusal {
-    ghost use Rattle.std.specs.Prelude.{◌≡◌};
     ghost use Rattle.hq_app.specs.Output.{of_loading};
 
     ghost from_gives = { λ r e. e ≡ of_loading r };
@@ -147,7 +146,6 @@ impl From<LoadingRefusal> for Refusal {
 }
 
 impl From<InputRefusal> for Refusal {
-    ghost use Rattle.std.specs.Prelude.{◌≡◌};
     ghost use Rattle.hq_app.specs.Output.{of_input};
 
     ghost from_gives = { λ r e. e ≡ of_input r };
@@ -162,7 +160,6 @@ impl From<InputRefusal> for Refusal {
 }
 
 impl From<EngineRefusal> for Refusal {
-    ghost use Rattle.std.specs.Prelude.{◌≡◌};
     ghost use Rattle.hq_app.specs.Output.{of_engine};
 
     ghost from_gives = { λ r e. e ≡ of_engine r };
@@ -177,7 +174,6 @@ impl From<EngineRefusal> for Refusal {
 }
 
 impl From<StatementRefusal> for Refusal {
-    ghost use Rattle.std.specs.Prelude.{◌≡◌};
     ghost use Rattle.hq_app.specs.Output.{of_statement};
 
     ghost from_gives = { λ r e. e ≡ of_statement r };
@@ -191,7 +187,6 @@ impl From<StatementRefusal> for Refusal {
 }
 
 impl From<ServeRefusal> for Refusal {
-    ghost use Rattle.std.specs.Prelude.{◌≡◌};
     ghost use Rattle.hq_app.specs.Serving.{of_serving};
 
     ghost from_gives = { λ r e. e ≡ of_serving r };
