@@ -5,9 +5,8 @@ ghost use Rattle.std.specs.Iterator.{IsFinite};
 
 use hq_app::{World, run};
 use hq_base::{List, Memory, Txt, TxtRefusal};
-use hq_memory::SureDoor;
 use hq_outside::write_all;
-use hq_system::{DirFiles, StdSink, StdSource};
+use hq_system::{DirFiles, StdSink, StdSource, TcpDoor};
 use std::alloc::Global;
 use std::env;
 use std::io::{ErrorKind, Write};
@@ -80,7 +79,7 @@ fn main(rt: HostRuntime) -> ExitCode {
     };
     let world = World {
         files: DirFiles::new(rt),
-        door: SureDoor::new(alloc, List::new(alloc)),
+        door: TcpDoor::new(rt),
         input: StdSource::new(rt.stdin()),
         out: StdSink::new(rt.stdout()),
         err,

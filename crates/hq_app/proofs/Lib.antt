@@ -1,6 +1,3 @@
-mod Catalogs
-mod EachDue
-mod WrittenParts
 mod Endings
 mod Statings
-mod Commands
+mod Servings

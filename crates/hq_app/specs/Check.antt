@@ -5,9 +5,9 @@ use Rattle.std.specs.Fmt.{decimal}
 use Rattle.std.specs.List.{concat}
 use Rattle.hq_terms.specs.Database.{Row}
 use Rattle.hq_engine.specs.Roles.{roles_in}
-use Rattle.hq_app.specs.Line.{phrase_text}
-use Rattle.hq_app.specs.Loading.{Contents}
-use Rattle.hq_app.specs.declared.phrase.Phrase.TheVariants.{Ok, Tables, Roles, Rows, End}
+use Rattle.hq_line.specs.Line.{phrase_text}
+use Rattle.hq_loading.specs.Loading.{Contents}
+use Rattle.hq_line.specs.declared.phrase.Phrase.TheVariants.{Ok, Tables, Roles, Rows, End}
 
 -- the rows of all tables
 abbrev pub rows_in : List (List Row) → ℕ

@@ -1,10 +1,6 @@
-pub mod Words
-pub mod Told
-pub mod Directory
-pub mod Loading
 pub mod Line
-pub mod Wrote
 pub mod Check
 pub mod Output
 pub mod Ending
+pub mod Serving
 pub mod Runs

@@ -12,7 +12,6 @@ use Rattle.hq_terms.specs.declared.session.Session.{Session}
 use Rattle.hq_terms.specs.declared.table.Table.{Table}
 use Rattle.hq_engine.specs.Asking.{asked_text}
 use Rattle.hq_engine.specs.FaultTexts.{fault_text, tells_fault}
-use Rattle.hq_engine.specs.Reading.{refused_as}
 use Rattle.hq_engine.specs.Replies.{data_text, resolved_for}
 use Rattle.hq_engine.specs.Request.{request_due}
 use Rattle.hq_engine.specs.declared.engine.Engine.{Engine}
@@ -24,25 +23,19 @@ use Rattle.hq_engine.specs.declared.stated.StatementRefusal.{StatementRefusal}
 use Rattle.hq_engine.specs.declared.stated.StatementRefusal.TheVariants as statement
 use Rattle.hq_session.specs.Sessions.{session_of}
 use Rattle.hq_session.specs.declared.header.Header.{Header}
-use Rattle.hq_session.specs.declared.headers.HeadersRefusal.{HeadersRefusal}
-use Rattle.hq_session.specs.declared.headers.HeadersRefusal.TheVariants as headers
 use Rattle.hq_app.specs.Check.{check_line}
-use Rattle.hq_app.specs.Loading.{Contents, Described, description_due, loading_due}
+use Rattle.hq_loading.specs.Loading.{Contents, Described, description_due, loading_due, refused_as}
 use Rattle.hq_app.specs.declared.done.Done.{Done}
 use Rattle.hq_app.specs.declared.done.Done.TheVariants.{Answered, Faulty}
 use Rattle.hq_app.specs.declared.reply.TheConstants.{INPUT_LIMIT}
-use Rattle.hq_app.specs.declared.words.WordsRefusal.{WordsRefusal}
-use Rattle.hq_app.specs.declared.words.WordsRefusal.TheVariants as words
-use Rattle.hq_app.specs.declared.refusal.LoadingRefusal.{LoadingRefusal}
-use Rattle.hq_app.specs.declared.refusal.LoadingRefusal.TheVariants as loading
+use Rattle.hq_words.specs.declared.refusal.WordsRefusal.{WordsRefusal}
+use Rattle.hq_words.specs.declared.refusal.WordsRefusal.TheVariants as words
+use Rattle.hq_loading.specs.declared.refusal.LoadingRefusal.{LoadingRefusal}
+use Rattle.hq_loading.specs.declared.refusal.LoadingRefusal.TheVariants as loading
 use Rattle.hq_app.specs.declared.refusal.Refusal.{Refusal}
 use Rattle.hq_app.specs.declared.refusal.Refusal.TheVariants.{BadWords, File as RefusedFile, ReadFailed, Database, Memory, InputTooLong, NotBuilt}
 
 -- what the refusal of a part is to the program
-abbrev pub of_headers : HeadersRefusal → WordsRefusal
-of_headers headers.TooMany = words.BadWords
-of_headers headers.Memory = words.Memory
-
 abbrev pub of_words : WordsRefusal → Refusal
 of_words words.BadWords = BadWords
 of_words words.Memory = Memory

@@ -1,19 +1,20 @@
 //! Checking a directory.
-ghost use Rattle.std.specs.Prelude.{◌≡◌, ◌≢◌, ◌≤◌, Ok, Some, length, IfOk, IsErrOf, IfErr};
+ghost use Rattle.std.specs.Prelude.{◌≡◌, ◌≢◌, ◌≤◌, Ok, Some, length, IfOk, IfSome, IsErrOf, IfErr};
 ghost use Rattle.hq_outside.specs.Causes.{Rose};
 ghost use Rattle.hq_terms.specs.Meta.{meta_view};
 ghost use Rattle.hq_engine.specs.Roles.{roles_in};
 ghost use Rattle.hq_app.specs.Check.{rows_in, counts_line, check_line};
 ghost use Rattle.hq_app.specs.Ending.{Ends, Silent, NotDatabase};
-ghost use Rattle.hq_app.specs.Loading.{loaded_view};
-ghost use Rattle.hq_app.specs.Wrote.{Wrote};
+ghost use Rattle.hq_app.specs.Output.{check_output};
+ghost use Rattle.hq_loading.specs.Loading.{loaded_view};
+ghost use Rattle.hq_line.specs.Wrote.{Wrote};
 
-use crate::parts::{Part, write_parts};
-use crate::phrase::Phrase;
-use crate::{Done, Loaded, Refusal};
-use hq_base::Memory;
+use crate::{Done, Refusal};
+use hq_base::{Memory, Txt};
 use hq_engine::roles_in;
-use hq_outside::{Sink, WriteFailed};
+use hq_line::{Part, Phrase, write_parts};
+use hq_loading::{Loaded, load};
+use hq_outside::{Files, Sink, WriteFailed};
 use hq_tables::Rows;
 use hq_terms::Meta;
 use std::alloc::Global;
@@ -56,8 +57,8 @@ fn write_counts<K: Sink>(out: &mut K, tables: u64, roles: u64, rows: u64) -> Res
     )
 }
 
-/// Writes the line of a check of what a directory holds.
-pub fn write_check<K: Sink>(alloc: Global, loaded: &Loaded, out: &mut K) -> Result<Done, Refusal>
+// Writes the line of a check of what a directory holds.
+fn write_check<K: Sink>(alloc: Global, loaded: &Loaded, out: &mut K) -> Result<Done, Refusal>
     ensures told { Ends (K.written out.old) (K.written out.new) (Ok (record { done = Done.Answered; bytes = Some (check_line (loaded_view loaded.now)) })) result }
     ensures fault { result ≢ Ok Done.Faulty }
     ensures silent { Silent (K.written out.old) (K.written out.new) result }
@@ -72,4 +73,27 @@ pub fn write_check<K: Sink>(alloc: Global, loaded: &Loaded, out: &mut K) -> Resu
     let rows = count_rows(loaded.rows.as_slice());
     write_counts(out, tables, roles, rows)?;
     Ok(Done::Answered)
+}
+
+/// Loads a directory, and writes what it holds.
+pub fn check<F: Files, K: Sink>(
+    alloc: Global,
+    dir: &Txt,
+    files: &mut F,
+    out: &mut K,
+) -> Result<Done, Refusal>
+    ensures told { IfSome (F.folder files.old) (λ folder.
+        Ends (K.written out.old) (K.written out.new) (check_output dir.now folder) result) }
+    ensures fault { result ≢ Ok Done.Faulty }
+    ensures silent { Silent (K.written out.old) (K.written out.new) result }
+    ensures words { IsErrOf result Refusal.BadWords → ⊥ }
+    ensures read { IsErrOf result Refusal.ReadFailed → Rose (F.faults files.old) (F.faults files.new) }
+    ensures write { IsErrOf result Refusal.WriteFailed → Rose (K.faults out.old) (K.faults out.new) }
+    ensures failed { IfErr result NotDatabase }
+    ensures folder { F.folder files.new ≡ F.folder files.old }
+    ensures files_later { F.faults files.old ≤ F.faults files.new }
+    ensures out_later { K.faults out.old ≤ K.faults out.new }
+{
+    let loaded = load(alloc, files, dir)?;
+    write_check(alloc, &loaded, out)
 }

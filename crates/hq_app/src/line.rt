@@ -1,10 +1,9 @@
 //! The line of a refusal.
 ghost use Rattle.hq_app.specs.Line.{line_of};
-ghost use Rattle.hq_app.specs.Wrote.{Wrote};
+ghost use Rattle.hq_line.specs.Wrote.{Wrote};
 
 use crate::Refusal;
-use crate::parts::{Part, write_parts};
-use crate::phrase::Phrase;
+use hq_line::{Part, Phrase, write_parts};
 use hq_outside::{Sink, WriteFailed};
 
 /// Writes the line of a refusal, or what goes before a fault.

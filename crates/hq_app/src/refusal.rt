@@ -1,35 +1,13 @@
 ghost use Rattle.std.specs.Prelude.{◌≡◌};
-ghost use Rattle.hq_app.specs.declared.refusal.LoadingRefusal.TheVariants as refusal;
 
-use crate::WordsRefusal;
-use crate::file_fault::FileFault;
-use crate::parts::{Field, Fields};
-use crate::phrase::Phrase;
 use hq_base::{Memory, Txt};
 use hq_engine::{EngineRefusal, StatementRefusal};
+use hq_line::{Field, Fields, Phrase};
+use hq_loading::{FileFault, LoadingRefusal};
 use hq_outside::{InputRefusal, WriteFailed};
+use hq_serve::ServeRefusal;
+use hq_words::WordsRefusal;
 use thiserror::Error;
-
-/// Why a directory was not loaded.
-#[derive(Debug, Drop, Error)]
-pub enum LoadingRefusal {
-    /// A file is absent, too large, or refused by its reader.
-    #[error("{fault}")]
-    File { file: Txt, fault: FileFault },
-    /// A load failed, and the count of faults rose.
-    #[error("load failed")]
-    Failed,
-    #[error("out of memory")]
-    Memory,
-}
-
-impl From<Memory> for LoadingRefusal {
-    ghost from_gives = { λ _ e. e ≡ refusal.Memory };
-
-    fn from(_: Memory) -> Self {
-        LoadingRefusal::Memory
-    }
-}
 
 /// Why the program ends with another status than 0.
 #[derive(Debug, Drop, Error)]
@@ -76,8 +54,9 @@ impl Refusal {
 }
 
 impl Refusal {
-    ghost use Rattle.std.specs.Prelude.{◌≡◌, option_copied};
-    ghost use Rattle.hq_app.specs.Line.{field_texts, refusal_fields, refusal_file, refusal_name};
+    ghost use Rattle.std.specs.Prelude.{option_copied};
+    ghost use Rattle.hq_line.specs.Line.{field_texts};
+    ghost use Rattle.hq_app.specs.Line.{refusal_fields, refusal_file, refusal_name};
 
     /// The file that it is of.
     pub fn file(&self) -> Option<&Txt>
@@ -120,7 +99,6 @@ impl Refusal {
 }
 
 impl From<Memory> for Refusal {
-    ghost use Rattle.std.specs.Prelude.{◌≡◌};
     ghost use Rattle.hq_app.specs.declared.refusal.Refusal.TheVariants as ending;
 
     ghost from_gives = { λ _ e. e ≡ ending.Memory };
@@ -131,7 +109,6 @@ impl From<Memory> for Refusal {
 }
 
 impl From<WriteFailed> for Refusal {
-    ghost use Rattle.std.specs.Prelude.{◌≡◌};
     ghost use Rattle.hq_app.specs.declared.refusal.Refusal.TheVariants as ending;
 
     ghost from_gives = { λ _ e. e ≡ ending.WriteFailed };
@@ -142,7 +119,6 @@ impl From<WriteFailed> for Refusal {
 }
 
 impl From<WordsRefusal> for Refusal {
-    ghost use Rattle.std.specs.Prelude.{◌≡◌};
     ghost use Rattle.hq_app.specs.Output.{of_words};
 
     ghost from_gives = { λ r e. e ≡ of_words r };
@@ -156,7 +132,6 @@ impl From<WordsRefusal> for Refusal {
 }
 
 impl From<LoadingRefusal> for Refusal {
-    ghost use Rattle.std.specs.Prelude.{◌≡◌};
     ghost use Rattle.hq_app.specs.Output.{of_loading};
 
     ghost from_gives = { λ r e. e ≡ of_loading r };
@@ -171,7 +146,6 @@ impl From<LoadingRefusal> for Refusal {
 }
 
 impl From<InputRefusal> for Refusal {
-    ghost use Rattle.std.specs.Prelude.{◌≡◌};
     ghost use Rattle.hq_app.specs.Output.{of_input};
 
     ghost from_gives = { λ r e. e ≡ of_input r };
@@ -186,7 +160,6 @@ impl From<InputRefusal> for Refusal {
 }
 
 impl From<EngineRefusal> for Refusal {
-    ghost use Rattle.std.specs.Prelude.{◌≡◌};
     ghost use Rattle.hq_app.specs.Output.{of_engine};
 
     ghost from_gives = { λ r e. e ≡ of_engine r };
@@ -201,7 +174,6 @@ impl From<EngineRefusal> for Refusal {
 }
 
 impl From<StatementRefusal> for Refusal {
-    ghost use Rattle.std.specs.Prelude.{◌≡◌};
     ghost use Rattle.hq_app.specs.Output.{of_statement};
 
     ghost from_gives = { λ r e. e ≡ of_statement r };
@@ -210,6 +182,20 @@ impl From<StatementRefusal> for Refusal {
         match refusal {
             StatementRefusal::NotBuilt => Refusal::NotBuilt,
             StatementRefusal::Memory => Refusal::Memory,
+        }
+    }
+}
+
+impl From<ServeRefusal> for Refusal {
+    ghost use Rattle.hq_app.specs.Serving.{of_serving};
+
+    ghost from_gives = { λ r e. e ≡ of_serving r };
+
+    fn from(refusal: ServeRefusal) -> Self {
+        match refusal {
+            ServeRefusal::DoorFailed => Refusal::ReadFailed,
+            ServeRefusal::WriteFailed => Refusal::WriteFailed,
+            ServeRefusal::Memory => Refusal::Memory,
         }
     }
 }

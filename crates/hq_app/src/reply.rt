@@ -1,14 +1,20 @@
 //! The reply to one request.
-ghost use Rattle.std.specs.Prelude.{◌≡◌, ◌≢◌, ◌≤◌, length, IsErrOf, IfSome, IfErr, Err};
+ghost use Rattle.std.specs.Prelude.{◌≡◌, ◌≢◌, ◌≤◌, ◌⊎◌, length, IsErrOf, IfSome, IfErr, Err, Some};
 ghost use Rattle.hq_outside.specs.Causes.{Rose};
-ghost use Rattle.hq_app.specs.Output.{done_by};
-ghost use Rattle.hq_app.specs.Ending.{Answers, Silent, TellsDatabase};
+ghost use Rattle.hq_terms.specs.Meta.{meta_view};
+ghost use Rattle.hq_app.specs.Output.{done_by, query_output, request_output};
+ghost use Rattle.hq_app.specs.Ending.{Answers, Ends, NotDatabase, Silent, TellsDatabase};
 
+use crate::caller::caller;
 use crate::{Done, Refusal};
-use hq_base::Reply;
+use hq_base::{Reply, Txt};
+use hq_db::SqlDb;
 use hq_engine::{Engine, tells_fault};
 use hq_link::Database;
-use hq_outside::{Sink, Source, read_all, write_all};
+use hq_loading::{Loaded, load};
+use hq_outside::{Files, Sink, Source, read_all, write_all};
+use hq_session::Headers;
+use hq_tables::MemTables;
 use hq_terms::Session;
 use std::alloc::Global;
 
@@ -80,4 +86,60 @@ pub fn reply_to<D: Database, S: Source, K: Sink>(
 {
     let body = read_all(alloc, input, INPUT_LIMIT)?;
     reply_over(alloc, engine, session, body.as_slice(), db, out)
+}
+
+// Answers a request of a session over what a directory holds.
+fn respond<S: Source, K: Sink>(
+    alloc: Global,
+    loaded: Loaded,
+    session: &Session,
+    input: &mut S,
+    out: &mut K,
+) -> Result<Done, Refusal>
+    ensures told { IfSome (S.left input.old) (λ left. Ends (K.written out.old) (K.written out.new)
+        (request_output loaded.catalog.tables (meta_view loaded.meta) session.now (Some loaded.rows) left) result) }
+    ensures silent { Silent (K.written out.old) (K.written out.new) result }
+    ensures read { IsErrOf result Refusal.ReadFailed → Rose (S.faults input.old) (S.faults input.new) }
+    ensures write { IsErrOf result Refusal.WriteFailed → Rose (K.faults out.old) (K.faults out.new) }
+    ensures failed { IfErr result NotDatabase }
+    ensures words { IsErrOf result Refusal.BadWords → ⊥ }
+    ensures input_later { S.faults input.old ≤ S.faults input.new }
+    ensures out_later { K.faults out.old ≤ K.faults out.new }
+{
+    let Loaded {
+        catalog,
+        meta,
+        rows,
+    } = loaded;
+    let engine = Engine::new(alloc, catalog.copy(alloc)?, meta)?;
+    let mut db = SqlDb::new(MemTables::new(catalog, rows));
+    reply_to(alloc, &engine, session, &mut db, input, out)
+}
+
+/// Loads a directory, and answers a request for the session of the headers.
+pub fn query<F: Files, S: Source, K: Sink>(
+    alloc: Global,
+    dir: &Txt,
+    headers: &Headers,
+    files: &mut F,
+    input: &mut S,
+    out: &mut K,
+) -> Result<Done, Refusal>
+    ensures told { IfSome (F.folder files.old) (λ folder. IfSome (S.left input.old) (λ left.
+        Ends (K.written out.old) (K.written out.new) (query_output dir.now headers.now folder left) result)) }
+    ensures silent { Silent (K.written out.old) (K.written out.new) result }
+    ensures words { IsErrOf result Refusal.BadWords → ⊥ }
+    ensures read { IsErrOf result Refusal.ReadFailed →
+        Rose (F.faults files.old) (F.faults files.new) × (S.left input.new ≡ S.left input.old)
+        ⊎ Rose (S.faults input.old) (S.faults input.new) }
+    ensures write { IsErrOf result Refusal.WriteFailed → Rose (K.faults out.old) (K.faults out.new) }
+    ensures failed { IfErr result NotDatabase }
+    ensures folder { F.folder files.new ≡ F.folder files.old }
+    ensures files_later { F.faults files.old ≤ F.faults files.new }
+    ensures input_later { S.faults input.old ≤ S.faults input.new }
+    ensures out_later { K.faults out.old ≤ K.faults out.new }
+{
+    let loaded = load(alloc, files, dir)?;
+    let session = caller(alloc, headers)?;
+    respond(alloc, loaded, &session, input, out)
 }

@@ -1,177 +1,51 @@
-ghost use Rattle.std.specs.Prelude.{◌≡◌, ◌≢◌, ◌⊎◌, ◌≤◌, ◌↔◌, IsErrOf, IfErr, IfSome, None, Ok, Some, false};
+ghost use Rattle.std.specs.Prelude.{◌≡◌, ◌≢◌, ◌⊎◌, ◌≤◌, IsErrOf, IfErr, IfSome, None, false};
 ghost use Rattle.hq_outside.specs.Causes.{Rose};
-ghost use Rattle.hq_app.specs.Words.{command_of, reads_input};
-ghost use Rattle.hq_terms.specs.Meta.{meta_view};
-ghost use Rattle.hq_app.specs.Output.{check_output, query_output, request_output, sql_output, statement_output};
-ghost use Rattle.hq_app.specs.Ending.{Answer, Answers, Ends, Silent, Tells, NotDatabase, status_of, told_line};
-ghost use Rattle.hq_app.specs.Runs.{ReadCause, Runs, outside};
+ghost use Rattle.hq_words.specs.Asked.{command_of};
+ghost use Rattle.hq_app.specs.Ending.{Answer, Answers, Silent, Tells, NotDatabase, status_of, told_line};
+ghost use Rattle.hq_app.specs.Runs.{ReadCause, Runs, opens_door, outside, reads_input};
+ghost use Rattle.hq_app.specs.Serving.{seen_door};
 
-use crate::check::write_check;
+use crate::check::check;
 use crate::line::write_line;
-use crate::reply::reply_to;
-use crate::stating::state_to;
-use crate::{Command, Description, Done, Loaded, Ran, Refusal, World, load, load_description};
+use crate::reply::{query, reply_to};
+use crate::serving::serve;
+use crate::stating::sql;
+use crate::{Done, Ran, Refusal, World};
 use hq_base::Txt;
 use hq_db::SqlDb;
 use hq_engine::Engine;
 use hq_link::Database;
 use hq_outside::{Door, Files, Sink, Source};
-use hq_session::Headers;
-use hq_tables::{MemTables, Tables};
+use hq_session::SecretRule;
+use hq_tables::Tables;
 use hq_terms::Session;
+use hq_words::Command;
 use std::alloc::Global;
 
-// Answers a request of a session over what a directory holds.
-fn respond<S: Source, K: Sink>(
-    alloc: Global,
-    loaded: Loaded,
-    session: &Session,
-    input: &mut S,
-    out: &mut K,
-) -> Result<Done, Refusal>
-    ensures told { IfSome (S.left input.old) (λ left. Ends (K.written out.old) (K.written out.new)
-        (request_output loaded.catalog.tables (meta_view loaded.meta) session.now (Some loaded.rows) left) result) }
-    ensures silent { Silent (K.written out.old) (K.written out.new) result }
-    ensures read { IsErrOf result Refusal.ReadFailed → Rose (S.faults input.old) (S.faults input.new) }
-    ensures write { IsErrOf result Refusal.WriteFailed → Rose (K.faults out.old) (K.faults out.new) }
-    ensures failed { IfErr result NotDatabase }
-    ensures words { IsErrOf result Refusal.BadWords → ⊥ }
-    ensures input_later { S.faults input.old ≤ S.faults input.new }
-    ensures out_later { K.faults out.old ≤ K.faults out.new }
-{
-    let Loaded {
-        catalog,
-        meta,
-        rows,
-    } = loaded;
-    let engine = Engine::new(alloc, catalog.copy(alloc)?, meta)?;
-    let mut db = SqlDb::new(MemTables::new(catalog, rows));
-    reply_to(alloc, &engine, session, &mut db, input, out)
-}
-
-// Loads a directory, and answers a request for the session of the headers.
-fn query<F: Files, S: Source, K: Sink>(
-    alloc: Global,
-    dir: &Txt,
-    headers: &Headers,
-    files: &mut F,
-    input: &mut S,
-    out: &mut K,
-) -> Result<Done, Refusal>
-    ensures told { IfSome (F.folder files.old) (λ folder. IfSome (S.left input.old) (λ left.
-        Ends (K.written out.old) (K.written out.new) (query_output dir.now headers.now folder left) result)) }
-    ensures silent { Silent (K.written out.old) (K.written out.new) result }
-    ensures words { IsErrOf result Refusal.BadWords → ⊥ }
-    ensures read { IsErrOf result Refusal.ReadFailed →
-        Rose (F.faults files.old) (F.faults files.new) × (S.left input.new ≡ S.left input.old)
-        ⊎ Rose (S.faults input.old) (S.faults input.new) }
-    ensures write { IsErrOf result Refusal.WriteFailed → Rose (K.faults out.old) (K.faults out.new) }
-    ensures failed { IfErr result NotDatabase }
-    ensures folder { F.folder files.new ≡ F.folder files.old }
-    ensures files_later { F.faults files.old ≤ F.faults files.new }
-    ensures input_later { S.faults input.old ≤ S.faults input.new }
-    ensures out_later { K.faults out.old ≤ K.faults out.new }
-{
-    let loaded = load(alloc, files, dir)?;
-    let session = headers.session(alloc)?;
-    respond(alloc, loaded, &session, input, out)
-}
-
-// Tells the text that is asked for a request of a session, by what a directory describes.
-fn state<S: Source, K: Sink>(
-    alloc: Global,
-    description: Description,
-    session: &Session,
-    input: &mut S,
-    out: &mut K,
-) -> Result<Done, Refusal>
-    ensures told { IfSome (S.left input.old) (λ left. Ends (K.written out.old) (K.written out.new)
-        (statement_output description.catalog.tables (meta_view description.meta) session.now left) result) }
-    ensures silent { Silent (K.written out.old) (K.written out.new) result }
-    ensures read { IsErrOf result Refusal.ReadFailed → Rose (S.faults input.old) (S.faults input.new) }
-    ensures write { IsErrOf result Refusal.WriteFailed → Rose (K.faults out.old) (K.faults out.new) }
-    ensures failed { IfErr result NotDatabase }
-    ensures words { result ≢ Err Refusal.BadWords }
-    ensures input_later { S.faults input.old ≤ S.faults input.new }
-    ensures out_later { K.faults out.old ≤ K.faults out.new }
-{
-    let Description { catalog, meta } = description;
-    let engine = Engine::new(alloc, catalog, meta)?;
-    state_to(alloc, &engine, session, input, out)
-}
-
-// Loads what a directory describes, and tells the text that is asked for a request, for the session of the headers.
-fn sql<F: Files, S: Source, K: Sink>(
-    alloc: Global,
-    dir: &Txt,
-    headers: &Headers,
-    files: &mut F,
-    input: &mut S,
-    out: &mut K,
-) -> Result<Done, Refusal>
-    ensures told { IfSome (F.folder files.old) (λ folder. IfSome (S.left input.old) (λ left.
-        Ends (K.written out.old) (K.written out.new) (sql_output dir.now headers.now folder left) result)) }
-    ensures silent { Silent (K.written out.old) (K.written out.new) result }
-    ensures words { IsErrOf result Refusal.BadWords → ⊥ }
-    ensures read { IsErrOf result Refusal.ReadFailed →
-        Rose (F.faults files.old) (F.faults files.new) × (S.left input.new ≡ S.left input.old)
-        ⊎ Rose (S.faults input.old) (S.faults input.new) }
-    ensures write { IsErrOf result Refusal.WriteFailed → Rose (K.faults out.old) (K.faults out.new) }
-    ensures failed { IfErr result NotDatabase }
-    ensures folder { F.folder files.new ≡ F.folder files.old }
-    ensures files_later { F.faults files.old ≤ F.faults files.new }
-    ensures input_later { S.faults input.old ≤ S.faults input.new }
-    ensures out_later { K.faults out.old ≤ K.faults out.new }
-{
-    let description = load_description(alloc, files, dir)?;
-    let session = headers.session(alloc)?;
-    state(alloc, description, &session, input, out)
-}
-
-// Loads a directory, and writes what it holds.
-fn check<F: Files, K: Sink>(
-    alloc: Global,
-    dir: &Txt,
-    files: &mut F,
-    out: &mut K,
-) -> Result<Done, Refusal>
-    ensures told { IfSome (F.folder files.old) (λ folder.
-        Ends (K.written out.old) (K.written out.new) (check_output dir.now folder) result) }
-    ensures fault { result ≢ Ok Done.Faulty }
-    ensures silent { Silent (K.written out.old) (K.written out.new) result }
-    ensures words { IsErrOf result Refusal.BadWords → ⊥ }
-    ensures read { IsErrOf result Refusal.ReadFailed → Rose (F.faults files.old) (F.faults files.new) }
-    ensures write { IsErrOf result Refusal.WriteFailed → Rose (K.faults out.old) (K.faults out.new) }
-    ensures failed { IfErr result NotDatabase }
-    ensures folder { F.folder files.new ≡ F.folder files.old }
-    ensures files_later { F.faults files.old ≤ F.faults files.new }
-    ensures out_later { K.faults out.old ≤ K.faults out.new }
-{
-    let loaded = load(alloc, files, dir)?;
-    write_check(alloc, &loaded, out)
-}
-
 // Reads the words, and does what they ask.
-fn answered<F: Files, S: Source, K: Sink>(
+fn answered<F: Files, D: Door, S: Source, K: Sink>(
     alloc: Global,
     words: &[Txt],
     files: &mut F,
+    door: &mut D,
     input: &mut S,
     out: &mut K,
 ) -> Result<Done, Refusal>
-    ensures runs { Runs (command_of words.now)
-        (outside (F.folder files.old) (F.faults files.old) (S.left input.old) (S.faults input.old) (K.written out.old) (K.faults out.old))
-        (outside (F.folder files.new) (F.faults files.new) (S.left input.new) (S.faults input.new) (K.written out.new) (K.faults out.new)) result }
+    ensures runs { Runs (record { left = D.Link.left; written = D.Link.written; read_faults = D.Link.read_faults; write_faults = D.Link.write_faults }) (command_of words.now)
+        (outside (F.folder files.old) (F.faults files.old) (S.left input.old) (S.faults input.old) (K.written out.old) (K.faults out.old) (seen_door (D.links door.old) (D.accepted door.old) (D.faults door.old)))
+        (outside (F.folder files.new) (F.faults files.new) (S.left input.new) (S.faults input.new) (K.written out.new) (K.faults out.new) (seen_door (D.links door.new) (D.accepted door.new) (D.faults door.new))) result }
     ensures read { IsErrOf result Refusal.ReadFailed → ReadCause (command_of words.now)
-        (outside (F.folder files.old) (F.faults files.old) (S.left input.old) (S.faults input.old) (K.written out.old) (K.faults out.old))
-        (outside (F.folder files.new) (F.faults files.new) (S.left input.new) (S.faults input.new) (K.written out.new) (K.faults out.new)) }
-    ensures silent { Silent (K.written out.old) (K.written out.new) result }
-    ensures words { IsErrOf result Refusal.BadWords ↔ (command_of words.now ≡ None) }
+        (outside (F.folder files.old) (F.faults files.old) (S.left input.old) (S.faults input.old) (K.written out.old) (K.faults out.old) (seen_door (D.links door.old) (D.accepted door.old) (D.faults door.old)))
+        (outside (F.folder files.new) (F.faults files.new) (S.left input.new) (S.faults input.new) (K.written out.new) (K.faults out.new) (seen_door (D.links door.new) (D.accepted door.new) (D.faults door.new))) }
+    ensures silent { opens_door (command_of words.now) ≡ false → Silent (K.written out.old) (K.written out.new) result }
+    ensures words { IsErrOf result Refusal.BadWords → command_of words.now ≡ None }
     ensures input { reads_input (command_of words.now) ≡ false → input.new ≡ input.old }
+    ensures door { opens_door (command_of words.now) ≡ false → door.new ≡ door.old }
     ensures write { IsErrOf result Refusal.WriteFailed → Rose (K.faults out.old) (K.faults out.new) }
     ensures failed { IfErr result NotDatabase }
     ensures folder { F.folder files.new ≡ F.folder files.old }
     ensures files_later { F.faults files.old ≤ F.faults files.new }
+    ensures door_later { D.faults door.old ≤ D.faults door.new }
     ensures input_later { S.faults input.old ≤ S.faults input.new }
     ensures out_later { K.faults out.old ≤ K.faults out.new }
 {
@@ -179,6 +53,19 @@ fn answered<F: Files, S: Source, K: Sink>(
         Command::Query { dir, headers } => query(alloc, &dir, &headers, files, input, out),
         Command::Sql { dir, headers } => sql(alloc, &dir, &headers, files, input, out),
         Command::Check { dir } => check(alloc, &dir, files, out),
+        Command::Serve {
+            dir,
+            port,
+            connections,
+            secret,
+            unauthorized,
+        } => {
+            let rule = SecretRule {
+                secret,
+                unauthorized,
+            };
+            serve(alloc, &dir, &rule, port, connections, files, door, out)
+        }
     }
 }
 
@@ -240,8 +127,9 @@ pub fn answer_one<T: Tables, S: Source, K: Sink, E: Sink>(
 
 /// The program. `query DIR [HEADER]...` answers the request on the standard input over the directory, for the session of the
 /// headers; `sql DIR [HEADER]...` writes the text of SQL that is asked for it and a line end, or `none` and a line end where
-/// none is. `check DIR` loads the directory and writes `ok: T tables, R roles, N rows`. Everything that it touches is handed
-/// in, and handed back with the status that the program ends with.
+/// none is. `check DIR` loads the directory and writes `ok: T tables, R roles, N rows`. `serve DIR --port P --connections N`
+/// serves so many connections of HTTP at this machine's port, one after the other, and writes a line after each. Everything
+/// that it touches is handed in, and handed back with the status that the program ends with.
 pub fn run<F: Files, D: Door, S: Source, K: Sink, E: Sink>(
     alloc: Global,
     words: &[Txt],
@@ -251,39 +139,42 @@ pub fn run<F: Files, D: Door, S: Source, K: Sink, E: Sink>(
     // the words ask for, unless memory or an object of the outside failed.
     ensures ends { (answer : Answer) × (result.status ≡ status_of answer)
         × Tells (E.written world.err) (E.written result.world.err) (E.faults world.err) (E.faults result.world.err) (told_line answer)
-        × Runs (command_of words.now)
-        (outside (F.folder world.files) (F.faults world.files) (S.left world.input) (S.faults world.input) (K.written world.out) (K.faults world.out))
-        (outside (F.folder result.world.files) (F.faults result.world.files) (S.left result.world.input) (S.faults result.world.input) (K.written result.world.out) (K.faults result.world.out)) answer }
+        × Runs (record { left = D.Link.left; written = D.Link.written; read_faults = D.Link.read_faults; write_faults = D.Link.write_faults }) (command_of words.now)
+        (outside (F.folder world.files) (F.faults world.files) (S.left world.input) (S.faults world.input) (K.written world.out) (K.faults world.out) (seen_door (D.links world.door) (D.accepted world.door) (D.faults world.door)))
+        (outside (F.folder result.world.files) (F.faults result.world.files) (S.left result.world.input) (S.faults result.world.input) (K.written result.world.out) (K.faults result.world.out) (seen_door (D.links result.world.door) (D.accepted result.world.door) (D.faults result.world.door))) answer }
 
-    // Nothing is written at a status other than 0, 1 and 5.
-    ensures silent { result.status ≢ 0 → result.status ≢ 1 → result.status ≢ 5 → K.written result.world.out ≡ K.written world.out }
+    // Nothing is written at a status other than 0, 1 and 5, but the lines of `serve`.
+    ensures silent { opens_door (command_of words.now) ≡ false → result.status ≢ 0 → result.status ≢ 1 → result.status ≢ 5
+        → K.written result.world.out ≡ K.written world.out }
 
-    // It ends with 2 exactly where the words ask for no command.
-    ensures words { (result.status ≡ 2) ↔ (command_of words.now ≡ None) }
+    // It ends with 2 only where the words ask for no command, and there with nothing else but want of memory.
+    ensures words { result.status ≡ 2 → command_of words.now ≡ None }
+    ensures bad_words { command_of words.now ≡ None → (result.status ≡ 2) ⊎ (result.status ≡ 7) }
 
     // A failure is told only where the count of that object rose, as the command uses it.
     ensures read { result.status ≡ 4 → ReadCause (command_of words.now)
-        (outside (F.folder world.files) (F.faults world.files) (S.left world.input) (S.faults world.input) (K.written world.out) (K.faults world.out))
-        (outside (F.folder result.world.files) (F.faults result.world.files) (S.left result.world.input) (S.faults result.world.input) (K.written result.world.out) (K.faults result.world.out)) }
+        (outside (F.folder world.files) (F.faults world.files) (S.left world.input) (S.faults world.input) (K.written world.out) (K.faults world.out) (seen_door (D.links world.door) (D.accepted world.door) (D.faults world.door)))
+        (outside (F.folder result.world.files) (F.faults result.world.files) (S.left result.world.input) (S.faults result.world.input) (K.written result.world.out) (K.faults result.world.out) (seen_door (D.links result.world.door) (D.accepted result.world.door) (D.faults result.world.door))) }
     ensures write { result.status ≡ 5 → Rose (K.faults world.out) (K.faults result.world.out) }
     ensures database { result.status ≢ 6 }
 
-    // A command that reads no input leaves it. The folder and the door are unchanged, and no count falls.
+    // A command that reads no input leaves it, and one that opens no door leaves that. The folder is unchanged, and no count falls.
     ensures input { reads_input (command_of words.now) ≡ false → result.world.input ≡ world.input }
+    ensures door { opens_door (command_of words.now) ≡ false → result.world.door ≡ world.door }
     ensures folder { F.folder result.world.files ≡ F.folder world.files }
-    ensures door { result.world.door ≡ world.door }
     ensures files_later { F.faults world.files ≤ F.faults result.world.files }
+    ensures door_later { D.faults world.door ≤ D.faults result.world.door }
     ensures input_later { S.faults world.input ≤ S.faults result.world.input }
     ensures out_later { K.faults world.out ≤ K.faults result.world.out }
 {
     let World {
         mut files,
-        door,
+        mut door,
         mut input,
         mut out,
         mut err,
     } = world;
-    let answer = answered(alloc, words, &mut files, &mut input, &mut out);
+    let answer = answered(alloc, words, &mut files, &mut door, &mut input, &mut out);
     let status = tell(&mut err, answer);
     Ran {
         status,

@@ -4,10 +4,10 @@
 //! output. It ends with 0, or with 1 and a line on standard error.
 #![tactic(auto)]
 
-use hq_app::{LoadingRefusal, load};
 use hq_base::{Bytes, Memory, Txt, TxtRefusal};
 use hq_db::SqlDb;
 use hq_link::{Database, DbRefusal};
+use hq_loading::{LoadingRefusal, load};
 use hq_outside::{Files, InputRefusal, Sink, Source, WriteFailed, read_all, write_all};
 use hq_system::{DirFiles, StdSink, StdSource};
 use hq_tables::MemTables;

@@ -1,0 +1,4 @@
+pub mod Told
+pub mod Directory
+pub mod Loading
+pub mod Faults
