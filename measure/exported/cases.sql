@@ -60,6 +60,8 @@ create table visit (id integer, room integer, primary key (id)) partition by ran
 create table visit_low partition of visit for values from (0) to (100);
 create table visit_high partition of visit for values from (100) to (200);
 insert into visit values (150, 1), (5, 2), (99, null);
+create table ticket (id integer generated always as identity primary key, visit integer references visit, price smallint);
+insert into ticket (visit, price) values (99, 12), (150, null);
 create table person (id integer primary key, name text);
 create table member (since integer, primary key (id)) inherits (person);
 insert into person values (1, 'a person');
