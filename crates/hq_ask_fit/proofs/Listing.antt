@@ -79,7 +79,7 @@ module _ (tables : List Table) (m : MetaTree) (metadata_fits : fits tables m ≡
     pub stand : SortsStand la.sorts s u
 
   module _ (u : ℕ) where
-    -- an argument that is given is one of a list, and nests no deeper than so
+    -- an argument that is given is one of a list, and its value nests no deeper than a document and a variable together
     abbrev IsHere : Given → Type 0
     IsHere g = ArgFits types (list_target (Some u)) g.arg × (objects_nest g.value ≤ 177)
 
@@ -131,13 +131,13 @@ module _ (tables : List Table) (m : MetaTree) (metadata_fits : fits tables m ≡
         let six = then_ok (matched two.0) (distinct_columns c (given_named c args xs (codes "distinct_on"))) five.0 five.1 in
         let w = where_ok (given_named c args xs (codes "where")) (here (codes "where")) one.0 one.1 in
         let k = sorts_ok (given_named c args xs (codes "order_by")) (here (codes "order_by")) two.0 two.1 in
-        let m2 = matched_ok tables m metadata_fits role schemed vars two.0 six.0 five.0 six.2 in
-        let d : Named five.0 = subst Named m2.0 (distinct_ok (given_named c args xs (codes "distinct_on")) (here (codes "distinct_on")) six.0 six.1) in
+        let matches = matched_ok tables m metadata_fits role schemed vars two.0 six.0 five.0 six.2 in
+        let d : Named five.0 = subst Named matches.0 (distinct_ok (given_named c args xs (codes "distinct_on")) (here (codes "distinct_on")) six.0 six.1) in
         let same : made five.0 ≡ la = cc in
         subst (ListFits u) same (record {
           uses = (w.uses, sorts_use tables m metadata_fits role schemed vars u two.0 k.0, columns_use tables m metadata_fits role schemed vars u five.0 d);
           fit =
               and_from _ _ (and_from _ _ (and_from _ _ (and_from _ _ (and_from _ _ w.fit w.bound) (le-leb (depth one.0) 400 (omega (arith, w.deep)))) k.1)
-              (sorts_short tables m metadata_fits role schemed vars u two.0 k.0)) m2.1;
+              (sorts_short tables m metadata_fits role schemed vars u two.0 k.0)) matches.1;
           stand = sorts_stand tables m metadata_fits role schemed vars u two.0 k.0;
         })

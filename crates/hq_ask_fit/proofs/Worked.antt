@@ -1,5 +1,5 @@
 -- Worked values: how many objects stand in one another.
-use Rattle.std.proofs.Common.{◌≡◌, refl, [], codes}
+use Rattle.std.proofs.Common.{◌≡◌, refl, codes}
 use Rattle.hq_base.specs.Json.{null, str, arr, obj, no_element, element, no_member, member}
 use Rattle.hq_ask_fit.specs.ObjectsNest.{objects_nest}
 
