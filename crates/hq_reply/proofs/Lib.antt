@@ -1,0 +1,2 @@
+mod Resolved
+mod Told
