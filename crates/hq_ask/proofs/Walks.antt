@@ -1,13 +1,13 @@
 -- Walks over collected fields: each field is read, and the first refusal ends the walk.
-use Rattle.std.proofs.Common.{◌≡◌, ◌∙◌, refl, sym, ap, ℕ, ◌+◌, ◌<◌, length, drop, get_or, List, [], ◌∷◌, ◌++◌, map, Result, Ok, Err}
-use Rattle.std.proofs.lemmas.List.{at_drop_more, at_drop_all}
+use Rattle.std.proofs.Common.{◌≡◌, ◌∙◌, refl, sym, ap, ℕ, ◌+◌, ◌<◌, length, drop, get_or, List, [], ◌∷◌, ◌++◌, Result, Ok, Err}
+use Rattle.std.proofs.lemmas.List.{at_drop_more}
 use Rattle.hq_base.specs.Due.{mapped, and_then}
 use Rattle.hq_collect.specs.TreeSeen.{FieldSeen, collected_view, parts_seen}
 use Rattle.hq_collect.specs.declared.tree.CollectedField.{CollectedField}
 use Rattle.hq_collect.proofs.Trees.{view_out}
 
 -- what is read so far, in front of more
-pub front : {B C : Type 0} → (List ℕ → B → C → C) → List (List ℕ × B) → C → C
+abbrev pub front : {B C : Type 0} → (List ℕ → B → C → C) → List (List ℕ × B) → C → C
 front put [] c = c
 front put (p ∷ ps) c = put p.0 p.1 (front put ps c)
 
@@ -16,8 +16,7 @@ front_more put [] p c = refl
 front_more put (q ∷ ps) p c = ap (put q.0 q.1) (front_more put ps p c)
 
 module _ {B C E : Type 0} (put : List ℕ → B → C → C) (here : FieldSeen → Result B E) (F : List CollectedField → Result C E)
-  (first : (f : CollectedField) (fs : List CollectedField) → F (f ∷ fs) ≡ and_then (λ x. mapped (put (collected_view f).key x) (F fs)) (here (collected_view f))) where
-
+    (first : (f : CollectedField) (fs : List CollectedField) → F (f ∷ fs) ≡ and_then (λ x. mapped (put (collected_view f).key x) (F fs)) (here (collected_view f))) where
   grown : (done : List (List ℕ × B)) (p : List ℕ × B) (rest : Result C E) → mapped (front put done) (mapped (put p.0 p.1) rest) ≡ mapped (front put (done ++ p ∷ [])) rest
   grown done p (Ok c) = ap Ok (sym (front_more put done p c))
   grown done p (Err e) = refl

@@ -1,7 +1,7 @@
 -- The typed request of an operation for a session, or its first fault: the limits on its size, then the walk over its fields,
 -- then the session variables of the tables that it touches.
 use Rattle.std.specs.Prelude.{ℕ, List, length, Bool, ◌&&◌, cond, Option, Some, None, Result, Ok, Err}
-use Rattle.hq_base.specs.Due.{and_then, ◌>>=◌}
+use Rattle.hq_base.specs.Due.{◌>>=◌}
 use Rattle.hq_ask.specs.Asked.{fields_due}
 use Rattle.hq_ask.specs.Known.{Due}
 use Rattle.hq_ask_laws.specs.Touched.{touched}
@@ -19,7 +19,6 @@ use Rattle.hq_collect.specs.Size.{is_small}
 use Rattle.hq_collect.specs.Tree.{CollectedTrees, collected_tree}
 use Rattle.hq_gql_tree.specs.Documents.{OperationTree, DocumentTree}
 use Rattle.hq_gql_tree.specs.Selections.{selections_in}
-use Rattle.hq_gql_tree.specs.declared.fault.Fault.{Fault}
 use Rattle.hq_gql_tree.specs.declared.rule.RuleId.TheVariants as rule
 use Rattle.hq_schema.specs.Schema.{SchemaTree}
 use Rattle.hq_terms.specs.Meta.{MetaTree}
@@ -39,8 +38,15 @@ operation_of (Some o) = Ok o
 abbrev pub within_limits : (at : ℕ) → (small : Bool) → CollectedTrees → Due CollectedTrees
 within_limits at small fs = cond (small && is_narrow fs) (Ok fs) (Err (refusal.Fault (fault_of rule.RequestSize (Some at))))
 
+abbrev pub collected_fields : DocumentTree → List VarTree → OperationTree → CollectedTrees
+collected_fields d vars o = collected_tree (record { document = d; vars = vars }) (selections_in o.selections)
+
 abbrev pub collected_due : DocumentTree → List VarTree → OperationTree → Due CollectedTrees
-collected_due d vars o = within_limits o.at (is_small d (selections_in o.selections)) (collected_tree (record { document = d; vars = vars }) (selections_in o.selections))
+collected_due d vars o = within_limits o.at (is_small d (selections_in o.selections)) (collected_fields d vars o)
+
+-- the typed root fields; at the root no table's row stands, so its place is behind all tables
+abbrev pub root_due : List VarTree → SchemaTree → Schema → (root : ℕ) → CollectedTrees → Due FieldTrees
+root_due vars schema tables root fs = fields_due (record { vars = vars; schema = schema; tables = tables }) schema.query root fs
 
 -- the fault of a session variable
 abbrev pub binding_fault : BindRefusal → CoerceRefusal
@@ -61,6 +67,6 @@ unfoldable pub build_due : DocumentTree → (op : ℕ) → List VarTree → Sche
 build_due d op vars schema tables m session = do
   o ← operation_of (operation_at d op)
   fields ← collected_due d vars o
-  asks ← fields_due (record { vars = vars; schema = schema; tables = schema_of tables m }) schema.query (length tables) fields
+  asks ← root_due vars schema (schema_of tables m) (length tables) fields
   bound ← bound_in m (schema_of tables m) session (length tables) asks
   Ok (request_of session asks bound)

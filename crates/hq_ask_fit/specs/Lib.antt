@@ -1,2 +1,2 @@
 pub mod ObjectsNest
-pub mod Formed
+pub mod Built

@@ -1,5 +1,5 @@
 -- The typed request that a call gives is one of its session.
-use Rattle.std.proofs.Common.{◌≡◌, ◌⊎◌, List, ℕ, true, Result, Ok, Err, IfOk}
+use Rattle.std.proofs.Common.{◌≡◌, List, ℕ, true, Result, Ok, Err, IfOk}
 use Rattle.hq_ask_tree.specs.Request.{AskTree, ask_view}
 use Rattle.hq_ask_tree.specs.declared.ask.Ask.{Ask}
 use Rattle.hq_base.specs.Due.{Gives}

@@ -1,3 +1,3 @@
 mod Formed
-mod Objects
 mod TextsAsked
+mod Worlds

@@ -1,8 +1,8 @@
 -- The text that is asked for a request, and what its statement gives.
-use Rattle.std.proofs.Common.{◌≡◌, ◌⊎◌, ℕ, List, Bool, true, false, Option, Some, None, cond, refl, sym, ap, subst, ◌∙◌, inl, inr}
+use Rattle.std.proofs.Common.{◌≡◌, ℕ, List, Bool, true, false, Option, Some, None, cond, refl, sym, subst, ◌∙◌}
 use Rattle.std.specs.Prelude.{IfSome}
 use Rattle.hq_ask_tree.specs.Request.{AskTree}
-use Rattle.hq_base.specs.Json.{JsonTree, obj, no_member}
+use Rattle.hq_base.specs.Json.{JsonTree}
 use Rattle.hq_compile_laws.specs.Asked.{asked_statement}
 use Rattle.hq_reply.specs.RootObject.{has_table_field, of_database}
 use Rattle.hq_reply.specs.TableObject.{IsResolved, table_object}
@@ -16,31 +16,19 @@ use Rattle.hq_terms.specs.Meta.{MetaTree}
 use Rattle.hq_terms.specs.Schema.{schema_of}
 use Rattle.hq_terms.specs.declared.session.Session.{Session}
 use Rattle.hq_terms.specs.declared.table.Table.{Table}
-use Rattle.hq_engine.specs.Asking.{Counts, AskedNone, AskedOne, AskedExactly, statement_text}
+use Rattle.hq_engine.specs.Asking.{statement_text}
 use Rattle.hq_engine.specs.Statements.{IsStatement}
 
 module _ (tables : List Table) (meta : MetaTree) (ask : AskTree) where
   -- a text that is asked is that of the statement, and a root field starts at a table
-  pub text_there : (text : List ℕ) → statement_text tables meta ask ≡ Some text → (has_table_field ask.fields ≡ true) × (text ≡ select_text (asked_statement tables meta ask))
-  text_there text h =
+  pub text_there : (o : Option (List ℕ)) (text : List ℕ) → o ≡ statement_text tables meta ask → o ≡ Some text → (has_table_field ask.fields ≡ true) × (text ≡ select_text (asked_statement tables meta ask))
+  text_there o text asked h =
       let go : (b : Bool) → has_table_field ask.fields ≡ b → cond b (Some (select_text (asked_statement tables meta ask))) None ≡ Some text → (has_table_field ask.fields ≡ true) × (text ≡ select_text (asked_statement tables meta ask)) =
       elim [
         | true ↦ λ is e. let same : select_text (asked_statement tables meta ask) ≡ text = cc in (is, sym same)
         | false ↦ λ is e. absurd cc
       ] in
-      go (has_table_field ask.fields) refl h
-
-  -- where none is asked, none does
-  pub none_there : statement_text tables meta ask ≡ None → has_table_field ask.fields ≡ false
-  none_there h =
-      let go : (b : Bool) → has_table_field ask.fields ≡ b → cond b (Some (select_text (asked_statement tables meta ask))) None ≡ None → has_table_field ask.fields ≡ false =
-      elim [ true ↦ λ is e. absurd cc | false ↦ λ is e. is ] in
-      go (has_table_field ask.fields) refl h
-
--- what was asked, as want of memory tells it
-pub asked_memory : (text : Option (List ℕ)) (before now : Counts) → AskedExactly text before now → AskedNone before now ⊎ AskedOne text before now
-asked_memory None before now h = inl h
-asked_memory (Some text) before now h = inr h
+      go (has_table_field ask.fields) refl (sym asked ∙ h)
 
 -- every statement that the text spells has this value
 abbrev pub Has : (tables : List Table) (text : List ℕ) (value : JsonTree) → List (List Row) → Type 0
@@ -63,8 +51,3 @@ module _ (tables : List Table) (meta : MetaTree) (session : Session) (ask : AskT
   gives_over own text database value same spelled is fits has =
       gives database value is (subst (λ ts. IfSome database (λ d. is_database ts d ≡ true)) same fits)
       (subst (λ t. IfSome database (Has tables t value)) spelled (subst (λ ts. IfSome database (Has ts text value)) same has))
-
-  -- where none starts at a table it is empty
-  pub gives_none : (database : Option (List (List Row))) (value : JsonTree) → value ≡ obj no_member → ((of_table : _) → table_object of_table ask.fields ≡ obj no_member) → IfSome database (λ d. value ≡ table_due d)
-  gives_none None value is none = tt
-  gives_none (Some d) value is none = is ∙ sym (none (of_database (schema_of tables meta) (grants_of session tables meta) d))

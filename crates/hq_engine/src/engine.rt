@@ -14,6 +14,7 @@ use hq_request_laws::requests_are_formed;
 use hq_roles::RoleSchemas;
 use hq_schema::Schema;
 use hq_terms::{Catalog, Meta, Role, Session};
+use hq_views::worlds_agree;
 use std::alloc::Global;
 
 /// Answers requests over a database of this catalog, by this metadata.
@@ -27,7 +28,7 @@ pub struct Engine {
 }
 
 impl Engine {
-    ghost use Rattle.std.specs.Prelude.{◌≡◌, ◌≤◌, length, true, false, is_some, IfOk, IfErr, IfSome, OnOk, Ok, Some};
+    ghost use Rattle.std.specs.Prelude.{◌≡◌, ◌≤◌, List as Items, length, true, false, is_some, IfOk, IfErr, IfSome, OnOk, Ok, Some};
     ghost use Rattle.hq_ask_tree.specs.Fields.{FieldTree};
     ghost use Rattle.hq_ask_tree.specs.Request.{ask_view};
     ghost use Rattle.hq_base.specs.Due.{Gives};
@@ -42,13 +43,14 @@ impl Engine {
     ghost use Rattle.hq_request_laws.specs.Formed.{IsOfSession};
     ghost use Rattle.hq_role_schema.specs.RoleSchema.{role_schema};
     ghost use Rattle.hq_schema.specs.Schema.{schema_view};
+    ghost use Rattle.hq_terms.specs.Database.{Row};
     ghost use Rattle.hq_terms.specs.Fits.{fits};
     ghost use Rattle.hq_terms.specs.Grants.{grants_of};
     ghost use Rattle.hq_terms.specs.Meta.{meta_view};
     ghost use Rattle.hq_terms.specs.Permission.{role_of};
     ghost use Rattle.hq_terms.specs.Schema.{schema_of};
     ghost use Rattle.hq_engine.specs.Asking.{Asks, statement_text};
-    ghost use Rattle.hq_engine.specs.Engines.{engine_fault, engine_reply, engine_request, engine_text};
+    ghost use Rattle.hq_engine.specs.Engines.{engine_agree, engine_fault, engine_reply, engine_request, engine_text};
     ghost use Rattle.hq_engine.specs.Failures.{TellsDatabase};
     ghost use Rattle.hq_engine.specs.Replies.{due_object};
     ghost use Rattle.hq_engine.specs.Statements.{HasStatement};
@@ -174,6 +176,10 @@ impl Engine {
         ensures kind { IfOk result (λ reply. tells_fault reply.body ≡ is_some (engine_fault self.now session.now body.now)) }
         ensures fault { IfOk result (λ reply. IfSome (engine_fault self.now session.now body.now) (λ f. reply.body ≡ fault_text f)) }
 
+        // Over each database that the session cannot tell apart from this one, the same reply is due.
+        ensures alike { IfOk result (λ reply. IfSome (D.database db.old) (λ d. (e : Items (Items Row)) →
+            engine_agree self.now session.now d e → engine_reply self.now session.now e body.now ≡ Some reply.body)) }
+
         // A reply comes only where the body makes a request or has a fault.
         ensures answered { IfOk result (λ _. is_answered (engine_request self.now session.now body.now) ≡ true) }
 
@@ -192,6 +198,7 @@ impl Engine {
         ensures database { D.database db.new ≡ D.database db.old }
         ensures later { D.faults db.old ≤ D.faults db.new }
     {
+        worlds_agree();
         match self.request(alloc, session, body) {
             Ok(request) => self.data(alloc, session, &request, db),
             Err(RequestRefusal::Fault(fault)) => Ok(fault_reply(alloc, &fault)?),
@@ -211,12 +218,7 @@ impl Engine {
     }
 
     /// The text that `answer` asks for a request, or why it asks none. The body has at most 1,048,576 bytes.
-    pub fn statement(
-        &self,
-        alloc: Global,
-        session: &Session,
-        body: &[u8],
-    ) -> Result<Stated, Memory>
+    pub fn statement(&self, alloc: Global, session: &Session, body: &[u8]) -> Result<Stated, Memory>
         requires { length body.now ≤ 1048576 }
         ensures { States (engine_text self.now session.now body.now) (engine_request self.now session.now body.now) result }
     {

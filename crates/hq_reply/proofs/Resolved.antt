@@ -1,7 +1,7 @@
 -- What resolvers give for the root fields that start at a table.
-use Rattle.std.proofs.Common.{◌≡◌, ℕ, List, [], length, true, false, refl, ap}
+use Rattle.std.proofs.Common.{◌≡◌, List, [], length, false, refl, ap}
 use Rattle.hq_ask_tree.specs.Fields.{FieldTrees, no_field, field, FieldTree, column, typename, no_queries, object, list, by_key, aggregate, introspect}
-use Rattle.hq_ask_tree.specs.Resolve.{resolve, resolve_all, resolved}
+use Rattle.hq_ask_tree.specs.Resolve.{resolve_all}
 use Rattle.hq_ask_tree.specs.Root.{table_fields}
 use Rattle.hq_base.specs.Json.{JsonTree, obj, member, no_member}
 use Rattle.hq_terms.specs.Database.{Row}

@@ -1,6 +1,6 @@
 -- The object of root fields, in collected order (GraphQL October 2021, 6.2.1: query). A field that starts at a table gives what
 -- resolvers give over a database; each other gives what is known without one.
-use Rattle.std.specs.Prelude.{ℕ, List, [], length, codes, Bool, true, false, ◌||◌, Option, Some, None, unwrap_or}
+use Rattle.std.specs.Prelude.{ℕ, List, [], length, codes, Bool, false, ◌||◌, Option, Some, None, unwrap_or}
 use Rattle.hq_ask_tree.specs.Fields.{FieldTrees, no_field, field, FieldTree, column, typename, no_queries, object, list, by_key, aggregate, introspect}
 use Rattle.hq_ask_tree.specs.Resolve.{resolve}
 use Rattle.hq_ask_tree.specs.Root.{is_table_field}

@@ -11,7 +11,7 @@ use Rattle.hq_terms.specs.declared.session.Session.{Session}
 use Rattle.hq_terms.specs.declared.table.Table.{Table}
 use Rattle.hq_rules_doc.specs.First.{first_doc_fault}
 use Rattle.hq_rules_fields.specs.First.{first_field_fault}
-use Rattle.hq_request.specs.Built.{IsBuilt, Builds}
+use Rattle.hq_request.specs.Made.{IsMade, Makes}
 use Rattle.hq_request.specs.Operation.{operation_due, values_due, operation_ask}
 use Rattle.hq_request.specs.Reading.{json_due, query_due, document_due}
 use Rattle.hq_request.specs.Request.{request_by}
@@ -29,9 +29,9 @@ same_document (Some f) d v h = absurd cc
 
 module _ (schema : SchemaTree) (tables : List Table) (meta : MetaTree) (session : Session) (body : List ℕ) (ask : AskTree) where
   -- of a valid document
-  document_built : (json : JsonTree) (text : List ℕ) (document : DocumentTree) → json_due body ≡ Ok json → query_due json ≡ Ok text → document_due text ≡ Ok document → valid_due schema document ≡ Ok document
-      → operation_ask schema tables meta session json document ≡ Ok ask → IsBuilt schema tables meta session body ask
-  document_built json text document read found parsed valid h =
+  document_made : (json : JsonTree) (text : List ℕ) (document : DocumentTree) → json_due body ≡ Ok json → query_due json ≡ Ok text → document_due text ≡ Ok document → valid_due schema document ≡ Ok document
+      → operation_ask schema tables meta session json document ≡ Ok ask → IsMade schema tables meta session body ask
+  document_made json text document read found parsed valid h =
       then_holds (operation_due json document) _ ask _ h (λ operation chosen more. then_holds (values_due schema json document operation) _ ask _ more
       (λ variables valued built. record {
         json = json;
@@ -49,11 +49,11 @@ module _ (schema : SchemaTree) (tables : List Table) (meta : MetaTree) (session 
       }))
 
   -- of a body
-  pub body_built : Builds schema tables meta session body ask
+  pub body_made : Makes schema tables meta session body ask
   unfolding request_by
-  body_built h =
+  body_made h =
       then_holds (json_due body) _ ask _ h (λ json read more. then_holds (query_due json) _ ask _ more (λ text found left. then_holds (document_due text) _ ask _ left
       (λ document parsed rest. then_holds (valid_due schema document) _ ask _ rest
       (λ valid ok built.
       let same = same_document (earlier (first_doc_fault schema document) (first_field_fault schema document)) document valid ok in
-      document_built json text document read found parsed same.1 (subst (λ d. operation_ask schema tables meta session json d ≡ Ok ask) (sym same.0) built)))))
+      document_made json text document read found parsed same.1 (subst (λ d. operation_ask schema tables meta session json d ≡ Ok ask) (sym same.0) built)))))

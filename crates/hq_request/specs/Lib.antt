@@ -3,4 +3,4 @@ pub mod Reading
 pub mod Validation
 pub mod Operation
 pub mod Request
-pub mod Built
+pub mod Made

@@ -1,6 +1,6 @@
 -- What a valid document asks for: the operation that the request names, its variables, and its typed request (GraphQL October
 -- 2021, section 6.1: executing requests).
-use Rattle.std.specs.Prelude.{ℕ, List, codes, Option, option_and_then, Result, Ok, Err}
+use Rattle.std.specs.Prelude.{ℕ, List, codes, Option, option_and_then, Result}
 use Rattle.hq_ask.specs.Due.{build_due}
 use Rattle.hq_ask_tree.specs.Request.{AskTree}
 use Rattle.hq_base.specs.Due.{◌>>=◌}

@@ -7,8 +7,8 @@ ghost use Rattle.hq_request.specs.Reading.{json_due, query_due, document_due};
 
 use crate::body::query_in;
 use crate::refusal::RequestRefusal;
-use hq_faults::{BodyFault, RequestFault, fault_at};
 use hq_base::{Json, JsonRefusal, Txt};
+use hq_faults::{BodyFault, RequestFault, fault_at};
 use hq_gql_lexer::{LexRefusal, lex};
 use hq_gql_parser::{ParseRefusal, parse};
 use hq_gql_tree::{Document, RuleId};
