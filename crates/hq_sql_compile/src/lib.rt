@@ -1,11 +1,6 @@
-//! The compiler: a typed request to the one statement that answers it.
+//! Stub.
 #![tactic(auto)]
 
-mod alias;
-mod columns;
-mod list;
-mod plain;
 mod statement;
 
-pub use plain::{PlainColumn, PlainList};
 pub use statement::compile;
