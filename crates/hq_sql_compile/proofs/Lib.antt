@@ -1,0 +1,5 @@
+mod GrantedRights
+mod ListJoins
+mod Requests
+mod RootFields
+mod SortCounts

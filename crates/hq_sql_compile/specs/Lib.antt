@@ -1,0 +1,2 @@
+pub mod GrantedTrees
+pub mod Rows

@@ -1,6 +1,9 @@
-//! Stub.
+//! The compiler: a typed request to the one statement that answers it.
 #![tactic(auto)]
 
+mod few;
+mod fields;
+mod grants;
 mod statement;
 
 pub use statement::compile;

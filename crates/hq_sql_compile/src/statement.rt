@@ -6,7 +6,6 @@ ghost use Rattle.hq_terms.specs.Grants.{grants_of};
 ghost use Rattle.hq_terms.specs.Meta.{meta_view};
 ghost use Rattle.hq_terms.specs.Schema.{schema_of};
 ghost use Rattle.hq_terms.specs.declared.session.Session.{Session as Caller};
-ghost use Rattle.hq_ask_tree.specs.Fields.{fields_of, keyed_field_view};
 ghost use Rattle.hq_ask_tree.specs.Request.{ask_view};
 ghost use Rattle.hq_ask_tree.specs.Resolve.{resolved};
 ghost use Rattle.hq_ask_tree.specs.Root.{table_fields};
@@ -16,13 +15,60 @@ ghost use Rattle.hq_sql_tree.specs.Meaning.{meaning};
 ghost use Rattle.hq_sql_tree.specs.WellFormed.{is_statement};
 ghost use Rattle.hq_sql_tree.specs.View.{select_view};
 ghost use Rattle.hq_sql_text.specs.Readable.{is_readable};
+ghost use Rattle.hq_compiled.specs.Fields.{fields_numbers};
+ghost use Rattle.hq_compiled.specs.Statement.{statement};
 ghost use Rattle.hq_compile_laws.specs.Asked.{asked_statement, IsHeld};
+ghost use Rattle.hq_compile_parts.specs.Contexts.{context_schema, context_rights};
+ghost use Rattle.hq_sql_compile.specs.Rows.{fields_view};
 
-use hq_ask_tree::Ask;
+use crate::few::count_fields;
+use crate::fields::root_row;
+use crate::grants::granted;
+use hq_ask_tree::{Ask, AskFields};
 use hq_base::Memory;
+use hq_compile_laws::{requests_are_asked, requests_mean_resolved};
+use hq_compile_lists::{object, one_row};
+use hq_compile_parts::Context;
 use hq_sql_tree::Select;
-use hq_terms::{Catalog, Meta};
+use hq_terms::{Catalog, Meta, Scope, TableId};
 use std::alloc::Global;
+
+// A number is one of 64 bits.
+fn has_64_bits(number: u64)
+    ensures { number ≤ 2 ^ 64 }
+{}
+
+// The statement of root fields, which stand at the place behind the last table.
+fn statement(
+    alloc: Global,
+    context: &Context,
+    root: TableId,
+    fields: &AskFields,
+) -> Result<Select, Memory>
+    requires { root ≡ length (context_schema context.now) }
+    ensures tree { IfOk result (λ select. select_view select ≡ statement (table_fields (fields_view fields.now.items)) (context_schema context.now) (context_rights context.now)) }
+    ensures numbers { OnOk result (1 + fields_numbers (table_fields (fields_view fields.now.items)) (context_schema context.now) (context_rights context.now) root ≤ 2 ^ 64) }
+{
+    let mut next = 1;
+    let row = root_row(alloc, context, root, fields, &mut next)?;
+    has_64_bits(next);
+    one_row(alloc, 0, object(row.pairs), row.joins, None)
+}
+
+// The statement of a request, whose texts and numbers a tree can hold.
+fn asked(alloc: Global, ask: &Ask, catalog: &Catalog, meta: &Meta) -> Result<Select, Memory>
+    ensures tree { IfOk result (λ select. select_view select ≡ asked_statement catalog.now.tables (meta_view meta.now) (ask_view ask.now)) }
+    ensures held { OnOk result (IsHeld catalog.now.tables (meta_view meta.now) (ask_view ask.now)) }
+{
+    let granted = granted(alloc, ask, catalog, meta)?;
+    let context = Context {
+        scope: Scope { catalog, meta },
+        granted: &granted,
+    };
+    let root = TableId::new(catalog.tables.len());
+    count_fields(alloc, &context, root, &ask.fields)?;
+    statement(alloc, &context, root, &ask.fields)
+}
 
 /// The one statement that answers the root fields of a request that start at a table.
 pub fn compile(alloc: Global, ask: &Ask, catalog: &Catalog, meta: &Meta) -> Result<Select, Memory>
@@ -40,5 +86,9 @@ pub fn compile(alloc: Global, ask: &Ask, catalog: &Catalog, meta: &Meta) -> Resu
         meaning (asked_statement catalog.now.tables (meta_view meta.now) (ask_view ask.now)) (record { tables = catalog.now.tables; database = d })
         ≡ resolved (table_fields (ask_view ask.now).fields) (schema_of catalog.now.tables (meta_view meta.now)) (grants_of session catalog.now.tables (meta_view meta.now)) d) }
 {
-    Err(Memory)
+    let select = asked(alloc, ask, catalog, meta)?;
+    select.fits();
+    requests_are_asked();
+    requests_mean_resolved();
+    Ok(select)
 }
