@@ -1,0 +1,132 @@
+//! The typed request of an operation for a session.
+ghost use Rattle.std.specs.Prelude.{◌≡◌, map, length, Some};
+ghost use Rattle.hq_base.specs.Due.{Gives};
+ghost use Rattle.hq_ask.specs.Due.{binding_fault, collected_due, bound_in, build_due};
+ghost use Rattle.hq_ask_tree.specs.Fields.{fields_of, keyed_field_view};
+ghost use Rattle.hq_ask_tree.specs.Request.{ask_view, bound_view};
+ghost use Rattle.hq_coerce.specs.Faults.{fault_of};
+ghost use Rattle.hq_gql_tree.specs.declared.rule.RuleId.TheVariants as rule;
+ghost use Rattle.hq_terms.specs.Permission.{role_of};
+ghost use Rattle.hq_coerce.specs.Variables.{var_view};
+ghost use Rattle.hq_coerce.specs.declared.refusal.CoerceRefusal.TheVariants as refusal;
+ghost use Rattle.hq_collect.specs.Seen.{document_of};
+ghost use Rattle.hq_collect.specs.TreeSeen.{collected_view, trees_of};
+ghost use Rattle.hq_gql_tree.specs.Documents.{operation_view};
+ghost use Rattle.hq_gql_tree.specs.View.{document_view};
+ghost use Rattle.hq_schema.specs.Schema.{schema_view};
+ghost use Rattle.hq_terms.specs.Meta.{meta_view};
+ghost use Rattle.hq_terms.specs.Scope.{scope_schema};
+
+use crate::ask::ask_fields;
+use hq_arguments::Context;
+use hq_ask_tree::{Ask, AskFields, BoundList};
+use hq_bound::bound_tables;
+use hq_coerce::{CoerceRefusal, OpRef, VarValues, fault_of, operation_at};
+use hq_collect::{CollectedList, Fragments, Request, collected_tree, is_narrow, is_small};
+use hq_gql_tree::{Document, Fault, Operation, RuleId};
+use hq_schema::Schema;
+use hq_terms::{BindRefusal, Catalog, Meta, Role, Scope, Session, TableId};
+use std::alloc::Global;
+
+/// Why an operation has no typed request: its first fault, or want of memory.
+pub type AskRefusal = CoerceRefusal;
+
+fn too_large(operation: &Operation) -> AskRefusal
+    ensures { result ≡ refusal.Fault (fault_of rule.RequestSize (Some (operation_view operation.now).at)) }
+{
+    CoerceRefusal::Fault(fault_of(RuleId::RequestSize, Some(operation.at)))
+}
+
+// The collected fields of an operation, where they are within the limits.
+fn collected<'b, 'a>(
+    alloc: Global,
+    fragments: &'b Fragments<'a>,
+    vars: &'b VarValues,
+    operation: &'a Operation,
+) -> Result<CollectedList<'a>, AskRefusal>
+    ensures { Gives (λ v. trees_of (map collected_view v.items)) refusal.Memory (collected_due (document_of fragments.now) (map var_view vars.now) (operation_view operation.now)) result }
+{
+    if !is_small(fragments, &operation.selections) {
+        return Err(too_large(operation));
+    }
+    let request = Request { fragments, vars };
+    let fields = collected_tree(alloc, &request, &operation.selections)?;
+    if !is_narrow(&fields) {
+        return Err(too_large(operation));
+    }
+    Ok(fields)
+}
+
+// The fault of a session variable.
+fn binding_fault(refusal: BindRefusal) -> AskRefusal
+    ensures { result ≡ binding_fault refusal }
+{
+    match refusal {
+        BindRefusal::NoVariable { name } => CoerceRefusal::Fault(Fault {
+            rule: RuleId::MissingVariable,
+            at: None,
+            name: Some(name),
+            want: None,
+        }),
+        BindRefusal::BadVariable { name, want } => CoerceRefusal::Fault(Fault {
+            rule: RuleId::UnreadableVariable,
+            at: None,
+            name: Some(name),
+            want: Some(want),
+        }),
+        BindRefusal::Memory => CoerceRefusal::Memory,
+    }
+}
+
+// The touched tables of fields, each with its bound filter.
+fn bound_in(
+    alloc: Global,
+    role: &Role,
+    scope: &Scope<'_>,
+    session: &Session,
+    fields: &AskFields,
+) -> Result<BoundList, AskRefusal>
+    requires { role.now ≡ role_of session.now.role }
+    ensures { Gives (map bound_view) refusal.Memory (bound_in (meta_view scope.now.meta.now) (scope_schema scope.now) session.now (length scope.now.catalog.now.tables) (fields_of (map keyed_field_view fields.now.items))) result }
+{
+    match bound_tables(alloc, role, scope, session, fields) {
+        Ok(bound) => Ok(bound),
+        Err(refusal) => Err(binding_fault(refusal)),
+    }
+}
+
+/// The typed request of an operation for a session, or its first fault: the limits on its size (F32), then at each field in
+/// collected order its arguments (F36 to F41), then the session variables of the touched tables (F33, F34).
+pub fn build<'a>(
+    alloc: Global,
+    document: &'a Document,
+    op: OpRef,
+    vars: &'a VarValues,
+    schema: &'a Schema,
+    catalog: &'a Catalog,
+    meta: &'a Meta,
+    session: &Session,
+) -> Result<Ask, AskRefusal>
+    ensures { Gives ask_view refusal.Memory (build_due (document_view document.now) op (map var_view vars.now) (schema_view schema.now) catalog.now.tables (meta_view meta.now) session.now) result }
+{
+    let Some(operation) = operation_at(document, op) else {
+        return Err(CoerceRefusal::Fault(fault_of(RuleId::NoSuchOperation, None)));
+    };
+    let fragments = Fragments::of(alloc, document)?;
+    let collected = collected(alloc, &fragments, vars, operation)?;
+    let scope = Scope { catalog, meta };
+    let context = Context {
+        vars,
+        schema,
+        scope,
+    };
+    let root = TableId::new(catalog.tables.len());
+    let fields = ask_fields(alloc, &context, schema.query, root, &collected)?;
+    let role = Role::of(alloc, session)?;
+    let bound = bound_in(alloc, &role, &scope, session, &fields)?;
+    Ok(Ask {
+        role,
+        fields,
+        bound,
+    })
+}
