@@ -22,14 +22,14 @@ looks_end [] = refl
 looks_end (p ∷ ps) = ap (looks p.0 p.1) (looks_end ps)
 
 -- an aggregate under its key, as a pair
-pub taken_pair : KeyedAggCol → List ℕ × AggCol
+abbrev pub taken_pair : KeyedAggCol → List ℕ × AggCol
 taken_pair c = (c.key, c.field)
 
 pub taken_end : (cs : List KeyedAggCol) → front with_taken (map taken_pair cs) [] ≡ cs
 taken_end [] = refl
 taken_end (c ∷ cs) = ap (λ (xs : List KeyedAggCol). c ∷ xs) (taken_end cs)
 
-pub summary_pair : KeyedAggField → List ℕ × AggField
+abbrev pub summary_pair : KeyedAggField → List ℕ × AggField
 summary_pair f = (f.key, f.field)
 
 pub summaries_end : (fs : List KeyedAggField) → front with_summary (map summary_pair fs) [] ≡ fs

@@ -7,7 +7,7 @@ use Rattle.hq_collect.specs.declared.tree.CollectedField.{CollectedField}
 use Rattle.hq_collect.proofs.Trees.{view_out}
 
 -- what is read so far, in front of more
-pub front : {B C : Type 0} → (List ℕ → B → C → C) → List (List ℕ × B) → C → C
+abbrev pub front : {B C : Type 0} → (List ℕ → B → C → C) → List (List ℕ × B) → C → C
 front put [] c = c
 front put (p ∷ ps) c = put p.0 p.1 (front put ps c)
 

@@ -39,8 +39,15 @@ operation_of (Some o) = Ok o
 abbrev pub within_limits : (at : ℕ) → (small : Bool) → CollectedTrees → Due CollectedTrees
 within_limits at small fs = cond (small && is_narrow fs) (Ok fs) (Err (refusal.Fault (fault_of rule.RequestSize (Some at))))
 
+abbrev pub collected_fields : DocumentTree → List VarTree → OperationTree → CollectedTrees
+collected_fields d vars o = collected_tree (record { document = d; vars = vars }) (selections_in o.selections)
+
 abbrev pub collected_due : DocumentTree → List VarTree → OperationTree → Due CollectedTrees
-collected_due d vars o = within_limits o.at (is_small d (selections_in o.selections)) (collected_tree (record { document = d; vars = vars }) (selections_in o.selections))
+collected_due d vars o = within_limits o.at (is_small d (selections_in o.selections)) (collected_fields d vars o)
+
+-- the typed root fields; at the root no table's row stands, so its place is behind all tables
+abbrev pub root_due : List VarTree → SchemaTree → Schema → (root : ℕ) → CollectedTrees → Due FieldTrees
+root_due vars schema tables root fs = fields_due (record { vars = vars; schema = schema; tables = tables }) schema.query root fs
 
 -- the fault of a session variable
 abbrev pub binding_fault : BindRefusal → CoerceRefusal
@@ -61,6 +68,6 @@ unfoldable pub build_due : DocumentTree → (op : ℕ) → List VarTree → Sche
 build_due d op vars schema tables m session = do
   o ← operation_of (operation_at d op)
   fields ← collected_due d vars o
-  asks ← fields_due (record { vars = vars; schema = schema; tables = schema_of tables m }) schema.query (length tables) fields
+  asks ← root_due vars schema (schema_of tables m) (length tables) fields
   bound ← bound_in m (schema_of tables m) session (length tables) asks
   Ok (request_of session asks bound)

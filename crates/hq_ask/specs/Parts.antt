@@ -22,17 +22,19 @@ one_taken_due c place t f = known_due c place t f.head (is_empty f.below) >>= λ
 abbrev pub one_summary_due : Context → (place t : ℕ) → FieldSeen → Due AggField
 one_summary_due c place t f = known_due c place t f.head (is_empty f.below) >>= λ k. summary_by c place f.head k (taken_due c (leads_to k) t f.below) k.0.origin
 
--- what stands below a field of the root or of a row
-abbrev pub below_of : Context → (t : ℕ) → CollectedTrees → Known → Below
-below_of c t below k = record {
-  fields = λ u. fields_due c (leads_to k) u below;
-  parts = λ u. parts_due c (leads_to k) u below;
-  looks = looks_due c (leads_to k) t below;
+-- what stands below a field of the root or of a row, in the type of a place
+abbrev pub below_of : Context → (place t : ℕ) → CollectedTrees → Below
+below_of c place t below = record {
+  fields = λ u. fields_due c place u below;
+  parts = λ u. parts_due c place u below;
+  looks = looks_due c place t below;
 }
 
 abbrev pub field_due : Context → (place t : ℕ) → FieldSeen → Due FieldTree
-field_due c place t f = known_due c place t f.head (is_empty f.below) >>= field_of c place t f.head (below_of c t f.below)
+field_due c place t f = known_due c place t f.head (is_empty f.below) >>= field_of c place t f.head (λ k. below_of c (leads_to k) t f.below)
+
+abbrev pub part_of : Context → (place u : ℕ) → FieldSeen → Known → Due PartTree
+part_of c place u f k = part_by c place f.head (summaries_due c (leads_to k) u f.below) (fields_due c (leads_to k) u f.below) k.0.origin
 
 abbrev pub part_due : Context → (place u : ℕ) → FieldSeen → Due PartTree
-part_due c place u f = known_due c place u f.head (is_empty f.below) >>= λ k.
-    part_by c place f.head (summaries_due c (leads_to k) u f.below) (fields_due c (leads_to k) u f.below) k.0.origin
+part_due c place u f = known_due c place u f.head (is_empty f.below) >>= part_of c place u f

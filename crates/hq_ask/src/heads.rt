@@ -7,15 +7,16 @@ ghost use Rattle.hq_ask.specs.Heads.{leaf, list_head_due, aggregate_head_due, he
 ghost use Rattle.hq_ask.specs.HeadSeen.{head_view};
 ghost use Rattle.hq_ask.specs.Seen.{known_view};
 ghost use Rattle.hq_ask_tree.specs.Fields.{field_view};
+ghost use Rattle.hq_collect.specs.TreeSeen.{parts_seen};
 ghost use Rattle.hq_coerce.specs.declared.refusal.CoerceRefusal.TheVariants as refusal;
-ghost use Rattle.hq_gql_tree.specs.Selections.{field_view as field_seen};
 
 use crate::known::{Known, key_of, refused, rows_of, type_name_at, type_name_of};
 use hq_arguments::Context;
 use hq_ask_tree::{Args, AskField, ValList};
 use hq_base::Txt;
 use hq_coerce::CoerceRefusal;
-use hq_gql_tree::{Field, RuleId};
+use hq_collect::CollectedField;
+use hq_gql_tree::RuleId;
 use hq_schema::{FieldOrigin, TypeId};
 use hq_terms::{RelId, TableId};
 use std::alloc::Global;
@@ -53,9 +54,9 @@ fn list_head(
     table: TableId,
     rel: Option<RelId>,
     known: Known<'_>,
-    field: &Field,
+    field: &CollectedField<'_>,
 ) -> Result<Head, CoerceRefusal>
-    ensures { Gives head_view refusal.Memory (list_head_due table rel (field_seen field.now).0 (known_view known.entry)) result }
+    ensures { Gives head_view refusal.Memory (list_head_due table rel (parts_seen field.now).head (known_view known.entry)) result }
 {
     let args = rows_of(known.args, field)?;
     Ok(Head::List { table, rel, args })
@@ -66,9 +67,9 @@ fn aggregate_head(
     table: TableId,
     rel: Option<RelId>,
     known: Known<'_>,
-    field: &Field,
+    field: &CollectedField<'_>,
 ) -> Result<Head, CoerceRefusal>
-    ensures { Gives head_view refusal.Memory (aggregate_head_due table rel (field_seen field.now).0 (known_view known.entry)) result }
+    ensures { Gives head_view refusal.Memory (aggregate_head_due table rel (parts_seen field.now).head (known_view known.entry)) result }
 {
     let args = rows_of(known.args, field)?;
     Ok(Head::Aggregate { table, rel, args })
@@ -87,9 +88,9 @@ pub fn head_of(
     place: TypeId,
     t: TableId,
     known: Known<'_>,
-    field: &Field,
+    field: &CollectedField<'_>,
 ) -> Result<Head, CoerceRefusal>
-    ensures { let k = known_view known.entry in Gives head_view refusal.Memory (head_by (context_view context.now) place t (field_seen field.now).0 k k.0.origin) result }
+    ensures { let k = known_view known.entry in Gives head_view refusal.Memory (head_by (context_view context.now) place t (parts_seen field.now).head k k.0.origin) result }
 {
     match known.def.origin {
         FieldOrigin::Column(col) => Ok(leaf(AskField::Column { col })),

@@ -22,15 +22,15 @@ use hq_schema::{FieldOrigin, TypeId};
 use hq_terms::TableId;
 use std::alloc::Global;
 
-/// The name of a field.
-pub fn name_of(alloc: Global, field: &Field) -> Result<Txt, Memory>
+// The name of a field.
+fn name_of(alloc: Global, field: &Field) -> Result<Txt, Memory>
     ensures { IfOk result (λ name. name ≡ (field_seen field.now).0.name) }
 {
     field.name.copy(alloc)
 }
 
-/// A field of introspection.
-pub fn intro_field(
+// A field of introspection.
+fn intro_field(
     name: Txt,
     type_name: Option<Txt>,
     deprecated: bool,
@@ -46,6 +46,20 @@ pub fn intro_field(
     }
 }
 
+/// A field of introspection of the name of a collected field.
+pub fn look_of(
+    alloc: Global,
+    field: &CollectedField<'_>,
+    type_name: Option<Txt>,
+    deprecated: bool,
+    fields: IntroFields,
+) -> Result<IntroField, Memory>
+    ensures { IfOk result (λ l. introspection_view l ≡ look (parts_seen field.now).head.name type_name deprecated (looks_of (map keyed_introspection_view fields.items))) }
+{
+    let name = name_of(alloc, field.first())?;
+    Ok(intro_field(name, type_name, deprecated, fields))
+}
+
 fn keyed(key: Txt, field: IntroField) -> KeyedIntroField
     ensures { keyed_introspection_view result ≡ (key, introspection_view field) }
 {
@@ -53,8 +67,8 @@ fn keyed(key: Txt, field: IntroField) -> KeyedIntroField
 }
 
 // Whether a field of a type of introspection asks for deprecated things.
-fn flag_of(known: &Known<'_>, field: &Field) -> Result<bool, CoerceRefusal>
-    ensures { let k = known_view known.now in Gives (λ b. b) refusal.Memory (flag_by (field_seen field.now).0 k k.0.origin) result }
+fn flag_of(known: &Known<'_>, field: &CollectedField<'_>) -> Result<bool, CoerceRefusal>
+    ensures { let k = known_view known.now in Gives (λ b. b) refusal.Memory (flag_by (parts_seen field.now).head k k.0.origin) result }
 {
     match known.def.origin {
         FieldOrigin::Introspection => Ok(deprecated_of(&known.args)),
@@ -73,11 +87,10 @@ fn ask_look(
 ) -> Result<IntroField, CoerceRefusal>
     ensures { Gives introspection_view refusal.Memory (look_due (context_view context.now) place t (parts_seen field.now)) result }
 {
-    let known = known_field_of(alloc, context, place, t, field.first(), field.is_leaf())?;
-    let deprecated = flag_of(&known, field.first())?;
+    let known = known_field_of(alloc, context, place, t, field)?;
+    let deprecated = flag_of(&known, field)?;
     let fields = ask_looks(alloc, context, known.def.ty.base(), t, &field.below)?;
-    let name = name_of(alloc, field.first())?;
-    Ok(intro_field(name, None, deprecated, fields))
+    Ok(look_of(alloc, field, None, deprecated, fields)?)
 }
 
 /// The fields of introspection that collected fields ask for in the type of a place.
