@@ -3,7 +3,6 @@ use Rattle.std.proofs.Common.{◌≡◌, ◌∙◌, ap, Result, Ok, Err}
 use Rattle.hq_base.specs.Due.{◌>>=◌}
 
 module _ {A B C D R E : Type 0} (one : Result A E) (two : A → Result B E) (three : B → Result C E) (four : C → Result D E) (last : C → D → R) where
-
   abbrev pub way : Result A E → Result R E
   way r = r >>= λ a. two a >>= λ b. three b >>= λ c. four c >>= λ d. Ok (last c d)
 

@@ -16,8 +16,7 @@ front_more put [] p c = refl
 front_more put (q ∷ ps) p c = ap (put q.0 q.1) (front_more put ps p c)
 
 module _ {B C E : Type 0} (put : List ℕ → B → C → C) (here : FieldSeen → Result B E) (F : List CollectedField → Result C E)
-  (first : (f : CollectedField) (fs : List CollectedField) → F (f ∷ fs) ≡ and_then (λ x. mapped (put (collected_view f).key x) (F fs)) (here (collected_view f))) where
-
+    (first : (f : CollectedField) (fs : List CollectedField) → F (f ∷ fs) ≡ and_then (λ x. mapped (put (collected_view f).key x) (F fs)) (here (collected_view f))) where
   grown : (done : List (List ℕ × B)) (p : List ℕ × B) (rest : Result C E) → mapped (front put done) (mapped (put p.0 p.1) rest) ≡ mapped (front put (done ++ p ∷ [])) rest
   grown done p (Ok c) = ap Ok (sym (front_more put done p c))
   grown done p (Err e) = refl

@@ -59,5 +59,5 @@ abbrev mutual
   parts_due c place u no_collected = Ok no_part
   parts_due c place u (collected key h below others) =
       (known_due c place u h (is_empty below) >>= λ k.
-        part_by c place h (summaries_due c (leads_to k) u below) (fields_due c (leads_to k) u below) k.0.origin)
+      part_by c place h (summaries_due c (leads_to k) u below) (fields_due c (leads_to k) u below) k.0.origin)
       >>= λ p. mapped (part key p) (parts_due c place u others)

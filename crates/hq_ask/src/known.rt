@@ -152,7 +152,10 @@ pub fn key_of(args: FieldArgs, field: &CollectedField<'_>) -> Result<ValList, Co
 }
 
 /// What is counted.
-pub fn count_of(args: &FieldArgs, field: &CollectedField<'_>) -> Result<(Option<ColId>, bool), CoerceRefusal>
+pub fn count_of(
+    args: &FieldArgs,
+    field: &CollectedField<'_>,
+) -> Result<(Option<ColId>, bool), CoerceRefusal>
     ensures { Gives (λ x. x) refusal.Memory (count_of (parts_seen field.now).head (field_args_view args.now)) result }
 {
     match args {

@@ -2,7 +2,6 @@
 #![tactic(auto)]
 
 mod ask;
-
 mod heads;
 mod known;
 mod looks;

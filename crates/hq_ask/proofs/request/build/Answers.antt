@@ -116,6 +116,6 @@ returns c =
     let asks : FieldTrees = fields_of (map keyed_field_view c.in_ok-fields.fields.items) in
     let bs : List BoundTree = map bound_view c.in_ok-bound.bound in
     all_given (operation_of (operation_at d c.args.op)) (collected_due d vars) (root_due vars schema (schema_of tables m) (length tables))
-      (bound_in m (schema_of tables m) session (length tables)) (request_of session) o fs asks bs
-      c.in_ok-operation.ensures (ap (λ (x : DocumentTree). collected_due x vars o) (sym c.in_ok-fragments.ensures) ∙ c.in_ok-collected.ensures) c.in_ok-fields.ensures c.in_ok-bound.ensures
+    (bound_in m (schema_of tables m) session (length tables)) (request_of session) o fs asks bs
+    c.in_ok-operation.ensures (ap (λ (x : DocumentTree). collected_due x vars o) (sym c.in_ok-fragments.ensures) ∙ c.in_ok-collected.ensures) c.in_ok-fields.ensures c.in_ok-bound.ensures
     ∙ ap (λ (r : Role). Ok (record { role = r; fields = asks; bound = bs })) (sym c.in_ok-role.ensures)

@@ -14,5 +14,5 @@ returns c =
     let r : Request = record { document = document_of c.args.fragments.now; vars = map var_view c.args.vars.now } in
     subst (λ (ts : CollectedTrees). IfOk c.collected_tree.result (λ v. trees_of (map collected_view v.items) ≡ ts))
     (ap (λ (ss : List Selection). collected_tree r (map selection_view ss)) c.deref.ensures.value
-      ∙ ap (collected_tree r) (sym (listed_back (map selection_view c.args.operation.now.selections.items))))
+    ∙ ap (collected_tree r) (sym (listed_back (map selection_view c.args.operation.now.selections.items))))
     c.collected_tree.ensures
