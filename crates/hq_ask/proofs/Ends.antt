@@ -2,8 +2,8 @@
 use Rattle.std.proofs.Common.{◌≡◌, refl, ap, ℕ, List, [], ◌∷◌, map}
 use Rattle.hq_ask.specs.Summaries.{with_taken, with_summary}
 use Rattle.hq_ask.proofs.Walks.{front}
-use Rattle.hq_ask_tree.specs.Fields.{FieldTrees, no_field, field, FieldTree, PartTrees, no_part, part, PartTree, fields_of, parts_of}
-use Rattle.hq_ask_tree.specs.Introspection.{IntrospectionTree, IntrospectionTrees, no_look, looks, looks_of}
+use Rattle.hq_ask_tree.specs.Fields.{no_field, field, FieldTree, no_part, part, PartTree, fields_of, parts_of}
+use Rattle.hq_ask_tree.specs.Introspection.{IntrospectionTree, no_look, looks, looks_of}
 use Rattle.hq_ask_tree.specs.declared.aggregate.AggCol.{AggCol}
 use Rattle.hq_ask_tree.specs.declared.aggregate.AggField.{AggField}
 use Rattle.hq_ask_tree.specs.declared.aggregate.KeyedAggCol.{KeyedAggCol}

@@ -1,6 +1,6 @@
 -- Walks over collected fields: each field is read, and the first refusal ends the walk.
-use Rattle.std.proofs.Common.{◌≡◌, ◌∙◌, refl, sym, ap, ℕ, ◌+◌, ◌<◌, length, drop, get_or, List, [], ◌∷◌, ◌++◌, map, Result, Ok, Err}
-use Rattle.std.proofs.lemmas.List.{at_drop_more, at_drop_all}
+use Rattle.std.proofs.Common.{◌≡◌, ◌∙◌, refl, sym, ap, ℕ, ◌+◌, ◌<◌, length, drop, get_or, List, [], ◌∷◌, ◌++◌, Result, Ok, Err}
+use Rattle.std.proofs.lemmas.List.{at_drop_more}
 use Rattle.hq_base.specs.Due.{mapped, and_then}
 use Rattle.hq_collect.specs.TreeSeen.{FieldSeen, collected_view, parts_seen}
 use Rattle.hq_collect.specs.declared.tree.CollectedField.{CollectedField}

@@ -1,7 +1,7 @@
 -- The typed request of an operation for a session, or its first fault: the limits on its size, then the walk over its fields,
 -- then the session variables of the tables that it touches.
 use Rattle.std.specs.Prelude.{ℕ, List, length, Bool, ◌&&◌, cond, Option, Some, None, Result, Ok, Err}
-use Rattle.hq_base.specs.Due.{and_then, ◌>>=◌}
+use Rattle.hq_base.specs.Due.{◌>>=◌}
 use Rattle.hq_ask.specs.Asked.{fields_due}
 use Rattle.hq_ask.specs.Known.{Due}
 use Rattle.hq_ask_laws.specs.Touched.{touched}
@@ -19,7 +19,6 @@ use Rattle.hq_collect.specs.Size.{is_small}
 use Rattle.hq_collect.specs.Tree.{CollectedTrees, collected_tree}
 use Rattle.hq_gql_tree.specs.Documents.{OperationTree, DocumentTree}
 use Rattle.hq_gql_tree.specs.Selections.{selections_in}
-use Rattle.hq_gql_tree.specs.declared.fault.Fault.{Fault}
 use Rattle.hq_gql_tree.specs.declared.rule.RuleId.TheVariants as rule
 use Rattle.hq_schema.specs.Schema.{SchemaTree}
 use Rattle.hq_terms.specs.Meta.{MetaTree}

@@ -1,6 +1,6 @@
 -- What stands at a collected field, before what stands below it.
 use Rattle.std.specs.Prelude.{ℕ, List, Option, Some, None, Ok}
-use Rattle.hq_base.specs.Due.{mapped, ◌>>=◌}
+use Rattle.hq_base.specs.Due.{mapped}
 use Rattle.hq_base.specs.declared.value.Val.{Val}
 use Rattle.hq_arguments.specs.Context.{Context}
 use Rattle.hq_ask.specs.Known.{Due, refused, Known, type_name_due, rows_of, key_of, type_name_of}

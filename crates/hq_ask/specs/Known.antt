@@ -1,10 +1,10 @@
 -- What a collected field stands for, and its arguments.
-use Rattle.std.specs.Prelude.{ℕ, List, Bool, true, false, cond, Option, Some, None, is_none, is_some, Result, Ok, Err}
+use Rattle.std.specs.Prelude.{ℕ, List, Bool, false, cond, Option, Some, None, is_none, is_some, Result, Ok, Err}
 use Rattle.hq_base.specs.Due.{mapped}
 use Rattle.hq_base.specs.declared.value.Val.{Val}
 use Rattle.hq_arguments.specs.Context.{Context}
 use Rattle.hq_arguments.specs.Due.{arguments_due}
-use Rattle.hq_arguments.specs.FieldArguments.{FieldArguments, rows, key, count, type_name, deprecated, nothing}
+use Rattle.hq_arguments.specs.FieldArguments.{FieldArguments, rows, key, count, type_name, deprecated}
 use Rattle.hq_coerce.specs.Faults.{fault_of}
 use Rattle.hq_coerce.specs.declared.refusal.CoerceRefusal.{CoerceRefusal}
 use Rattle.hq_coerce.specs.declared.refusal.CoerceRefusal.TheVariants.{Fault}

@@ -1,5 +1,4 @@
 -- What a field of a schema with its coerced arguments is seen as, and the parts of a collected field.
-use Rattle.std.specs.Prelude.{map}
 use Rattle.hq_arguments.specs.FieldArguments.{field_args_view}
 use Rattle.hq_ask.specs.Known.{Known}
 use Rattle.hq_ask.specs.declared.known.Known.{Known as RustKnown}

@@ -1,7 +1,8 @@
 //! The typed request of an operation for a session.
-ghost use Rattle.std.specs.Prelude.{◌≡◌, map, length, IfOk, Some, true};
+ghost use Rattle.std.specs.Prelude.{◌≡◌, map, length, IfOk, Ok, Some, true};
 ghost use Rattle.hq_base.specs.Due.{Gives};
 ghost use Rattle.hq_ask.specs.Due.{operation_of, within_limits, collected_fields, collected_due, root_due, binding_fault, bound_in, build_due};
+ghost use Rattle.hq_ask_size.specs.FieldNodes.{is_bounded};
 ghost use Rattle.hq_ask_tree.specs.Fields.{fields_of, keyed_field_view};
 ghost use Rattle.hq_ask_tree.specs.Request.{ask_view, bound_view};
 ghost use Rattle.hq_coerce.specs.Choice.{operation_at};
@@ -22,6 +23,7 @@ ghost use Rattle.hq_terms.specs.Scope.{scope_schema};
 
 use crate::ask::ask_fields;
 use hq_arguments::Context;
+use hq_ask_size::is_bounded;
 use hq_ask_tree::{Ask, AskFields, BoundList};
 use hq_base::Memory;
 use hq_bound::bound_tables;
@@ -84,18 +86,31 @@ fn within_limits<'a>(
     Err(too_large(operation))
 }
 
-// The collected fields of an operation, where they are within the limits.
+// Collected fields, where their arguments have not too many nodes for memory.
+fn bounded<'a>(vars: &VarValues, fields: CollectedList<'a>) -> Result<CollectedList<'a>, AskRefusal>
+    ensures due { Gives (λ v. trees_of (map collected_view v.items)) refusal.Memory (Ok (trees_of (map collected_view fields.entry.items))) result }
+    ensures bounded { IfOk result (λ v. is_bounded (map var_view vars.now) (trees_of (map collected_view v.items)) ≡ true) }
+{
+    if is_bounded(vars, &fields) {
+        return Ok(fields);
+    }
+    Err(CoerceRefusal::Memory)
+}
+
+// The collected fields of an operation, where they are within the limits. Memory where their arguments have too many nodes.
 fn collected<'b, 'a>(
     alloc: Global,
     fragments: &'b Fragments<'a>,
     vars: &'b VarValues,
     operation: &'a Operation,
 ) -> Result<CollectedList<'a>, AskRefusal>
-    ensures { Gives (λ v. trees_of (map collected_view v.items)) refusal.Memory (collected_due (document_of fragments.now) (map var_view vars.now) (operation_view operation.now)) result }
+    ensures due { Gives (λ v. trees_of (map collected_view v.items)) refusal.Memory (collected_due (document_of fragments.now) (map var_view vars.now) (operation_view operation.now)) result }
+    ensures bounded { IfOk result (λ v. is_bounded (map var_view vars.now) (trees_of (map collected_view v.items)) ≡ true) }
 {
     if is_small_operation(fragments, operation) {
         let fields = tree_of(alloc, fragments, vars, operation)?;
-        return within_limits(operation, fields);
+        let fields = within_limits(operation, fields)?;
+        return bounded(vars, fields);
     }
     Err(too_large(operation))
 }

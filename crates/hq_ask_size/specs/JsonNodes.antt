@@ -1,5 +1,5 @@
 -- How many nodes a JSON value has: each value counts one and what stands in it, and a text one more for each 64 of its bytes.
-use Rattle.std.specs.Prelude.{ℕ, suc, ◌+◌, ◌/◌, List, length}
+use Rattle.std.specs.Prelude.{ℕ, ◌+◌, ◌/◌, List, length}
 use Rattle.hq_base.specs.Json.{JsonTree, null, bool, int, str, arr, obj, ElementTrees, no_element, element, MemberTrees, no_member, member}
 
 abbrev pub text_nodes : List ℕ → ℕ

@@ -1,4 +1,4 @@
-use Rattle.std.proofs.Common.{◌≡◌, ◌∙◌, refl, ap, sym, map, [], ◌∷◌, ◌++◌, List, ℕ, Result, Ok, Err, inl, inr, rules}
+use Rattle.std.proofs.Common.{◌≡◌, ◌∙◌, refl, ap, map, [], ◌∷◌, ◌++◌, List, Ok, Err, inl, inr, rules}
 use Rattle.std.specs.Prelude.{◌⊎◌}
 use Rattle.std.proofs.lemmas.List.{map-append, at_drop_all}
 use Rattle.hq_base.specs.Due.{mapped}

@@ -1,9 +1,9 @@
-use Rattle.std.proofs.Common.{◌≡◌, ◌∙◌, ap, sym, map, length, List, Result, Ok, Err, inl, inr, rules}
+use Rattle.std.proofs.Common.{◌≡◌, ◌∙◌, ap, sym, map, length, List, Ok, Err, inl, inr, rules}
 use Rattle.std.specs.Prelude.{◌⊎◌}
 use Rattle.hq_ask.proofs.Steps.{first_stops, second_stops, third_stops, fourth_stops, all_given}
 use Rattle.hq_ask.specs.Due.{operation_of, collected_due, root_due, bound_in, build_due}
 use Rattle.hq_ask_tree.specs.Fields.{FieldTrees, fields_of, keyed_field_view}
-use Rattle.hq_ask_tree.specs.Request.{AskTree, BoundTree, bound_view}
+use Rattle.hq_ask_tree.specs.Request.{BoundTree, bound_view}
 use Rattle.hq_bound.specs.Laws.{request_of}
 use Rattle.hq_coerce.specs.Choice.{operation_at}
 use Rattle.hq_coerce.specs.Variables.{VarTree, var_view}
@@ -15,7 +15,7 @@ use Rattle.hq_gql_tree.specs.Documents.{DocumentTree, OperationTree, operation_v
 use Rattle.hq_gql_tree.specs.View.{document_view}
 use Rattle.hq_schema.specs.Schema.{SchemaTree, schema_view}
 use Rattle.hq_terms.specs.Meta.{MetaTree, meta_view}
-use Rattle.hq_terms.specs.Schema.{Schema, schema_of}
+use Rattle.hq_terms.specs.Schema.{schema_of}
 use Rattle.hq_terms.specs.declared.role.Role.{Role}
 use Rattle.hq_terms.specs.declared.session.Session.{Session}
 use Rattle.hq_terms.specs.declared.table.Table.{Table}
@@ -51,7 +51,7 @@ returns-in_err-collected c =
     let o : OperationTree = operation_view c.in_ok-operation.operation.now in
     let e : CoerceRefusal = c.in_err-collected.field-0.0 in
     let refused : (e ≡ Memory) ⊎ (build_due d c.args.op vars schema tables m session ≡ Err e) =
-    elim c.in_err-collected.ensures [
+    elim c.in_err-collected.ensures.due [
       | inl want ↦ inl want
       | inr given ↦ inr (second_stops (operation_of (operation_at d c.args.op)) (collected_due d vars) (root_due vars schema (schema_of tables m) (length tables))
           (bound_in m (schema_of tables m) session (length tables)) (request_of session) o e
@@ -76,7 +76,7 @@ returns-in_err-fields c =
       | inl want ↦ inl want
       | inr given ↦ inr (third_stops (operation_of (operation_at d c.args.op)) (collected_due d vars) (root_due vars schema (schema_of tables m) (length tables))
           (bound_in m (schema_of tables m) session (length tables)) (request_of session) o fs e
-          c.in_ok-operation.ensures (ap (λ (x : DocumentTree). collected_due x vars o) (sym c.in_ok-fragments.ensures) ∙ c.in_ok-collected.ensures) given)
+          c.in_ok-operation.ensures (ap (λ (x : DocumentTree). collected_due x vars o) (sym c.in_ok-fragments.ensures) ∙ c.in_ok-collected.ensures.due) given)
     ] in
     search rules
 
@@ -98,7 +98,7 @@ returns-in_err-bound c =
       | inl want ↦ inl want
       | inr given ↦ inr (fourth_stops (operation_of (operation_at d c.args.op)) (collected_due d vars) (root_due vars schema (schema_of tables m) (length tables))
           (bound_in m (schema_of tables m) session (length tables)) (request_of session) o fs asks e
-          c.in_ok-operation.ensures (ap (λ (x : DocumentTree). collected_due x vars o) (sym c.in_ok-fragments.ensures) ∙ c.in_ok-collected.ensures) c.in_ok-fields.ensures given)
+          c.in_ok-operation.ensures (ap (λ (x : DocumentTree). collected_due x vars o) (sym c.in_ok-fragments.ensures) ∙ c.in_ok-collected.ensures.due) c.in_ok-fields.ensures given)
     ] in
     search rules
 
@@ -117,5 +117,5 @@ returns c =
     let bs : List BoundTree = map bound_view c.in_ok-bound.bound in
     all_given (operation_of (operation_at d c.args.op)) (collected_due d vars) (root_due vars schema (schema_of tables m) (length tables))
     (bound_in m (schema_of tables m) session (length tables)) (request_of session) o fs asks bs
-    c.in_ok-operation.ensures (ap (λ (x : DocumentTree). collected_due x vars o) (sym c.in_ok-fragments.ensures) ∙ c.in_ok-collected.ensures) c.in_ok-fields.ensures c.in_ok-bound.ensures
+    c.in_ok-operation.ensures (ap (λ (x : DocumentTree). collected_due x vars o) (sym c.in_ok-fragments.ensures) ∙ c.in_ok-collected.ensures.due) c.in_ok-fields.ensures c.in_ok-bound.ensures
     ∙ ap (λ (r : Role). Ok (record { role = r; fields = asks; bound = bs })) (sym c.in_ok-role.ensures)

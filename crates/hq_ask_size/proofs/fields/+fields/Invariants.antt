@@ -10,4 +10,4 @@ abbrev pub invariant-without_fields-loop-field : goal.invariant-without_fields-l
 invariant-without_fields-loop-field l =
     let vars = map var_view l.vars in
     less (field_nodes vars (trees_of (map collected_view l.fields.items))) l.fn.left
-    ≡ less (field_nodes vars (trees_of (map collected_view (drop l.field-index l.fields.items)))) l.left
+    ≡ less (field_nodes vars (trees_of (map collected_view (drop l.field-index l.field-items)))) l.left

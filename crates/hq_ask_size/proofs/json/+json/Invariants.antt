@@ -8,9 +8,9 @@ use Rattle.hq_ask_size.proofs.json.+json.Given as goal
 abbrev pub invariant-without_elements-loop-element : goal.invariant-without_elements-loop-element
 invariant-without_elements-loop-element l =
     less (element_nodes (elements_of (map json_view l.elements.items))) l.fn.left
-    ≡ less (element_nodes (elements_of (map json_view (drop l.element-index l.elements.items)))) l.left
+    ≡ less (element_nodes (elements_of (map json_view (drop l.element-index l.element-items)))) l.left
 
 abbrev pub invariant-without_members-loop-member : goal.invariant-without_members-loop-member
 invariant-without_members-loop-member l =
     less (member_nodes (members_of (map member_view l.members.items))) l.fn.left
-    ≡ less (member_nodes (members_of (map member_view (drop l.member-index l.members.items)))) l.left
+    ≡ less (member_nodes (members_of (map member_view (drop l.member-index l.member-items)))) l.left

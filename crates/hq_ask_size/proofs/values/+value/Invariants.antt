@@ -10,10 +10,10 @@ abbrev pub invariant-without_elements-loop-placed : goal.invariant-without_eleme
 invariant-without_elements-loop-placed l =
     let vars = map var_view l.vars in
     less (element_nodes vars (elements_of (map placed_view l.values.items))) l.fn.left
-    ≡ less (element_nodes vars (elements_of (map placed_view (drop l.placed-index l.values.items)))) l.left
+    ≡ less (element_nodes vars (elements_of (map placed_view (drop l.placed-index l.placed-items)))) l.left
 
 abbrev pub invariant-without_members-loop-member : goal.invariant-without_members-loop-member
 invariant-without_members-loop-member l =
     let vars = map var_view l.vars in
     less (member_nodes vars (members_of (map argument_view l.members.items))) l.fn.left
-    ≡ less (member_nodes vars (members_of (map argument_view (drop l.member-index l.members.items)))) l.left
+    ≡ less (member_nodes vars (members_of (map argument_view (drop l.member-index l.member-items)))) l.left
