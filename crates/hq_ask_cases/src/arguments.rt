@@ -17,11 +17,7 @@ fn push_sort(sort: &Sort, out: &mut String) -> Result<(), Stop> {
     push_through(sort.through.as_slice(), out)?;
     let direction = if sort.desc { "desc" } else { "asc" };
     let nulls = if sort.nulls_first { "first" } else { "last" };
-    Ok(write!(
-        out,
-        "c{} {direction} nulls {nulls}",
-        sort.col.at()
-    )?)
+    Ok(write!(out, "c{} {direction} nulls {nulls}", sort.col.at())?)
 }
 
 fn push_sorts(sorts: &[Sort], out: &mut String) -> Result<(), Stop> {

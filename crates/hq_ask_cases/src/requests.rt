@@ -27,9 +27,7 @@ fn asked(
     };
     let given = given_variables(alloc, case)?;
     match coerce_variables(alloc, document, op, &schema, given.as_ref()) {
-        Ok(vars) => Ok(build(
-            alloc, document, op, &vars, &schema, catalog, meta, session,
-        )),
+        Ok(vars) => Ok(build(alloc, document, op, &vars, &schema, catalog, meta, session)),
         Err(refusal) => Ok(Err(refusal)),
     }
 }
