@@ -3,6 +3,7 @@ use Rattle.std.proofs.Common.{◌≡◌, ◌⊎◌, ◌≤◌, ◌∙◌, ℕ, L
 use Rattle.std.proofs.lemmas.Bool.{lt-ltb, le-ltb}
 use Rattle.std.specs.Io.KnownBytes.{Appends}
 use Rattle.hq_ask_tree.specs.Request.{AskTree}
+use Rattle.hq_base.specs.declared.reply.Reply.{Reply}
 use Rattle.hq_outside.specs.Streams.{AppendsPrefix, ReadsAll}
 use Rattle.hq_outside.specs.declared.files.File.{File}
 use Rattle.hq_outside.specs.declared.streams.InputRefusal.{InputRefusal}
@@ -72,7 +73,7 @@ within_short text output short = rw (le-ltb INPUT_LIMIT (length text) short) ref
 
 -- the engine gave no reply
 pub refused_answers : (by : Engine) (session : Session) (database : Option (List (List Row))) (text : List ℕ) (old : Option (List ℕ)) (before now : Counts) (e : EngineRefusal) (a : Answer) → a ≡ Err (of_engine e) → length text ≤ INPUT_LIMIT
-    → Asks (engine_text by session text) before now (Err e) → Answers by session database text old old before now a
+    → Asks {X = Reply} (engine_text by session text) before now (Err e) → Answers by session database text old old before now a
 refused_answers by session database text old before now (engine.Database b c) a is short asked = rw is (record { ends = tt; asked = asked })
 refused_answers by session database text old before now engine.Memory a is short asked = rw is (record { ends = tt; asked = asked })
 

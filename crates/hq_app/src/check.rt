@@ -11,10 +11,10 @@ ghost use Rattle.hq_line.specs.Wrote.{Wrote};
 
 use crate::{Done, Refusal};
 use hq_base::{Memory, Txt};
-use hq_roles::roles_in;
 use hq_line::{Part, Phrase, write_parts};
 use hq_loading::{Loaded, load};
 use hq_outside::{Files, Sink, WriteFailed};
+use hq_roles::roles_in;
 use hq_tables::Rows;
 use hq_terms::Meta;
 use std::alloc::Global;

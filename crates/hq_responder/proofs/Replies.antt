@@ -1,5 +1,5 @@
 -- The reply that an engine gives is the due one.
-use Rattle.std.proofs.Common.{◌≡◌, ℕ, List, true, Option, Some, None, IfSome, Result, Ok, Err, refl, sym, ap, subst}
+use Rattle.std.proofs.Common.{◌≡◌, ℕ, List, true, Option, Some, None, IfSome, Result, Ok, Err, subst}
 use Rattle.hq_ask_tree.specs.Request.{AskTree}
 use Rattle.hq_base.specs.declared.reply.Reply.{Reply}
 use Rattle.hq_terms.specs.Database.{Row}
@@ -43,6 +43,13 @@ pub answered : (engine : Engine) (session : Session) (database : Option (List (L
     → IfSome (engine_fault engine session body) (λ f. reply.body ≡ fault_text f) → IfSome database (λ d. engine_reply engine session d body ≡ Some reply.body) → is_due_of engine session database body reply
 answered engine session database body reply status built fault told =
     answered_is engine.catalog.tables (meta_view engine.meta) session database (engine_request engine session body) reply status built fault told
+
+-- what is known of a reply is known by more
+pub body_weaker : (a : Answer) (P Q : Reply → Type 0) → ((reply : Reply) → P reply → Q reply) → IfBody a P → IfBody a Q
+body_weaker (answer.Body reply) P Q h is = h reply is
+body_weaker answer.Denied P Q h is = tt
+body_weaker answer.Failed P Q h is = tt
+body_weaker answer.Memory P Q h is = tt
 
 -- a database that is the same gives the same replies
 pub gives_same : {P : Type 0} (allows : P → List Header → HookAnswer → Type 0) (rule : P) (engine : Engine) (database now : Option (List (List Row))) → now ≡ database
