@@ -1,11 +1,10 @@
 -- How a run ends, by its parts.
-use Rattle.std.proofs.Common.{◌≡◌, ◌⊎◌, ◌≤◌, ◌∙◌, ℕ, List, length, true, false, Option, Some, None, is_some, IfSome, Result, Ok, Err, option_map, refl, sym, subst, inl, inr, arith}
+use Rattle.std.proofs.Common.{◌≡◌, ◌⊎◌, ◌≤◌, ◌∙◌, ℕ, List, length, true, Option, Some, None, is_some, IfSome, Result, Ok, Err, option_map, refl, sym, subst, inl, inr, arith}
 use Rattle.std.proofs.lemmas.Bool.{lt-ltb, le-ltb}
 use Rattle.std.specs.Io.KnownBytes.{Appends}
 use Rattle.hq_ask_tree.specs.Request.{AskTree}
 use Rattle.hq_base.specs.declared.reply.Reply.{Reply}
 use Rattle.hq_outside.specs.Streams.{AppendsPrefix, ReadsAll}
-use Rattle.hq_outside.specs.declared.files.File.{File}
 use Rattle.hq_outside.specs.declared.streams.InputRefusal.{InputRefusal}
 use Rattle.hq_outside.specs.declared.streams.InputRefusal.TheVariants as input
 use Rattle.hq_terms.specs.Database.{Row}

@@ -1,12 +1,11 @@
 -- What is due where the text of a request is told.
-use Rattle.std.proofs.Common.{◌≡◌, ◌≤◌, ◌∙◌, ℕ, List, length, true, Option, Some, None, Result, Ok, Err, refl, sym, ap, subst}
-use Rattle.std.proofs.lemmas.Bool.{le-ltb}
+use Rattle.std.proofs.Common.{◌≡◌, ◌≤◌, ◌∙◌, ℕ, List, length, true, Option, Some, None, Result, Ok, Err, ap}
 use Rattle.std.specs.Prelude.{codes, is_ok}
 use Rattle.hq_ask_tree.specs.Request.{AskTree}
 use Rattle.hq_terms.specs.Meta.{MetaTree, meta_view}
 use Rattle.hq_terms.specs.declared.session.Session.{Session}
 use Rattle.hq_terms.specs.declared.table.Table.{Table}
-use Rattle.hq_engine.specs.Asking.{text_for, asked_text}
+use Rattle.hq_engine.specs.Asking.{text_for}
 use Rattle.hq_engine.specs.Engines.{engine_request, engine_text}
 use Rattle.hq_faults.specs.FaultTexts.{fault_text}
 use Rattle.hq_request.specs.Request.{fault_in}
@@ -14,12 +13,9 @@ use Rattle.hq_engine.specs.declared.engine.Engine.{Engine}
 use Rattle.hq_faults.specs.declared.faults.RequestFault.{RequestFault}
 use Rattle.hq_request.specs.declared.refusal.RequestRefusal.{RequestRefusal}
 use Rattle.hq_request.specs.declared.refusal.RequestRefusal.TheVariants as request
-use Rattle.hq_app.specs.Ending.{Ends}
-use Rattle.hq_app.specs.Output.{Output, line_text, stated_output, within_limit, statement_output}
-use Rattle.hq_app.specs.declared.done.Done.{Done}
+use Rattle.hq_app.specs.Output.{Output, line_text, stated_output, statement_output}
 use Rattle.hq_app.specs.declared.done.Done.TheVariants.{Answered, Faulty}
 use Rattle.hq_app.specs.declared.refusal.Refusal.{Refusal}
-use Rattle.hq_app.specs.declared.refusal.Refusal.TheVariants as refusal
 use Rattle.hq_app.specs.declared.reply.TheConstants.{INPUT_LIMIT}
 use Rattle.hq_app.proofs.Endings.{within_short}
 

@@ -1,6 +1,6 @@
 -- What is due on the standard output: bytes that tell data, counts or a fault; or the first refusal. It is a function of the
 -- directory's files, the headers and the input.
-use Rattle.std.specs.Prelude.{ℕ, List, ◌++◌, codes, unwrap_or, length, nat_lt, Option, Some, None, option_map, Result, Ok, Err, cond, if◌then◌else◌}
+use Rattle.std.specs.Prelude.{ℕ, List, ◌++◌, codes, unwrap_or, length, nat_lt, Option, Some, option_map, Result, Ok, Err, cond, if◌then◌else◌}
 use Rattle.hq_ask_tree.specs.Request.{AskTree}
 use Rattle.hq_base.specs.Due.{◌>>=◌}
 use Rattle.hq_outside.specs.declared.files.File.{File}

@@ -1,4 +1,4 @@
-use Rattle.std.proofs.Common.{◌≡◌, ◌∙◌, ap, Err, Ok}
+use Rattle.std.proofs.Common.{◌∙◌, ap, Err}
 use Rattle.std.proofs.lemmas.Result.{err_from_is_err_and}
 use Rattle.hq_app.proofs.Endings.{cut_ends, refused_answers, replied, written_ends}
 use Rattle.hq_app.proofs.reply.reply_over.Goals as goal
