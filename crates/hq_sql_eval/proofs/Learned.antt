@@ -55,11 +55,11 @@ learned_is p w rows alias c m k x e =
       alone = refl;
       whole = whole;
       tells = λ n i lt. (
-        let within : i < length rows = omega (arith, whole, lt) in
-        let row = get_or rows i [] in
-        let known : get_or k.truths.items i false ≡ f row = ap (λ l. get_or l i false) e ∙ at_map f rows i [] false within in
-        let alone : all_kept (lent_views c) w (with_alias n alias row) ≡ f row = all_alone (lent_views c) alias w n row (x.only refl) in
-        sym (x.same w (with_alias n alias row)) ∙ ap (λ b. b && all_kept (lent_views k.rest.items) w (with_alias n alias row)) (alone ∙ sym known));
+          let within : i < length rows = omega (arith, whole, lt) in
+          let row = get_or rows i [] in
+          let known : get_or k.truths.items i false ≡ f row = ap (λ l. get_or l i false) e ∙ at_map f rows i [] false within in
+          let alone : all_kept (lent_views c) w (with_alias n alias row) ≡ f row = all_alone (lent_views c) alias w n row (x.only refl) in
+          sym (x.same w (with_alias n alias row)) ∙ ap (λ b. b && all_kept (lent_views k.rest.items) w (with_alias n alias row)) (alone ∙ sym known));
     }
 
 -- one more is right where each is

@@ -170,7 +170,15 @@ fn scan<'s, 'd>(
 ) -> Result<Vec<Place<'d>>, Memory>
     ensures { IfOk result (λ places. map (names_at source.entry alias.now (joins_of (map join_view joins.now)) (world_of world.now) (names_of scope.now world.now)) places.items ≡ kept_items (kept (filter_view filter.now) (world_of world.now)) (flat_map (joined (joins_of (map join_view joins.now)) (world_of world.now)) (map (with_alias (names_of scope.now world.now) alias.now) (source_view source.entry)))) }
 {
-    let looked = looked_at(alloc, source, alias, joins, filter, &world.work.looked, &*scope)?;
+    let looked = looked_at(
+        alloc,
+        source,
+        alias,
+        joins,
+        filter,
+        &world.work.looked,
+        &*scope,
+    )?;
     let mut places = Vec::new(alloc);
     for turn in 0..number_of(looked) {
         let position = position_at(looked, turn);
@@ -249,9 +257,7 @@ pub fn any_row<'s, 'd>(
             row: row_at(source, position),
             outer: &*scope,
         };
-        if keeps_some(
-            alloc, position, joins, stages, filter, known, world, &at,
-        )? {
+        if keeps_some(alloc, position, joins, stages, filter, known, world, &at)? {
             return Ok(true);
         }
     }

@@ -32,11 +32,7 @@ fn has_exists(pred: &Pred) -> bool {
 
 /// Learns what is worth knowing of the parts of a select.
 #[cycle(remember)]
-pub fn remember<'d>(
-    alloc: Global,
-    select: &'d Select,
-    world: &mut Pinned<'d>,
-) -> Result<(), Memory>
+pub fn remember<'d>(alloc: Global, select: &'d Select, world: &mut Pinned<'d>) -> Result<(), Memory>
     ensures { world.new.tables ≡ world.old.tables }
 {
     match select {
@@ -55,11 +51,7 @@ pub fn remember<'d>(
 }
 
 #[cycle(remember)]
-fn remember_from<'d>(
-    alloc: Global,
-    from: &'d From,
-    world: &mut Pinned<'d>,
-) -> Result<(), Memory>
+fn remember_from<'d>(alloc: Global, from: &'d From, world: &mut Pinned<'d>) -> Result<(), Memory>
     ensures { world.new.tables ≡ world.old.tables }
 {
     match from {
@@ -97,11 +89,7 @@ fn remember_filter<'d>(
 }
 
 #[cycle(remember)]
-fn remember_pred<'d>(
-    alloc: Global,
-    pred: &'d Pred,
-    world: &mut Pinned<'d>,
-) -> Result<(), Memory>
+fn remember_pred<'d>(alloc: Global, pred: &'d Pred, world: &mut Pinned<'d>) -> Result<(), Memory>
     ensures { world.new.tables ≡ world.old.tables }
 {
     match pred {

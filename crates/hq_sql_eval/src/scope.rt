@@ -117,11 +117,7 @@ fn stored_named<'s, 'd>(world: &Pinned<'d>, schema: &Txt, name: &Txt) -> Source<
 }
 
 /// The rows that a FROM gives, of which `made` are those of a sub-select.
-pub fn source_of<'s, 'd>(
-    world: &Pinned<'d>,
-    from: &From,
-    made: &'s [Made<'d>],
-) -> Source<'s, 'd>
+pub fn source_of<'s, 'd>(world: &Pinned<'d>, from: &From, made: &'s [Made<'d>]) -> Source<'s, 'd>
     ensures { source_view result ≡ rows_given (from_view from.now) (world_of world.now) (map made_view made.now) }
 {
     match from {

@@ -74,11 +74,7 @@ fn stored<'d, T: Tables>(
 }
 
 /// What a statement means over tables with these rows.
-fn eval_over<'d>(
-    alloc: Global,
-    select: &'d Select,
-    world: &Pinned<'d>,
-) -> Result<Json, Memory>
+fn eval_over<'d>(alloc: Global, select: &'d Select, world: &Pinned<'d>) -> Result<Json, Memory>
     ensures { IfOk result (λ json. json_view json ≡ meaning (select_view select.now) (world_of world.now)) }
 {
     let scope = Scope::Nothing;

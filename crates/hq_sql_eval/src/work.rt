@@ -2,6 +2,7 @@
 use std::cell::Cell;
 
 /// How many comparisons look-ups made, staying at the greatest number, and how many rows may still be tried for EXISTS.
+#[derive(Drop)]
 pub struct Work {
     pub looked: Cell<u64>,
     left: Cell<u64>,
