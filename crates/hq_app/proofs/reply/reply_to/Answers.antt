@@ -1,4 +1,4 @@
-use Rattle.std.proofs.Common.{◌≡◌, ◌∙◌, ap, subst, Err, Ok, ℕ, List, IfSome}
+use Rattle.std.proofs.Common.{◌∙◌, ap, Err, ℕ, List}
 use Rattle.std.proofs.lemmas.Result.{err_from_is_err_and}
 use Rattle.hq_outside.specs.Streams.{ReadsAll}
 use Rattle.hq_app.specs.declared.reply.TheConstants.{INPUT_LIMIT}

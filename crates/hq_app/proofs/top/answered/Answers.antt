@@ -1,4 +1,4 @@
-use Rattle.std.proofs.Common.{◌≡◌, ◌∙◌, ap, Option, Some, None, Result, Ok, Err}
+use Rattle.std.proofs.Common.{◌≡◌, ◌∙◌, ap, Option, Some, None, Ok}
 use Rattle.std.specs.Prelude.{ok_or}
 use Rattle.hq_words.specs.Asked.{command_of}
 use Rattle.hq_app.proofs.top.answered.Goals as goal
