@@ -1,0 +1,5 @@
+mod deepest;
+mod memory;
+mod pins;
+mod store;
+mod system;
