@@ -35,10 +35,8 @@ impl Subject for About {
 
     fn told(self, rt: &HostRuntime, case: &Case) -> Result<String, Stop> {
         match self {
-            About::Requests | About::Directories | About::Runs | About::Serving => {
-                runs::outcome(rt, case)
-            }
             About::Statements => statements::answer(rt, case),
+            _ => runs::outcome(rt, case),
         }
     }
 }
