@@ -13,14 +13,14 @@ use Rattle.hq_terms.specs.declared.session.Session.{Session}
 use Rattle.hq_terms.specs.declared.table.Table.{Table}
 use Rattle.hq_engine.specs.Asking.{Counts, Asks}
 use Rattle.hq_engine.specs.Engines.{engine_fault, engine_reply, engine_request, engine_text}
-use Rattle.hq_engine.specs.FaultTexts.{fault_text, tells_fault}
+use Rattle.hq_faults.specs.FaultTexts.{fault_text, tells_fault}
 use Rattle.hq_engine.specs.Replies.{reply_to}
-use Rattle.hq_engine.specs.Request.{fault_in, is_built}
+use Rattle.hq_request.specs.Request.{fault_in, is_answered}
 use Rattle.hq_engine.specs.declared.engine.Engine.{Engine}
 use Rattle.hq_engine.specs.declared.refusal.EngineRefusal.{EngineRefusal}
 use Rattle.hq_engine.specs.declared.refusal.EngineRefusal.TheVariants as engine
-use Rattle.hq_engine.specs.declared.refusal.RequestRefusal.{RequestRefusal}
-use Rattle.hq_engine.specs.declared.refusal.RequestRefusal.TheVariants as request
+use Rattle.hq_request.specs.declared.refusal.RequestRefusal.{RequestRefusal}
+use Rattle.hq_request.specs.declared.refusal.RequestRefusal.TheVariants as request
 use Rattle.hq_loading.specs.Loading.{Contents}
 use Rattle.hq_app.specs.Output.{Output, of_input, of_engine, done_by, reply_output, within_limit, request_output, engine_output, statement_output}
 use Rattle.hq_app.specs.Ending.{Answer, Answers, AskedBy, Ends, NotDatabase, TellsDatabase, Writes, WritesPrefix}
@@ -70,23 +70,11 @@ within_short text output short = rw (le-ltb INPUT_LIMIT (length text) short) ref
 
 -- ---- the reply
 
--- nothing is due for a request that is not built
-not_built : (tables : List Table) (meta : MetaTree) (session : Session) (database : Option (List (List Row))) (r : Result AskTree RequestRefusal) → is_built r ≡ false → reply_output tables meta session database r ≡ Err refusal.NotBuilt
-not_built tables meta session database (Ok ask) h = absurd cc
-not_built tables meta session database (Err (request.Fault f)) h = absurd cc
-not_built tables meta session database (Err request.NotBuilt) h = refl
-not_built tables meta session database (Err request.Memory) h = refl
-
 -- the engine gave no reply
 pub refused_answers : (by : Engine) (session : Session) (database : Option (List (List Row))) (text : List ℕ) (old : Option (List ℕ)) (before now : Counts) (e : EngineRefusal) (a : Answer) → a ≡ Err (of_engine e) → length text ≤ INPUT_LIMIT
-    → Asks (engine_text by session text) before now (Err e) → (e ≡ engine.NotBuilt → is_built (engine_request by session text) ≡ false) → Answers by session database text old old before now a
-refused_answers by session database text old before now (engine.Database b c) a is short asked none = rw is (record { ends = tt; asked = asked })
-refused_answers by session database text old before now engine.Memory a is short asked none = rw is (record { ends = tt; asked = asked })
-refused_answers by session database text old before now engine.NotBuilt a is short asked none =
-    rw is (record {
-      ends = within_short text _ short ∙ not_built by.catalog.tables (meta_view by.meta) session database (engine_request by session text) (none refl);
-      asked = asked;
-    })
+    → Asks (engine_text by session text) before now (Err e) → Answers by session database text old old before now a
+refused_answers by session database text old before now (engine.Database b c) a is short asked = rw is (record { ends = tt; asked = asked })
+refused_answers by session database text old before now engine.Memory a is short asked = rw is (record { ends = tt; asked = asked })
 
 -- a reply is what is due, as far as it is known
 pub record Replied (due : Result Output Refusal) (body : List ℕ) : Type 0 where
@@ -99,15 +87,14 @@ known_bytes : (f : List (List Row) → List ℕ) (database : Option (List (List 
 known_bytes f None body h = tt
 known_bytes f (Some d) body h = cc
 
-replied_as : (tables : List Table) (meta : MetaTree) (session : Session) (database : Option (List (List Row))) (r : Result AskTree RequestRefusal) (body : List ℕ) → is_built r ≡ true → tells_fault body ≡ is_some (fault_in r)
+replied_as : (tables : List Table) (meta : MetaTree) (session : Session) (database : Option (List (List Row))) (r : Result AskTree RequestRefusal) (body : List ℕ) → is_answered r ≡ true → tells_fault body ≡ is_some (fault_in r)
     → IfSome (fault_in r) (λ f. body ≡ fault_text f) → IfSome database (λ d. reply_to tables meta session d r ≡ Some body) → Replied (reply_output tables meta session database r) body
 replied_as tables meta session database (Ok ask) body built kind fault reply =
     record { output = _; is = refl; done = rw kind refl; bytes = known_bytes _ database body reply }
 replied_as tables meta session database (Err (request.Fault f)) body built kind fault reply = record { output = _; is = refl; done = rw kind refl; bytes = fault }
-replied_as tables meta session database (Err request.NotBuilt) body built kind fault reply = absurd cc
 replied_as tables meta session database (Err request.Memory) body built kind fault reply = absurd cc
 
-pub replied : (engine : Engine) (session : Session) (database : Option (List (List Row))) (text body : List ℕ) → length text ≤ INPUT_LIMIT → is_built (engine_request engine session text) ≡ true
+pub replied : (engine : Engine) (session : Session) (database : Option (List (List Row))) (text body : List ℕ) → length text ≤ INPUT_LIMIT → is_answered (engine_request engine session text) ≡ true
     → tells_fault body ≡ is_some (engine_fault engine session text) → IfSome (engine_fault engine session text) (λ f. body ≡ fault_text f) → IfSome database (λ d. engine_reply engine session d text ≡ Some body)
     → Replied (engine_output engine session database text) body
 replied engine session database text body short built kind fault reply =
@@ -159,4 +146,3 @@ never_fails refusal.WriteFailed h = tt
 never_fails (refusal.Database b a) h = absurd (omega (arith, h.2))
 never_fails refusal.Memory h = tt
 never_fails refusal.InputTooLong h = tt
-never_fails refusal.NotBuilt h = tt

@@ -1,5 +1,5 @@
 -- What is due where the text of a request is told.
-use Rattle.std.proofs.Common.{◌≡◌, ◌≤◌, ◌∙◌, ℕ, List, length, Bool, true, false, Option, Some, None, Result, Ok, Err, refl, sym, ap, subst}
+use Rattle.std.proofs.Common.{◌≡◌, ◌≤◌, ◌∙◌, ℕ, List, length, true, Option, Some, None, Result, Ok, Err, refl, sym, ap, subst}
 use Rattle.std.proofs.lemmas.Bool.{le-ltb}
 use Rattle.std.specs.Prelude.{codes, is_ok}
 use Rattle.hq_ask_tree.specs.Request.{AskTree}
@@ -8,12 +8,12 @@ use Rattle.hq_terms.specs.declared.session.Session.{Session}
 use Rattle.hq_terms.specs.declared.table.Table.{Table}
 use Rattle.hq_engine.specs.Asking.{text_for, asked_text}
 use Rattle.hq_engine.specs.Engines.{engine_request, engine_text}
-use Rattle.hq_engine.specs.FaultTexts.{fault_text}
-use Rattle.hq_engine.specs.Request.{request_due, fault_in, is_built}
+use Rattle.hq_faults.specs.FaultTexts.{fault_text}
+use Rattle.hq_request.specs.Request.{fault_in}
 use Rattle.hq_engine.specs.declared.engine.Engine.{Engine}
-use Rattle.hq_engine.specs.declared.faults.RequestFault.{RequestFault}
-use Rattle.hq_engine.specs.declared.refusal.RequestRefusal.{RequestRefusal}
-use Rattle.hq_engine.specs.declared.refusal.RequestRefusal.TheVariants as request
+use Rattle.hq_faults.specs.declared.faults.RequestFault.{RequestFault}
+use Rattle.hq_request.specs.declared.refusal.RequestRefusal.{RequestRefusal}
+use Rattle.hq_request.specs.declared.refusal.RequestRefusal.TheVariants as request
 use Rattle.hq_app.specs.Ending.{Ends}
 use Rattle.hq_app.specs.Output.{Output, line_text, stated_output, within_limit, statement_output}
 use Rattle.hq_app.specs.declared.done.Done.{Done}
@@ -37,14 +37,7 @@ none_due tables meta (Err e) is h = absurd cc
 fault_due : (text : Option (List ℕ)) (r : Result AskTree RequestRefusal) (f : RequestFault) → fault_in r ≡ Some f → stated_output text r ≡ Ok (record { done = Faulty; bytes = Some (fault_text f) })
 fault_due text (Ok ask) f h = absurd cc
 fault_due text (Err (request.Fault g)) f h = let same : g ≡ f = cc in ap (λ e. Ok (record { done = Faulty; bytes = Some (fault_text e) })) same
-fault_due text (Err request.NotBuilt) f h = absurd cc
 fault_due text (Err request.Memory) f h = absurd cc
-
-not_built_due : (text : Option (List ℕ)) (r : Result AskTree RequestRefusal) → is_built r ≡ false → stated_output text r ≡ Err refusal.NotBuilt
-not_built_due text (Ok ask) h = absurd cc
-not_built_due text (Err (request.Fault f)) h = absurd cc
-not_built_due text (Err request.NotBuilt) h = refl
-not_built_due text (Err request.Memory) h = refl
 
 module _ (engine : Engine) (session : Session) (body : List ℕ) (short : length body ≤ INPUT_LIMIT) where
   abbrev due : Result Output Refusal
@@ -58,6 +51,3 @@ module _ (engine : Engine) (session : Session) (body : List ℕ) (short : length
 
   pub fault_is_due : (f : RequestFault) → fault_in (engine_request engine session body) ≡ Some f → due ≡ Ok (record { done = Faulty; bytes = Some (fault_text f) })
   fault_is_due f h = within_short body _ short ∙ fault_due (engine_text engine session body) (engine_request engine session body) f h
-
-  pub not_built_is_due : is_built (engine_request engine session body) ≡ false → due ≡ Err refusal.NotBuilt
-  not_built_is_due h = within_short body _ short ∙ not_built_due (engine_text engine session body) (engine_request engine session body) h

@@ -4,7 +4,7 @@ use Rattle.std.specs.Prelude.{ℕ, ◌+◌, List, [], ◌∷◌, length}
 use Rattle.std.specs.Fmt.{decimal}
 use Rattle.std.specs.List.{concat}
 use Rattle.hq_terms.specs.Database.{Row}
-use Rattle.hq_engine.specs.Roles.{roles_in}
+use Rattle.hq_roles.specs.Roles.{roles_in}
 use Rattle.hq_line.specs.Line.{phrase_text}
 use Rattle.hq_loading.specs.Loading.{Contents}
 use Rattle.hq_line.specs.declared.phrase.Phrase.TheVariants.{Ok, Tables, Roles, Rows, End}

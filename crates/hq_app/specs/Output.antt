@@ -11,16 +11,15 @@ use Rattle.hq_terms.specs.Meta.{MetaTree, meta_view}
 use Rattle.hq_terms.specs.declared.session.Session.{Session}
 use Rattle.hq_terms.specs.declared.table.Table.{Table}
 use Rattle.hq_engine.specs.Asking.{asked_text}
-use Rattle.hq_engine.specs.FaultTexts.{fault_text, tells_fault}
-use Rattle.hq_engine.specs.Replies.{data_text, resolved_for}
-use Rattle.hq_engine.specs.Request.{request_due}
+use Rattle.hq_faults.specs.FaultTexts.{fault_text, tells_fault}
+use Rattle.hq_engine.specs.Replies.{due_object}
+use Rattle.hq_reply.specs.DataTexts.{data_text}
+use Rattle.hq_request.specs.Request.{request_due}
 use Rattle.hq_engine.specs.declared.engine.Engine.{Engine}
 use Rattle.hq_engine.specs.declared.refusal.EngineRefusal.{EngineRefusal}
 use Rattle.hq_engine.specs.declared.refusal.EngineRefusal.TheVariants as engine
-use Rattle.hq_engine.specs.declared.refusal.RequestRefusal.{RequestRefusal}
-use Rattle.hq_engine.specs.declared.refusal.RequestRefusal.TheVariants as request
-use Rattle.hq_engine.specs.declared.stated.StatementRefusal.{StatementRefusal}
-use Rattle.hq_engine.specs.declared.stated.StatementRefusal.TheVariants as statement
+use Rattle.hq_request.specs.declared.refusal.RequestRefusal.{RequestRefusal}
+use Rattle.hq_request.specs.declared.refusal.RequestRefusal.TheVariants as request
 use Rattle.hq_session.specs.Sessions.{session_of}
 use Rattle.hq_session.specs.declared.header.Header.{Header}
 use Rattle.hq_app.specs.Check.{check_line}
@@ -33,7 +32,7 @@ use Rattle.hq_words.specs.declared.refusal.WordsRefusal.TheVariants as words
 use Rattle.hq_loading.specs.declared.refusal.LoadingRefusal.{LoadingRefusal}
 use Rattle.hq_loading.specs.declared.refusal.LoadingRefusal.TheVariants as loading
 use Rattle.hq_app.specs.declared.refusal.Refusal.{Refusal}
-use Rattle.hq_app.specs.declared.refusal.Refusal.TheVariants.{BadWords, File as RefusedFile, ReadFailed, Database, Memory, InputTooLong, NotBuilt}
+use Rattle.hq_app.specs.declared.refusal.Refusal.TheVariants.{BadWords, File as RefusedFile, ReadFailed, Database, Memory, InputTooLong}
 
 -- what the refusal of a part is to the program
 abbrev pub of_words : WordsRefusal → Refusal
@@ -53,11 +52,6 @@ of_input input.Memory = Memory
 abbrev pub of_engine : EngineRefusal → Refusal
 of_engine (engine.Database before after) = Database before after
 of_engine engine.Memory = Memory
-of_engine engine.NotBuilt = NotBuilt
-
-abbrev pub of_statement : StatementRefusal → Refusal
-of_statement statement.NotBuilt = NotBuilt
-of_statement statement.Memory = Memory
 
 -- what is to be written: what it tells, and its bytes, where what they are made of is told
 pub record Output : Type 0 where
@@ -71,10 +65,9 @@ done_by body = if tells_fault body then Faulty else Answered
 -- the reply to what a body makes: a fault needs no database
 abbrev pub reply_output : List Table → MetaTree → Session → Option (List (List Row)) → Result AskTree RequestRefusal → Result Output Refusal
 reply_output tables meta session database (Ok ask) =
-    Ok (record { done = Answered; bytes = option_map (λ rows. data_text (resolved_for tables meta session rows ask)) database })
+    Ok (record { done = Answered; bytes = option_map (λ rows. data_text (due_object tables meta session rows ask)) database })
 reply_output tables meta session database (Err (request.Fault f)) = Ok (record { done = Faulty; bytes = Some (fault_text f) })
-reply_output tables meta session database (Err request.NotBuilt) = Err NotBuilt
-reply_output tables meta session database (Err request.Memory) = Err NotBuilt
+reply_output tables meta session database (Err request.Memory) = Err Memory
 
 -- what is due for an input, of at most so many bytes
 abbrev pub within_limit : (text : List ℕ) → Result Output Refusal → Result Output Refusal
@@ -104,8 +97,7 @@ line_text text = text ++ codes "\n"
 abbrev pub stated_output : (text : Option (List ℕ)) → Result AskTree RequestRefusal → Result Output Refusal
 stated_output text (Ok ask) = Ok (record { done = Answered; bytes = Some (line_text (unwrap_or text (codes "none"))) })
 stated_output text (Err (request.Fault f)) = Ok (record { done = Faulty; bytes = Some (fault_text f) })
-stated_output text (Err request.NotBuilt) = Err NotBuilt
-stated_output text (Err request.Memory) = Err NotBuilt
+stated_output text (Err request.Memory) = Err Memory
 
 abbrev pub statement_output : List Table → MetaTree → Session → (text : List ℕ) → Result Output Refusal
 statement_output tables meta session text =

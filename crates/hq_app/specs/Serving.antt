@@ -66,4 +66,3 @@ module _ {L : Type 0} (t : Told L) (rule : SecretRule) (connections : ℕ) (befo
   ServeEnds files dir (Err refusal.BadWords) = ⊥
   ServeEnds files dir (Err (refusal.Database b a)) = ⊥
   ServeEnds files dir (Err refusal.InputTooLong) = ⊥
-  ServeEnds files dir (Err refusal.NotBuilt) = ⊥

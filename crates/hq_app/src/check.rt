@@ -2,7 +2,7 @@
 ghost use Rattle.std.specs.Prelude.{◌≡◌, ◌≢◌, ◌≤◌, Ok, Some, length, IfOk, IfSome, IsErrOf, IfErr};
 ghost use Rattle.hq_outside.specs.Causes.{Rose};
 ghost use Rattle.hq_terms.specs.Meta.{meta_view};
-ghost use Rattle.hq_engine.specs.Roles.{roles_in};
+ghost use Rattle.hq_roles.specs.Roles.{roles_in};
 ghost use Rattle.hq_app.specs.Check.{rows_in, counts_line, check_line};
 ghost use Rattle.hq_app.specs.Ending.{Ends, Silent, NotDatabase};
 ghost use Rattle.hq_app.specs.Output.{check_output};
@@ -11,7 +11,7 @@ ghost use Rattle.hq_line.specs.Wrote.{Wrote};
 
 use crate::{Done, Refusal};
 use hq_base::{Memory, Txt};
-use hq_engine::roles_in;
+use hq_roles::roles_in;
 use hq_line::{Part, Phrase, write_parts};
 use hq_loading::{Loaded, load};
 use hq_outside::{Files, Sink, WriteFailed};

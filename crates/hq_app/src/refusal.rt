@@ -1,7 +1,7 @@
 ghost use Rattle.std.specs.Prelude.{◌≡◌};
 
 use hq_base::{Memory, Txt};
-use hq_engine::{EngineRefusal, StatementRefusal};
+use hq_engine::EngineRefusal;
 use hq_line::{Field, Fields, Phrase};
 use hq_loading::{FileFault, LoadingRefusal};
 use hq_outside::{InputRefusal, WriteFailed};
@@ -28,9 +28,6 @@ pub enum Refusal {
     Memory,
     #[error("input too long")]
     InputTooLong,
-    /// The request is none of those that are built so far.
-    #[error("not built")]
-    NotBuilt,
 }
 
 impl Refusal {
@@ -48,7 +45,6 @@ impl Refusal {
             Refusal::Database { .. } => 6,
             Refusal::Memory => 7,
             Refusal::InputTooLong => 8,
-            Refusal::NotBuilt => 9,
         }
     }
 }
@@ -80,7 +76,6 @@ impl Refusal {
             Refusal::Database { .. } => Phrase::DatabaseFailed,
             Refusal::Memory => Phrase::OutOfMemory,
             Refusal::InputTooLong => Phrase::InputTooLong,
-            Refusal::NotBuilt => Phrase::NotBuilt,
         }
     }
 
@@ -168,20 +163,6 @@ impl From<EngineRefusal> for Refusal {
         match refusal {
             EngineRefusal::Database { before, after } => Refusal::Database { before, after },
             EngineRefusal::Memory => Refusal::Memory,
-            EngineRefusal::NotBuilt => Refusal::NotBuilt,
-        }
-    }
-}
-
-impl From<StatementRefusal> for Refusal {
-    ghost use Rattle.hq_app.specs.Output.{of_statement};
-
-    ghost from_gives = { λ r e. e ≡ of_statement r };
-
-    fn from(refusal: StatementRefusal) -> Self {
-        match refusal {
-            StatementRefusal::NotBuilt => Refusal::NotBuilt,
-            StatementRefusal::Memory => Refusal::Memory,
         }
     }
 }

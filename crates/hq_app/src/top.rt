@@ -85,7 +85,7 @@ fn tell<E: Sink>(err: &mut E, answer: Result<Done, Refusal>) -> u8
 
 /// Answers one request over a database of the engine's catalog: reads it from the input to its end, writes the reply's body,
 /// and tells a refusal on standard error. Gives the status that the program ends with: 0, 1 where the reply tells a fault, or
-/// 4, 5, 6, 7, 8 or 9.
+/// 4, 5, 6, 7 or 8.
 pub fn answer_one<T: Tables, S: Source, K: Sink, E: Sink>(
     alloc: Global,
     engine: &Engine,

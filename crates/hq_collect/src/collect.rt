@@ -20,9 +20,9 @@ use std::collections::HashMap;
 
 /// A document by its fragments, with the coerced variables of its operation.
 #[derive(Clone, Copy, Drop)]
-pub struct Request<'a> {
-    pub fragments: &'a Fragments<'a>,
-    pub vars: &'a VarValues,
+pub struct Request<'b, 'a> {
+    pub fragments: &'b Fragments<'a>,
+    pub vars: &'b VarValues,
 }
 
 /// The fields that are collected so far, and the fragments that were put in.
@@ -60,9 +60,9 @@ impl<'a> Collected<'a> {
 
 // The selections of a fragment, where it was not put in before.
 #[cycle(collect)]
-fn collect_spread<'a>(
+fn collect_spread<'b, 'a>(
     alloc: Global,
-    request: &Request<'a>,
+    request: &Request<'b, 'a>,
     levels: u32,
     spread: &'a Spread,
     collected: &mut Collected<'a>,
@@ -78,9 +78,9 @@ fn collect_spread<'a>(
 
 // A selection that is included.
 #[cycle(collect)]
-fn collect_included<'a>(
+fn collect_included<'b, 'a>(
     alloc: Global,
-    request: &Request<'a>,
+    request: &Request<'b, 'a>,
     levels: u32,
     selection: &'a Selection,
     collected: &mut Collected<'a>,
@@ -97,9 +97,9 @@ fn collect_included<'a>(
 }
 
 #[cycle(collect)]
-fn collect_one<'a>(
+fn collect_one<'b, 'a>(
     alloc: Global,
-    request: &Request<'a>,
+    request: &Request<'b, 'a>,
     levels: u32,
     selection: &'a Selection,
     collected: &mut Collected<'a>,
@@ -114,9 +114,9 @@ fn collect_one<'a>(
 
 /// Collects a selection set behind what is collected already, with fragments put in up to `levels` deep.
 #[cycle(collect)]
-pub fn collect<'a>(
+pub fn collect<'b, 'a>(
     alloc: Global,
-    request: &Request<'a>,
+    request: &Request<'b, 'a>,
     levels: u32,
     selections: &'a [Selection],
     collected: &mut Collected<'a>,
@@ -133,9 +133,9 @@ pub fn collect<'a>(
 }
 
 /// The fields of a selection set under their response keys, fragments put in up to `levels` deep.
-pub fn collect_fields<'a>(
+pub fn collect_fields<'b, 'a>(
     alloc: Global,
-    request: &Request<'a>,
+    request: &Request<'b, 'a>,
     levels: u32,
     selections: &'a [Selection],
 ) -> Result<Groups<'a>, Memory>

@@ -27,9 +27,9 @@ pub struct CollectedField<'a> {
 }
 
 // The selections of a field, collected behind what is collected already.
-fn collect_field<'a>(
+fn collect_field<'b, 'a>(
     alloc: Global,
-    request: &Request<'a>,
+    request: &Request<'b, 'a>,
     field: &'a Field,
     collected: &mut Collected<'a>,
 ) -> Result<(), Memory>
@@ -39,9 +39,9 @@ fn collect_field<'a>(
 }
 
 // Those of all of a key's fields, one after the other.
-fn collect_nodes<'a>(
+fn collect_nodes<'b, 'a>(
     alloc: Global,
-    request: &Request<'a>,
+    request: &Request<'b, 'a>,
     nodes: &Nodes<'a>,
     collected: &mut Collected<'a>,
 ) -> Result<(), Memory>
@@ -55,9 +55,9 @@ fn collect_nodes<'a>(
 }
 
 // The same, as one selection set.
-fn collect_below<'a>(
+fn collect_below<'b, 'a>(
     alloc: Global,
-    request: &Request<'a>,
+    request: &Request<'b, 'a>,
     nodes: &Nodes<'a>,
 ) -> Result<Groups<'a>, Memory>
     ensures { IfOk result (λ g. groups_seen g.entries ≡ (collect 50 (request_seen request.now) (merged (group_seen ([], nodes.now))) none).groups) }
@@ -76,9 +76,9 @@ fn node<'a>(key: Txt, first: &'a Field, below: CollectedList<'a>) -> CollectedFi
 
 // What stands below the fields of a key.
 #[cycle(tree)]
-fn below<'a>(
+fn below<'b, 'a>(
     alloc: Global,
-    request: &Request<'a>,
+    request: &Request<'b, 'a>,
     levels: u32,
     nodes: &Nodes<'a>,
 ) -> Result<CollectedList<'a>, Memory>
@@ -91,9 +91,9 @@ fn below<'a>(
 }
 
 #[cycle(tree)]
-fn below_more<'a>(
+fn below_more<'b, 'a>(
     alloc: Global,
-    request: &Request<'a>,
+    request: &Request<'b, 'a>,
     levels: u32,
     nodes: &Nodes<'a>,
 ) -> Result<CollectedList<'a>, Memory>
@@ -105,9 +105,9 @@ fn below_more<'a>(
 
 // The fields of these keys.
 #[cycle(tree)]
-fn fields_of<'a>(
+fn fields_of<'b, 'a>(
     alloc: Global,
-    request: &Request<'a>,
+    request: &Request<'b, 'a>,
     levels: u32,
     groups: &Groups<'a>,
 ) -> Result<CollectedList<'a>, Memory>
@@ -123,9 +123,9 @@ fn fields_of<'a>(
 }
 
 /// The collected fields of a selection set, fragments put in, down to 50 levels.
-pub fn collected_tree<'a>(
+pub fn collected_tree<'b, 'a>(
     alloc: Global,
-    request: &Request<'a>,
+    request: &Request<'b, 'a>,
     selections: &'a [Selection],
 ) -> Result<CollectedList<'a>, Memory>
     ensures { IfOk result (λ v. trees_of (map collected_view v.items) ≡ collected_tree (request_seen request.now) (map selection_view selections.now)) }

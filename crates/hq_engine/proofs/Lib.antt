@@ -1,9 +1,3 @@
-mod OtherRoles
-mod Refusals
-mod RolesKept
-mod RuleTexts
-mod SchemaSets
-mod Selections
+mod Formed
 mod TextsAsked
-mod Told
-pub mod Requests
+mod Worlds

@@ -1,25 +1,53 @@
--- The text that is asked for a request.
-use Rattle.std.proofs.Common.{◌≡◌, ℕ, List, true, Some, None, cond, refl, sym, ap, ◌∙◌}
-use Rattle.hq_ask_tree.specs.Fields.{FieldTrees}
+-- The text that is asked for a request, and what its statement gives.
+use Rattle.std.proofs.Common.{◌≡◌, ℕ, List, Bool, true, false, Option, Some, None, cond, refl, sym, subst, ◌∙◌}
+use Rattle.std.specs.Prelude.{IfSome}
 use Rattle.hq_ask_tree.specs.Request.{AskTree}
-use Rattle.hq_ask_tree.specs.Root.{table_fields}
-use Rattle.hq_sql_compile.specs.Plain.{IsPlainRequest}
+use Rattle.hq_base.specs.Json.{JsonTree}
+use Rattle.hq_compile_laws.specs.Asked.{asked_statement}
+use Rattle.hq_reply.specs.RootObject.{has_table_field, of_database}
+use Rattle.hq_reply.specs.TableObject.{IsResolved, table_object}
+use Rattle.hq_sql_text.specs.Readable.{Spells}
+use Rattle.hq_sql_tree.specs.Meaning.{meaning}
 use Rattle.hq_sql_tree.specs.Spelling.{select_text}
+use Rattle.hq_sql_tree.specs.Tree.{SelectTree}
+use Rattle.hq_terms.specs.Database.{Row, is_database}
+use Rattle.hq_terms.specs.Grants.{grants_of}
 use Rattle.hq_terms.specs.Meta.{MetaTree}
+use Rattle.hq_terms.specs.Schema.{schema_of}
+use Rattle.hq_terms.specs.declared.session.Session.{Session}
 use Rattle.hq_terms.specs.declared.table.Table.{Table}
-use Rattle.hq_engine.specs.Asking.{compiled, has_field, statement_text}
+use Rattle.hq_engine.specs.Asking.{statement_text}
+use Rattle.hq_engine.specs.Statements.{IsStatement}
 
--- a list of a table has a table field
-plain_has_field : (tables : List Table) (fs : FieldTrees) → IsPlainRequest tables fs → has_field (table_fields fs) ≡ true
-plain_has_field tables fs plain = ap (λ f. has_field (table_fields f)) plain.is
+module _ (tables : List Table) (meta : MetaTree) (ask : AskTree) where
+  -- a text that is asked is that of the statement, and a root field starts at a table
+  pub text_there : (o : Option (List ℕ)) (text : List ℕ) → o ≡ statement_text tables meta ask → o ≡ Some text → (has_table_field ask.fields ≡ true) × (text ≡ select_text (asked_statement tables meta ask))
+  text_there o text asked h =
+      let go : (b : Bool) → has_table_field ask.fields ≡ b → cond b (Some (select_text (asked_statement tables meta ask))) None ≡ Some text → (has_table_field ask.fields ≡ true) × (text ≡ select_text (asked_statement tables meta ask)) =
+      elim [
+        | true ↦ λ is e. let same : select_text (asked_statement tables meta ask) ≡ text = cc in (is, sym same)
+        | false ↦ λ is e. absurd cc
+      ] in
+      go (has_table_field ask.fields) refl (sym asked ∙ h)
 
--- its statement's text is the one that is asked
-pub text_stated : (tables : List Table) (meta : MetaTree) (ask : AskTree) (text : List ℕ) → IsPlainRequest tables ask.fields → text ≡ select_text (compiled tables meta ask) → statement_text tables meta ask ≡ Some text
-text_stated tables meta ask text plain is =
-    ap (λ b. cond b (Some (select_text (compiled tables meta ask))) None) (plain_has_field tables ask.fields plain) ∙ ap (λ t. Some t) (sym is)
+-- every statement that the text spells has this value
+abbrev pub Has : (tables : List Table) (text : List ℕ) (value : JsonTree) → List (List Row) → Type 0
+Has tables text value d = (s : SelectTree) → Spells text s → value ≡ meaning s (record { tables = tables; database = d })
 
--- a text that is asked is that of the statement
-pub text_asked : (tables : List Table) (meta : MetaTree) (ask : AskTree) (text : List ℕ) → IsPlainRequest tables ask.fields → statement_text tables meta ask ≡ Some text → text ≡ select_text (compiled tables meta ask)
-text_asked tables meta ask text plain is =
-    let both : Some text ≡ Some (select_text (compiled tables meta ask)) = sym is ∙ text_stated tables meta ask (select_text (compiled tables meta ask)) plain refl in
-    let same : text ≡ select_text (compiled tables meta ask) = cc in same
+module _ (tables : List Table) (meta : MetaTree) (session : Session) (ask : AskTree) (resolved : (d : List (List Row)) → IsResolved (schema_of tables meta) (grants_of session tables meta) d ask.fields) where
+  -- the object of the root fields that start at a table, over a database
+  abbrev pub table_due : List (List Row) → JsonTree
+  table_due d = table_object (of_database (schema_of tables meta) (grants_of session tables meta) d) ask.fields
+
+  -- it is what the statement gives
+  gives : (database : Option (List (List Row))) (value : JsonTree) → IsStatement tables meta session ask → IfSome database (λ d. is_database tables d ≡ true)
+      → IfSome database (Has tables (select_text (asked_statement tables meta ask)) value) → IfSome database (λ d. value ≡ table_due d)
+  gives None value is fits has = tt
+  gives (Some d) value is fits has = has (asked_statement tables meta ask) is.spelled ∙ (is.means d fits ∙ resolved d)
+
+  -- the same over the tables of the database, and the text as it was asked
+  pub gives_over : (own : List Table) (text : List ℕ) (database : Option (List (List Row))) (value : JsonTree) → own ≡ tables → text ≡ select_text (asked_statement tables meta ask) → IsStatement tables meta session ask
+      → IfSome database (λ d. is_database own d ≡ true) → IfSome database (Has own text value) → IfSome database (λ d. value ≡ table_due d)
+  gives_over own text database value same spelled is fits has =
+      gives database value is (subst (λ ts. IfSome database (λ d. is_database ts d ≡ true)) same fits)
+      (subst (λ t. IfSome database (Has tables t value)) spelled (subst (λ ts. IfSome database (Has ts text value)) same has))

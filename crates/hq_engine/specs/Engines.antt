@@ -1,27 +1,22 @@
 -- What an engine answers, by its catalog and its metadata.
 use Rattle.std.specs.Prelude.{ℕ, List, Option, Result}
 use Rattle.hq_ask_tree.specs.Request.{AskTree}
-use Rattle.hq_gql_tree.specs.Documents.{DocumentTree}
-use Rattle.hq_role_schema.specs.RoleSchema.{role_schema}
 use Rattle.hq_terms.specs.Database.{Row}
+use Rattle.hq_terms.specs.Grants.{grants_of}
 use Rattle.hq_terms.specs.Meta.{meta_view}
-use Rattle.hq_terms.specs.Permission.{role_of}
+use Rattle.hq_terms.specs.Schema.{schema_of}
+use Rattle.hq_terms.specs.View.{Agree}
 use Rattle.hq_terms.specs.declared.session.Session.{Session}
 use Rattle.hq_engine.specs.Asking.{asked_text}
 use Rattle.hq_engine.specs.Replies.{due_reply}
-use Rattle.hq_engine.specs.Request.{request_due, first_fault}
-use Rattle.hq_engine.specs.Validation.{valid_due}
+use Rattle.hq_request.specs.Request.{request_due, first_fault}
 use Rattle.hq_engine.specs.declared.engine.Engine.{Engine}
-use Rattle.hq_engine.specs.declared.faults.RequestFault.{RequestFault}
-use Rattle.hq_engine.specs.declared.refusal.RequestRefusal.{RequestRefusal}
+use Rattle.hq_faults.specs.declared.faults.RequestFault.{RequestFault}
+use Rattle.hq_request.specs.declared.refusal.RequestRefusal.{RequestRefusal}
 
 -- what a body makes for a session
 abbrev pub engine_request : Engine → Session → (body : List ℕ) → Result AskTree RequestRefusal
 engine_request engine session body = request_due engine.catalog.tables (meta_view engine.meta) session body
-
--- a document that violates no rule for a session's role
-abbrev pub engine_validation : Engine → Session → DocumentTree → Result DocumentTree RequestRefusal
-engine_validation engine session document = valid_due (role_schema engine.catalog.tables (meta_view engine.meta) (role_of session.role)) document
 
 -- its first fault, where it has one
 abbrev pub engine_fault : Engine → Session → (body : List ℕ) → Option RequestFault
@@ -34,3 +29,8 @@ engine_text engine session body = asked_text engine.catalog.tables (meta_view en
 -- the body of the reply that is due over a database
 abbrev pub engine_reply : Engine → Session → List (List Row) → (body : List ℕ) → Option (List ℕ)
 engine_reply engine session d body = due_reply engine.catalog.tables (meta_view engine.meta) session d body
+
+-- a session cannot tell these databases apart: it sees the same cells and the same links
+abbrev pub engine_agree : Engine → Session → (d e : List (List Row)) → Type 0
+engine_agree engine session d e =
+    Agree (schema_of engine.catalog.tables (meta_view engine.meta)) (grants_of session engine.catalog.tables (meta_view engine.meta)) d e

@@ -1,15 +1,6 @@
-pub mod Faults
-pub mod FaultTexts
-pub mod RequestForm
-pub mod Reading
-pub mod Validation
-pub mod PlainList
-pub mod ListRequest
-pub mod Request
 pub mod Replies
 pub mod Asking
 pub mod Failures
 pub mod Statements
 pub mod Stating
-pub mod Roles
 pub mod Engines

@@ -1,22 +1,20 @@
 ghost use Rattle.std.specs.Prelude.{◌≡◌, true};
 ghost use Rattle.hq_terms.specs.Fits.{fits};
 ghost use Rattle.hq_terms.specs.Meta.{meta_view};
-ghost use Rattle.hq_engine.specs.Roles.{AreRoleSchemas};
+ghost use Rattle.hq_roles.specs.Roles.{AreRoleSchemas};
 
-use crate::list_request::list_due;
-use crate::reading::{document_due, json_due, query_due};
-use crate::refusal::RequestRefusal;
-use crate::reply::{data_reply, fault_reply};
-use crate::roles::RoleSchemas;
 use crate::statement::{ask, statement_text};
-use crate::validation::valid_due;
-use crate::{EngineRefusal, Stated, StatementRefusal};
+use crate::{EngineRefusal, Stated};
 use hq_ask_tree::Ask;
-use hq_base::{Memory, Reply};
-use hq_gql_tree::Document;
+use hq_base::{Json, Memory, Reply};
 use hq_link::Database;
+use hq_reply::{data_reply, fault_reply, root_object, tables_are_resolved};
+use hq_request::{RequestRefusal, request};
+use hq_request_laws::requests_are_formed;
+use hq_roles::RoleSchemas;
 use hq_schema::Schema;
 use hq_terms::{Catalog, Meta, Role, Session};
+use hq_views::worlds_agree;
 use std::alloc::Global;
 
 /// Answers requests over a database of this catalog, by this metadata.
@@ -30,21 +28,32 @@ pub struct Engine {
 }
 
 impl Engine {
-    ghost use Rattle.std.specs.Prelude.{◌≡◌, ◌≤◌, length, true, false, is_some, IfOk, IfErr, IfSome, IsErrOf, OnOk, Ok, Some};
+    ghost use Rattle.std.specs.Prelude.{◌≡◌, ◌≤◌, List as Items, length, true, false, is_some, IfOk, IfErr, IfSome, OnOk, Ok, Some};
+    ghost use Rattle.hq_ask_tree.specs.Fields.{FieldTree};
     ghost use Rattle.hq_ask_tree.specs.Request.{ask_view};
     ghost use Rattle.hq_base.specs.Due.{Gives};
-    ghost use Rattle.hq_gql_tree.specs.View.{document_view};
+    ghost use Rattle.hq_base.specs.Json as tree;
+    ghost use Rattle.hq_base.specs.Json.{JsonTree, json_view};
+    ghost use Rattle.hq_faults.specs.FaultTexts.{fault_text, tells_fault};
+    ghost use Rattle.hq_reply.specs.DataTexts.{data_text};
+    ghost use Rattle.hq_reply.specs.RootObject.{of_database, root_members};
+    ghost use Rattle.hq_reply.specs.TableObject.{table_object};
+    ghost use Rattle.hq_request.specs.Request.{is_answered};
+    ghost use Rattle.hq_request.specs.declared.refusal.RequestRefusal.TheVariants as request;
+    ghost use Rattle.hq_request_laws.specs.Formed.{IsOfSession};
     ghost use Rattle.hq_role_schema.specs.RoleSchema.{role_schema};
     ghost use Rattle.hq_schema.specs.Schema.{schema_view};
+    ghost use Rattle.hq_terms.specs.Database.{Row};
     ghost use Rattle.hq_terms.specs.Fits.{fits};
+    ghost use Rattle.hq_terms.specs.Grants.{grants_of};
     ghost use Rattle.hq_terms.specs.Meta.{meta_view};
-    ghost use Rattle.hq_engine.specs.Asking.{Asks, text_for};
-    ghost use Rattle.hq_engine.specs.Engines.{engine_fault, engine_reply, engine_request, engine_text, engine_validation};
-    ghost use Rattle.hq_engine.specs.Failures.{IsOfDatabase, TellsDatabase};
-    ghost use Rattle.hq_engine.specs.FaultTexts.{fault_text, tells_fault};
-    ghost use Rattle.hq_engine.specs.Replies.{data_text, resolved_for};
-    ghost use Rattle.hq_engine.specs.Request.{is_built};
-    ghost use Rattle.hq_engine.specs.Statements.{HasStatement, IsListRequest, IsStatement};
+    ghost use Rattle.hq_terms.specs.Permission.{role_of};
+    ghost use Rattle.hq_terms.specs.Schema.{schema_of};
+    ghost use Rattle.hq_engine.specs.Asking.{Asks, statement_text};
+    ghost use Rattle.hq_engine.specs.Engines.{engine_agree, engine_fault, engine_reply, engine_request, engine_text};
+    ghost use Rattle.hq_engine.specs.Failures.{TellsDatabase};
+    ghost use Rattle.hq_engine.specs.Replies.{due_object};
+    ghost use Rattle.hq_engine.specs.Statements.{HasStatement};
     ghost use Rattle.hq_engine.specs.Stating.{States};
 
     /// An engine for this catalog and a metadata that fits it. The schema of each role is derived here, once.
@@ -67,32 +76,60 @@ impl Engine {
         self.schemas.find(role)
     }
 
-    // Whether a document violates no rule for the role of a session, or the first fault.
-    fn validate(
+    // The typed request that a body makes for a session, or why it makes none.
+    fn request(&self, alloc: Global, session: &Session, body: &[u8]) -> Result<Ask, RequestRefusal>
+        ensures due { Gives ask_view request.Memory (engine_request self.now session.now body.now) result }
+        ensures session { IfOk result (λ ask. IsOfSession self.now.catalog.tables (meta_view self.now.meta) session.now (ask_view ask)) }
+    {
+        requests_are_formed();
+        let role = Role::of(alloc, session)?;
+        let schema = self.schema(&role);
+        request(alloc, schema, &self.catalog, &self.meta, session, body)
+    }
+
+    // The object of the root fields that start at a table. Nothing is asked where there is none.
+    fn tables<D: Database>(
         &self,
         alloc: Global,
         session: &Session,
-        document: &Document,
-    ) -> Result<(), RequestRefusal>
-        ensures { Gives (λ _. document_view document.now) RequestRefusal.Memory (engine_validation self.now session.now (document_view document.now)) result }
+        request: &Ask,
+        db: &mut D,
+    ) -> Result<Json, EngineRefusal>
+        requires session { IsOfSession self.now.catalog.tables (meta_view self.now.meta) session.now (ask_view request.now) }
+        requires catalog { D.tables db.old ≡ self.now.catalog.tables }
+        ensures value { let tables = self.now.catalog.tables in let meta = meta_view self.now.meta in IfOk result (λ json. IfSome (D.database db.old) (λ d.
+            json_view json ≡ table_object (of_database (schema_of tables meta) (grants_of session.now tables meta) d) (ask_view request.now).fields)) }
+        ensures asks { Asks (statement_text self.now.catalog.tables (meta_view self.now.meta) (ask_view request.now))
+            (record { asks = D.asks db.old; last = D.last db.old }) (record { asks = D.asks db.new; last = D.last db.new }) result }
+        ensures statement { OnOk result (HasStatement self.now.catalog.tables (meta_view self.now.meta) session.now (Ok (ask_view request.now))) }
+        ensures failed { IfErr result (TellsDatabase (D.faults db.old) (D.faults db.new)) }
+        ensures tables { D.tables db.new ≡ D.tables db.old }
+        ensures database { D.database db.new ≡ D.database db.old }
+        ensures later { D.faults db.old ≤ D.faults db.new }
+    {
+        tables_are_resolved();
+        match statement_text(alloc, &self.catalog, &self.meta, session, request)? {
+            Some(text) => ask(alloc, db, text.as_slice()),
+            None => Ok(Json::Obj(Vec::new(alloc))),
+        }
+    }
+
+    // The object of all root fields, where `tables` is that of those that start at a table.
+    fn object(
+        &self,
+        alloc: Global,
+        session: &Session,
+        request: &Ask,
+        tables: Json,
+    ) -> Result<Json, Memory>
+        ensures { let schema = role_schema self.now.catalog.tables (meta_view self.now.meta) (role_of session.now.role) in let fs = (ask_view request.now).fields in
+            IfOk result (λ json. (of_table : FieldTree → JsonTree) → json_view tables ≡ table_object of_table fs → json_view json ≡ tree.obj (root_members schema of_table fs)) }
     {
         let role = Role::of(alloc, session)?;
-        valid_due(alloc, self.schema(&role), document)
+        root_object(alloc, self.schema(&role), &request.fields, tables)
     }
 
-    // The typed request that a body makes for a session, or why it makes none.
-    #[tactic(auto, unfolding(crate::specs::Request::request_due))]
-    fn request(&self, alloc: Global, session: &Session, body: &[u8]) -> Result<Ask, RequestRefusal>
-        ensures { Gives ask_view RequestRefusal.Memory (engine_request self.now session.now body.now) result }
-    {
-        let json = json_due(alloc, body)?;
-        let text = query_due(&json)?;
-        let document = document_due(alloc, text.as_bytes())?;
-        self.validate(alloc, session, &document)?;
-        list_due(alloc, &self.meta, session, &json, &document)
-    }
-
-    // The reply to a request for a list of columns, of a table on which the session has a plain permission.
+    // The reply to a request of a session.
     fn data<D: Database>(
         &self,
         alloc: Global,
@@ -100,24 +137,23 @@ impl Engine {
         request: &Ask,
         db: &mut D,
     ) -> Result<Reply, EngineRefusal>
-        requires list { IsListRequest self.now.catalog.tables (meta_view self.now.meta) session.now (ask_view request.now).fields }
+        requires session { IsOfSession self.now.catalog.tables (meta_view self.now.meta) session.now (ask_view request.now) }
         requires catalog { D.tables db.old ≡ self.now.catalog.tables }
         ensures status { IfOk result (λ reply. reply.status ≡ 200) }
         ensures reply { IfOk result (λ reply. IfSome (D.database db.old) (λ d.
-            reply.body ≡ data_text (resolved_for self.now.catalog.tables (meta_view self.now.meta) session.now d (ask_view request.now)))) }
+            reply.body ≡ data_text (due_object self.now.catalog.tables (meta_view self.now.meta) session.now d (ask_view request.now)))) }
         ensures kind { IfOk result (λ reply. tells_fault reply.body ≡ false) }
-        ensures asks { Asks (text_for self.now.catalog.tables (meta_view self.now.meta) (Ok (ask_view request.now)))
+        ensures asks { Asks (statement_text self.now.catalog.tables (meta_view self.now.meta) (ask_view request.now))
             (record { asks = D.asks db.old; last = D.last db.old }) (record { asks = D.asks db.new; last = D.last db.new }) result }
-        ensures statement { OnOk result (IsStatement self.now.catalog.tables (meta_view self.now.meta) session.now (ask_view request.now)) }
-        ensures built { IfErr result IsOfDatabase }
+        ensures statement { OnOk result (HasStatement self.now.catalog.tables (meta_view self.now.meta) session.now (Ok (ask_view request.now))) }
         ensures failed { IfErr result (TellsDatabase (D.faults db.old) (D.faults db.new)) }
         ensures tables { D.tables db.new ≡ D.tables db.old }
         ensures database { D.database db.new ≡ D.database db.old }
         ensures later { D.faults db.old ≤ D.faults db.new }
     {
-        let text = statement_text(alloc, &self.catalog, &self.meta, session, request)?;
-        let data = ask(alloc, db, text.as_slice())?;
-        Ok(data_reply(alloc, data)?)
+        let tables = self.tables(alloc, session, request, db)?;
+        let object = self.object(alloc, session, request, tables)?;
+        Ok(data_reply(alloc, object)?)
     }
 
     /// The reply to a request of a session, over a database of the engine's catalog. The body has at most 1,048,576 bytes.
@@ -140,16 +176,19 @@ impl Engine {
         ensures kind { IfOk result (λ reply. tells_fault reply.body ≡ is_some (engine_fault self.now session.now body.now)) }
         ensures fault { IfOk result (λ reply. IfSome (engine_fault self.now session.now body.now) (λ f. reply.body ≡ fault_text f)) }
 
+        // Over each database that the session cannot tell apart from this one, the same reply is due.
+        ensures alike { IfOk result (λ reply. IfSome (D.database db.old) (λ d. (e : Items (Items Row)) →
+            engine_agree self.now session.now d e → engine_reply self.now session.now e body.now ≡ Some reply.body)) }
+
+        // A reply comes only where the body makes a request or has a fault.
+        ensures answered { IfOk result (λ _. is_answered (engine_request self.now session.now body.now) ≡ true) }
+
         // Exactly the text of the request was asked, and once; none where the request has no table field, or a fault.
         ensures asks { Asks (engine_text self.now session.now body.now)
             (record { asks = D.asks db.old; last = D.last db.old }) (record { asks = D.asks db.new; last = D.last db.new }) result }
 
-        // That text spells the compiled statement, and this means the object of the root fields.
+        // That text spells the compiled statement, and this means the object of the root fields that start at a table.
         ensures statement { OnOk result (HasStatement self.now.catalog.tables (meta_view self.now.meta) session.now (engine_request self.now session.now body.now)) }
-
-        // NotBuilt comes exactly where the body makes no request that is built so far, and has no fault.
-        ensures built { IfOk result (λ _. is_built (engine_request self.now session.now body.now) ≡ true) }
-        ensures not_built { IsErrOf result EngineRefusal.NotBuilt → is_built (engine_request self.now session.now body.now) ≡ false }
 
         // The database fails only where its count of faults rose in this call.
         ensures failed { IfErr result (TellsDatabase (D.faults db.old) (D.faults db.new)) }
@@ -159,34 +198,34 @@ impl Engine {
         ensures database { D.database db.new ≡ D.database db.old }
         ensures later { D.faults db.old ≤ D.faults db.new }
     {
+        worlds_agree();
         match self.request(alloc, session, body) {
             Ok(request) => self.data(alloc, session, &request, db),
             Err(RequestRefusal::Fault(fault)) => Ok(fault_reply(alloc, &fault)?),
-            Err(RequestRefusal::NotBuilt) => Err(EngineRefusal::NotBuilt),
             Err(RequestRefusal::Memory) => Err(EngineRefusal::Memory),
         }
     }
+
+    // What is asked for a request of a session.
+    fn stated(&self, alloc: Global, session: &Session, request: &Ask) -> Result<Stated, Memory>
+        requires { IsOfSession self.now.catalog.tables (meta_view self.now.meta) session.now (ask_view request.now) }
+        ensures { States (statement_text self.now.catalog.tables (meta_view self.now.meta) (ask_view request.now)) (Ok (ask_view request.now)) result }
+    {
+        match statement_text(alloc, &self.catalog, &self.meta, session, request)? {
+            Some(text) => Ok(Stated::Text(text)),
+            None => Ok(Stated::NoStatement),
+        }
+    }
+
     /// The text that `answer` asks for a request, or why it asks none. The body has at most 1,048,576 bytes.
-    pub fn statement(
-        &self,
-        alloc: Global,
-        session: &Session,
-        body: &[u8],
-    ) -> Result<Stated, StatementRefusal>
+    pub fn statement(&self, alloc: Global, session: &Session, body: &[u8]) -> Result<Stated, Memory>
         requires { length body.now ≤ 1048576 }
         ensures { States (engine_text self.now session.now body.now) (engine_request self.now session.now body.now) result }
     {
         match self.request(alloc, session, body) {
-            Ok(request) => Ok(Stated::Text(statement_text(
-                alloc,
-                &self.catalog,
-                &self.meta,
-                session,
-                &request,
-            )?)),
+            Ok(request) => self.stated(alloc, session, &request),
             Err(RequestRefusal::Fault(fault)) => Ok(Stated::Fault(fault_reply(alloc, &fault)?)),
-            Err(RequestRefusal::NotBuilt) => Err(StatementRefusal::NotBuilt),
-            Err(RequestRefusal::Memory) => Err(StatementRefusal::Memory),
+            Err(RequestRefusal::Memory) => Err(Memory),
         }
     }
 }

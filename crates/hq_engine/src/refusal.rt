@@ -1,4 +1,3 @@
-use crate::RequestFault;
 use hq_base::Memory;
 use thiserror::Error;
 
@@ -10,9 +9,6 @@ pub enum EngineRefusal {
     Database { before: u64, after: u64 },
     #[error("out of memory")]
     Memory,
-    /// The request is none of those that are built so far.
-    #[error("not built")]
-    NotBuilt,
 }
 
 impl From<Memory> for EngineRefusal {
@@ -23,26 +19,5 @@ impl From<Memory> for EngineRefusal {
 
     fn from(_: Memory) -> Self {
         EngineRefusal::Memory
-    }
-}
-
-/// Why a body makes no request.
-#[derive(Debug, Drop)]
-pub enum RequestRefusal {
-    /// It has a fault.
-    Fault(RequestFault),
-    /// The request is none of those that are built so far.
-    NotBuilt,
-    Memory,
-}
-
-impl From<Memory> for RequestRefusal {
-    ghost use Rattle.std.specs.Prelude.{◌≡◌};
-    ghost use Rattle.hq_engine.specs.declared.refusal.RequestRefusal.TheVariants as refusal;
-
-    ghost from_gives = { λ _ e. e ≡ refusal.Memory };
-
-    fn from(_: Memory) -> Self {
-        RequestRefusal::Memory
     }
 }

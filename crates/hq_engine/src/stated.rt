@@ -1,5 +1,4 @@
-use hq_base::{Bytes, Memory, Reply};
-use thiserror::Error;
+use hq_base::{Bytes, Reply};
 
 /// What is asked for a request.
 #[derive(Debug, Drop)]
@@ -10,25 +9,4 @@ pub enum Stated {
     NoStatement,
     /// The text of its statement.
     Text(Bytes),
-}
-
-/// Why nothing is said of a request.
-#[derive(Clone, Copy, Debug, PartialEq, Eq, Error)]
-pub enum StatementRefusal {
-    /// The request is none of those that are built so far.
-    #[error("not built")]
-    NotBuilt,
-    #[error("out of memory")]
-    Memory,
-}
-
-impl From<Memory> for StatementRefusal {
-    ghost use Rattle.std.specs.Prelude.{◌≡◌};
-    ghost use Rattle.hq_engine.specs.declared.stated.StatementRefusal.TheVariants as refusal;
-
-    ghost from_gives = { λ _ e. e ≡ refusal.Memory };
-
-    fn from(_: Memory) -> Self {
-        StatementRefusal::Memory
-    }
 }

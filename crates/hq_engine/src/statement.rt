@@ -1,42 +1,67 @@
 //! The statement of a request: its text, and asking it.
-ghost use Rattle.std.specs.Prelude.{◌≡◌, ◌⊎◌, ◌≤◌, Err, IfOk, IfErr, IfSome, OnOk, Some};
+ghost use Rattle.std.specs.Prelude.{◌≡◌, ◌⊎◌, ◌≤◌, Err, Ok, IfOk, IfErr, IfSome, OnOk, true};
 ghost use Rattle.hq_ask_tree.specs.Request.{ask_view};
 ghost use Rattle.hq_base.specs.Json.{json_view};
+ghost use Rattle.hq_compile_laws.specs.Asked.{asked_statement};
 ghost use Rattle.hq_link.specs.Asked.{Asked, NotAsked};
 ghost use Rattle.hq_link.specs.Typed.{IsTyped};
+ghost use Rattle.hq_request_laws.specs.Formed.{IsOfSession};
 ghost use Rattle.hq_sql_text.specs.Readable.{Spells};
 ghost use Rattle.hq_sql_tree.specs.Meaning.{meaning};
+ghost use Rattle.hq_sql_tree.specs.Spelling.{select_text};
 ghost use Rattle.hq_sql_tree.specs.Tree.{SelectTree};
+ghost use Rattle.hq_terms.specs.Fits.{fits};
 ghost use Rattle.hq_terms.specs.Meta.{meta_view};
-ghost use Rattle.hq_engine.specs.Asking.{compiled, statement_text};
-ghost use Rattle.hq_engine.specs.Failures.{IsOfDatabase, TellsDatabase};
-ghost use Rattle.hq_engine.specs.Statements.{IsListRequest, IsStatement};
+ghost use Rattle.hq_engine.specs.Asking.{statement_text};
+ghost use Rattle.hq_engine.specs.Failures.{TellsDatabase};
+ghost use Rattle.hq_engine.specs.Statements.{HasStatement, IsStatement};
 
 use crate::EngineRefusal;
 use hq_ask_tree::Ask;
 use hq_base::{Bytes, Json, Memory};
 use hq_link::{Database, DbRefusal};
+use hq_reply::has_table_field;
 use hq_sql_compile::compile;
 use hq_sql_text::{one_tree, print};
 use hq_terms::{Catalog, Meta, Session};
 use std::alloc::Global;
 
-/// The text of a request for a list of columns, of a table on which the session has a plain permission.
-pub(crate) fn statement_text(
+// The text of the statement of a session's request.
+fn text_of(
     alloc: Global,
     catalog: &Catalog,
     meta: &Meta,
     session: &Session,
     request: &Ask,
 ) -> Result<Bytes, Memory>
-    requires { IsListRequest catalog.now.tables (meta_view meta.now) session.now (ask_view request.now).fields }
-    ensures text { IfOk result (λ text. statement_text catalog.now.tables (meta_view meta.now) (ask_view request.now) ≡ Some text) }
+    requires fit { fits catalog.now.tables (meta_view meta.now) ≡ true }
+    requires session { IsOfSession catalog.now.tables (meta_view meta.now) session.now (ask_view request.now) }
+    ensures text { IfOk result (λ text. text ≡ select_text (asked_statement catalog.now.tables (meta_view meta.now) (ask_view request.now))) }
     ensures statement { OnOk result (IsStatement catalog.now.tables (meta_view meta.now) session.now (ask_view request.now)) }
-    ensures typed { OnOk result (IsTyped catalog.now.tables (compiled catalog.now.tables (meta_view meta.now) (ask_view request.now))) }
 {
     let _ = session;
     let select = compile(alloc, request, catalog, meta)?;
     print(alloc, &select)
+}
+
+/// The text of the statement of a session's request, where a root field starts at a table.
+pub(crate) fn statement_text(
+    alloc: Global,
+    catalog: &Catalog,
+    meta: &Meta,
+    session: &Session,
+    request: &Ask,
+) -> Result<Option<Bytes>, Memory>
+    requires fit { fits catalog.now.tables (meta_view meta.now) ≡ true }
+    requires session { IsOfSession catalog.now.tables (meta_view meta.now) session.now (ask_view request.now) }
+    ensures text { IfOk result (λ text. text ≡ statement_text catalog.now.tables (meta_view meta.now) (ask_view request.now)) }
+    ensures statement { OnOk result (HasStatement catalog.now.tables (meta_view meta.now) session.now (Ok (ask_view request.now))) }
+{
+    if has_table_field(&request.fields) {
+        Ok(Some(text_of(alloc, catalog, meta, session, request)?))
+    } else {
+        Ok(None)
+    }
 }
 
 /// Asks a text of a statement that fits the database's catalog.
@@ -48,7 +73,6 @@ pub(crate) fn ask<D: Database>(
     requires { (s : SelectTree) × Spells text.now s × IsTyped (D.tables db.old) s }
     ensures asked { Asked (D.asks db.old) (D.asks db.new) (D.last db.new) text.now ⊎ ((result ≡ Err EngineRefusal.Memory) × NotAsked (D.asks db.old) (D.asks db.new) (D.last db.old) (D.last db.new)) }
     ensures answered { IfOk result (λ json. IfSome (D.database db.old) (λ d. (s : SelectTree) → Spells text.now s → json_view json ≡ meaning s (record { tables = D.tables db.old; database = d }))) }
-    ensures built { IfErr result IsOfDatabase }
     ensures failed { IfErr result (TellsDatabase (D.faults db.old) (D.faults db.new)) }
     ensures tables { D.tables db.new ≡ D.tables db.old }
     ensures database { D.database db.new ≡ D.database db.old }

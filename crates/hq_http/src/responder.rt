@@ -45,6 +45,6 @@ pub trait Responder {
         ensures same_deny { (headers : List Header) → may_deny self.new headers → may_deny self.old headers }
         ensures same_give { (headers : List Header) (body : List ℕ) (reply : Reply) → may_give self.new headers body reply → may_give self.old headers body reply };
 
-    /// Each reply has the status 200, or 501 where what is asked for is not built.
-    ghost status_is_known: { (responder : Self) (headers : List Header) (body : List ℕ) (reply : Reply) → may_give responder headers body reply → (reply.status ≡ 200) ⊎ (reply.status ≡ 501) };
+    /// Each reply has the status 200.
+    ghost status_is_known: { (responder : Self) (headers : List Header) (body : List ℕ) (reply : Reply) → may_give responder headers body reply → reply.status ≡ 200 };
 }

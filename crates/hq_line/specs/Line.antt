@@ -8,7 +8,7 @@ use Rattle.hq_line.specs.declared.parts.Field.TheVariants.{Text, Number}
 use Rattle.hq_line.specs.declared.parts.Fields.{Fields}
 use Rattle.hq_line.specs.declared.parts.Fields.TheVariants.{Zero, One, Two}
 use Rattle.hq_line.specs.declared.phrase.Phrase.{Phrase}
-use Rattle.hq_line.specs.declared.phrase.Phrase.TheVariants.{Hq, Colon, Space, End, BadArguments, ReadFailed, WriteFailed, DatabaseFailed, OutOfMemory, InputTooLong, NotBuilt, Missing, TooLarge, NotJson, Shape, Repeated, NoKey, NameLength, TooMany, Header, Width, NotUtf8, ZeroByte, NotInteger, NotBoolean, NullInNotNull, RepeatedKey, Version, UnknownTable, UnknownColumn, NoForeignKey, BadOperand, BadMapping, RepeatedName, RepeatedRole, Sources, Memory, Ok, Tables, Roles, Rows}
+use Rattle.hq_line.specs.declared.phrase.Phrase.TheVariants.{Hq, Colon, Space, End, BadArguments, ReadFailed, WriteFailed, DatabaseFailed, OutOfMemory, InputTooLong, Missing, TooLarge, NotJson, Shape, Repeated, NoKey, NameLength, TooMany, Header, Width, NotUtf8, ZeroByte, NotInteger, NotBoolean, NullInNotNull, RepeatedKey, Version, UnknownTable, UnknownColumn, NoForeignKey, BadOperand, BadMapping, RepeatedName, RepeatedRole, Sources, Memory, Ok, Tables, Roles, Rows}
 
 -- the text of a phrase
 unfoldable pub phrase_text : Phrase → List ℕ
@@ -22,7 +22,6 @@ phrase_text WriteFailed = codes "write failed"
 phrase_text DatabaseFailed = codes "database failed"
 phrase_text OutOfMemory = codes "out of memory"
 phrase_text InputTooLong = codes "input too long"
-phrase_text NotBuilt = codes "not built"
 phrase_text Missing = codes "Missing"
 phrase_text TooLarge = codes "TooLarge"
 phrase_text NotJson = codes "NotJson"

@@ -1,16 +1,17 @@
 -- The reply that an engine gives is the due one.
-use Rattle.std.proofs.Common.{◌≡◌, ℕ, List, Bool, true, false, Option, Some, None, IfSome, Result, Ok, Err, refl, sym, ap, subst}
+use Rattle.std.proofs.Common.{◌≡◌, ℕ, List, true, Option, Some, None, IfSome, Result, Ok, Err, refl, sym, ap, subst}
 use Rattle.hq_ask_tree.specs.Request.{AskTree}
 use Rattle.hq_base.specs.declared.reply.Reply.{Reply}
 use Rattle.hq_terms.specs.Database.{Row}
 use Rattle.hq_terms.specs.Meta.{MetaTree, meta_view}
 use Rattle.hq_terms.specs.declared.session.Session.{Session}
 use Rattle.hq_terms.specs.declared.table.Table.{Table}
-use Rattle.hq_engine.specs.FaultTexts.{fault_text}
-use Rattle.hq_engine.specs.Replies.{reply_to, data_text, resolved_for}
-use Rattle.hq_engine.specs.Request.{fault_in, is_built}
-use Rattle.hq_engine.specs.declared.refusal.RequestRefusal.{RequestRefusal}
-use Rattle.hq_engine.specs.declared.refusal.RequestRefusal.TheVariants as request
+use Rattle.hq_faults.specs.FaultTexts.{fault_text}
+use Rattle.hq_engine.specs.Replies.{reply_to, due_object}
+use Rattle.hq_reply.specs.DataTexts.{data_text}
+use Rattle.hq_request.specs.Request.{fault_in, is_answered}
+use Rattle.hq_request.specs.declared.refusal.RequestRefusal.{RequestRefusal}
+use Rattle.hq_request.specs.declared.refusal.RequestRefusal.TheVariants as request
 use Rattle.hq_engine.specs.Engines.{engine_fault, engine_reply, engine_request}
 use Rattle.hq_engine.specs.declared.engine.Engine.{Engine}
 use Rattle.hq_http.specs.Connections.{IfBody}
@@ -21,7 +22,7 @@ use Rattle.hq_session.specs.declared.hook.HookAnswer.{HookAnswer}
 use Rattle.hq_session.specs.declared.secret.SecretRule.{SecretRule}
 use Rattle.hq_serve.specs.Serving.{Told, Serves}
 use Rattle.hq_serve.specs.declared.serving.ServeRefusal.{ServeRefusal}
-use Rattle.hq_responder.specs.Due.{IsReply, IsNotBuilt, MayGive, denies, gives, is_due_of}
+use Rattle.hq_responder.specs.Due.{IsReply, MayGive, denies, gives, is_due_of}
 
 -- what is told to be there is the same
 some_is : (database : Option (List (List Row))) (body : List ℕ) (due : List (List Row) → List ℕ) → IfSome database (λ d. Some (due d) ≡ Some body) → IfSome database (λ d. body ≡ due d)
@@ -30,37 +31,18 @@ some_is (Some d) body due told = cc
 
 module _ (tables : List Table) (meta : MetaTree) (session : Session) (database : Option (List (List Row))) where
   -- what is told of a reply with data or a fault
-  pub built_is : (made : Result AskTree RequestRefusal) (reply : Reply) → reply.status ≡ 200 → is_built made ≡ true
+  pub answered_is : (made : Result AskTree RequestRefusal) (reply : Reply) → reply.status ≡ 200 → is_answered made ≡ true
       → IfSome (fault_in made) (λ f. reply.body ≡ fault_text f) → IfSome database (λ d. reply_to tables meta session d made ≡ Some reply.body)
       → IsReply tables meta session database made reply
-  built_is (Ok ask) reply status built fault told = (status, some_is database reply.body (λ d. data_text (resolved_for tables meta session d ask)) told)
-  built_is (Err (request.Fault f)) reply status built fault told = (status, fault)
-  built_is (Err request.NotBuilt) reply status built fault told = absurd cc
-  built_is (Err request.Memory) reply status built fault told = absurd cc
-
-  -- and of one that tells that the request is not built
-  pub not_built_is : (made : Result AskTree RequestRefusal) (reply : Reply) → is_built made ≡ false → IsNotBuilt reply → IsReply tables meta session database made reply
-  not_built_is (Ok ask) reply built is = absurd cc
-  not_built_is (Err (request.Fault f)) reply built is = absurd cc
-  not_built_is (Err request.NotBuilt) reply built is = is
-  not_built_is (Err request.Memory) reply built is = is
+  answered_is (Ok ask) reply status built fault told = (status, some_is database reply.body (λ d. data_text (due_object tables meta session d ask)) told)
+  answered_is (Err (request.Fault f)) reply status built fault told = (status, fault)
+  answered_is (Err request.Memory) reply status built fault told = absurd cc
 
 -- the same by an engine
-pub answered : (engine : Engine) (session : Session) (database : Option (List (List Row))) (body : List ℕ) (reply : Reply) → reply.status ≡ 200 → is_built (engine_request engine session body) ≡ true
+pub answered : (engine : Engine) (session : Session) (database : Option (List (List Row))) (body : List ℕ) (reply : Reply) → reply.status ≡ 200 → is_answered (engine_request engine session body) ≡ true
     → IfSome (engine_fault engine session body) (λ f. reply.body ≡ fault_text f) → IfSome database (λ d. engine_reply engine session d body ≡ Some reply.body) → is_due_of engine session database body reply
 answered engine session database body reply status built fault told =
-    built_is engine.catalog.tables (meta_view engine.meta) session database (engine_request engine session body) reply status built fault told
-
-pub unanswered : (engine : Engine) (session : Session) (database : Option (List (List Row))) (body : List ℕ) → is_built (engine_request engine session body) ≡ false
-    → (reply : Reply) → IsNotBuilt reply → is_due_of engine session database body reply
-unanswered engine session database body built reply is = not_built_is engine.catalog.tables (meta_view engine.meta) session database (engine_request engine session body) reply built is
-
--- what is known of a reply is known by more
-pub body_weaker : (a : Answer) (P Q : Reply → Type 0) → ((reply : Reply) → P reply → Q reply) → IfBody a P → IfBody a Q
-body_weaker (answer.Body reply) P Q h is = h reply is
-body_weaker answer.Denied P Q h is = tt
-body_weaker answer.Failed P Q h is = tt
-body_weaker answer.Memory P Q h is = tt
+    answered_is engine.catalog.tables (meta_view engine.meta) session database (engine_request engine session body) reply status built fault told
 
 -- a database that is the same gives the same replies
 pub gives_same : {P : Type 0} (allows : P → List Header → HookAnswer → Type 0) (rule : P) (engine : Engine) (database now : Option (List (List Row))) → now ≡ database

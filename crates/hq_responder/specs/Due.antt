@@ -1,6 +1,6 @@
 -- What the program's responder may answer: the reply that is due for a session that the hook's rule allows (GraphQL October
 -- 2021, section 7.1; Hasura, API reference: GraphQL endpoint).
-use Rattle.std.specs.Prelude.{◌≡◌, ◌++◌, ℕ, List, codes, Option, IfSome, Result}
+use Rattle.std.specs.Prelude.{◌≡◌, ℕ, List, Option, IfSome, Result}
 use Rattle.std.specs.declared.result.Result.TheVariants.{Ok, Err}
 use Rattle.std.specs.Borrow.{Bor}
 use Rattle.std.specs.Fn.{Shared}
@@ -10,13 +10,13 @@ use Rattle.hq_terms.specs.Database.{Row}
 use Rattle.hq_terms.specs.Meta.{MetaTree, meta_view}
 use Rattle.hq_terms.specs.declared.session.Session.{Session}
 use Rattle.hq_terms.specs.declared.table.Table.{Table}
-use Rattle.hq_engine.specs.FaultTexts.{fault_text}
-use Rattle.hq_engine.specs.Replies.{data_text, resolved_for}
-use Rattle.hq_engine.specs.Request.{request_due}
+use Rattle.hq_faults.specs.FaultTexts.{fault_text}
+use Rattle.hq_engine.specs.Replies.{due_object}
+use Rattle.hq_reply.specs.DataTexts.{data_text}
+use Rattle.hq_request.specs.Request.{request_due}
 use Rattle.hq_engine.specs.declared.engine.Engine.{Engine}
-use Rattle.hq_engine.specs.declared.refusal.RequestRefusal.{RequestRefusal}
-use Rattle.hq_engine.specs.declared.refusal.RequestRefusal.TheVariants.{Fault, NotBuilt, Memory}
-use Rattle.hq_http.specs.Replies.{fault_with}
+use Rattle.hq_request.specs.declared.refusal.RequestRefusal.{RequestRefusal}
+use Rattle.hq_request.specs.declared.refusal.RequestRefusal.TheVariants.{Fault, Memory}
 use Rattle.hq_session.specs.Hook.{KeepsRule}
 use Rattle.hq_session.specs.Secret.{AllowedBySecret}
 use Rattle.hq_session.specs.declared.header.Header.{Header}
@@ -27,20 +27,12 @@ use Rattle.hq_responder.specs.declared.responder.EngineResponder.{EngineResponde
 
 -- ---- the reply that is due
 
--- the body of the reply to a request that is not built
-unfoldable pub not_built_text : List ℕ
-not_built_text = fault_with (codes "not built") (codes "unexpected") (codes "501")
-
-abbrev pub IsNotBuilt : Reply → Type 0
-IsNotBuilt reply = (reply.status ≡ 501) × (reply.body ≡ not_built_text)
-
 module _ (tables : List Table) (meta : MetaTree) (session : Session) (database : Option (List (List Row))) where
   -- the reply to what a body makes: the data of a request, where the database is told, or the first fault
   abbrev pub IsReply : Result AskTree RequestRefusal → Reply → Type 0
-  IsReply (Ok ask) reply = (reply.status ≡ 200) × IfSome database (λ d. reply.body ≡ data_text (resolved_for tables meta session d ask))
+  IsReply (Ok ask) reply = (reply.status ≡ 200) × IfSome database (λ d. reply.body ≡ data_text (due_object tables meta session d ask))
   IsReply (Err (Fault f)) reply = (reply.status ≡ 200) × (reply.body ≡ fault_text f)
-  IsReply (Err NotBuilt) reply = IsNotBuilt reply
-  IsReply (Err Memory) reply = IsNotBuilt reply
+  IsReply (Err Memory) reply = ⊥
 
   -- the reply that is due for a body
   abbrev pub is_due : (body : List ℕ) → Reply → Type 0

@@ -1,38 +1,13 @@
-ghost use Rattle.std.specs.Prelude.{◌≡◌, ◌≢◌, ◌≤◌, length, IfOk};
+ghost use Rattle.std.specs.Prelude.{◌≡◌, ◌≢◌, ◌≤◌, length};
 ghost use Rattle.hq_outside.specs.Causes.{Rose};
 ghost use Rattle.hq_http.specs.Connections.{IfBody};
-ghost use Rattle.hq_responder.specs.Due.{IsNotBuilt, is_due_of};
+ghost use Rattle.hq_responder.specs.Due.{is_due_of};
 
-use hq_base::{Bytes, Memory, Reply};
 use hq_engine::{Engine, EngineRefusal};
 use hq_http::Answer;
 use hq_link::Database;
 use hq_terms::Session;
 use std::alloc::Global;
-
-// The reply to a request that is not built.
-#[tactic(auto, unfolding(crate::specs::Due::not_built_text))]
-fn not_built_reply(alloc: Global) -> Result<Reply, Memory>
-    ensures { IfOk result IsNotBuilt }
-{
-    let mut body = Bytes::new(alloc);
-    body.append(
-        br#"{"errors":[{"message":"not built","extensions":{"path":"$","code":"unexpected","rule":"H501","at":null}}]}"#,
-    )?;
-    Ok(Reply { status: 501, body })
-}
-
-// The answer to a request that is not built.
-fn not_built(alloc: Global) -> Answer
-    ensures body { IfBody result IsNotBuilt }
-    ensures denied { result ≢ Answer.Denied }
-    ensures failed { result ≢ Answer.Failed }
-{
-    match not_built_reply(alloc) {
-        Ok(reply) => Answer::Body(reply),
-        Err(Memory) => Answer::Memory,
-    }
-}
 
 /// The answer to a request of a session: the reply that is due, or that the database failed, or that memory is wanted.
 pub fn answer_for<D: Database>(
@@ -55,6 +30,5 @@ pub fn answer_for<D: Database>(
         Ok(reply) => Answer::Body(reply),
         Err(EngineRefusal::Database { .. }) => Answer::Failed,
         Err(EngineRefusal::Memory) => Answer::Memory,
-        Err(EngineRefusal::NotBuilt) => not_built(alloc),
     }
 }

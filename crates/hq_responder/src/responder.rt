@@ -19,7 +19,7 @@ impl<P: HookRule, F: Fn(&Headers) -> HookAnswer, D: Database> Responder
     ghost use Rattle.hq_session.specs.declared.hook.HookAnswer.TheVariants as answer;
     ghost use Rattle.hq_responder.specs.Due.{IsReady, MayGive};
     ghost use Rattle.hq_terms.specs.Meta.{meta_view};
-    ghost use Rattle.hq_engine.specs.Request.{request_due};
+    ghost use Rattle.hq_request.specs.Request.{request_due};
     ghost use Rattle.hq_responder.specs.Laws.{status_known};
 
     ghost ready = { λ r. IsReady F.Fn P.allows D.tables r };

@@ -60,7 +60,7 @@ impl Responder for Replies {
 
     ghost may_deny = { λ _ _. ⊤ };
 
-    ghost may_give = { λ _ _ _ reply. (reply.status ≡ 200) ⊎ (reply.status ≡ 501) };
+    ghost may_give = { λ _ _ _ reply. reply.status ≡ 200 };
 
     ghost faults = { λ r. r.faults };
 
@@ -71,7 +71,7 @@ impl Responder for Replies {
                 Answer::Failed
             }
             Some(Answer::Body(reply)) => {
-                if reply.status == 200 || reply.status == 501 {
+                if reply.status == 200 {
                     Answer::Body(reply)
                 } else {
                     Answer::Memory

@@ -1,12 +1,5 @@
-pub mod Lists
-pub mod Sorts
-pub mod Orders
-pub mod Names
-pub mod Sound
-pub mod Extends
-pub mod ListMeans
-pub mod Meaning
-pub mod Statements
-pub mod Readable
-pub mod WellTyped
-pub mod Plains
+mod GrantedRights
+mod ListJoins
+mod Requests
+mod RootFields
+mod SortCounts

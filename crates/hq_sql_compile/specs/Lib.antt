@@ -1,3 +1,2 @@
-pub mod Plain
-pub mod Compiled
-pub mod Correct
+pub mod GrantedTrees
+pub mod Rows

@@ -1,126 +1,94 @@
 //! The statement of a typed request.
-ghost use Rattle.std.specs.Prelude.{◌≡◌, ◌<◌, ◌∷◌, [], IfOk, OnOk, None, false, length, true, List as Items};
+ghost use Rattle.std.specs.Prelude.{◌≡◌, ◌≤◌, ◌+◌, ◌^◌, [], IfOk, OnOk, length, map, true, List as Items};
 ghost use Rattle.hq_terms.specs.Database.{Row, is_database};
-ghost use Rattle.hq_terms.specs.Grants.{Grants, grant};
+ghost use Rattle.hq_terms.specs.Fits.{fits};
+ghost use Rattle.hq_terms.specs.Grants.{grants_of};
 ghost use Rattle.hq_terms.specs.Meta.{meta_view};
 ghost use Rattle.hq_terms.specs.Schema.{schema_of};
+ghost use Rattle.hq_terms.specs.declared.session.Session.{Session as Caller};
 ghost use Rattle.hq_ask_tree.specs.Request.{ask_view};
 ghost use Rattle.hq_ask_tree.specs.Resolve.{resolved};
-ghost use Rattle.hq_sql_tree.specs.Tree as tree;
+ghost use Rattle.hq_ask_tree.specs.Root.{table_fields};
+ghost use Rattle.hq_ask_laws.specs.Sessions.{IsFor};
+ghost use Rattle.hq_ask_laws.specs.WellFormed.{IsRequest};
 ghost use Rattle.hq_sql_tree.specs.Meaning.{meaning};
 ghost use Rattle.hq_sql_tree.specs.WellFormed.{is_statement};
-ghost use Rattle.hq_sql_tree.specs.View.{out_view, select_view, join_view};
+ghost use Rattle.hq_sql_tree.specs.View.{select_view};
 ghost use Rattle.hq_sql_text.specs.Readable.{is_readable};
-ghost use Rattle.hq_sql_compile.specs.Compiled.{table_alias, join_alias, value_name, statement, list_statement, list_over};
-ghost use Rattle.hq_sql_compile.specs.Correct.{IsPlain, IsList};
-ghost use Rattle.hq_sql_compile.specs.Plain.{IsPlainRequest, plain_list, request_of};
+ghost use Rattle.hq_compiled.specs.Fields.{fields_numbers};
+ghost use Rattle.hq_compiled.specs.Statement.{statement};
+ghost use Rattle.hq_compile_laws.specs.Asked.{asked_statement, IsHeld};
+ghost use Rattle.hq_compile_parts.specs.Contexts.{context_schema, context_rights};
+ghost use Rattle.hq_sql_compile.specs.Rows.{fields_view};
 
-use crate::alias::{join_alias, table_alias, value_name};
-use crate::list::list_join;
-use crate::plain::{PlainList, plain_list};
-use hq_ask_tree::Ask;
-use hq_base::{Memory, Txt};
-use hq_sql_tree::{Expr, ExprPair, From, Join, Out, Select};
-use hq_terms::{Catalog, Meta, Table};
+use crate::few::count_fields;
+use crate::fields::root_row;
+use crate::grants::granted;
+use hq_ask_tree::{Ask, AskFields};
+use hq_base::Memory;
+use hq_compile_laws::{requests_are_asked, requests_mean_resolved};
+use hq_compile_lists::{object, one_row};
+use hq_compile_parts::Context;
+use hq_sql_tree::Select;
+use hq_terms::{Catalog, Meta, Scope, TableId};
 use std::alloc::Global;
 
-// The object of the one root field, whose value is that of its join.
-fn root_output(alloc: Global, key: &Txt) -> Result<Out, Memory>
-    ensures { IfOk result (λ out. out_view out ≡
-        record { value = tree.object (tree.pair key.now (tree.column (join_alias 1) value_name false) tree.no_pair); name = value_name }) }
-{
-    let value = Expr::Column {
-        alias: join_alias(alloc, 1)?,
-        name: value_name(alloc)?,
-        collate: false,
-    };
-    let mut pairs = Vec::new(alloc);
-    pairs.push(ExprPair {
-        name: key.copy(alloc)?,
-        value,
-    })?;
-    let name = value_name(alloc)?;
-    Ok(Out {
-        value: Expr::Object(pairs),
-        name,
-    })
-}
+// A number is one of 64 bits.
+fn has_64_bits(number: u64)
+    ensures { number ≤ 2 ^ 64 }
+{}
 
-// One row whose one output this is, beside one join.
-fn one_row(alloc: Global, out: Out, join: Join) -> Result<Select, Memory>
-    ensures { IfOk result (λ select. select_view select ≡
-        tree.rows [] (out_view out ∷ []) (tree.one (table_alias 0)) (tree.join (join_view join).select (join_view join).alias tree.no_join) tree.no_filter [] None None) }
-{
-    let mut outs = Vec::new(alloc);
-    outs.push(out)?;
-    let mut joins = Vec::new(alloc);
-    joins.push(join)?;
-    let alias = table_alias(alloc, 0)?;
-    Ok(Select::Rows {
-        distinct: Vec::new(alloc),
-        outs,
-        from: From::One { alias },
-        joins,
-        filter: None,
-        order: Vec::new(alloc),
-        limit: None,
-        offset: None,
-    })
-}
-
-// The statement of a list of columns of this table.
-fn list_statement(alloc: Global, list: &PlainList, table: &Table) -> Result<Select, Memory>
-    ensures { IfOk result (λ select. select_view select ≡
-        list_statement list.now.key table.now.schema table.now.name table.now.columns table.now.key list.now.columns) }
-{
-    let out = root_output(alloc, &list.key)?;
-    let join = list_join(alloc, table, 1, list.columns.as_slice())?;
-    one_row(alloc, out, join)
-}
-
-// The statement of a list of columns of a table of the catalog.
-fn compile_list(
+// The statement of root fields, which stand at the place behind the last table.
+fn statement(
     alloc: Global,
-    list: &PlainList,
-    catalog: &Catalog,
-    meta: &Meta,
+    context: &Context,
+    root: TableId,
+    fields: &AskFields,
 ) -> Result<Select, Memory>
-    requires { list.now.table < length catalog.now.tables }
-    ensures tree { IfOk result (λ select. select_view select ≡ statement (request_of list.now) (schema_of catalog.now.tables (meta_view meta.now))) }
-    ensures list { IfOk result (λ select. select_view select ≡ list_over catalog.now.tables list.now) }
-    ensures readable { OnOk result (is_readable (statement (request_of list.now) (schema_of catalog.now.tables (meta_view meta.now))) ≡ true) }
-    ensures well_formed { OnOk result (IsList catalog.now.tables list.now → is_statement (list_over catalog.now.tables list.now) catalog.now.tables ≡ true) }
-    ensures means { OnOk result ((g : Grants) (d : Items (Items Row)) → is_database catalog.now.tables d ≡ true → IsPlain (grant g list.now.table) →
-        meaning (statement (request_of list.now) (schema_of catalog.now.tables (meta_view meta.now))) (record { tables = catalog.now.tables; database = d })
-        ≡ resolved (request_of list.now) (schema_of catalog.now.tables (meta_view meta.now)) g d) }
+    requires { root ≡ length (context_schema context.now) }
+    ensures tree { IfOk result (λ select. select_view select ≡ statement (table_fields (fields_view fields.now.items)) (context_schema context.now) (context_rights context.now)) }
+    ensures numbers { OnOk result (1 + fields_numbers (table_fields (fields_view fields.now.items)) (context_schema context.now) (context_rights context.now) root ≤ 2 ^ 64) }
 {
-    let _ = meta;
-    let table = &catalog.tables.as_slice()[list.table.at()];
-    let _columns_of_key = table.key.len();
-    let select = list_statement(alloc, list, table)?;
-    select.fits();
-    Ok(select)
+    let mut next = 1;
+    let row = root_row(alloc, context, root, fields, &mut next)?;
+    has_64_bits(next);
+    one_row(alloc, 0, object(row.pairs), row.joins, None)
 }
 
-/// The one statement that answers a request. So far the request is a list of plain columns of a table of the catalog.
-pub fn compile(alloc: Global, ask: &Ask, catalog: &Catalog, meta: &Meta) -> Result<Select, Memory>
-    requires { IsPlainRequest catalog.now.tables (ask_view ask.now).fields }
-    ensures tree { IfOk result (λ select. select_view select ≡ statement (ask_view ask.now).fields (schema_of catalog.now.tables (meta_view meta.now))) }
-    ensures list { IfOk result (λ select. select_view select ≡ list_over catalog.now.tables (plain_list (ask_view ask.now).fields)) }
-
-    // It has a text that is read back.
-    ensures readable { OnOk result (is_readable (statement (ask_view ask.now).fields (schema_of catalog.now.tables (meta_view meta.now))) ≡ true) }
-
-    // A list of columns of a table, under response keys that differ, is asked for by a statement that is well-formed for
-    // the catalog.
-    ensures well_formed { OnOk result (IsList catalog.now.tables (plain_list (ask_view ask.now).fields)
-        → is_statement (list_over catalog.now.tables (plain_list (ask_view ask.now).fields)) catalog.now.tables ≡ true) }
-
-    // Over every database of the catalog the statement means what nested resolvers give over the permitted rows.
-    ensures means { OnOk result ((g : Grants) (d : Items (Items Row)) → is_database catalog.now.tables d ≡ true → IsPlain (grant g (plain_list (ask_view ask.now).fields).table) →
-        meaning (statement (ask_view ask.now).fields (schema_of catalog.now.tables (meta_view meta.now))) (record { tables = catalog.now.tables; database = d })
-        ≡ resolved (ask_view ask.now).fields (schema_of catalog.now.tables (meta_view meta.now)) g d) }
+// The statement of a request, whose texts and numbers a tree can hold.
+fn asked(alloc: Global, ask: &Ask, catalog: &Catalog, meta: &Meta) -> Result<Select, Memory>
+    ensures tree { IfOk result (λ select. select_view select ≡ asked_statement catalog.now.tables (meta_view meta.now) (ask_view ask.now)) }
+    ensures held { OnOk result (IsHeld catalog.now.tables (meta_view meta.now) (ask_view ask.now)) }
 {
-    let list = plain_list(alloc, ask.fields.as_slice())?;
-    compile_list(alloc, &list, catalog, meta)
+    let granted = granted(alloc, ask, catalog, meta)?;
+    let context = Context {
+        scope: Scope { catalog, meta },
+        granted: &granted,
+    };
+    let root = TableId::new(catalog.tables.len());
+    count_fields(alloc, &context, root, &ask.fields)?;
+    statement(alloc, &context, root, &ask.fields)
+}
+
+/// The one statement that answers the root fields of a request that start at a table.
+pub fn compile(alloc: Global, ask: &Ask, catalog: &Catalog, meta: &Meta) -> Result<Select, Memory>
+    requires fit { fits catalog.now.tables (meta_view meta.now) ≡ true }
+    requires request { IsRequest catalog.now.tables (meta_view meta.now) (ask_view ask.now) }
+    ensures tree { IfOk result (λ select. select_view select ≡ asked_statement catalog.now.tables (meta_view meta.now) (ask_view ask.now)) }
+
+    // It is well-formed for the catalog, and it has a text that is read back.
+    ensures well_formed { OnOk result (is_statement (asked_statement catalog.now.tables (meta_view meta.now) (ask_view ask.now)) catalog.now.tables ≡ true) }
+    ensures readable { OnOk result (is_readable (asked_statement catalog.now.tables (meta_view meta.now) (ask_view ask.now)) ≡ true) }
+
+    // Over every database of the catalog it means what nested resolvers give over the rows that the session may see.
+    ensures means { OnOk result ((session : Caller) (d : Items (Items Row)) → IsFor (schema_of catalog.now.tables (meta_view meta.now)) (meta_view meta.now) session (ask_view ask.now) →
+        is_database catalog.now.tables d ≡ true →
+        meaning (asked_statement catalog.now.tables (meta_view meta.now) (ask_view ask.now)) (record { tables = catalog.now.tables; database = d })
+        ≡ resolved (table_fields (ask_view ask.now).fields) (schema_of catalog.now.tables (meta_view meta.now)) (grants_of session catalog.now.tables (meta_view meta.now)) d) }
+{
+    let select = asked(alloc, ask, catalog, meta)?;
+    select.fits();
+    requests_are_asked();
+    requests_mean_resolved();
+    Ok(select)
 }

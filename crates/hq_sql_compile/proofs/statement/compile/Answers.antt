@@ -1,44 +1,23 @@
-use Rattle.std.proofs.Common.{◌≡◌, ◌∙◌, IfOk, OnOk, List, map, true, ap, subst}
-use Rattle.hq_terms.specs.Database.{Row, is_database}
-use Rattle.hq_terms.specs.Grants.{Grants, grant}
+use Rattle.std.proofs.Common.{◌≡◌, true, subst}
 use Rattle.hq_terms.specs.Meta.{meta_view}
-use Rattle.hq_terms.specs.Schema.{Schema, schema_of}
-use Rattle.hq_ask_tree.specs.Fields.{FieldTrees, fields_of, keyed_field_view}
 use Rattle.hq_ask_tree.specs.Request.{ask_view}
-use Rattle.hq_ask_tree.specs.Resolve.{resolved}
-use Rattle.hq_sql_tree.specs.Meaning.{meaning}
-use Rattle.hq_sql_tree.specs.View.{select_view}
-use Rattle.hq_sql_text.specs.Readable.{is_readable}
-use Rattle.hq_sql_compile.specs.Compiled.{statement}
-use Rattle.hq_sql_compile.specs.Correct.{IsPlain}
-use Rattle.hq_sql_compile.specs.Plain.{plain_list, request_of}
-use Rattle.hq_sql_compile.specs.declared.plain.PlainList.{PlainList}
-use Rattle.hq_sql_compile.proofs.Plains.{same_request}
+use Rattle.hq_sql_tree.specs.Form.{select_fits}
+use Rattle.hq_sql_tree.specs.Tree.{SelectTree}
+use Rattle.hq_compile_laws.specs.Asked.{asked_statement}
+use Rattle.hq_sql_compile.proofs.Requests.{bare_bounds, statement_is_readable}
 use Rattle.hq_sql_compile.proofs.statement.compile.Goals as goal
 
-pub returns-clause-tree : goal.returns-clause-tree
-returns-clause-tree c =
+pub returns-clause-well_formed : goal.returns-clause-well_formed
+returns-clause-well_formed c =
     let tables = c.args.catalog.now.tables in
-    let s : Schema = schema_of tables (meta_view c.args.meta.now) in
-    let fs : FieldTrees = (ask_view c.args.ask.now).fields in
-    let read : c.in_ok-list.list ≡ plain_list fs = c.in_ok-list.ensures ∙ ap (λ l. plain_list (fields_of (map keyed_field_view l))) c.as_slice.ensures.value in
-    subst (λ (f : FieldTrees). IfOk c.compile_list.result (λ select. select_view select ≡ statement f s)) (ap request_of read ∙ same_request tables fs c.requires) c.compile_list.ensures.tree
+    let meta = meta_view c.args.meta.now in
+    let ask = ask_view c.args.ask.now in
+    c.requests_are_asked.ensures.well_formed tables meta ask c.args.catalog.now.valid c.requires.fit c.requires.request (bare_bounds c.args.ask.now.bound) c.in_ok-select.ensures.held
+    (subst (λ (s : SelectTree). select_fits s ≡ true) c.in_ok-select.ensures.tree c.fits.ensures)
 
 pub returns-clause-readable : goal.returns-clause-readable
-returns-clause-readable c =
-    let tables = c.args.catalog.now.tables in
-    let s : Schema = schema_of tables (meta_view c.args.meta.now) in
-    let fs : FieldTrees = (ask_view c.args.ask.now).fields in
-    let read : c.in_ok-list.list ≡ plain_list fs = c.in_ok-list.ensures ∙ ap (λ l. plain_list (fields_of (map keyed_field_view l))) c.as_slice.ensures.value in
-    subst (λ (f : FieldTrees). OnOk c.compile_list.result (is_readable (statement f s) ≡ true)) (ap request_of read ∙ same_request tables fs c.requires) c.compile_list.ensures.readable
+returns-clause-readable c = statement_is_readable (asked_statement c.args.catalog.now.tables (meta_view c.args.meta.now) (ask_view c.args.ask.now)) c.args.catalog.now.tables (returns-clause-well_formed c)
 
 pub returns-clause-means : goal.returns-clause-means
-returns-clause-means c =
-    let tables = c.args.catalog.now.tables in
-    let s : Schema = schema_of tables (meta_view c.args.meta.now) in
-    let fs : FieldTrees = (ask_view c.args.ask.now).fields in
-    let read : c.in_ok-list.list ≡ plain_list fs = c.in_ok-list.ensures ∙ ap (λ l. plain_list (fields_of (map keyed_field_view l))) c.as_slice.ensures.value in
-    let of_list = subst (λ (l : PlainList). OnOk c.compile_list.result ((g : Grants) (d : List (List Row)) → is_database tables d ≡ true → IsPlain (grant g l.table) →
-    meaning (statement (request_of l) s) (record { tables = tables; database = d }) ≡ resolved (request_of l) s g d)) read c.compile_list.ensures.means in
-    subst (λ (f : FieldTrees). OnOk c.compile_list.result ((g : Grants) (d : List (List Row)) → is_database tables d ≡ true → IsPlain (grant g (plain_list fs).table) →
-    meaning (statement f s) (record { tables = tables; database = d }) ≡ resolved f s g d)) (same_request tables fs c.requires) of_list
+returns-clause-means c session d is database =
+    c.requests_mean_resolved.ensures c.args.catalog.now.tables (meta_view c.args.meta.now) session (ask_view c.args.ask.now) d c.args.catalog.now.valid database c.requires.request is c.in_ok-select.ensures.held

@@ -1,0 +1,67 @@
+use Rattle.std.proofs.Common.{◌≡◌, ◌∙◌, refl, ap, map, [], ◌∷◌, ◌++◌, List, Ok, Err, inl, inr, rules}
+use Rattle.std.specs.Prelude.{◌⊎◌}
+use Rattle.std.proofs.lemmas.List.{map-append, at_drop_all}
+use Rattle.hq_base.specs.Due.{mapped}
+use Rattle.hq_arguments.specs.Context.{Context, context_view}
+use Rattle.hq_coerce.specs.declared.refusal.CoerceRefusal.{CoerceRefusal}
+use Rattle.hq_coerce.specs.declared.refusal.CoerceRefusal.TheVariants.{Memory}
+use Rattle.hq_collect.specs.TreeSeen.{collected_view, trees_of}
+use Rattle.hq_collect.specs.declared.tree.CollectedField.{CollectedField}
+use Rattle.hq_ask.proofs.Walks.{front, walk_more, walk_refused}
+use Rattle.hq_ask.proofs.Ends.{fields_end, parts_end}
+use Rattle.hq_ask.specs.Asked.{fields_due, parts_due}
+use Rattle.hq_ask.specs.Parts.{field_due, part_due}
+use Rattle.hq_ask_tree.specs.Fields.{field, part, field_view, part_view, keyed_field_view, keyed_part_view}
+use Rattle.hq_ask.proofs.ask.+asking.Goals as goal
+
+pub ask_fields-returns : goal.ask_fields-returns
+ask_fields-returns t c =
+    let d : Context = context_view c.args.context.now in
+    c.loop-field.invariant
+    ∙ at_drop_all (λ (fs : List CollectedField). mapped (front field (map keyed_field_view c.loop-field.asks.items)) (fields_due d c.args.place c.args.t (trees_of (map collected_view fs)))) c.deref-field-items.result.now c.loop-field.field-index c.loop-field-test.false
+    ∙ ap Ok (fields_end (map keyed_field_view c.loop-field.asks.items))
+
+pub ask_fields-returns-in_err-ask : goal.ask_fields-returns-in_err-ask
+ask_fields-returns-in_err-ask t c =
+    let d : Context = context_view c.args.context.now in
+    let e : CoerceRefusal = c.in_err-ask.field-0.0 in
+    let refused : (e ≡ Memory) ⊎ (fields_due d c.args.place c.args.t (trees_of (map collected_view c.args.fields.now.items)) ≡ Err e) =
+    elim c.in_err-ask.ensures [
+      | inl m ↦ inl m
+      | inr given ↦ inr (walk_refused field (field_due d c.args.place c.args.t) (λ fs. fields_due d c.args.place c.args.t (trees_of (map collected_view fs))) (λ f fs. refl)
+          c.deref-field-items.result.now c.loop-field.field-index c.field-item.result (map keyed_field_view c.loop-field.asks.items) e _ c.loop-field.invariant c.loop-field-test.true c.field-item.is given)
+    ] in
+    search rules
+
+pub ask_fields-loop-field-preserved : goal.ask_fields-loop-field-preserved
+ask_fields-loop-field-preserved t c =
+    let d : Context = context_view c.args.context.now in
+    walk_more field (field_due d c.args.place c.args.t) (λ fs. fields_due d c.args.place c.args.t (trees_of (map collected_view fs))) (λ f fs. refl)
+    c.deref-field-items.result.now c.loop-field.field-index c.field-item.result (map keyed_field_view c.loop-field.asks.items) _ (field_view c.in_ok-ask.ask) _ c.loop-field.invariant c.loop-field-test.true c.field-item.is c.in_ok-ask.ensures
+    (ap (map keyed_field_view) c.in_ok-push.ensures.items ∙ map-append keyed_field_view _ _ ∙ ap (λ p. map keyed_field_view c.loop-field.asks.items ++ p ∷ []) (c.keyed.ensures ∙ ap (λ k. (k, field_view c.in_ok-ask.ask)) (c.in_ok-key.ensures ∙ c.key.ensures)))
+
+pub ask_parts-returns : goal.ask_parts-returns
+ask_parts-returns t c =
+    let d : Context = context_view c.args.context.now in
+    c.loop-field.invariant
+    ∙ at_drop_all (λ (fs : List CollectedField). mapped (front part (map keyed_part_view c.loop-field.parts.items)) (parts_due d c.args.place c.args.t (trees_of (map collected_view fs)))) c.deref-field-items.result.now c.loop-field.field-index c.loop-field-test.false
+    ∙ ap Ok (parts_end (map keyed_part_view c.loop-field.parts.items))
+
+pub ask_parts-returns-in_err-part : goal.ask_parts-returns-in_err-part
+ask_parts-returns-in_err-part t c =
+    let d : Context = context_view c.args.context.now in
+    let e : CoerceRefusal = c.in_err-part.field-0.0 in
+    let refused : (e ≡ Memory) ⊎ (parts_due d c.args.place c.args.t (trees_of (map collected_view c.args.fields.now.items)) ≡ Err e) =
+    elim c.in_err-part.ensures [
+      | inl m ↦ inl m
+      | inr given ↦ inr (walk_refused part (part_due d c.args.place c.args.t) (λ fs. parts_due d c.args.place c.args.t (trees_of (map collected_view fs))) (λ f fs. refl)
+          c.deref-field-items.result.now c.loop-field.field-index c.field-item.result (map keyed_part_view c.loop-field.parts.items) e _ c.loop-field.invariant c.loop-field-test.true c.field-item.is given)
+    ] in
+    search rules
+
+pub ask_parts-loop-field-preserved : goal.ask_parts-loop-field-preserved
+ask_parts-loop-field-preserved t c =
+    let d : Context = context_view c.args.context.now in
+    walk_more part (part_due d c.args.place c.args.t) (λ fs. parts_due d c.args.place c.args.t (trees_of (map collected_view fs))) (λ f fs. refl)
+    c.deref-field-items.result.now c.loop-field.field-index c.field-item.result (map keyed_part_view c.loop-field.parts.items) _ (part_view c.in_ok-part.part) _ c.loop-field.invariant c.loop-field-test.true c.field-item.is c.in_ok-part.ensures
+    (ap (map keyed_part_view) c.in_ok-push.ensures.items ∙ map-append keyed_part_view _ _ ∙ ap (λ p. map keyed_part_view c.loop-field.parts.items ++ p ∷ []) (c.keyed_part.ensures ∙ ap (λ k. (k, part_view c.in_ok-part.part)) (c.in_ok-key.ensures ∙ c.key.ensures)))

@@ -1,0 +1,41 @@
+use Rattle.std.proofs.Common.{◌≡◌, ◌∙◌, refl, ap, map, [], ◌∷◌, ◌++◌, List, Ok, Err, inl, inr, rules}
+use Rattle.std.specs.Prelude.{◌⊎◌}
+use Rattle.std.proofs.lemmas.List.{map-append, at_drop_all}
+use Rattle.hq_base.specs.Due.{mapped}
+use Rattle.hq_arguments.specs.Context.{Context, context_view}
+use Rattle.hq_coerce.specs.declared.refusal.CoerceRefusal.{CoerceRefusal}
+use Rattle.hq_coerce.specs.declared.refusal.CoerceRefusal.TheVariants.{Memory}
+use Rattle.hq_collect.specs.TreeSeen.{collected_view, trees_of}
+use Rattle.hq_collect.specs.declared.tree.CollectedField.{CollectedField}
+use Rattle.hq_ask.proofs.Walks.{front, walk_more, walk_refused}
+use Rattle.hq_ask.proofs.Ends.{looks_end}
+use Rattle.hq_ask.specs.Looks.{looks_due}
+use Rattle.hq_ask.specs.Parts.{look_due}
+use Rattle.hq_ask_tree.specs.Introspection.{looks, introspection_view, keyed_introspection_view}
+use Rattle.hq_ask.proofs.looks.+looks.Goals as goal
+
+pub ask_looks-returns : goal.ask_looks-returns
+ask_looks-returns t c =
+    let d : Context = context_view c.args.context.now in
+    c.loop-field.invariant
+    ∙ at_drop_all (λ (fs : List CollectedField). mapped (front looks (map keyed_introspection_view c.loop-field.looks.items)) (looks_due d c.args.place c.args.t (trees_of (map collected_view fs)))) c.deref-field-items.result.now c.loop-field.field-index c.loop-field-test.false
+    ∙ ap Ok (looks_end (map keyed_introspection_view c.loop-field.looks.items))
+
+pub ask_looks-returns-in_err-look : goal.ask_looks-returns-in_err-look
+ask_looks-returns-in_err-look t c =
+    let d : Context = context_view c.args.context.now in
+    let e : CoerceRefusal = c.in_err-look.field-0.0 in
+    let refused : (e ≡ Memory) ⊎ (looks_due d c.args.place c.args.t (trees_of (map collected_view c.args.fields.now.items)) ≡ Err e) =
+    elim c.in_err-look.ensures [
+      | inl m ↦ inl m
+      | inr given ↦ inr (walk_refused looks (look_due d c.args.place c.args.t) (λ fs. looks_due d c.args.place c.args.t (trees_of (map collected_view fs))) (λ f fs. refl)
+          c.deref-field-items.result.now c.loop-field.field-index c.field-item.result (map keyed_introspection_view c.loop-field.looks.items) e _ c.loop-field.invariant c.loop-field-test.true c.field-item.is given)
+    ] in
+    search rules
+
+pub ask_looks-loop-field-preserved : goal.ask_looks-loop-field-preserved
+ask_looks-loop-field-preserved t c =
+    let d : Context = context_view c.args.context.now in
+    walk_more looks (look_due d c.args.place c.args.t) (λ fs. looks_due d c.args.place c.args.t (trees_of (map collected_view fs))) (λ f fs. refl)
+    c.deref-field-items.result.now c.loop-field.field-index c.field-item.result (map keyed_introspection_view c.loop-field.looks.items) _ (introspection_view c.in_ok-look.look) _ c.loop-field.invariant c.loop-field-test.true c.field-item.is c.in_ok-look.ensures
+    (ap (map keyed_introspection_view) c.in_ok-push.ensures.items ∙ map-append keyed_introspection_view _ _ ∙ ap (λ p. map keyed_introspection_view c.loop-field.looks.items ++ p ∷ []) (c.keyed.ensures ∙ ap (λ k. (k, introspection_view c.in_ok-look.look)) (c.in_ok-key.ensures ∙ c.key.ensures)))

@@ -1,0 +1,2 @@
+pub mod ObjectsNest
+pub mod Built

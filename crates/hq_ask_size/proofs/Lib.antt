@@ -1,0 +1,3 @@
+pub mod Less
+pub mod Walks
+pub mod Views

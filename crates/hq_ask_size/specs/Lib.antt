@@ -1,0 +1,3 @@
+pub mod JsonNodes
+pub mod ValueNodes
+pub mod FieldNodes

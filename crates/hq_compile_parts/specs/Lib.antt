@@ -1,0 +1,4 @@
+pub mod Contexts
+pub mod Unmasked
+pub mod RowSorts
+pub mod SortSteps

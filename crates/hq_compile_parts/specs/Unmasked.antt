@@ -1,0 +1,43 @@
+-- The compiled tree where no column has a mask.
+use Rattle.std.specs.Prelude.{ℕ, List, [], ◌∷◌, true, Some, None}
+use Rattle.hq_terms.specs.Bexp.{BexpTree, BexpTrees}
+use Rattle.hq_terms.specs.Schema.{Schema, table}
+use Rattle.hq_sql_tree.specs.Tree as tree
+use Rattle.hq_sql_tree.specs.Tree.{FilterTree, JoinTree, OutTree, PredTree, SelectTree}
+use Rattle.hq_compiled.specs.Conditions.{with_member, where_of}
+use Rattle.hq_compiled.specs.Looks.{own_look}
+use Rattle.hq_compiled.specs.Names.{table_alias, unit_name}
+use Rattle.hq_compiled.specs.Predicates.{Mode, predicate, predicates}
+use Rattle.hq_compiled.specs.Selects.{key_orders}
+
+-- what a remote alias has beside its link: a further condition with its count of numbers, and no joins
+abbrev pub unmasked : (more : ℕ → ℕ) → (guard : (table n from : ℕ) → PredTree) → Schema → Mode
+unmasked more guard s = record {
+  more = more;
+  guard = guard;
+  extra = λ u cs. 0;
+  joins = λ u cs n. [];
+  look = λ u cs n. own_look (table s u).columns n;
+}
+
+-- table u has a row, at the alias of number n, that meets a condition
+abbrev pub exists_where : Schema → (u n : ℕ) → FilterTree → PredTree
+exists_where s u n condition =
+    tree.exists (tree.rows [] (record { value = tree.bool true; name = unit_name } ∷ []) (tree.table (table s u).schema (table s u).name (table_alias n)) tree.no_join condition [] None None)
+
+-- the same of one that is linked and meets two conditions
+abbrev pub some_row : Schema → (u n : ℕ) → (link guard inner : PredTree) → PredTree
+some_row s u n link guard inner = exists_where s u n (where_of (with_member link (with_member guard (with_member inner []))))
+
+-- the first row of table t, at the alias of number n, that meets a filter, in the order of the table's key
+abbrev pub first_row : Schema → (t n : ℕ) → List OutTree → List JoinTree → FilterTree → SelectTree
+first_row s t n outs joins condition =
+    tree.rows [] outs (tree.table (table s t).schema (table s t).name (table_alias n)) (tree.joins_of joins) condition
+    (key_orders (table s t).columns n (table s t).key) (Some 1) None
+
+-- an expression over table t at the alias of number p, and how many numbers it takes
+abbrev pub own_predicate : BexpTree → Schema → Mode → (t p n : ℕ) → PredTree
+own_predicate b s m t p n = predicate b s m (own_look (table s t).columns p) t p n
+
+abbrev pub own_predicates : BexpTrees → Schema → Mode → (t p n : ℕ) → List PredTree
+own_predicates bs s m t p n = predicates bs s m (own_look (table s t).columns p) t p n

@@ -1,0 +1,4 @@
+pub mod DataTexts
+pub mod RootObject
+pub mod RootPairs
+pub mod TableObject

@@ -1,0 +1,14 @@
+//! From the body of a request to its typed request, or its first fault. There is no database here.
+#![tactic(auto)]
+
+mod body;
+mod due;
+mod laws;
+mod operation;
+mod reading;
+mod refusal;
+mod validation;
+
+pub use due::request;
+pub use laws::requests_are_made;
+pub use refusal::RequestRefusal;

@@ -1,0 +1,5 @@
+mod BodyNest
+mod CoercedNest
+mod MadeFormed
+mod Steps
+mod VariablesNest

@@ -1,0 +1,3 @@
+mod OtherRoles
+mod RolesKept
+pub mod SchemaSets

@@ -1,0 +1,20 @@
+-- How many sort keys a list has.
+use Rattle.std.proofs.Common.{◌≡◌, ℕ, ◌+◌, List, [], ◌∷◌, length, refl, arith}
+use Rattle.hq_terms.specs.Schema.{Schema, table}
+use Rattle.hq_terms.specs.Selected.{ListArguments, SortKey, entries}
+use Rattle.hq_compiled.specs.Lists.{list_sorts}
+use Rattle.hq_compiled.specs.Sorts.{Sort, shown_sorts, own_sorts}
+
+-- as many as there are entries, and those behind them
+shown_sorts-length : (ks : List SortKey) (rest : List Sort) → length (shown_sorts ks rest) ≡ length ks + length rest
+shown_sorts-length [] rest = omega arith
+shown_sorts-length (k ∷ ks) rest = omega (arith, shown_sorts-length ks rest)
+
+-- one for each column of a key
+own_sorts-length : (cs : List ℕ) → length (own_sorts cs) ≡ length cs
+own_sorts-length [] = refl
+own_sorts-length (c ∷ cs) = omega (arith, own_sorts-length cs)
+
+-- as many as there are entries and columns of the table's key
+pub list_sorts-length : (s : Schema) (t : ℕ) (a : ListArguments) → length (list_sorts s t a) ≡ length (entries a) + length (table s t).key
+list_sorts-length s t a = omega (arith, shown_sorts-length (entries a) (own_sorts (table s t).key), own_sorts-length (table s t).key)
