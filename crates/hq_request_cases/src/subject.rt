@@ -4,6 +4,7 @@ use hq_case::{Case, Stop, Subject};
 /// What cases are about: a file of `data/`, and the public calls that its cases go through.
 #[derive(Clone, Copy)]
 pub enum About {
+    Worked,
     Requests,
     Directories,
     Runs,
@@ -13,7 +14,8 @@ pub enum About {
 
 impl About {
     /// Each subject, in the order of its line.
-    pub const ALL: [About; 5] = [
+    pub const ALL: [About; 6] = [
+        About::Worked,
         About::Requests,
         About::Directories,
         About::Runs,
@@ -25,6 +27,7 @@ impl About {
 impl Subject for About {
     fn name(self) -> &'static str {
         match self {
+            About::Worked => "worked",
             About::Requests => "requests",
             About::Directories => "directories",
             About::Runs => "runs",
