@@ -22,12 +22,7 @@ fn written<'a>(case: &Case<'a>, name: &Txt) -> Option<&'a Json> {
 }
 
 // The bytes of the file of a name, which stands at this path, if it is there.
-fn bytes_of(
-    rt: &HostRuntime,
-    case: &Case,
-    name: &Txt,
-    path: &str,
-) -> Result<Option<Bytes>, Stop> {
+fn bytes_of(rt: &HostRuntime, case: &Case, name: &Txt, path: &str) -> Result<Option<Bytes>, Stop> {
     match written(case, name) {
         Some(Json::Null) => Ok(None),
         Some(pieces) => Ok(Some(input_bytes(rt.alloc(), pieces)?)),

@@ -58,7 +58,12 @@ fn count(case: &Case) -> usize {
 }
 
 /// Adds what was written to each link, behind a bar.
-pub fn push_links(alloc: Global, case: &Case, door: &MemDoor, out: &mut String) -> Result<(), Stop> {
+pub fn push_links(
+    alloc: Global,
+    case: &Case,
+    door: &MemDoor,
+    out: &mut String,
+) -> Result<(), Stop> {
     for at in 0..count(case) {
         if let Some(link) = door.link_at(at) {
             out.push_str(" | ")?;

@@ -100,12 +100,7 @@ pub fn json(alloc: Global, case: &Case) -> Result<String, Stop> {
     Ok(out)
 }
 
-fn push_count(
-    alloc: Global,
-    distinct: bool,
-    values: &[Val],
-    out: &mut String,
-) -> Result<(), Stop> {
+fn push_count(alloc: Global, distinct: bool, values: &[Val], out: &mut String) -> Result<(), Stop> {
     let cells = cells(alloc, values)?;
     push_cell(alloc, counted(distinct, cells)?, out)
 }

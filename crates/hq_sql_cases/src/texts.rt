@@ -17,12 +17,7 @@ fn statement(alloc: Global, case: &Case) -> Result<Option<Select>, Stop> {
 }
 
 // `read` where what was read is printed as it stood, and else what is printed.
-fn push_printed(
-    alloc: Global,
-    printed: &[u8],
-    text: &[u8],
-    out: &mut String,
-) -> Result<(), Stop> {
+fn push_printed(alloc: Global, printed: &[u8], text: &[u8], out: &mut String) -> Result<(), Stop> {
     if printed == text {
         return Ok(out.push_str("read")?);
     }

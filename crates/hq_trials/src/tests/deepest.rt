@@ -167,7 +167,8 @@ static EVALUATED: [(&str, &str); 7] = [
     (r#"SELECT "t"."v" AS "v" FROM ("#, r#") AS "t""#),
 ];
 
-const START: &str = r#"SELECT json_build_object('v'::text, "j"."v") AS "v" FROM (SELECT TRUE AS "u") AS "t" LEFT JOIN LATERAL (SELECT "s"."v" AS "v" FROM ("#;
+const START: &str =
+    r#"SELECT json_build_object('v'::text, "j"."v") AS "v" FROM (SELECT TRUE AS "u") AS "t" LEFT JOIN LATERAL (SELECT "s"."v" AS "v" FROM ("#;
 
 const MIDDLE: &str = r#"SELECT TRUE AS "v" FROM (SELECT TRUE AS "u") AS "t""#;
 

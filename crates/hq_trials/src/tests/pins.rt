@@ -17,7 +17,8 @@ use std::test::Fail;
 type Failing = SqlDb<FlakyTables>;
 
 // The authors who have an article: two tables are pinned.
-const WRITERS: &[u8] = br#"SELECT json_build_object('author'::text, "j1"."v") AS "v" FROM (SELECT TRUE AS "u") AS "t0" LEFT JOIN LATERAL (SELECT COALESCE(json_agg("s1"."v" ORDER BY "s1"."o0" ASC NULLS LAST), '[]'::json) AS "v" FROM (SELECT "t1"."name" AS "v", "t1"."id" AS "o0" FROM "public"."author" AS "t1" WHERE EXISTS (SELECT TRUE AS "u" FROM "public"."article" AS "t2" WHERE ("t2"."author_id" = "t1"."id"))) AS "s1") AS "j1" ON TRUE"#;
+const WRITERS: &[u8] =
+    br#"SELECT json_build_object('author'::text, "j1"."v") AS "v" FROM (SELECT TRUE AS "u") AS "t0" LEFT JOIN LATERAL (SELECT COALESCE(json_agg("s1"."v" ORDER BY "s1"."o0" ASC NULLS LAST), '[]'::json) AS "v" FROM (SELECT "t1"."name" AS "v", "t1"."id" AS "o0" FROM "public"."author" AS "t1" WHERE EXISTS (SELECT TRUE AS "u" FROM "public"."article" AS "t2" WHERE ("t2"."author_id" = "t1"."id"))) AS "s1") AS "j1" ON TRUE"#;
 
 // A database whose pin of this number fails.
 fn flaky(alloc: Global, failing: u64) -> Result<Failing, Fail> {
@@ -73,9 +74,7 @@ fn status(alloc: Global, engine: &Engine, db: &mut Failing) -> Result<u8, Fail>
 {
     let (session, mut input) = (session(alloc)?, input(alloc)?);
     let (mut out, mut err) = (output(alloc)?, output(alloc)?);
-    Ok(answer_one(
-        alloc, engine, &session, db, &mut input, &mut out, &mut err,
-    ))
+    Ok(answer_one(alloc, engine, &session, db, &mut input, &mut out, &mut err))
 }
 
 // The statuses of two answers, where the first pin fails.

@@ -1,6 +1,6 @@
 //! Tables of a directory in memory: authors and their articles.
-use hq_loading::{Loaded, load};
 use hq_base::{Bytes, List, Memory, Txt};
+use hq_loading::{Loaded, load};
 use hq_memory::SureFiles;
 use hq_outside::{File, FileList, names_differ};
 use hq_tables::MemTables;
