@@ -1,0 +1,94 @@
+-- Two lists of elements, and of members, are compared one place after the other.
+use Rattle.std.proofs.Common.{◌≡◌, ◌∙◌, ap, sym, refl, subst, ℕ, zero, suc, ◌+◌, ◌<◌, ◌≤◌, List, [], ◌∷◌, length, get_or, map, drop, Bool, true, false, ◌&&◌, bytes_eq, Option, Some, None, add-one, arith}
+use Rattle.std.specs.Prelude.{option_map, slice_get, nat_le}
+use Rattle.std.proofs.lemmas.Bool.{leb-true, leb-false}
+use Rattle.hq_rules_overlap.proofs.Growing.{drop_end}
+use Rattle.hq_gql_tree.specs.declared.value.Placed.{Placed}
+use Rattle.hq_gql_tree.specs.declared.value.Argument.{Argument}
+use Rattle.hq_gql_tree.specs.Values.{PlacedTree, ArgumentTree, placed_view, argument_view, elements_of, members_of}
+use Rattle.hq_rules_overlap.specs.Literals.{BareElements, no_element, BareMembers, no_member, bare, bare_elements, bare_members, same_value, same_elements, same_members, same_at, same_member_at}
+
+abbrev pub Elements : List Placed → ℕ → BareElements
+Elements xs i = bare_elements (elements_of (map placed_view (drop i xs)))
+
+abbrev pub Members : List Argument → ℕ → BareMembers
+Members xs i = bare_members (members_of (map argument_view (drop i xs)))
+
+-- the place at which both stand
+elements_by : (left right : List Placed) (i : ℕ) (x : Placed) → i < length left → x ≡ get_or left i x
+    → same_elements (Elements left i) (Elements right i)
+    ≡ (same_at (placed_view x) (option_map placed_view (slice_get right i)) && same_elements (Elements left (suc i)) (Elements right (suc i)))
+elements_by [] right i x h e = absurd (omega arith)
+elements_by (l ∷ left) [] zero x h e = refl
+elements_by (l ∷ left) (r ∷ right) zero x h e =
+    ap (λ (z : Placed). same_value (bare (placed_view z).value) (bare (placed_view r).value) && same_elements (Elements left 0) (Elements right 0)) (sym e)
+elements_by (l ∷ left) [] (suc i) x h e = elements_by left [] i x (omega arith) e
+elements_by (l ∷ left) (r ∷ right) (suc i) x h e = elements_by left right i x (omega arith) e
+
+members_by : (left right : List Argument) (i : ℕ) (x : Argument) → i < length left → x ≡ get_or left i x
+    → same_members (Members left i) (Members right i)
+    ≡ (same_member_at (argument_view x) (option_map argument_view (slice_get right i)) && same_members (Members left (suc i)) (Members right (suc i)))
+members_by [] right i x h e = absurd (omega arith)
+members_by (l ∷ left) [] zero x h e = refl
+members_by (l ∷ left) (r ∷ right) zero x h e =
+    sym (and_assoc (bytes_eq (argument_view l).name (argument_view r).name) (same_value (bare (argument_view l).value.value) (bare (argument_view r).value.value)) (same_members (Members left 0) (Members right 0)))
+    ∙ ap (λ (z : Argument). same_member_at (argument_view z) (Some (argument_view r)) && same_members (Members left 0) (Members right 0)) (sym e)
+  where
+    and_assoc : (a b c : Bool) → ((a && b) && c) ≡ (a && (b && c))
+    and_assoc true b c = refl
+    and_assoc false b c = refl
+members_by (l ∷ left) [] (suc i) x h e = members_by left [] i x (omega arith) e
+members_by (l ∷ left) (r ∷ right) (suc i) x h e = members_by left right i x (omega arith) e
+
+-- elements that are equal, and such that are not
+pub elements_more : (left right : List Placed) (i : ℕ) (x : Placed) → i < length left → x ≡ get_or left i x
+    → same_at (placed_view x) (option_map placed_view (slice_get right i)) ≡ true → same_elements (Elements left (i + 1)) (Elements right (i + 1)) ≡ same_elements (Elements left i) (Elements right i)
+elements_more left right i x h e t =
+    ap (λ n. same_elements (Elements left n) (Elements right n)) (add-one i)
+    ∙ sym (elements_by left right i x h e ∙ ap (λ b. b && same_elements (Elements left (suc i)) (Elements right (suc i))) t)
+
+pub elements_apart : (left right : List Placed) (i : ℕ) (x : Placed) → i < length left → x ≡ get_or left i x
+    → same_at (placed_view x) (option_map placed_view (slice_get right i)) ≡ false → same_elements (Elements left i) (Elements right i) ≡ false
+elements_apart left right i x h e t =
+    elements_by left right i x h e ∙ ap (λ b. b && same_elements (Elements left (suc i)) (Elements right (suc i))) t
+
+pub members_more : (left right : List Argument) (i : ℕ) (x : Argument) → i < length left → x ≡ get_or left i x
+    → same_member_at (argument_view x) (option_map argument_view (slice_get right i)) ≡ true → same_members (Members left (i + 1)) (Members right (i + 1)) ≡ same_members (Members left i) (Members right i)
+members_more left right i x h e t =
+    ap (λ n. same_members (Members left n) (Members right n)) (add-one i)
+    ∙ sym (members_by left right i x h e ∙ ap (λ b. b && same_members (Members left (suc i)) (Members right (suc i))) t)
+
+pub members_apart : (left right : List Argument) (i : ℕ) (x : Argument) → i < length left → x ≡ get_or left i x
+    → same_member_at (argument_view x) (option_map argument_view (slice_get right i)) ≡ false → same_members (Members left i) (Members right i) ≡ false
+members_apart left right i x h e t =
+    members_by left right i x h e ∙ ap (λ b. b && same_members (Members left (suc i)) (Members right (suc i))) t
+
+-- where nothing is left of the left list, nothing may be left of the right one
+elements_over : (right : List Placed) (i : ℕ) → i < length right → same_elements no_element (Elements right i) ≡ false
+elements_over [] i h = absurd (omega arith)
+elements_over (r ∷ right) zero h = refl
+elements_over (r ∷ right) (suc i) h = elements_over right i (omega arith)
+
+members_over : (right : List Argument) (i : ℕ) → i < length right → same_members no_member (Members right i) ≡ false
+members_over [] i h = absurd (omega arith)
+members_over (r ∷ right) zero h = refl
+members_over (r ∷ right) (suc i) h = members_over right i (omega arith)
+
+-- the end of both lists
+pub elements_end : (left right : List Placed) (i : ℕ) → length left ≤ i → i ≤ length left → (b : Bool) → b ≡ nat_le (length right) (length left) → b ≡ same_elements (Elements left i) (Elements right i)
+elements_end left right i h k true e =
+    let short : length right ≤ i = (let n = leb-true (length right) (length left) (sym e) in omega arith) in
+    sym (ap (λ ps. same_elements (bare_elements (elements_of (map placed_view ps))) (Elements right i)) (drop_end left i h)
+    ∙ ap (λ ps. same_elements no_element (bare_elements (elements_of (map placed_view ps)))) (drop_end right i short))
+elements_end left right i h k false e =
+    let long : i < length right = (let n = leb-false (length right) (length left) (sym e) in omega arith) in
+    sym (ap (λ ps. same_elements (bare_elements (elements_of (map placed_view ps))) (Elements right i)) (drop_end left i h) ∙ elements_over right i long)
+
+pub members_end : (left right : List Argument) (i : ℕ) → length left ≤ i → i ≤ length left → (b : Bool) → b ≡ nat_le (length right) (length left) → b ≡ same_members (Members left i) (Members right i)
+members_end left right i h k true e =
+    let short : length right ≤ i = (let n = leb-true (length right) (length left) (sym e) in omega arith) in
+    sym (ap (λ ps. same_members (bare_members (members_of (map argument_view ps))) (Members right i)) (drop_end left i h)
+    ∙ ap (λ ps. same_members no_member (bare_members (members_of (map argument_view ps)))) (drop_end right i short))
+members_end left right i h k false e =
+    let long : i < length right = (let n = leb-false (length right) (length left) (sym e) in omega arith) in
+    sym (ap (λ ps. same_members (bare_members (members_of (map argument_view ps))) (Members right i)) (drop_end left i h) ∙ members_over right i long)
