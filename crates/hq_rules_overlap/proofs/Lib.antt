@@ -10,4 +10,5 @@ mod Ways
 mod Steps
 mod Closed
 mod Floors
+mod ArenaLemmas
 mod Together

@@ -176,6 +176,26 @@ fn conflict_with(
     Ok(at_if(apart, first.field.at.max(entry.field.at)))
 }
 
+// The place at which a field of a set is in conflict with the first one of its key there, if it is.
+fn conflict_of(
+    alloc: Global,
+    arena: &Arena<'_>,
+    number: usize,
+    entries: &[Entry<'_>],
+    places: &NamePlaces<'_>,
+    entry: &Entry<'_>,
+) -> Result<Option<u64>, Memory>
+    requires inside { number < length (arena_view arena.now) }
+    requires entries { map (field_in arena.now) entries.now ≡ fields_at (arena_view arena.now) number }
+    requires second { Contains (fields_at (arena_view arena.now) number) (field_in arena.now entry.now) }
+    ensures { IfOk result (AreConflicts (arena_view arena.now)) }
+{
+    match entries.get(place_of(places, entry.key())) {
+        Some(first) => conflict_with(alloc, arena, number, first, entry),
+        None => Ok(None),
+    }
+}
+
 // The least place at which a field of a set is in conflict with the first one of its key there.
 fn conflict_among(
     alloc: Global,
@@ -192,10 +212,8 @@ fn conflict_among(
     let places = first_places(alloc, entries)?;
     let mut least = known;
     for entry in entries {
-        let at = place_of(&places, entry.key());
-        if let Some(first) = entries.get(at) {
-            least = earlier(least, conflict_with(alloc, arena, number, first, entry)?);
-        }
+        let conflict = conflict_of(alloc, arena, number, entries, &places, entry)?;
+        least = earlier(least, conflict);
     }
     Ok(least)
 }
