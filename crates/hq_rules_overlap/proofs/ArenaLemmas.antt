@@ -1,19 +1,20 @@
 -- Fields and sets in memory, and what they are seen as.
 use Rattle.std.proofs.Common.{◌≡◌, ◌∙◌, ap, sym, refl, subst, ℕ, zero, suc, ◌<◌, ◌≤◌, List, [], ◌∷◌, length, get_or, map, Bool, true, false, ◌⊎◌, inl, inr, Option, Some, None, arith}
-use Rattle.std.specs.Prelude.{slice_get, option_and_then, option_map, not}
+use Rattle.std.specs.Prelude.{slice_get, option_map, not}
 use Rattle.std.specs.List.{Contains}
 use Rattle.std.proofs.lemmas.Option.{slice_get_within, get_or_from_slice_get, slice_get_read, slice_get-map}
 use Rattle.hq_schema.specs.Schema.{SchemaTree, schema_view}
-use Rattle.hq_gql_nodes.specs.Fragments.{Places}
 use Rattle.hq_gql_nodes.specs.Least.{earlier, at_if}
 use Rattle.hq_rules_overlap.specs.declared.sets.Arena.{Arena}
 use Rattle.hq_rules_overlap.specs.declared.sets.Entry.{Entry}
 use Rattle.hq_rules_overlap.specs.declared.sets.Set.{Set}
-use Rattle.hq_rules_overlap.specs.Floor.{IsAlikeFirst}
+use Rattle.hq_rules_overlap.specs.Floor.{IsAlikeAt}
 use Rattle.hq_rules_overlap.specs.Pairs.{fields_in, spreads_in, fields_at, spreads_at, later, AtMost}
 use Rattle.hq_rules_overlap.specs.Places.{cannot_merge, are_alike}
 use Rattle.hq_rules_overlap.specs.Sets.{FieldTree, SetTree, entry_view, set_in, arena_view}
-use Rattle.hq_rules_overlap.specs.Walk.{AreConflicts, IsConflict, IsEmpty}
+use Rattle.hq_rules_overlap.specs.Walk.{AreConflicts, IsConflict, IsEmpty, IsDone}
+use Rattle.hq_rules_overlap.specs.declared.walk.Walk.{Walk}
+use Rattle.hq_rules_overlap.proofs.Steps.{done_beside, empty_beyond}
 use Rattle.hq_rules_overlap.proofs.Closed.{own_conflict_at}
 use Rattle.hq_rules_overlap.proofs.FieldTests.{violates_by}
 use Rattle.hq_rules_overlap.proofs.Floors.{alike_label}
@@ -53,17 +54,12 @@ empty_here a n x h fields spreads = record {
   spreads = ap spreads_in (set_here a n x h) ∙ empty_list x.spreads.items spreads;
 }
 
--- a field that is alike to the one at the place of its key
-pub alike_first : (s : SchemaTree) (look : Places) (entries : List Entry) (at : ℕ) (first entry : Entry) → look (entry_view s entry).key ≡ Some at → slice_get entries at ≡ Some first
-    → are_alike (entry_view s first) (entry_view s entry) ≡ true → IsAlikeFirst look (map (entry_view s) entries) (entry_view s entry)
-alike_first s look entries at first entry known stands h =
+-- a field that is alike to the one at a place
+pub alike_at : (s : SchemaTree) (entries : List Entry) (at : ℕ) (first entry : Entry) → slice_get entries at ≡ Some first
+    → are_alike (entry_view s first) (entry_view s entry) ≡ true → IsAlikeAt (map (entry_view s) entries) at (entry_view s entry)
+alike_at s entries at first entry stands h =
     let same = alike_label (entry_view s first) (entry_view s entry) h in
-    record {
-      first = entry_view s first;
-      stands = ap (option_and_then (slice_get (map (entry_view s) entries))) known ∙ get_map (entry_view s) entries at first stands;
-      shape = same.0;
-      label = same.1;
-    }
+    record { first = entry_view s first; stands = get_map (entry_view s) entries at first stands; shape = same.0; label = same.1 }
 
 -- a field that is alike, or counts
 pub alike_or_counts : {P : Type 0} (alike : Bool) (least : Option ℕ) (n : ℕ) → (alike ≡ true → P) → P ⊎ AtMost (earlier least (at_if (not alike) n)) n
@@ -87,3 +83,10 @@ both_conflicts sets o q f g p h =
       | inl e ↦ f p e
       | inr e ↦ g p e
     ])
+
+-- where there is no set of a number, its pair is done
+pub done_without_left : (a : Arena) (q : Walk) (s t : ℕ) → slice_get a.sets.items s ≡ None → IsDone (arena_view a) q s t
+done_without_left a q s t h = done_beside (arena_view a) q s t (inl (empty_beyond (arena_view a) s (no_set a s h)))
+
+pub done_without_right : (a : Arena) (q : Walk) (s t : ℕ) → slice_get a.sets.items t ≡ None → IsDone (arena_view a) q s t
+done_without_right a q s t h = done_beside (arena_view a) q s t (inr (empty_beyond (arena_view a) t (no_set a t h)))

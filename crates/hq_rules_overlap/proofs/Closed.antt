@@ -164,3 +164,15 @@ all_done sets q count h done s t met =
     let inside : met.0 < length q.pairs.items = met.1 in
     done met.0 (record { left = s; right = t }) (omega arith)
     (slice_get_read q.pairs.items (length q.pairs.items) met.0 (record { left = s; right = t }) refl met.1 (sym met.2))
+
+beyond : (xs : List Pair) (k : ℕ) → slice_get xs k ≡ None → length xs ≤ k
+beyond [] k h = omega arith
+beyond (x ∷ xs) zero h = absurd (cc)
+beyond (x ∷ xs) (suc k) h = let r = beyond xs k h in omega (arith, r)
+
+-- no pair is done at first, and none stands beyond the list
+pub done_none : (sets : List SetTree) (q : Walk) → AreDone sets q 0
+done_none sets q k x h e = absurd (omega arith)
+
+pub none_beyond : (q : Walk) (k : ℕ) → slice_get q.pairs.items k ≡ None → length q.pairs.items ≤ k
+none_beyond q k h = beyond q.pairs.items k h

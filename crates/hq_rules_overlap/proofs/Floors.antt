@@ -1,10 +1,9 @@
 -- A place before which no two fields can be in conflict.
 use Rattle.std.proofs.Common.{◌≡◌, ◌≤◌, ◌⊎◌, inl, inr, ℕ, zero, suc, List, [], ◌∷◌, ◌++◌, sym, refl, ap, ◌∙◌, subst, max, Option, Some, None, arith}
-use Rattle.std.specs.Prelude.{slice_get, option_and_then, MatchOption, ⊤}
+use Rattle.std.specs.Prelude.{slice_get}
 use Rattle.std.specs.List.{Contains, All, flat_map}
 use Rattle.std.proofs.lemmas.List.Elements.{All-contains, Contains-append_left, Contains-append_right}
-use Rattle.hq_gql_nodes.specs.Fragments.{Places}
-use Rattle.hq_rules_overlap.specs.Floor.{IsAlikeFirst, IsFloor}
+use Rattle.hq_rules_overlap.specs.Floor.{IsAlikeAt, IsFloor}
 use Rattle.hq_rules_overlap.specs.Pairs.{fields_at, Reached, SameLabel, Violates, later, AtMost, IsFirst}
 use Rattle.hq_rules_overlap.specs.Sets.{LabelTree, FieldTree, SetTree}
 use Rattle.hq_rules_overlap.specs.Shapes.{same_shape}
@@ -34,26 +33,29 @@ at_most_right (Some p) a b h = let k : p ≤ b = h in omega arith
 label_joined : (l m n : LabelTree) → SameLabel l m → SameLabel m n → SameLabel l n
 label_joined l m n h k = (h.0 ∙ k.0, λ q. h.1 q ∙ k.1 q)
 
--- two fields of one key that are alike to the same one are not in conflict
-alike_both : (places : Places) (fields : List FieldTree) (a b : FieldTree) → IsAlikeFirst places fields a → IsAlikeFirst places fields b → Violates a b → ⊥
-alike_both places fields a b x y v =
-    let one : x.first ≡ y.first = same_some x.first y.first (sym x.stands ∙ (ap (λ (k : List ℕ). option_and_then (slice_get fields) (places k)) v.0 ∙ y.stands)) in
-    elim v.1 [
+-- two fields that are alike to the same one are not in conflict
+alike_both : (fields : List FieldTree) (at : ℕ) (a b : FieldTree) → IsAlikeAt fields at a → IsAlikeAt fields at b → Violates a b → ⊥
+alike_both fields at a b x y v =
+    let one : x.first ≡ y.first = same_some x.first y.first (sym x.stands ∙ y.stands) in
+    (elim v.1 [
       | inl shape ↦ shape (sym x.shape ∙ (ap (λ (f : FieldTree). f.shape) one ∙ y.shape))
-      | inr label ↦ label.1 (label_joined a.label x.first.label b.label (label_turned x.first.label a.label x.label) (subst (λ (f : FieldTree). SameLabel f.label b.label) (sym one) y.label))
-    ]
+      | inr label ↦
+          label.1 (label_joined a.label x.first.label b.label (label_turned x.first.label a.label x.label) (subst (λ (f : FieldTree). SameLabel f.label b.label) (sym one) y.label))
+    ])
 
-pub floor_from : (sets : List SetTree) (places : Places) (fields : List FieldTree) (floor : Option ℕ) → fields ≡ flat_map (λ x. x.fields) sets
-    → All (λ f. IsAlikeFirst places fields f ⊎ AtMost floor f.at) fields → IsFloor sets floor
-floor_from sets places fields floor same all s t a b first second v =
-    let stands = λ (n : ℕ) (f : FieldTree) (h : Contains (fields_at sets n) f). All-contains (λ f. IsAlikeFirst places fields f ⊎ AtMost floor f.at) fields f all (subst (λ (fs : List FieldTree). Contains fs f) (sym same) (among_all sets n f h)) in
-    elim (stands s a first) [
+-- fields of one key are compared with the one at the place of the key
+pub floor_from : (sets : List SetTree) (place : List ℕ → ℕ) (fields : List FieldTree) (floor : Option ℕ) → fields ≡ flat_map (λ x. x.fields) sets
+    → All (λ f. IsAlikeAt fields (place f.key) f ⊎ AtMost floor f.at) fields → IsFloor sets floor
+floor_from sets place fields floor same all s t a b first second v =
+    let stands = λ (n : ℕ) (f : FieldTree) (h : Contains (fields_at sets n) f). All-contains (λ f. IsAlikeAt fields (place f.key) f ⊎ AtMost floor f.at) fields f all (subst (λ (fs : List FieldTree). Contains fs f) (sym same) (among_all sets n f h)) in
+    (elim (stands s a first) [
       | inr low ↦ at_most_left floor a.at b.at low
-      | inl x ↦ elim (stands t b second) [
-        | inr low ↦ at_most_right floor a.at b.at low
-        | inl y ↦ absurd (alike_both places fields a b x y v)
-      ]
-    ]
+      | inl x ↦
+          (elim (stands t b second) [
+            | inr low ↦ at_most_right floor a.at b.at low
+            | inl y ↦ absurd (alike_both fields (place b.key) a b (subst (λ (k : List ℕ). IsAlikeAt fields (place k) a) v.0 x) y v)
+          ])
+    ])
 
 -- where no two fields can be in conflict there is none
 pub none_first : (sets : List SetTree) → IsFloor sets None → IsFirst sets None

@@ -1,5 +1,5 @@
 -- Lists of fields, spreads and sets that grow by one more selection, and by one more definition.
-use Rattle.std.proofs.Common.{◌≡◌, ℕ, zero, suc, ◌+◌, ◌<◌, ◌≤◌, Option, List, [], ◌∷◌, ◌++◌, map, drop, length, get_or, sym, refl, ap, ◌∙◌, append_assoc, add-one, arith}
+use Rattle.std.proofs.Common.{◌≡◌, ℕ, zero, suc, ◌+◌, ◌<◌, ◌≤◌, Option, List, [], ◌∷◌, ◌++◌, map, drop, length, get_or, sym, refl, ap, ◌∙◌, add-one, arith}
 use Rattle.std.specs.Option.{option_to_list}
 use Rattle.hq_schema.specs.Schema.{SchemaTree}
 use Rattle.hq_gql_tree.specs.Selections.{FieldHead, SelectionTree, SelectionTrees, no_selection, selection}
@@ -11,6 +11,10 @@ use Rattle.hq_rules_overlap.specs.Sets.{FieldTree, SetTree, seen_field, field_co
 pub nothing_more : {X : Type 0} (xs : List X) → xs ++ [] ≡ xs
 nothing_more [] = refl
 nothing_more (x ∷ xs) = ap (λ ys. x ∷ ys) (nothing_more xs)
+
+pub join_assoc : {X : Type 0} (xs ys zs : List X) → (xs ++ ys) ++ zs ≡ xs ++ (ys ++ zs)
+join_assoc [] ys zs = refl
+join_assoc (x ∷ xs) ys zs = ap (λ ws. x ∷ ws) (join_assoc xs ys zs)
 
 -- what is left from a place in a list
 drop_by : {X : Type 0} (xs : List X) (i : ℕ) (x : X) → i < length xs → x ≡ get_or xs i x → drop i xs ≡ x ∷ drop (suc i) xs
@@ -29,7 +33,7 @@ drop_end (y ∷ ys) (suc i) h = drop_end ys i (omega arith)
 
 -- what a list gives so far, what one more element gives, and what the rest gives
 pub grown_by : {X : Type 0} (old new here more all : List X) → new ≡ old ++ here → old ++ (here ++ more) ≡ all → new ++ more ≡ all
-grown_by old new here more all h k = ap (λ xs. xs ++ more) h ∙ (append_assoc ∙ k)
+grown_by {X} old new here more all h k = ap (λ (xs : List X). xs ++ more) h ∙ (join_assoc old here more ∙ k)
 
 -- at the end
 pub grown_whole : {X : Type 0} (old all : List X) → old ++ [] ≡ all → old ≡ all

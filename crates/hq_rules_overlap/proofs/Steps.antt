@@ -1,9 +1,10 @@
 -- Steps of the walk.
-use Rattle.std.proofs.Common.{◌≡◌, ℕ, ◌+◌, ◌<◌, ◌≤◌, map, take, get_or, List, [], ◌∷◌, ◌++◌, Bool, true, length, ◌⊎◌, inl, inr, sym, refl, ap, ◌∙◌, subst, append_assoc, Result, Ok, Err, Option, Some, None}
-use Rattle.std.specs.Prelude.{is_some, nat_eq, ◌&&◌, slice_get, slice_index_or}
+use Rattle.std.proofs.Common.{◌≡◌, ℕ, ◌+◌, ◌<◌, ◌≤◌, map, take, get_or, List, [], ◌∷◌, ◌++◌, Bool, true, length, ◌⊎◌, inl, inr, sym, refl, ap, ◌∙◌, subst, Result, Ok, Err, Option, Some, None}
+use Rattle.std.specs.Prelude.{is_some, nat_eq, ◌&&◌, ◌||◌, slice_get, slice_index_or}
 use Rattle.std.specs.HashMap as hash
 use Rattle.std.specs.List.{Contains, All}
 use Rattle.std.specs.Result.{OnOk}
+use Rattle.std.proofs.lemmas.Bool.{eqb-true, and_parts, or_cases}
 use Rattle.std.proofs.lemmas.List.{take_all, length-map, get_or-map}
 use Rattle.std.proofs.lemmas.List.Elements.{All-nil, All-more, All-weaker, All-map, Contains-get_or, Contains-push, Contains-push_cases, Contains-append_left}
 use Rattle.hq_rules_overlap.specs.declared.walk.Pair.{Pair}
@@ -11,6 +12,7 @@ use Rattle.hq_rules_overlap.specs.declared.walk.Walk.{Walk}
 use Rattle.hq_rules_overlap.specs.Sets.{FieldTree, SetTree}
 use Rattle.hq_rules_overlap.specs.Pairs.{fields_in, spreads_in, fields_at, spreads_at, AtMost, Violates, later}
 use Rattle.hq_gql_nodes.specs.Least.{earlier, at_if}
+use Rattle.hq_rules_overlap.proofs.Growing.{nothing_more, join_assoc}
 use Rattle.hq_rules_overlap.proofs.Least.{low_left, low_right, earlier_cases, at_if_true, at_if_low}
 use Rattle.hq_rules_overlap.specs.Walk.{Together, IsSound, IsEmpty, Step, Met, is_marked, Known, Compared, ComparedWith, IsDone, IsConflict, AreConflicts}
 
@@ -59,7 +61,7 @@ pub same_step : (sets : List SetTree) (p q : Walk) → q.pairs ≡ p.pairs → q
     → (AreConflicts sets p.best → AreConflicts sets q.best) → Step sets p q
 same_step sets p q pairs marks lower found = record {
   kept = λ s t h. subst (λ ps. Contains ps.items (record { left = s; right = t })) (sym pairs) h;
-  grown = ([], ap (λ ps. ps.items) pairs ∙ sym (nothing p.pairs.items));
+  grown = ([], ap (λ ps. ps.items) pairs ∙ sym (nothing_more p.pairs.items));
   lower = lower;
   sound = λ sound. record {
     together = λ s t h. sound.together s t (subst (λ ps. Contains ps.items (record { left = s; right = t })) pairs h);
@@ -69,10 +71,6 @@ same_step sets p q pairs marks lower found = record {
     found = found sound.found;
   };
 }
-  where
-    nothing : {X : Type 0} (xs : List X) → xs ++ [] ≡ xs
-    nothing [] = refl
-    nothing (x ∷ xs) = ap (λ ys. x ∷ ys) (nothing xs)
 
 -- a conflict counts, if it is one
 found_one : (sets : List SetTree) (o : Option ℕ) (v : Bool) (n : ℕ) → (v ≡ true → IsConflict sets n) → AreConflicts sets o → AreConflicts sets (earlier o (at_if v n))
@@ -102,7 +100,10 @@ step_refl sets p = same_step sets p p refl refl (λ n h. h) (λ f. f)
 pub step_then : (sets : List SetTree) (p q r : Walk) → Step sets p q → Step sets q r → Step sets p r
 step_then sets p q r a b = record {
   kept = λ s t h. b.kept s t (a.kept s t h);
-  grown = (a.grown.0 ++ b.grown.0, b.grown.1 ∙ ap (λ xs. xs ++ b.grown.0) a.grown.1 ∙ append_assoc);
+  grown = (
+    a.grown.0 ++ b.grown.0,
+    b.grown.1 ∙ (ap (λ (xs : List Pair). xs ++ b.grown.0) a.grown.1 ∙ join_assoc p.pairs.items a.grown.0 b.grown.0),
+  );
   lower = λ n h. b.lower n (a.lower n h);
   sound = λ h. b.sound (a.sound h);
 }
@@ -131,6 +132,18 @@ compared_now sets p q a b counted step known = record { below = λ _. known; cou
 pub on_ok_weaker2 : {T E P Q R : Type 0} (r : Result T E) → (P → Q → R) → OnOk r P → OnOk r Q → OnOk r R
 on_ok_weaker2 (Ok x) f p q = f p q
 on_ok_weaker2 (Err e) f p q = tt
+
+pub on_ok_weaker3 : {T E P Q R S : Type 0} (r : Result T E) → (P → Q → R → S) → OnOk r P → OnOk r Q → OnOk r R → OnOk r S
+on_ok_weaker3 (Ok x) f p q s = f p q s
+on_ok_weaker3 (Err e) f p q s = tt
+
+-- what a mark tells after one more pair
+pub mark_cases : (l r s t : ℕ) (old new : Bool) → new ≡ ((nat_eq l s && nat_eq r t) || old) → new ≡ true → ((l ≡ s) × (r ≡ t)) ⊎ (old ≡ true)
+mark_cases l r s t old new e h =
+    (elim (or_cases (nat_eq l s && nat_eq r t) old (sym e ∙ h)) [
+      | inl two ↦ let both = and_parts (nat_eq l s) (nat_eq r t) two in inl (eqb-true l s both.0, eqb-true r t both.1)
+      | inr before ↦ inr before
+    ])
 
 -- one more of a list, under facts that a step keeps
 pub all_more : {X : Type 0} (P Q : X → Type 0) → ((x : X) → P x → Q x) → (xs : List X) (i : ℕ) (d : X) → i < length xs → All P (take i xs) → Q (get_or xs i d) → All Q (take (i + 1) xs)

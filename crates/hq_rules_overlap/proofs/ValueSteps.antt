@@ -2,11 +2,11 @@
 use Rattle.std.proofs.Common.{◌≡◌, ◌∙◌, ap, sym, refl, subst, ℕ, zero, suc, ◌+◌, ◌<◌, ◌≤◌, List, [], ◌∷◌, length, get_or, map, drop, Bool, true, false, ◌&&◌, bytes_eq, Option, Some, None, add-one, arith}
 use Rattle.std.specs.Prelude.{option_map, slice_get, nat_le}
 use Rattle.std.proofs.lemmas.Bool.{leb-true, leb-false}
-use Rattle.hq_rules_overlap.proofs.Growing.{drop_end}
+use Rattle.hq_rules_overlap.proofs.Growing.{drop_first, drop_end}
 use Rattle.hq_gql_tree.specs.declared.value.Placed.{Placed}
 use Rattle.hq_gql_tree.specs.declared.value.Argument.{Argument}
 use Rattle.hq_gql_tree.specs.Values.{PlacedTree, ArgumentTree, placed_view, argument_view, elements_of, members_of}
-use Rattle.hq_rules_overlap.specs.Literals.{BareElements, no_element, BareMembers, no_member, bare, bare_elements, bare_members, same_value, same_elements, same_members, same_at, same_member_at}
+use Rattle.hq_rules_overlap.specs.Literals.{BareElements, no_element, BareMembers, no_member, bare, bare_elements, bare_members, same_value, same_elements, same_members, same_at, same_member_at, Given, same_given, agree_on}
 
 abbrev pub Elements : List Placed → ℕ → BareElements
 Elements xs i = bare_elements (elements_of (map placed_view (drop i xs)))
@@ -92,3 +92,17 @@ members_end left right i h k true e =
 members_end left right i h k false e =
     let long : i < length right = (let n = leb-false (length right) (length left) (sym e) in omega arith) in
     sym (ap (λ ps. same_members (bare_members (members_of (map argument_view ps))) (Members right i)) (drop_end left i h) ∙ members_over right i long)
+
+-- names on which two maps agree, and one on which they do not
+pub agree_more : (left right : Given) (names : List Argument) (i : ℕ) (x : Argument) → i < length names → x ≡ get_or names i x
+    → same_given (left (argument_view x).name) (right (argument_view x).name) ≡ true
+    → agree_on left right (map argument_view (drop (i + 1) names)) ≡ agree_on left right (map argument_view (drop i names))
+agree_more left right names i x h e t =
+    sym (ap (λ xs. agree_on left right (map argument_view xs)) (drop_first names i x h e)
+    ∙ ap (λ b. b && agree_on left right (map argument_view (drop (i + 1) names))) t)
+
+pub agree_apart : (left right : Given) (names : List Argument) (i : ℕ) (x : Argument) → i < length names → x ≡ get_or names i x
+    → same_given (left (argument_view x).name) (right (argument_view x).name) ≡ false → agree_on left right (map argument_view (drop i names)) ≡ false
+agree_apart left right names i x h e t =
+    ap (λ xs. agree_on left right (map argument_view xs)) (drop_first names i x h e)
+    ∙ ap (λ b. b && agree_on left right (map argument_view (drop (i + 1) names))) t

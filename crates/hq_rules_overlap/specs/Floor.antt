@@ -1,14 +1,13 @@
 -- A place before which no two fields of a document can be in conflict, whether they are reached together or not.
-use Rattle.std.specs.Prelude.{◌≡◌, ℕ, List, Option, Some, option_and_then, slice_get}
+use Rattle.std.specs.Prelude.{◌≡◌, ℕ, List, Option, Some, slice_get}
 use Rattle.std.specs.List.{Contains}
-use Rattle.hq_gql_nodes.specs.Fragments.{Places}
 use Rattle.hq_rules_overlap.specs.Pairs.{fields_at, SameLabel, Violates, later, AtMost}
 use Rattle.hq_rules_overlap.specs.Sets.{FieldTree, SetTree}
 
--- a field shares shape and label with the one that stands at the place of its key
-pub record IsAlikeFirst (places : Places) (fields : List FieldTree) (f : FieldTree) : Type 0 where
+-- a field shares shape and label with the one that stands at a place
+pub record IsAlikeAt (fields : List FieldTree) (at : ℕ) (f : FieldTree) : Type 0 where
   pub first : FieldTree
-  pub stands : option_and_then (slice_get fields) (places f.key) ≡ Some first
+  pub stands : slice_get fields at ≡ Some first
   pub shape : first.shape ≡ f.shape
   pub label : SameLabel first.label f.label
 

@@ -2,12 +2,15 @@
 -- field. A field stands in the set that it is written in, or in whose inline fragments; only fields of known types are there.
 use Rattle.std.specs.Prelude.{ℕ, ◌+◌, List, [], ◌∷◌, ◌++◌, length, map, Option, Some, None, option_map, option_and_then, unwrap_or, Vec}
 use Rattle.std.specs.declared.alloc.Global.{Global}
+use Rattle.std.specs.Borrow.{Bor}
+use Rattle.std.specs.HashMap.{HashMap}
 use Rattle.std.specs.Option.{option_to_list}
 use Rattle.hq_schema.specs.Schema.{SchemaTree, schema_view, type_ref_view}
 use Rattle.hq_gql_tree.specs.Values.{ArgumentTree}
 use Rattle.hq_gql_tree.specs.Selections.{FieldHead, SelectionTree, field, spread, inline, SelectionTrees, no_selection, selection, field_view}
 use Rattle.hq_gql_tree.specs.Documents.{DefinitionTree, operation, fragment, DocumentTree}
 use Rattle.hq_gql_nodes.specs.Fragments.{Places, fragment_named}
+use Rattle.hq_gql_nodes.specs.Names.{get_name}
 use Rattle.hq_gql_nodes.specs.Known.{known_field, below_field, object_named, root_of}
 use Rattle.hq_gql_nodes.specs.Nodes.{below_inline}
 use Rattle.hq_rules_overlap.specs.declared.sets.Arena.{Arena}
@@ -142,3 +145,7 @@ field_in a e = entry_view (schema_view a.schema.now) e
 
 abbrev pub set_in : Arena → Set → SetTree
 set_in a x = set_view (schema_view a.schema.now) x
+
+-- the place of a key, one beyond each list where it has none
+abbrev pub place_in : {S : Type 0} → HashMap (Bor (List ℕ)) ℕ S → (key : List ℕ) → ℕ
+place_in places key = unwrap_or (get_name places key) 18446744073709551615

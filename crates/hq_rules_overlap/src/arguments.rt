@@ -5,7 +5,7 @@ ghost use Rattle.hq_gql_tree.specs.Values.{value_view, argument_view};
 ghost use Rattle.hq_rules_overlap.specs.Literals.{bare, arguments_of, same_given, agree_on, same_arguments, given_in};
 
 use crate::values::same_value;
-use hq_base::Memory;
+use hq_base::{Memory, Txt};
 use hq_gql_tree::{Argument, Value};
 use std::alloc::Global;
 use std::collections::HashMap;
@@ -44,13 +44,25 @@ fn same_given(left: Option<&Value>, right: Option<&Value>) -> bool
     }
 }
 
+// What a map has at a name.
+fn given<'a>(values: &Values<'a>, name: &Txt) -> Option<&'a Value>
+    ensures { option_map (λ v. bare (value_view v.now)) result ≡ given_in values.now name.now }
+{
+    values.get(name.as_str()).copied()
+}
+
+fn agree_at(left: &Values<'_>, right: &Values<'_>, name: &Txt) -> bool
+    ensures { result ≡ same_given (given_in left.now name.now) (given_in right.now name.now) }
+{
+    same_given(given(left, name), given(right, name))
+}
+
 // Whether two lists of arguments agree on the names of a third.
 fn agree_on(left: &Values<'_>, right: &Values<'_>, names: &[Argument]) -> bool
     ensures { result ≡ agree_on (given_in left.now) (given_in right.now) (map argument_view names.now) }
 {
     for argument in names {
-        let name = argument.name.as_str();
-        if !same_given(left.get(name).copied(), right.get(name).copied()) {
+        if !agree_at(left, right, &argument.name) {
             return false;
         }
     }

@@ -3,15 +3,14 @@ ghost use Rattle.std.specs.Prelude.{◌≡◌, ◌++◌, ◌<◌, ◌⊎◌, len
 ghost use Rattle.std.specs.List.{All, Contains, flat_map};
 ghost use Rattle.hq_schema.specs.Schema.{schema_view};
 ghost use Rattle.hq_gql_tree.specs.Selections.{field_view};
-ghost use Rattle.hq_gql_nodes.specs.Names.{get_name};
-ghost use Rattle.hq_rules_overlap.specs.Floor.{IsAlikeFirst, IsFloor};
+ghost use Rattle.hq_rules_overlap.specs.Floor.{IsAlikeAt, IsFloor};
 ghost use Rattle.hq_rules_overlap.specs.Pairs.{fields_at, AtMost};
 ghost use Rattle.hq_rules_overlap.specs.Places.{same_label, are_alike, cannot_merge};
-ghost use Rattle.hq_rules_overlap.specs.Sets.{label_of, entry_view, field_in, arena_view};
+ghost use Rattle.hq_rules_overlap.specs.Sets.{label_of, entry_view, field_in, place_in, arena_view};
 ghost use Rattle.hq_rules_overlap.specs.Walk.{AreConflicts};
 
 use crate::arguments::same_arguments;
-use crate::sets::{Arena, Entry};
+use crate::sets::{Arena, Entry, entry_at, later};
 use crate::shapes::same_shape;
 use hq_base::Memory;
 use hq_gql_nodes::{NamePlaces, at_if, earlier, note_first};
@@ -80,23 +79,23 @@ fn first_places<'a>(alloc: Global, entries: &[Entry<'a>]) -> Result<NamePlaces<'
     Ok(places)
 }
 
-// Whether a field is alike to the one at the place of its key; one with many arguments is left to the walk.
-fn is_alike_first(
+// Whether a field is alike to the one at a place; one with many arguments is left to the walk.
+fn is_alike_at(
     alloc: Global,
     schema: &Schema,
     entries: &[Entry<'_>],
-    places: &NamePlaces<'_>,
+    at: usize,
     entry: &Entry<'_>,
 ) -> Result<bool, Memory>
-    ensures { IfOk result (λ alike. alike ≡ true → IsAlikeFirst (get_name places.now) (map (entry_view (schema_view schema.now)) entries.now) (entry_view (schema_view schema.now) entry.now)) }
+    ensures { IfOk result (λ alike. alike ≡ true → IsAlikeAt (map (entry_view (schema_view schema.now)) entries.now) at (entry_view (schema_view schema.now) entry.now)) }
 {
-    let Some(at) = places.get(entry.key()).copied() else {
+    let Some(first) = entry_at(entries, at) else {
         return Ok(false);
     };
-    match entries.get(at) {
-        Some(first) if has_few(first) => are_alike(alloc, schema, first, entry),
-        _ => Ok(false),
+    if !has_few(&first) {
+        return Ok(false);
     }
+    are_alike(alloc, schema, &first, entry)
 }
 
 // The least place of a field that is not alike to the one at the place of its key.
@@ -106,18 +105,21 @@ fn least_unlike(
     entries: &[Entry<'_>],
     places: &NamePlaces<'_>,
 ) -> Result<Option<u64>, Memory>
-    ensures { IfOk result (λ least. All (λ f. IsAlikeFirst (get_name places.now) (map (entry_view (schema_view schema.now)) entries.now) f ⊎ AtMost least f.at) (map (entry_view (schema_view schema.now)) entries.now)) }
+    ensures { IfOk result (λ least. All (λ f. IsAlikeAt (map (entry_view (schema_view schema.now)) entries.now) (place_in places.now f.key) f ⊎ AtMost least f.at) (map (entry_view (schema_view schema.now)) entries.now)) }
 {
     let mut least = None;
     for entry in entries {
-        let alike = is_alike_first(alloc, schema, entries, places, entry)?;
+        let at = place_of(places, entry.key());
+        let alike = is_alike_at(alloc, schema, entries, at, entry)?;
         least = earlier(least, at_if(!alike, entry.field.at));
     }
     Ok(least)
 }
 
 // The place of a key, one beyond each list where it has none.
-fn place_of(places: &NamePlaces<'_>, key: &str) -> usize {
+fn place_of(places: &NamePlaces<'_>, key: &str) -> usize
+    ensures { result ≡ place_in places.now key.now }
+{
     match places.get(key).copied() {
         Some(at) => at,
         None => usize::MAX,
@@ -153,6 +155,24 @@ pub fn floor(alloc: Global, arena: &Arena<'_>) -> Result<Option<u64>, Memory>
     least_unlike(alloc, arena.schema, &entries, &places)
 }
 
+// The place at which a field is in conflict with another one of its key in its set, if it is.
+fn conflict_of_key(
+    alloc: Global,
+    arena: &Arena<'_>,
+    number: usize,
+    first: &Entry<'_>,
+    entry: &Entry<'_>,
+) -> Result<Option<u64>, Memory>
+    requires inside { number < length (arena_view arena.now) }
+    requires first { Contains (fields_at (arena_view arena.now) number) (field_in arena.now first.now) }
+    requires second { Contains (fields_at (arena_view arena.now) number) (field_in arena.now entry.now) }
+    requires key { (field_in arena.now first.now).key ≡ (field_in arena.now entry.now).key }
+    ensures { IfOk result (AreConflicts (arena_view arena.now)) }
+{
+    let apart = cannot_merge(alloc, arena.schema, first, entry)?;
+    Ok(at_if(apart, later(first, entry)))
+}
+
 // The place at which a field is in conflict with another one of its set, if it is.
 fn conflict_with(
     alloc: Global,
@@ -172,8 +192,7 @@ fn conflict_with(
     if first.key() != entry.key() {
         return Ok(None);
     }
-    let apart = cannot_merge(alloc, arena.schema, first, entry)?;
-    Ok(at_if(apart, first.field.at.max(entry.field.at)))
+    conflict_of_key(alloc, arena, number, first, entry)
 }
 
 // The place at which a field of a set is in conflict with the first one of its key there, if it is.
@@ -190,8 +209,8 @@ fn conflict_of(
     requires second { Contains (fields_at (arena_view arena.now) number) (field_in arena.now entry.now) }
     ensures { IfOk result (AreConflicts (arena_view arena.now)) }
 {
-    match entries.get(place_of(places, entry.key())) {
-        Some(first) => conflict_with(alloc, arena, number, first, entry),
+    match entry_at(entries, place_of(places, entry.key())) {
+        Some(first) => conflict_with(alloc, arena, number, &first, entry),
         None => Ok(None),
     }
 }

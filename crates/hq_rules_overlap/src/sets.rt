@@ -1,5 +1,6 @@
 //! Selection sets by their numbers.
-ghost use Rattle.std.specs.Prelude.{◌≡◌};
+ghost use Rattle.std.specs.Prelude.{◌≡◌, max, slice_get};
+ghost use Rattle.std.specs.Option.{option_copied};
 ghost use Rattle.hq_gql_tree.specs.Selections.{field_view};
 ghost use Rattle.hq_rules_overlap.specs.Sets.{response_key};
 
@@ -39,4 +40,27 @@ pub struct Set<'a> {
 pub struct Arena<'a> {
     pub schema: &'a Schema,
     pub sets: Vec<Set<'a>>,
+}
+
+impl<'a> Arena<'a> {
+    /// The set of a number.
+    pub fn set(&self, number: usize) -> Option<&Set<'a>>
+        ensures { option_copied result ≡ slice_get self.now.sets.items number }
+    {
+        self.sets.get(number)
+    }
+}
+
+/// The field at a place of a list.
+pub fn entry_at<'a>(entries: &[Entry<'a>], at: usize) -> Option<Entry<'a>>
+    ensures { result ≡ slice_get entries.now at }
+{
+    entries.get(at).copied()
+}
+
+/// The place of the later one of two fields.
+pub fn later(a: &Entry<'_>, b: &Entry<'_>) -> u64
+    ensures { result ≡ max a.now.field.now.at b.now.field.now.at }
+{
+    a.field.at.max(b.field.at)
 }

@@ -1,12 +1,13 @@
 //! The walk over pairs of selection sets whose fields are reached together.
 ghost use Rattle.std.specs.Prelude.{◌≡◌, ◌++◌, ◌∷◌, [], ◌&&◌, ◌||◌, nat_eq, ℕ, Some, true, length, map, slice_get, IfOk, OnOk};
 ghost use Rattle.std.specs.List.{Contains, All};
+ghost use Rattle.hq_gql_nodes.specs.Least.{earlier, at_if};
 ghost use Rattle.hq_rules_overlap.specs.Pairs.{fields_at, spreads_at, Violates, later, AtMost, IsFirst};
 ghost use Rattle.hq_rules_overlap.specs.Sets.{field_in, set_in, arena_view};
 ghost use Rattle.hq_rules_overlap.specs.Walk.{Together, AreConflicts, IsEmpty, is_marked, Known, IsSound, Step, Compared, ComparedWith, IsDone, HasRoots};
 
 use crate::conflicts::cannot_merge;
-use crate::sets::{Arena, Entry, Set};
+use crate::sets::{Arena, Entry, Set, later};
 use hq_base::Memory;
 use hq_gql_nodes::{at_if, earlier};
 use std::alloc::Global;
@@ -40,7 +41,7 @@ const STEPS_OF_ARGUMENT: u64 = 16;
 fn is_empty(arena: &Arena<'_>, set: usize) -> bool
     ensures { result ≡ true → IsEmpty (arena_view arena.now) set }
 {
-    let Some(found) = arena.sets.get(set) else {
+    let Some(found) = arena.set(set) else {
         return true;
     };
     found.entries.is_empty() && found.spreads.is_empty()
@@ -73,6 +74,22 @@ impl Walk {
             }
             None => Err(Memory),
         }
+    }
+
+    // Takes note of a place, if it is that of a conflict.
+    fn count(&mut self, apart: bool, at: u64)
+        ensures pairs { self.new.pairs ≡ self.old.pairs }
+        ensures marks { self.new.marks ≡ self.old.marks }
+        ensures best { self.new.best ≡ earlier self.old.best (at_if apart at) }
+    {
+        self.best = earlier(self.best, at_if(apart, at));
+    }
+
+    // The pair at a place of the list.
+    fn pair_at(&self, at: usize) -> Option<Pair>
+        ensures { result ≡ slice_get self.now.pairs.items at }
+    {
+        self.pairs.get(at).copied()
     }
 
     // Whether a pair is marked.
@@ -134,7 +151,7 @@ impl Walk {
     {
         self.spend(cost(a, b))?;
         let apart = cannot_merge(alloc, arena.schema, a, b)?;
-        self.best = earlier(self.best, at_if(apart, a.field.at.max(b.field.at)));
+        self.count(apart, later(a, b));
         Ok(())
     }
 
@@ -292,6 +309,27 @@ impl Walk {
         self.spread_right(arena, left, right, &theirs.spreads)
     }
 
+    // Does a pair of sets of which the left one is given.
+    fn finish_left(
+        &mut self,
+        alloc: Global,
+        arena: &Arena<'_>,
+        left: usize,
+        right: usize,
+        ours: &Set<'_>,
+    ) -> Result<(), Memory>
+        requires sound { IsSound (arena_view arena.now) self.old }
+        requires together { Together (arena_view arena.now) left right }
+        requires ours { slice_get (arena_view arena.now) left ≡ Some (set_in arena.now ours.now) }
+        ensures step { OnOk result (Step (arena_view arena.now) self.old self.new) }
+        ensures done { OnOk result (IsDone (arena_view arena.now) self.new left right) }
+    {
+        let Some(theirs) = arena.set(right) else {
+            return Ok(());
+        };
+        self.finish_sets(alloc, arena, left, right, ours, theirs)
+    }
+
     // Does a pair of sets.
     fn finish(
         &mut self,
@@ -305,13 +343,10 @@ impl Walk {
         ensures step { OnOk result (Step (arena_view arena.now) self.old self.new) }
         ensures done { OnOk result (IsDone (arena_view arena.now) self.new left right) }
     {
-        let Some(ours) = arena.sets.get(left) else {
+        let Some(ours) = arena.set(left) else {
             return Ok(());
         };
-        let Some(theirs) = arena.sets.get(right) else {
-            return Ok(());
-        };
-        self.finish_sets(alloc, arena, left, right, ours, theirs)
+        self.finish_left(alloc, arena, left, right, ours)
     }
 
     // Puts each set together with itself.
@@ -333,7 +368,7 @@ impl Walk {
         ensures { OnOk result (IsFirst (arena_view arena.now) self.new.best) }
     {
         for at in 0..MOST_PAIRS {
-            let Some(pair) = self.pairs.get(at).copied() else {
+            let Some(pair) = self.pair_at(at) else {
                 return Ok(());
             };
             self.finish(alloc, arena, pair.left, pair.right)?;
