@@ -3,7 +3,7 @@ use Rattle.std.proofs.Common.{◌≡◌, ℕ, zero, suc, ◌+◌, ◌<◌, ◌�
 use Rattle.std.proofs.Math.Nat.{max_comm}
 use Rattle.std.specs.Prelude.{MatchOption, ⊤, slice_get}
 use Rattle.std.specs.List.{Contains, All}
-use Rattle.std.proofs.lemmas.Bool.{cases_lt}
+use Rattle.std.proofs.lemmas.Bool.{cases_lt, both_ways}
 use Rattle.std.proofs.lemmas.List.Elements.{All-contains, All-weaker}
 use Rattle.std.proofs.lemmas.Option.{slice_get_within, get_or_from_slice_get, slice_get_read}
 use Rattle.hq_rules_overlap.specs.declared.walk.Pair.{Pair}
@@ -12,7 +12,7 @@ use Rattle.hq_rules_overlap.specs.Sets.{LabelTree, FieldTree, SetTree}
 use Rattle.hq_rules_overlap.specs.Pairs as rule
 use Rattle.hq_rules_overlap.specs.Pairs.{fields_at, spreads_at, Within, here, spread, Reached, SameLabel, Violates, later, AtMost, IsFirst}
 use Rattle.hq_rules_overlap.specs.Walk as walk
-use Rattle.hq_rules_overlap.specs.Walk.{Together, IsConflict, AreConflicts, IsEmpty, Met, Known, Compared, ComparedWith, IsDone, IsSound, AreDone, HasRoots, Step}
+use Rattle.hq_rules_overlap.specs.Walk.{Together, IsConflict, AreConflicts, IsEmpty, Met, is_marked, Known, Compared, ComparedWith, IsDone, IsSound, AreDone, HasRoots, Step}
 use Rattle.hq_rules_overlap.proofs.Tests.{no_member}
 use Rattle.hq_rules_overlap.proofs.Least.{same_some}
 use Rattle.hq_rules_overlap.proofs.Steps.{known_kept, with_kept}
@@ -176,3 +176,11 @@ done_none sets q k x h e = absurd (omega arith)
 
 pub none_beyond : (q : Walk) (k : ℕ) → slice_get q.pairs.items k ≡ None → length q.pairs.items ≤ k
 none_beyond q k h = beyond q.pairs.items k h
+
+-- a walk that has met no pair
+pub start_sound : (sets : List SetTree) (q : Walk) → q.pairs.items ≡ [] → ((s t : ℕ) → is_marked q s t ≡ false) → AreConflicts sets q.best → IsSound sets q
+start_sound sets q none unmarked best = record {
+  together = λ s t met. absurd (nothing_in q.pairs.items (record { left = s; right = t }) none met);
+  marked = λ s t h. absurd (both_ways (is_marked q s t) (unmarked s t) h);
+  found = best;
+}

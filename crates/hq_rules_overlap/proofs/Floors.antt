@@ -11,7 +11,7 @@ use Rattle.hq_rules_overlap.specs.Places.{same_label, are_alike}
 use Rattle.std.proofs.lemmas.Bool.{and_parts}
 use Rattle.hq_rules_overlap.proofs.ShapeLemmas.{shape_true}
 use Rattle.hq_rules_overlap.proofs.FieldTests.{label_true}
-use Rattle.hq_rules_overlap.specs.Walk.{IsConflict}
+use Rattle.hq_rules_overlap.specs.Walk.{IsConflict, AreConflicts}
 use Rattle.hq_rules_overlap.proofs.Closed.{in_sets, conflict_found, label_turned}
 use Rattle.hq_rules_overlap.proofs.Least.{same_some}
 use Rattle.hq_rules_overlap.proofs.Tests.{no_member}
@@ -70,6 +70,11 @@ floor_first sets p floor conflict = record {
   found = conflict_found sets p conflict;
   least = λ a b reached v. let x = in_sets sets reached in floor x.0 x.1 a b x.3 x.4 v;
 }
+
+-- where a conflict within a set is at the least place there can be, it is the first, and where there can be none there is none
+pub floor_is_first : (sets : List SetTree) (own least : Option ℕ) → own ≡ least → IsFloor sets least → AreConflicts sets own → IsFirst sets own
+floor_is_first sets None least e floor conflicts = none_first sets (subst (IsFloor sets) (sym e) floor)
+floor_is_first sets (Some p) least e floor conflicts = floor_first sets p (subst (IsFloor sets) (sym e) floor) (conflicts p refl)
 
 -- what the test of two fields gives
 pub alike_label : (l m : FieldTree) → are_alike l m ≡ true → (l.shape ≡ m.shape) × SameLabel l.label m.label

@@ -3,10 +3,12 @@ use Rattle.std.proofs.Common.{◌≡◌, ℕ, zero, suc, ◌<◌, ◌≤◌, Lis
 use Rattle.std.specs.List.{Contains, list_any, flat_map}
 use Rattle.std.proofs.lemmas.Bool.{and_parts, and_from, or_cases, or_left, or_right, cases_lt, cond-true, cases_Bool}
 use Rattle.std.proofs.lemmas.List.Elements.{Contains-append_left, Contains-push, Contains-push_cases}
+use Rattle.hq_schema.specs.Schema.{SchemaTree}
+use Rattle.hq_gql_tree.specs.Documents.{DocumentTree}
 use Rattle.hq_gql_nodes.specs.Least.{at_if, least_of}
-use Rattle.hq_rules_overlap.specs.Sets.{FieldTree, SetTree}
+use Rattle.hq_rules_overlap.specs.Sets.{FieldTree, SetTree, document_sets}
 use Rattle.hq_rules_overlap.specs.Pairs.{fields_at, spreads_at, Reached, Violates, later, AtMost, IsFirst}
-use Rattle.hq_rules_overlap.specs.Places.{cannot_merge, conflict_place, Two, same_two, leads, has_way, below, all_two, are_together, overlap_in}
+use Rattle.hq_rules_overlap.specs.Places.{cannot_merge, conflict_place, Two, same_two, leads, has_way, below, all_two, are_together, overlap_in, overlap_place}
 use Rattle.hq_rules_overlap.specs.Walk as walk
 use Rattle.hq_rules_overlap.specs.Walk.{Together, IsConflict, AreConflicts}
 use Rattle.hq_rules_overlap.proofs.Tests.{nat_same, nat_itself, no_member, any_found, any_passes, contains_map, contains_flat_map}
@@ -240,3 +242,8 @@ module _ (sets : List SetTree) where
       let i : later w.0 w.1 ≡ q = w.4 in
       let same : p ≡ q = omega arith in
       ap (λ n. Some n) same
+
+-- the first place of a document's sets is the one that is computed
+pub first_is_place : (s : SchemaTree) (d : DocumentTree) (r : Option ℕ) → IsFirst (document_sets s d) r → r ≡ overlap_place s d
+unfolding overlap_place
+first_is_place s d r first = one_first (document_sets s d) r (overlap_in (document_sets s d)) first (place_is_first (document_sets s d))

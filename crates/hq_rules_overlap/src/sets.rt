@@ -1,5 +1,5 @@
 //! Selection sets by their numbers.
-ghost use Rattle.std.specs.Prelude.{◌≡◌, max, slice_get};
+ghost use Rattle.std.specs.Prelude.{◌≡◌, ◌&&◌, length, max, nat_eq, slice_get};
 ghost use Rattle.std.specs.Option.{option_copied};
 ghost use Rattle.hq_gql_tree.specs.Selections.{field_view};
 ghost use Rattle.hq_rules_overlap.specs.Sets.{response_key};
@@ -33,6 +33,15 @@ impl<'a> Entry<'a> {
 pub struct Set<'a> {
     pub entries: Vec<Entry<'a>>,
     pub spreads: Vec<usize>,
+}
+
+impl Set<'_> {
+    /// Whether it has neither fields nor spreads.
+    pub fn is_empty(&self) -> bool
+        ensures { result ≡ (nat_eq (length self.now.entries.items) 0 && nat_eq (length self.now.spreads.items) 0) }
+    {
+        self.entries.is_empty() && self.spreads.is_empty()
+    }
 }
 
 /// The selection sets of a document.

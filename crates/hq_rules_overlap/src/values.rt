@@ -1,5 +1,5 @@
 //! Values as arguments compare them.
-ghost use Rattle.std.specs.Prelude.{◌≡◌, ◌∷◌, [], map, option_map, if◌then◌else◌};
+ghost use Rattle.std.specs.Prelude.{◌≡◌, ◌∷◌, [], length, map, nat_le, option_map, if◌then◌else◌};
 ghost use Rattle.hq_gql_tree.specs.Values.{value_view, placed_view, argument_view, elements_of, members_of};
 ghost use Rattle.hq_rules_overlap.specs.Literals.{leaf, bare, bare_elements, bare_members, same_value, same_elements, same_members, same_at, same_member_at};
 
@@ -93,6 +93,19 @@ pub fn same_value(left: &Value, right: &Value) -> bool
     }
 }
 
+// Whether a list of elements, and of members, is no longer than another.
+fn has_no_more_elements(right: &Vec<Placed>, left: &Vec<Placed>) -> bool
+    ensures { result ≡ nat_le (length right.now.items) (length left.now.items) }
+{
+    right.len() <= left.len()
+}
+
+fn has_no_more_members(right: &Vec<Argument>, left: &Vec<Argument>) -> bool
+    ensures { result ≡ nat_le (length right.now.items) (length left.now.items) }
+{
+    right.len() <= left.len()
+}
+
 #[cycle(same_value)]
 fn same_placed(left: &Placed, right: Option<&Placed>) -> bool
     ensures { result ≡ same_at (placed_view left.now) (option_map (λ p. placed_view p.now) right.entry) }
@@ -112,7 +125,7 @@ fn same_elements(left: &Vec<Placed>, right: &Vec<Placed>) -> bool
             return false;
         }
     }
-    right.len() <= left.len()
+    has_no_more_elements(right, left)
 }
 
 #[cycle(same_value)]
@@ -136,5 +149,5 @@ fn same_members(left: &Vec<Argument>, right: &Vec<Argument>) -> bool
             return false;
         }
     }
-    right.len() <= left.len()
+    has_no_more_members(right, left)
 }

@@ -1,5 +1,5 @@
 //! The walk over pairs of selection sets whose fields are reached together.
-ghost use Rattle.std.specs.Prelude.{◌≡◌, ◌++◌, ◌∷◌, [], ◌&&◌, ◌||◌, nat_eq, ℕ, Some, true, length, map, slice_get, IfOk, OnOk};
+ghost use Rattle.std.specs.Prelude.{◌≡◌, ◌++◌, ◌∷◌, [], ◌&&◌, ◌||◌, nat_eq, ℕ, Some, true, false, length, map, slice_get, IfOk, OnOk};
 ghost use Rattle.std.specs.List.{Contains, All};
 ghost use Rattle.hq_gql_nodes.specs.Least.{earlier, at_if};
 ghost use Rattle.hq_rules_overlap.specs.Pairs.{fields_at, spreads_at, Violates, later, AtMost, IsFirst};
@@ -44,7 +44,7 @@ fn is_empty(arena: &Arena<'_>, set: usize) -> bool
     let Some(found) = arena.set(set) else {
         return true;
     };
-    found.entries.is_empty() && found.spreads.is_empty()
+    found.is_empty()
 }
 
 // The steps of a comparison of two fields of one key.
@@ -377,6 +377,20 @@ impl Walk {
     }
 }
 
+// A walk that has met no pair.
+fn start(alloc: Global, known: Option<u64>) -> Walk
+    ensures pairs { result.pairs.items ≡ [] }
+    ensures marks { (s t : ℕ) → is_marked result s t ≡ false }
+    ensures best { result.best ≡ known }
+{
+    Walk {
+        pairs: Vec::new(alloc),
+        marks: HashMap::new(alloc),
+        best: known,
+        left: MOST_STEPS,
+    }
+}
+
 /// The least place of a later field of two that are reached together and cannot merge. It may be told a conflict that is known.
 pub fn first_by_walk(
     alloc: Global,
@@ -386,12 +400,7 @@ pub fn first_by_walk(
     requires { AreConflicts (arena_view arena.now) known }
     ensures { IfOk result (IsFirst (arena_view arena.now)) }
 {
-    let mut walk = Walk {
-        pairs: Vec::new(alloc),
-        marks: HashMap::new(alloc),
-        best: known,
-        left: MOST_STEPS,
-    };
+    let mut walk = start(alloc, known);
     walk.meet_each(arena)?;
     walk.run(alloc, arena)?;
     Ok(walk.best)
