@@ -1,7 +1,7 @@
 -- Fields and sets in memory, and what they are seen as.
-use Rattle.std.proofs.Common.{◌≡◌, ◌∙◌, ap, sym, refl, subst, ℕ, zero, suc, ◌<◌, ◌≤◌, List, [], ◌∷◌, length, get_or, map, take, ◌+◌, Bool, true, false, ◌⊎◌, inl, inr, Option, Some, None, arith}
+use Rattle.std.proofs.Common.{◌≡◌, ◌∙◌, ap, sym, refl, subst, ℕ, zero, suc, ◌<◌, ◌≤◌, List, [], ◌∷◌, length, get_or, map, take, drop, ◌+◌, ◌++◌, map-append, Bool, true, false, ◌⊎◌, inl, inr, Option, Some, None, arith}
 use Rattle.std.specs.Prelude.{slice_get, option_map, not}
-use Rattle.std.specs.List.{Contains, All}
+use Rattle.std.specs.List.{Contains, All, flat_map}
 use Rattle.std.proofs.lemmas.Option.{slice_get_within, get_or_from_slice_get, slice_get_read, slice_get-map}
 use Rattle.hq_schema.specs.Schema.{SchemaTree, schema_view}
 use Rattle.hq_gql_nodes.specs.Least.{earlier, at_if}
@@ -14,7 +14,8 @@ use Rattle.hq_rules_overlap.specs.Places.{cannot_merge, are_alike}
 use Rattle.hq_rules_overlap.specs.Sets.{FieldTree, SetTree, entry_view, set_in, arena_view}
 use Rattle.hq_rules_overlap.specs.Walk.{AreConflicts, IsConflict, IsEmpty, IsDone}
 use Rattle.hq_rules_overlap.specs.declared.walk.Walk.{Walk}
-use Rattle.hq_rules_overlap.proofs.Steps.{done_beside, empty_beyond, all_more}
+use Rattle.hq_rules_overlap.proofs.Steps.{done_beside, empty_beyond, all_more_item}
+use Rattle.hq_rules_overlap.proofs.Growing.{grown_by, drop_first}
 use Rattle.hq_rules_overlap.proofs.Closed.{own_conflict_at}
 use Rattle.hq_rules_overlap.proofs.FieldTests.{violates_by}
 use Rattle.hq_rules_overlap.proofs.Floors.{alike_label}
@@ -92,18 +93,28 @@ pub done_without_right : (a : Arena) (q : Walk) (s t : ℕ) → slice_get a.sets
 done_without_right a q s t h = done_beside (arena_view a) q s t (inr (empty_beyond (arena_view a) t (no_set a t h)))
 
 -- one more field is alike to the first of its key, or counts
-pub unlike_more : (s : SchemaTree) (entries : List Entry) (place : List ℕ → ℕ) (i : ℕ) (d : Entry) (least new : Option ℕ) (alike : Bool) (at : ℕ) → i < length entries
-    → at ≡ place (entry_view s (get_or entries i d)).key
-    → (alike ≡ true → IsAlikeAt (map (entry_view s) entries) at (entry_view s (get_or entries i d)))
-    → new ≡ earlier least (at_if (not alike) (entry_view s (get_or entries i d)).at)
+pub unlike_more : (s : SchemaTree) (entries : List Entry) (place : List ℕ → ℕ) (i : ℕ) (x : Entry) (least new : Option ℕ) (alike : Bool) (at : ℕ) → i < length entries
+    → x ≡ get_or entries i x → at ≡ place (entry_view s x).key
+    → (alike ≡ true → IsAlikeAt (map (entry_view s) entries) at (entry_view s x))
+    → new ≡ earlier least (at_if (not alike) (entry_view s x).at)
     → All (λ e. IsAlikeAt (map (entry_view s) entries) (place (entry_view s e).key) (entry_view s e) ⊎ AtMost least (entry_view s e).at) (take i entries)
     → All (λ e. IsAlikeAt (map (entry_view s) entries) (place (entry_view s e).key) (entry_view s e) ⊎ AtMost new (entry_view s e).at) (take (i + 1) entries)
-unlike_more s entries place i d least new alike at below known alike_here e before =
+unlike_more s entries place i x least new alike at below is known alike_here e before =
     let fields = map (entry_view s) entries in
-    let x = entry_view s (get_or entries i d) in
-    let o = at_if (not alike) x.at in
+    let o = at_if (not alike) (entry_view s x).at in
     subst (λ (l : Option ℕ). All (λ e. IsAlikeAt fields (place (entry_view s e).key) (entry_view s e) ⊎ AtMost l (entry_view s e).at) (take (i + 1) entries)) (sym e)
-    (all_more (λ (e : Entry). IsAlikeAt fields (place (entry_view s e).key) (entry_view s e) ⊎ AtMost least (entry_view s e).at)
+    (all_more_item (λ (e : Entry). IsAlikeAt fields (place (entry_view s e).key) (entry_view s e) ⊎ AtMost least (entry_view s e).at)
     (λ (e : Entry). IsAlikeAt fields (place (entry_view s e).key) (entry_view s e) ⊎ AtMost (earlier least o) (entry_view s e).at)
-    (λ e h. still_counts least o (entry_view s e).at h) entries i d below before
-    (alike_or_counts alike least x.at (λ held. subst (λ (n : ℕ). IsAlikeAt fields n x) known (alike_here held))))
+    (λ e h. still_counts least o (entry_view s e).at h) entries i x below is before
+    (alike_or_counts alike least (entry_view s x).at (λ held. subst (λ (n : ℕ). IsAlikeAt fields n (entry_view s x)) known (alike_here held))))
+
+-- the fields of one more set
+pub entries_more : (f : Entry → FieldTree) (view : Set → SetTree) → ((x : Set) → (view x).fields ≡ map f x.entries.items) → (sets : List Set) (i : ℕ) (x : Set) (old new : List Entry) (all : List FieldTree)
+    → i < length sets → x ≡ get_or sets i x → new ≡ old ++ x.entries.items
+    → map f old ++ flat_map (λ (t : SetTree). t.fields) (map view (drop i sets)) ≡ all
+    → map f new ++ flat_map (λ (t : SetTree). t.fields) (map view (drop (i + 1) sets)) ≡ all
+entries_more f view seen sets i x old new all below is grown before =
+    grown_by (map f old) (map f new) (map f x.entries.items) (flat_map (λ (t : SetTree). t.fields) (map view (drop (i + 1) sets))) all
+    (ap (map f) grown ∙ map-append f old x.entries.items)
+    (ap (λ fs. map f old ++ (fs ++ flat_map (λ (t : SetTree). t.fields) (map view (drop (i + 1) sets)))) (sym (seen x))
+    ∙ (ap (λ xs. map f old ++ flat_map (λ (t : SetTree). t.fields) (map view xs)) (sym (drop_first sets i x below is)) ∙ before))

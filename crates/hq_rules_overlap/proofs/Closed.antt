@@ -1,5 +1,5 @@
 -- A walk whose pairs are all done has met each pair that the rule reaches.
-use Rattle.std.proofs.Common.{◌≡◌, ℕ, zero, suc, ◌+◌, ◌<◌, ◌≤◌, List, [], ◌∷◌, ◌++◌, Option, Some, None, length, get_or, ◌⊎◌, inl, inr, sym, refl, ap, ◌∙◌, subst, arith}
+use Rattle.std.proofs.Common.{◌≡◌, ℕ, zero, suc, ◌+◌, ◌<◌, ◌≤◌, List, [], ◌∷◌, ◌++◌, Option, Some, None, length, get_or, ◌⊎◌, inl, inr, sym, refl, ap, ◌∙◌, subst, arith, false}
 use Rattle.std.proofs.Math.Nat.{max_comm}
 use Rattle.std.specs.Prelude.{MatchOption, ⊤, slice_get}
 use Rattle.std.specs.List.{Contains, All}
@@ -51,7 +51,7 @@ pub found_from : (sets : List SetTree) (r : Option ℕ) → AreConflicts sets r 
 found_from sets None f = tt
 found_from sets (Some p) f = conflict_found sets p (f p refl)
 
-label_turned : (l m : LabelTree) → SameLabel l m → SameLabel m l
+pub label_turned : (l m : LabelTree) → SameLabel l m → SameLabel m l
 label_turned l m h = (sym h.0, λ q. sym (h.1 q))
 
 violates_turned : (a b : FieldTree) → Violates a b → Violates b a

@@ -1,5 +1,5 @@
 -- A place before which no two fields can be in conflict.
-use Rattle.std.proofs.Common.{◌≡◌, ◌≤◌, ◌⊎◌, inl, inr, ℕ, zero, suc, List, [], ◌∷◌, ◌++◌, sym, refl, ap, ◌∙◌, subst, max, Option, Some, None, arith}
+use Rattle.std.proofs.Common.{◌≡◌, ◌≤◌, ◌⊎◌, inl, inr, ℕ, zero, suc, List, [], ◌∷◌, ◌++◌, sym, refl, ap, ◌∙◌, subst, max, Option, Some, None, arith, true}
 use Rattle.std.specs.Prelude.{slice_get}
 use Rattle.std.specs.List.{Contains, All, flat_map}
 use Rattle.std.proofs.lemmas.List.Elements.{All-contains, Contains-append_left, Contains-append_right}

@@ -149,6 +149,9 @@ mark_cases l r s t old new e h =
 pub all_more : {X : Type 0} (P Q : X → Type 0) → ((x : X) → P x → Q x) → (xs : List X) (i : ℕ) (d : X) → i < length xs → All P (take i xs) → Q (get_or xs i d) → All Q (take (i + 1) xs)
 all_more P Q kept xs i d h before now = All-more Q xs i d h (All-weaker P Q kept (take i xs) before) now
 
+pub all_more_item : {X : Type 0} (P Q : X → Type 0) → ((x : X) → P x → Q x) → (xs : List X) (i : ℕ) (x : X) → i < length xs → x ≡ get_or xs i x → All P (take i xs) → Q x → All Q (take (i + 1) xs)
+all_more_item P Q kept xs i x h is before now = all_more P Q kept xs i x h before (subst Q is now)
+
 -- an element that is seen in a list
 pub contained : {X Y : Type 0} (f : X → Y) (xs : List X) (ys : List Y) (i : ℕ) (d : X) → map f xs ≡ ys → i < length xs → Contains ys (f (get_or xs i d))
 contained f xs ys i d e h =
@@ -171,6 +174,9 @@ done_beside sets q s t (inr e) = record {
 -- a number beyond the sets
 pub empty_beyond : (sets : List SetTree) (s : ℕ) → slice_get sets s ≡ None → IsEmpty sets s
 empty_beyond sets s h = record { fields = ap fields_in h; spreads = ap spreads_in h }
+
+pub contained_item : {X Y : Type 0} (f : X → Y) (xs : List X) (ys : List Y) (i : ℕ) (x : X) → map f xs ≡ ys → i < length xs → x ≡ get_or xs i x → Contains ys (f x)
+contained_item f xs ys i x e h is = subst (λ z. Contains ys (f z)) (sym is) (contained f xs ys i x e h)
 
 -- at the end of a loop the whole list was seen
 pub all_at_end : {X Y : Type 0} (f : X → Y) (P : Y → Type 0) (xs : List X) (ys : List Y) (i : ℕ) → map f xs ≡ ys → length xs ≤ i → All (λ x. P (f x)) (take i xs) → All P ys

@@ -1,5 +1,5 @@
 -- The test of values decides whether they are equal without where they stand, and so does that of lists of arguments.
-use Rattle.std.proofs.Common.{◌≡◌, ◌×◌, ◌∙◌, ap, sym, refl, subst, ℕ, List, [], ◌∷◌, Bool, true, false, cond, ◌&&◌, ◌==◌, Option, Some, None, bytes_eq}
+use Rattle.std.proofs.Common.{◌≡◌, ◌∙◌, ap, sym, refl, subst, ℕ, List, [], ◌∷◌, Bool, true, false, cond, ◌&&◌, ◌==◌, Option, Some, None, bytes_eq}
 use Rattle.std.specs.Prelude.{is_some, find, option_map}
 use Rattle.std.specs.Bool.{Decides}
 use Rattle.std.specs.List.{list_all}

@@ -14,55 +14,6 @@ Elements xs i = bare_elements (elements_of (map placed_view (drop i xs)))
 abbrev pub Members : List Argument → ℕ → BareMembers
 Members xs i = bare_members (members_of (map argument_view (drop i xs)))
 
--- the place at which both stand
-elements_by : (left right : List Placed) (i : ℕ) (x : Placed) → i < length left → x ≡ get_or left i x
-    → same_elements (Elements left i) (Elements right i)
-    ≡ (same_at (placed_view x) (option_map placed_view (slice_get right i)) && same_elements (Elements left (suc i)) (Elements right (suc i)))
-elements_by [] right i x h e = absurd (omega arith)
-elements_by (l ∷ left) [] zero x h e = refl
-elements_by (l ∷ left) (r ∷ right) zero x h e =
-    ap (λ (z : Placed). same_value (bare (placed_view z).value) (bare (placed_view r).value) && same_elements (Elements left 0) (Elements right 0)) (sym e)
-elements_by (l ∷ left) [] (suc i) x h e = elements_by left [] i x (omega arith) e
-elements_by (l ∷ left) (r ∷ right) (suc i) x h e = elements_by left right i x (omega arith) e
-
-members_by : (left right : List Argument) (i : ℕ) (x : Argument) → i < length left → x ≡ get_or left i x
-    → same_members (Members left i) (Members right i)
-    ≡ (same_member_at (argument_view x) (option_map argument_view (slice_get right i)) && same_members (Members left (suc i)) (Members right (suc i)))
-members_by [] right i x h e = absurd (omega arith)
-members_by (l ∷ left) [] zero x h e = refl
-members_by (l ∷ left) (r ∷ right) zero x h e =
-    sym (and_assoc (bytes_eq (argument_view l).name (argument_view r).name) (same_value (bare (argument_view l).value.value) (bare (argument_view r).value.value)) (same_members (Members left 0) (Members right 0)))
-    ∙ ap (λ (z : Argument). same_member_at (argument_view z) (Some (argument_view r)) && same_members (Members left 0) (Members right 0)) (sym e)
-  where
-    and_assoc : (a b c : Bool) → ((a && b) && c) ≡ (a && (b && c))
-    and_assoc true b c = refl
-    and_assoc false b c = refl
-members_by (l ∷ left) [] (suc i) x h e = members_by left [] i x (omega arith) e
-members_by (l ∷ left) (r ∷ right) (suc i) x h e = members_by left right i x (omega arith) e
-
--- elements that are equal, and such that are not
-pub elements_more : (left right : List Placed) (i : ℕ) (x : Placed) → i < length left → x ≡ get_or left i x
-    → same_at (placed_view x) (option_map placed_view (slice_get right i)) ≡ true → same_elements (Elements left (i + 1)) (Elements right (i + 1)) ≡ same_elements (Elements left i) (Elements right i)
-elements_more left right i x h e t =
-    ap (λ n. same_elements (Elements left n) (Elements right n)) (add-one i)
-    ∙ sym (elements_by left right i x h e ∙ ap (λ b. b && same_elements (Elements left (suc i)) (Elements right (suc i))) t)
-
-pub elements_apart : (left right : List Placed) (i : ℕ) (x : Placed) → i < length left → x ≡ get_or left i x
-    → same_at (placed_view x) (option_map placed_view (slice_get right i)) ≡ false → same_elements (Elements left i) (Elements right i) ≡ false
-elements_apart left right i x h e t =
-    elements_by left right i x h e ∙ ap (λ b. b && same_elements (Elements left (suc i)) (Elements right (suc i))) t
-
-pub members_more : (left right : List Argument) (i : ℕ) (x : Argument) → i < length left → x ≡ get_or left i x
-    → same_member_at (argument_view x) (option_map argument_view (slice_get right i)) ≡ true → same_members (Members left (i + 1)) (Members right (i + 1)) ≡ same_members (Members left i) (Members right i)
-members_more left right i x h e t =
-    ap (λ n. same_members (Members left n) (Members right n)) (add-one i)
-    ∙ sym (members_by left right i x h e ∙ ap (λ b. b && same_members (Members left (suc i)) (Members right (suc i))) t)
-
-pub members_apart : (left right : List Argument) (i : ℕ) (x : Argument) → i < length left → x ≡ get_or left i x
-    → same_member_at (argument_view x) (option_map argument_view (slice_get right i)) ≡ false → same_members (Members left i) (Members right i) ≡ false
-members_apart left right i x h e t =
-    members_by left right i x h e ∙ ap (λ b. b && same_members (Members left (suc i)) (Members right (suc i))) t
-
 -- where nothing is left of the left list, nothing may be left of the right one
 elements_over : (right : List Placed) (i : ℕ) → i < length right → same_elements no_element (Elements right i) ≡ false
 elements_over [] i h = absurd (omega arith)

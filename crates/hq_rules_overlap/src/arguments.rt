@@ -13,14 +13,21 @@ use std::collections::HashMap;
 // The values of arguments by their names.
 type Values<'a> = HashMap<&'a str, &'a Value>;
 
+// Notes the value of a name, where none is noted yet.
+fn note_named<'a>(values: &mut Values<'a>, name: &'a str, value: &'a Value) -> Result<(), Memory>
+    ensures { OnOk result ((q : List ℕ) → given_in values.new q ≡ option_or (given_in values.old q) (if bytes_eq name.now q then Some (bare (value_view value.now)) else None)) }
+{
+    if !values.contains_key(name) {
+        values.insert(name, value)?;
+    }
+    Ok(())
+}
+
 // Notes the value of an argument, where none of its name is noted yet.
 fn note_value<'a>(values: &mut Values<'a>, argument: &'a Argument) -> Result<(), Memory>
     ensures { OnOk result ((q : List ℕ) → given_in values.new q ≡ option_or (given_in values.old q) (if bytes_eq (argument_view argument.now).name q then Some (bare (argument_view argument.now).value.value) else None)) }
 {
-    if !values.contains_key(argument.name.as_str()) {
-        values.insert(argument.name.as_str(), &argument.value.value)?;
-    }
-    Ok(())
+    note_named(&mut *values, argument.name.as_str(), &argument.value.value)
 }
 
 // The values of arguments, of several of one name that of the first.
@@ -51,10 +58,11 @@ fn given<'a>(values: &Values<'a>, name: &Txt) -> Option<&'a Value>
     values.get(name.as_str()).copied()
 }
 
-fn agree_at(left: &Values<'_>, right: &Values<'_>, name: &Txt) -> bool
-    ensures { result ≡ same_given (given_in left.now name.now) (given_in right.now name.now) }
+// Whether they agree on the name of an argument.
+fn agree_at(left: &Values<'_>, right: &Values<'_>, argument: &Argument) -> bool
+    ensures { result ≡ same_given (given_in left.now (argument_view argument.now).name) (given_in right.now (argument_view argument.now).name) }
 {
-    same_given(given(left, name), given(right, name))
+    same_given(given(left, &argument.name), given(right, &argument.name))
 }
 
 // Whether two lists of arguments agree on the names of a third.
@@ -62,7 +70,7 @@ fn agree_on(left: &Values<'_>, right: &Values<'_>, names: &[Argument]) -> bool
     ensures { result ≡ agree_on (given_in left.now) (given_in right.now) (map argument_view names.now) }
 {
     for argument in names {
-        if !agree_at(left, right, &argument.name) {
+        if !agree_at(left, right, argument) {
             return false;
         }
     }

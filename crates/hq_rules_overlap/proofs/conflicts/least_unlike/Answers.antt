@@ -11,8 +11,8 @@ use Rattle.hq_rules_overlap.proofs.conflicts.least_unlike.Goals as goal
 
 pub loop-entry-preserved : goal.loop-entry-preserved
 loop-entry-preserved c =
-    unlike_more (schema_view c.args.schema.now) c.args.entries.now (place_in c.args.places.now) c.loop-entry.entry-index _ c.loop-entry.least c.earlier-least.result
-    c.in_ok-alike.alike c.place_of-at.result c.loop-entry-test.true (c.place_of-at.ensures ∙ ap (place_in c.args.places.now) c.key.ensures)
+    unlike_more (schema_view c.args.schema.now) c.args.entries.now (place_in c.args.places.now) c.loop-entry.entry-index c.entry-item.result c.loop-entry.least c.earlier-least.result
+    c.in_ok-alike.alike c.place_of-at.result c.loop-entry-test.true c.entry-item.is (c.place_of-at.ensures ∙ ap (place_in c.args.places.now) c.key.ensures)
     c.in_ok-alike.ensures (c.earlier-least.ensures ∙ ap (earlier c.loop-entry.least) c.at_if.ensures) c.loop-entry.invariant
 
 pub returns : goal.returns
