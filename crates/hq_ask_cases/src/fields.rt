@@ -152,8 +152,8 @@ fn push_field(field: &AskField, out: &mut String) -> Result<(), Stop> {
 fn push_fields(fields: &AskFields, out: &mut String) -> Result<(), Stop> {
     out.push_str("{")?;
     for (at, one) in fields.iter().enumerate() {
-        push_key(at, one.key(), out)?;
-        push_field(one.field(), out)?;
+        push_key(at, &one.key, out)?;
+        push_field(&one.field, out)?;
     }
     Ok(out.push_str("}")?)
 }
@@ -174,8 +174,8 @@ fn push_part(part: &AggPart, out: &mut String) -> Result<(), Stop> {
 fn push_parts(parts: &AggParts, out: &mut String) -> Result<(), Stop> {
     out.push_str(" aggregate {")?;
     for (at, one) in parts.iter().enumerate() {
-        push_key(at, one.key(), out)?;
-        push_part(one.part(), out)?;
+        push_key(at, &one.key, out)?;
+        push_part(&one.part, out)?;
     }
     Ok(out.push_str("}")?)
 }
