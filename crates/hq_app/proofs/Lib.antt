@@ -1,3 +1,4 @@
 mod Endings
 mod Statings
 mod Servings
+mod Worlds

@@ -4,3 +4,4 @@ pub mod Output
 pub mod Ending
 pub mod Serving
 pub mod Runs
+pub mod Laws

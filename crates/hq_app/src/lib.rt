@@ -4,6 +4,7 @@
 mod caller;
 mod check;
 mod done;
+mod laws;
 mod line;
 mod refusal;
 mod reply;
@@ -13,6 +14,7 @@ mod top;
 mod world;
 
 pub use done::Done;
+pub use laws::outputs_agree;
 pub use refusal::Refusal;
 pub use reply::INPUT_LIMIT;
 pub use top::{answer_one, run};

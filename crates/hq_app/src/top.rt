@@ -2,10 +2,12 @@ ghost use Rattle.std.specs.Prelude.{◌≡◌, ◌≢◌, ◌⊎◌, ◌≤◌, 
 ghost use Rattle.hq_outside.specs.Causes.{Rose};
 ghost use Rattle.hq_words.specs.Asked.{command_of};
 ghost use Rattle.hq_app.specs.Ending.{Answer, Answers, Silent, Tells, NotDatabase, status_of, told_line};
+ghost use Rattle.hq_app.specs.Laws.{AnswersAlike};
 ghost use Rattle.hq_app.specs.Runs.{ReadCause, Runs, opens_door, outside, reads_input};
 ghost use Rattle.hq_app.specs.Serving.{seen_door};
 
 use crate::check::check;
+use crate::laws::outputs_agree;
 use crate::line::write_line;
 use crate::reply::{query, reply_to};
 use crate::serving::serve;
@@ -105,6 +107,11 @@ pub fn answer_one<T: Tables, S: Source, K: Sink, E: Sink>(
         (record { asks = ⟦<SqlDb<T> as Database>⟧.asks db.old; last = ⟦<SqlDb<T> as Database>⟧.last db.old })
         (record { asks = ⟦<SqlDb<T> as Database>⟧.asks db.new; last = ⟦<SqlDb<T> as Database>⟧.last db.new }) answer) }
 
+    // Over each database that the session cannot tell apart from this one, the same answer is due.
+    ensures alike { (answer : Answer) × (result ≡ status_of answer) × IfSome (S.left input.old) (λ left. AnswersAlike engine.now session.now (⟦<SqlDb<T> as Database>⟧.database db.old) left (K.written out.old) (K.written out.new)
+        (record { asks = ⟦<SqlDb<T> as Database>⟧.asks db.old; last = ⟦<SqlDb<T> as Database>⟧.last db.old })
+        (record { asks = ⟦<SqlDb<T> as Database>⟧.asks db.new; last = ⟦<SqlDb<T> as Database>⟧.last db.new }) answer) }
+
     // Nothing is written at a status other than 0, 1 and 5.
     ensures silent { result ≢ 0 → result ≢ 1 → result ≢ 5 → K.written out.new ≡ K.written out.old }
 
@@ -122,6 +129,7 @@ pub fn answer_one<T: Tables, S: Source, K: Sink, E: Sink>(
     ensures out_later { K.faults out.old ≤ K.faults out.new }
     ensures db_later { ⟦<SqlDb<T> as Database>⟧.faults db.old ≤ ⟦<SqlDb<T> as Database>⟧.faults db.new }
 {
+    outputs_agree();
     tell(err, reply_to(alloc, engine, session, db, input, out))
 }
 

@@ -1,5 +1,5 @@
 -- Two databases that a session cannot tell apart give it the same replies.
-use Rattle.std.proofs.Common.{◌≡◌, ◌∙◌, ℕ, List, [], length, Option, Some, None, Ok, refl, sym, ap}
+use Rattle.std.proofs.Common.{◌≡◌, ◌∙◌, ℕ, List, [], length, Option, true, Some, None, Result, Ok, Err, refl, sym, ap}
 use Rattle.std.specs.Prelude.{unwrap_or, IfSome}
 use Rattle.hq_ask_tree.specs.Fields.{FieldTrees, no_field, field}
 use Rattle.hq_ask_tree.specs.Request.{AskTree}
@@ -8,10 +8,14 @@ use Rattle.hq_base.specs.Json.{JsonTree, obj, MemberTrees, member}
 use Rattle.hq_reply.specs.DataTexts.{data_text}
 use Rattle.hq_reply.specs.RootObject.{own_value, root_members, of_database, root_object}
 use Rattle.hq_request.specs.Request.{request_due}
-use Rattle.hq_request_laws.specs.Formed.{IsOfSession}
+use Rattle.hq_request.specs.declared.refusal.RequestRefusal.{RequestRefusal}
+use Rattle.hq_request.specs.declared.refusal.RequestRefusal.TheVariants.{Fault, Memory}
+use Rattle.hq_request_laws.specs.Formed.{IsOfSession, MakesFormed}
 use Rattle.hq_role_schema.specs.RoleSchema.{role_schema}
 use Rattle.hq_schema.specs.Schema.{SchemaTree}
+use Rattle.hq_terms.specs.Catalog.{is_catalog}
 use Rattle.hq_terms.specs.Database.{Row}
+use Rattle.hq_terms.specs.Fits.{fits}
 use Rattle.hq_terms.specs.Grants.{Grants, grants_of, limits}
 use Rattle.hq_terms.specs.Meta.{MetaTree}
 use Rattle.hq_terms.specs.Permission.{role_of}
@@ -21,6 +25,7 @@ use Rattle.hq_terms.specs.View.{Agree}
 use Rattle.hq_terms.specs.declared.session.Session.{Session}
 use Rattle.hq_terms.specs.declared.table.Table.{Table}
 use Rattle.hq_views.specs.Laws.{WorldsAgree}
+use Rattle.hq_engine.specs.Laws.{RepliesAgree}
 use Rattle.hq_engine.specs.Replies.{due_object, reply_to, due_reply}
 
 -- equal members have equal first values, and equal others
@@ -43,17 +48,25 @@ module _ (schema : SchemaTree) (s : Schema) (g : Grants) (d e : List (List Row))
   objects_agree : (fs : FieldTrees) → resolved fs s g d ≡ resolved fs s g e → root_object schema s g d fs ≡ root_object schema s g e fs
   objects_agree fs h = ap obj (members_agree fs (members_same _ _ h))
 
--- a reply is due over each database that the session cannot tell apart from the one that is told
-abbrev Alike : List Table → MetaTree → Session → (database : Option (List (List Row))) → (body reply : List ℕ) → Type 0
-Alike tables meta session database body reply =
-    IfSome database (λ d. (e : List (List Row)) → Agree (schema_of tables meta) (grants_of session tables meta) d e → due_reply tables meta session e body ≡ Some reply)
+module _ (tables : List Table) (meta : MetaTree) (session : Session) (body : List ℕ) where
+  -- what a body makes is answered alike over them
+  made_agree : (d e : List (List Row)) (made : Result AskTree RequestRefusal) → ((ask : AskTree) → made ≡ Ok ask → IsOfSession tables meta session ask) → ((ask : AskTree) → WorldsAgree tables meta session ask d e)
+      → Agree (schema_of tables meta) (grants_of session tables meta) d e → reply_to tables meta session d made ≡ reply_to tables meta session e made
+  made_agree d e (Ok ask) formed worlds agree =
+      let is = formed ask refl in
+      ap (λ j. Some (data_text j))
+      (objects_agree (role_schema tables meta (role_of session.role)) (schema_of tables meta) (grants_of session tables meta) d e ask.fields (worlds ask is.granted.role is.formed agree))
+  made_agree d e (Err (Fault f)) formed worlds agree = refl
+  made_agree d e (Err Memory) formed worlds agree = refl
 
-module _ (tables : List Table) (meta : MetaTree) (session : Session) (body reply : List ℕ) where
-  -- of a request, which is one of the session
-  pub data_alike : (database : Option (List (List Row))) (ask : AskTree) → request_due tables meta session body ≡ Ok ask → IsOfSession tables meta session ask → ((d e : List (List Row)) → WorldsAgree tables meta session ask d e)
-      → IfSome database (λ d. reply ≡ data_text (due_object tables meta session d ask)) → Alike tables meta session database body reply
-  data_alike None ask made is worlds told = tt
-  data_alike (Some d) ask made is worlds told =
-      λ e agree.
-      let same = objects_agree (role_schema tables meta (role_of session.role)) (schema_of tables meta) (grants_of session tables meta) d e ask.fields (worlds d e is.granted.role is.formed agree) in
-      ap (reply_to tables meta session e) made ∙ ap (λ j. Some (data_text j)) (sym same) ∙ ap (λ b. Some b) (sym told)
+  pub replies_agree : (d e : List (List Row)) → ((ask : AskTree) → MakesFormed tables meta session body ask) → ((ask : AskTree) → WorldsAgree tables meta session ask d e) → RepliesAgree tables meta session body d e
+  replies_agree d e formed worlds catalog fit agree =
+      made_agree d e (request_due tables meta session body) (λ ask made. formed ask catalog fit made) worlds agree
+
+  -- so a reply that is due over one of them is due over the other: of a request, which is one of the session
+  pub data_alike : (reply : List ℕ) (database : Option (List (List Row))) (ask : AskTree) → request_due tables meta session body ≡ Ok ask → is_catalog tables ≡ true → fits tables meta ≡ true
+      → ((d e : List (List Row)) → RepliesAgree tables meta session body d e) → IfSome database (λ d. reply ≡ data_text (due_object tables meta session d ask))
+      → IfSome database (λ d. (e : List (List Row)) → Agree (schema_of tables meta) (grants_of session tables meta) d e → due_reply tables meta session e body ≡ Some reply)
+  data_alike reply None ask made catalog fit worlds told = tt
+  data_alike reply (Some d) ask made catalog fit worlds told =
+      λ e agree. sym (worlds d e catalog fit agree) ∙ ap (reply_to tables meta session d) made ∙ ap (λ b. Some b) (sym told)

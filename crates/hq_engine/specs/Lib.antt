@@ -4,3 +4,4 @@ pub mod Failures
 pub mod Statements
 pub mod Stating
 pub mod Engines
+pub mod Laws

@@ -4,7 +4,7 @@ ghost use Rattle.hq_terms.specs.Meta.{meta_view};
 ghost use Rattle.hq_roles.specs.Roles.{AreRoleSchemas};
 
 use crate::statement::{ask, statement_text};
-use crate::{EngineRefusal, Stated};
+use crate::{EngineRefusal, Stated, replies_agree};
 use hq_ask_tree::Ask;
 use hq_base::{Json, Memory, Reply};
 use hq_link::Database;
@@ -14,7 +14,6 @@ use hq_request_laws::requests_are_formed;
 use hq_roles::RoleSchemas;
 use hq_schema::Schema;
 use hq_terms::{Catalog, Meta, Role, Session};
-use hq_views::worlds_agree;
 use std::alloc::Global;
 
 /// Answers requests over a database of this catalog, by this metadata.
@@ -198,7 +197,7 @@ impl Engine {
         ensures database { D.database db.new ≡ D.database db.old }
         ensures later { D.faults db.old ≤ D.faults db.new }
     {
-        worlds_agree();
+        replies_agree();
         match self.request(alloc, session, body) {
             Ok(request) => self.data(alloc, session, &request, db),
             Err(RequestRefusal::Fault(fault)) => Ok(fault_reply(alloc, &fault)?),

@@ -2,10 +2,12 @@
 #![tactic(auto)]
 
 mod engine;
+mod laws;
 mod refusal;
 mod stated;
 mod statement;
 
 pub use engine::Engine;
+pub use laws::replies_agree;
 pub use refusal::EngineRefusal;
 pub use stated::Stated;

@@ -12,7 +12,7 @@ use Rattle.hq_reply.specs.DataTexts.{data_text}
 use Rattle.hq_request.specs.Request.{fault_in, is_answered}
 use Rattle.hq_request.specs.declared.refusal.RequestRefusal.{RequestRefusal}
 use Rattle.hq_request.specs.declared.refusal.RequestRefusal.TheVariants as request
-use Rattle.hq_engine.specs.Engines.{engine_fault, engine_reply, engine_request}
+use Rattle.hq_engine.specs.Engines.{engine_agree, engine_fault, engine_reply, engine_request}
 use Rattle.hq_engine.specs.declared.engine.Engine.{Engine}
 use Rattle.hq_http.specs.Connections.{IfBody}
 use Rattle.hq_http.specs.declared.responder.Answer.{Answer}
@@ -22,12 +22,17 @@ use Rattle.hq_session.specs.declared.hook.HookAnswer.{HookAnswer}
 use Rattle.hq_session.specs.declared.secret.SecretRule.{SecretRule}
 use Rattle.hq_serve.specs.Serving.{Told, Serves}
 use Rattle.hq_serve.specs.declared.serving.ServeRefusal.{ServeRefusal}
-use Rattle.hq_responder.specs.Due.{IsReply, MayGive, denies, gives, is_due_of}
+use Rattle.hq_responder.specs.Due.{IsReply, MayGive, denies, gives, is_due, is_due_of}
 
 -- what is told to be there is the same
 some_is : (database : Option (List (List Row))) (body : List ℕ) (due : List (List Row) → List ℕ) → IfSome database (λ d. Some (due d) ≡ Some body) → IfSome database (λ d. body ≡ due d)
 some_is None body due told = tt
 some_is (Some d) body due told = cc
+
+-- what is known of what is told is known by more
+some_weaker : (database : Option (List (List Row))) (P Q : List (List Row) → Type 0) → ((d : List (List Row)) → P d → Q d) → IfSome database P → IfSome database Q
+some_weaker None P Q h told = tt
+some_weaker (Some d) P Q h told = h d told
 
 module _ (tables : List Table) (meta : MetaTree) (session : Session) (database : Option (List (List Row))) where
   -- what is told of a reply with data or a fault
@@ -38,11 +43,20 @@ module _ (tables : List Table) (meta : MetaTree) (session : Session) (database :
   answered_is (Err (request.Fault f)) reply status built fault told = (status, fault)
   answered_is (Err request.Memory) reply status built fault told = absurd cc
 
--- the same by an engine
-pub answered : (engine : Engine) (session : Session) (database : Option (List (List Row))) (body : List ℕ) (reply : Reply) → reply.status ≡ 200 → is_answered (engine_request engine session body) ≡ true
-    → IfSome (engine_fault engine session body) (λ f. reply.body ≡ fault_text f) → IfSome database (λ d. engine_reply engine session d body ≡ Some reply.body) → is_due_of engine session database body reply
-answered engine session database body reply status built fault told =
-    answered_is engine.catalog.tables (meta_view engine.meta) session database (engine_request engine session body) reply status built fault told
+module _ (engine : Engine) (session : Session) (database : Option (List (List Row))) (body : List ℕ) (reply : Reply) (status : reply.status ≡ 200) (built : is_answered (engine_request engine session body) ≡ true)
+  (fault : IfSome (engine_fault engine session body) (λ f. reply.body ≡ fault_text f)) where
+  -- the same over another database
+  answered_over : (d : List (List Row)) → engine_reply engine session d body ≡ Some reply.body → is_due engine.catalog.tables (meta_view engine.meta) session (Some d) body reply
+  answered_over d told = answered_is engine.catalog.tables (meta_view engine.meta) session (Some d) (engine_request engine session body) reply status built fault told
+
+  -- the same by an engine
+  pub answered : IfSome database (λ d. engine_reply engine session d body ≡ Some reply.body)
+      → IfSome database (λ d. (e : List (List Row)) → engine_agree engine session d e → engine_reply engine session e body ≡ Some reply.body) → is_due_of engine session database body reply
+  answered told alike =
+      record {
+        due = answered_is engine.catalog.tables (meta_view engine.meta) session database (engine_request engine session body) reply status built fault told;
+        alike = some_weaker database _ _ (λ d over e agree. answered_over e (over e agree)) alike;
+      }
 
 -- what is known of a reply is known by more
 pub body_weaker : (a : Answer) (P Q : Reply → Type 0) → ((reply : Reply) → P reply → Q reply) → IfBody a P → IfBody a Q

@@ -1,13 +1,16 @@
 -- What the program's responder may answer: the reply that is due for a session that the hook's rule allows (GraphQL October
 -- 2021, section 7.1; Hasura, API reference: GraphQL endpoint).
-use Rattle.std.specs.Prelude.{◌≡◌, ℕ, List, Option, IfSome, Result}
+use Rattle.std.specs.Prelude.{◌≡◌, ℕ, List, Option, Some, IfSome, Result}
 use Rattle.std.specs.declared.result.Result.TheVariants.{Ok, Err}
 use Rattle.std.specs.Borrow.{Bor}
 use Rattle.std.specs.Fn.{Shared}
 use Rattle.hq_ask_tree.specs.Request.{AskTree}
 use Rattle.hq_base.specs.declared.reply.Reply.{Reply}
 use Rattle.hq_terms.specs.Database.{Row}
+use Rattle.hq_terms.specs.Grants.{grants_of}
 use Rattle.hq_terms.specs.Meta.{MetaTree, meta_view}
+use Rattle.hq_terms.specs.Schema.{schema_of}
+use Rattle.hq_terms.specs.View.{Agree}
 use Rattle.hq_terms.specs.declared.session.Session.{Session}
 use Rattle.hq_terms.specs.declared.table.Table.{Table}
 use Rattle.hq_faults.specs.FaultTexts.{fault_text}
@@ -38,9 +41,14 @@ module _ (tables : List Table) (meta : MetaTree) (session : Session) (database :
   abbrev pub is_due : (body : List ℕ) → Reply → Type 0
   is_due body reply = IsReply (request_due tables meta session body) reply
 
+-- the reply that is due for a body, over each database too that the session cannot tell apart from this one
+pub record IsDueAlike (tables : List Table) (meta : MetaTree) (session : Session) (database : Option (List (List Row))) (body : List ℕ) (reply : Reply) : Type 0 where
+  pub due : is_due tables meta session database body reply
+  pub alike : IfSome database (λ d. (e : List (List Row)) → Agree (schema_of tables meta) (grants_of session tables meta) d e → is_due tables meta session (Some e) body reply)
+
 -- the same by an engine
 abbrev pub is_due_of : Engine → Session → Option (List (List Row)) → (body : List ℕ) → Reply → Type 0
-is_due_of engine session database body reply = is_due engine.catalog.tables (meta_view engine.meta) session database body reply
+is_due_of engine session database body reply = IsDueAlike engine.catalog.tables (meta_view engine.meta) session database body reply
 
 -- ---- the responder
 
@@ -63,4 +71,4 @@ denies rule headers = AllowedBySecret rule headers answer.Denied
 -- it may get this reply: the one that is due for the caller's session
 abbrev pub gives : SecretRule → List Table → MetaTree → Option (List (List Row)) → List Header → (body : List ℕ) → Reply → Type 0
 gives rule tables meta database headers body reply =
-    (session : Session) × AllowedBySecret rule headers (answer.Session session) × is_due tables meta session database body reply
+    (session : Session) × AllowedBySecret rule headers (answer.Session session) × IsDueAlike tables meta session database body reply

@@ -11,5 +11,6 @@ returns-in-Ok-clause-alike g c =
     let session = c.args.session.now in
     let ask = ask_view c.in-Ok.request in
     IfOk-weaker c.data.result _ _
-    (λ reply told. data_alike tables meta session c.args.body.now reply.body (g.D.Database.database c.args.db.now) ask c.in-Ok.ensures.due c.in-Ok.ensures.session (c.worlds_agree.ensures tables meta session ask) told)
+    (λ reply told. data_alike tables meta session c.args.body.now reply.body (g.D.Database.database c.args.db.now) ask c.in-Ok.ensures.due c.args.self.now.catalog.valid c.args.self.now.meta_fits
+    (c.replies_agree.ensures tables meta session c.args.body.now) told)
     c.data.ensures.reply
