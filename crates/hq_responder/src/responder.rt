@@ -41,5 +41,6 @@ impl<P: HookRule, F: Fn(&Headers) -> HookAnswer, D: Database> Responder
         }
     }
 
-    ghost status_is_known = { λ r headers body reply given. status_known r.engine.catalog.tables (meta_view r.engine.meta) given.0 (D.database r.db) (request_due r.engine.catalog.tables (meta_view r.engine.meta) given.0 body) reply given.2.due };
+    ghost status_is_known = { λ r headers body reply given. status_known r.engine.catalog.tables (meta_view r.engine.meta) given.0 (D.database r.db)
+        (request_due r.engine.catalog.tables (meta_view r.engine.meta) given.0 body) reply given.2.due };
 }

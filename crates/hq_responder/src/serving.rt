@@ -27,7 +27,9 @@ pub fn serve_by_secret<B: Database + Drop, D: Door, K: Sink>(
 
     // Which links were served, how, and what was written after them. The database's count of faults rose so often at least as
     // a reply says that it failed.
-    ensures serves { (after : B) × Serves (denies rule.now) (gives rule.now engine.catalog.tables (meta_view engine.meta) (B.database db)) (record { left = D.Link.left; written = D.Link.written; read_faults = D.Link.read_faults; write_faults = D.Link.write_faults }) connections (D.accepted door.old) (D.accepted door.new) (D.links door.old) (D.links door.new) (B.faults db) (B.faults after) (K.written out.old) (K.written out.new) result }
+    ensures serves { (after : B) × Serves (denies rule.now) (gives rule.now engine.catalog.tables (meta_view engine.meta) (B.database db))
+        (record { left = D.Link.left; written = D.Link.written; read_faults = D.Link.read_faults; write_faults = D.Link.write_faults }) connections
+        (D.accepted door.old) (D.accepted door.new) (D.links door.old) (D.links door.new) (B.faults db) (B.faults after) (K.written out.old) (K.written out.new) result }
 
     // A failure is told only where that count rose, and no count falls.
     ensures door { IsErrOf result ServeRefusal.DoorFailed → Rose (D.faults door.old) (D.faults door.new) }
