@@ -5,3 +5,4 @@ pub mod Choice
 pub mod Coercion
 pub mod Required
 pub mod Due
+pub mod Given

@@ -4,6 +4,7 @@
 #![tactic(auto)]
 
 mod choice;
+mod given;
 mod operation;
 mod refusal;
 mod required;

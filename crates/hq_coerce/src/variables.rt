@@ -1,6 +1,5 @@
 //! The variables of an operation.
 ghost use Rattle.std.specs.Prelude.{◌≡◌, ◌++◌, [], ℕ, List, map, IfOk, OnOk, Some, option_map, option_and_then};
-ghost use Rattle.hq_base.specs.Look.{member_in};
 ghost use Rattle.hq_coerce.specs.Choice.{operation_at};
 ghost use Rattle.hq_base.specs.Due.{Gives};
 ghost use Rattle.hq_base.specs.Json.{json_view};
@@ -12,11 +11,13 @@ ghost use Rattle.hq_gql_nodes.specs.Known.{resolved};
 ghost use Rattle.hq_gql_nodes.specs.Names.{has_name};
 ghost use Rattle.hq_gql_nodes.specs.Nodes.{variable_types};
 ghost use Rattle.hq_coerce.specs.Due.{refused, default_value, given_value, checked_value, value_due, value_if_known, variable_due, with_value, values_due, variables_of, variables_due};
+ghost use Rattle.hq_coerce.specs.Given.{given_seen};
 ghost use Rattle.hq_coerce.specs.Required.{is_required};
 ghost use Rattle.hq_coerce.specs.Variables.{var_view};
 ghost use Rattle.hq_coerce.specs.declared.refusal.CoerceRefusal.TheVariants as refusal;
 
 use crate::choice::{fault_of, operation_at};
+use crate::given::{Given, given_members, given_value};
 use crate::required::required_names;
 use crate::sources::source;
 use crate::values::{coerce, is_non_null, is_null};
@@ -64,16 +65,6 @@ fn default_value(alloc: Global, default: &Option<Placed>) -> Result<Option<Json>
     }
 }
 
-// The member of a name among the variables of the request.
-fn given_member<'a>(given: Option<&'a Json>, name: &Txt) -> Option<&'a Json>
-    ensures { option_map (λ j. json_view j.now) result ≡ option_and_then (λ j. member_in j name.now) (option_map (λ j. json_view j.now) given.entry) }
-{
-    match given {
-        Some(json) => json.member(name.as_str()),
-        None => None,
-    }
-}
-
 // A coerced value, where null may stand.
 fn checked_value(
     at: u64,
@@ -109,13 +100,13 @@ fn typed_value(
     alloc: Global,
     schema: &Schema,
     required: bool,
-    given: Option<&Json>,
+    given: &Given<'_>,
     ty: &TypeRef,
     var_def: &VarDef,
 ) -> Result<Option<Json>, CoerceRefusal>
-    ensures { let v = var_def_view var_def.now in Gives (option_map json_view) refusal.Memory (value_due (schema_view schema.now) v.at required (type_ref_view ty.now) (given_value (option_map (λ j. json_view j.now) given.entry) v)) result }
+    ensures { let v = var_def_view var_def.now in Gives (option_map json_view) refusal.Memory (value_due (schema_view schema.now) v.at required (type_ref_view ty.now) (given_value (map given_seen given.now) v)) result }
 {
-    if let Some(json) = given_member(given, &var_def.name) {
+    if let Some(json) = given_value(given, &var_def.name) {
         return coerced_value(alloc, schema, var_def.at, required, ty, json);
     }
     match default_value(alloc, &var_def.default)? {
@@ -137,12 +128,12 @@ fn variable_value(
     alloc: Global,
     schema: &Schema,
     required: &Names<'_>,
-    given: Option<&Json>,
+    given: &Given<'_>,
     ty: Option<&TypeRef>,
     var_def: &VarDef,
 ) -> Result<Option<Json>, CoerceRefusal>
     requires { option_map (λ r. type_ref_view r.now) ty ≡ resolved (schema_view schema.now) (var_def_view var_def.now).ty }
-    ensures { Gives (option_map json_view) refusal.Memory (variable_due (schema_view schema.now) (has_name required.now) (option_map (λ j. json_view j.now) given.entry) (var_def_view var_def.now)) result }
+    ensures { Gives (option_map json_view) refusal.Memory (variable_due (schema_view schema.now) (has_name required.now) (map given_seen given.now) (var_def_view var_def.now)) result }
 {
     let Some(ty) = ty else {
         return Err(refused(var_def.at));
@@ -172,12 +163,12 @@ fn values_of(
     alloc: Global,
     schema: &Schema,
     required: &Names<'_>,
-    given: Option<&Json>,
+    given: &Given<'_>,
     types: &[Option<TypeRef>],
     vars: &[VarDef],
 ) -> Result<Vec<VarValue>, CoerceRefusal>
     requires { map (λ t. option_map type_ref_view t) types.now ≡ map (λ v. resolved (schema_view schema.now) v.ty) (map var_def_view vars.now) }
-    ensures { Gives (λ values. map var_view values.items) refusal.Memory (values_due (schema_view schema.now) (has_name required.now) (option_map (λ j. json_view j.now) given.entry) (map var_def_view vars.now)) result }
+    ensures { Gives (λ values. map var_view values.items) refusal.Memory (values_due (schema_view schema.now) (has_name required.now) (map given_seen given.now) (map var_def_view vars.now)) result }
 {
     let mut values = Vec::new(alloc);
     for (at, var_def) in vars.iter().enumerate() {
@@ -229,6 +220,7 @@ pub fn coerce_variables(
     let types = variable_types(alloc, schema, document)?;
     let required = required_by(alloc, schema, document, &types, op)?;
     let types = types_at(&types, op.at());
-    let values = values_of(alloc, schema, &required, given, types, vars)?;
+    let given = given_members(alloc, given)?;
+    let values = values_of(alloc, schema, &required, &given, types, vars)?;
     Ok(NamedList::new(alloc, values)?)
 }
