@@ -9,6 +9,7 @@ use crate::rules::NodeRule;
 use hq_base::Memory;
 use hq_gql_nodes::{Part, document_parts, fault_at, variable_types};
 use hq_gql_tree::{Document, Fault, RuleId};
+use hq_rules_overlap::first_overlap;
 use hq_schema::Schema;
 use std::alloc::Global;
 
@@ -16,12 +17,16 @@ use std::alloc::Global;
 fn selection_fault(
     alloc: Global,
     schema: &Schema,
+    document: &Document,
     parts: &[Part<'_>],
 ) -> Result<Option<Fault>, Memory>
-    ensures { IfOk result (λ fault. fault ≡ selection_fault (schema_view schema.now) (map part_view parts.now)) }
+    ensures { IfOk result (λ fault. fault ≡ selection_fault (schema_view schema.now) (document_view document.now) (map part_view parts.now)) }
 {
     if let Some(at) = NodeRule::FieldsOnCorrectType.place(alloc, schema, parts)? {
         return Ok(Some(fault_at(RuleId::FieldSelections, at)));
+    }
+    if let Some(at) = first_overlap(alloc, document, schema)? {
+        return Ok(Some(fault_at(RuleId::FieldSelectionMerging, at)));
     }
     if let Some(at) = NodeRule::ScalarLeafs.place(alloc, schema, parts)? {
         return Ok(Some(fault_at(RuleId::LeafFieldSelections, at)));
@@ -69,10 +74,15 @@ fn value_fault(alloc: Global, schema: &Schema, parts: &[Part<'_>]) -> Result<Opt
 }
 
 // The first fault, by the parts of the document.
-fn fault_by(alloc: Global, schema: &Schema, parts: &[Part<'_>]) -> Result<Option<Fault>, Memory>
-    ensures { IfOk result (λ fault. fault ≡ fault_by (schema_view schema.now) (map part_view parts.now)) }
+fn fault_by(
+    alloc: Global,
+    schema: &Schema,
+    document: &Document,
+    parts: &[Part<'_>],
+) -> Result<Option<Fault>, Memory>
+    ensures { IfOk result (λ fault. fault ≡ fault_by (schema_view schema.now) (document_view document.now) (map part_view parts.now)) }
 {
-    if let Some(fault) = selection_fault(alloc, schema, parts)? {
+    if let Some(fault) = selection_fault(alloc, schema, document, parts)? {
         return Ok(Some(fault));
     }
     if let Some(fault) = argument_fault(alloc, schema, parts)? {
@@ -82,8 +92,7 @@ fn fault_by(alloc: Global, schema: &Schema, parts: &[Part<'_>]) -> Result<Option
 }
 
 /// The first rule of fields, arguments and values that a document violates for a schema, in the order of the rules' numbers, with
-/// the least place at which it does; None exactly where it violates none. The rules are those of 5.3 without 5.3.2, of 5.4 and of
-/// 5.6.
+/// the least place at which it does; None exactly where it violates none. The rules are those of 5.3, of 5.4 and of 5.6.
 pub fn first_field_fault(
     alloc: Global,
     document: &Document,
@@ -93,6 +102,6 @@ pub fn first_field_fault(
 {
     let types = variable_types(alloc, schema, document)?;
     let parts = document_parts(alloc, schema, document, &types)?;
-    let fault = fault_by(alloc, schema, &parts)?;
+    let fault = fault_by(alloc, schema, document, &parts)?;
     Ok(fault)
 }

@@ -1,0 +1,14 @@
+mod Tests
+mod ShapeLemmas
+mod ValueLemmas
+mod FieldTests
+mod Least
+mod Noted
+mod Growing
+mod ValueSteps
+mod Ways
+mod Steps
+mod Closed
+mod Floors
+mod ArenaLemmas
+mod Together
