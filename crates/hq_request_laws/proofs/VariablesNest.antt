@@ -1,6 +1,6 @@
 -- The coerced variables of a query nest their objects at most 127 deep, where the document and the body of the request nest as they
 -- are read.
-use Rattle.std.proofs.Common.{◌≡◌, ℕ, zero, suc, ◌≤◌, max, List, [], ◌∷◌, Bool, true, false, cond, Option, Some, None, Ok, Err, refl, subst, arith, option_and_then, slice_get, bytes_eq}
+use Rattle.std.proofs.Common.{◌≡◌, ℕ, zero, suc, ◌≤◌, max, List, [], ◌∷◌, Bool, true, false, cond, Option, Some, None, Ok, Err, refl, sym, subst, arith, unwrap_or, option_and_then, slice_get, bytes_eq}
 use Rattle.std.specs.Prelude.{◌&&◌}
 use Rattle.std.specs.Map.{lookup}
 use Rattle.std.specs.Option.{option_or}
@@ -9,10 +9,10 @@ use Rattle.hq_base.specs.Due.{mapped}
 use Rattle.hq_base.specs.Json.{JsonTree, MemberTrees, no_member, member, elements_of, members_of}
 use Rattle.hq_base.specs.Json as json
 use Rattle.hq_base.specs.Lists.{Each}
-use Rattle.hq_base.specs.Look.{member_list, member_in}
+use Rattle.hq_base.specs.Look.{member_list, member_in, object_in}
 use Rattle.hq_coerce.specs.Choice.{operation_in, operation_at}
 use Rattle.hq_coerce.specs.Coercion.{is_non_null, is_null, coerced}
-use Rattle.hq_coerce.specs.Due.{refused, default_value, given_value, checked_value, value_due, value_if_known, variable_due, with_value, values_due, variables_of, variables_due}
+use Rattle.hq_coerce.specs.Due.{refused, default_value, given_members, given_value, checked_value, value_due, value_if_known, variable_due, with_value, values_due, variables_of, variables_due}
 use Rattle.hq_coerce.specs.Required.{is_required}
 use Rattle.hq_coerce.specs.Sources.{source_of, element_sources, member_sources, with_element, with_member, number_of, int_or_null}
 use Rattle.hq_coerce.specs.Variables.{VarTree}
@@ -101,11 +101,21 @@ or_within : (n : ℕ) (one other : Option JsonTree) → Within n one → Within 
 or_within n None other h k = k
 or_within n (Some j) other h k = h
 
-given_within : (given : Option JsonTree) (v : VarDefTree) (n : ℕ) → Within n given → default_nest v.default ≤ n → Within n (given_value given v)
+-- the members of the variables are looked up as the variables' own
+listed_looks : (p : List ℕ → Bool) (o : Option (List (List ℕ × JsonTree))) → lookup p (unwrap_or o []) ≡ option_and_then (lookup p) o
+listed_looks p None = refl
+listed_looks p (Some ms) = refl
+
+given_looks : (given : Option JsonTree) (name : List ℕ) → lookup (λ m. bytes_eq m name) (given_members given) ≡ option_and_then (λ j. member_in j name) given
+given_looks None name = refl
+given_looks (Some j) name = listed_looks (λ m. bytes_eq m name) (object_in j)
+
+given_within : (given : Option JsonTree) (v : VarDefTree) (n : ℕ) → Within n given → default_nest v.default ≤ n → Within n (given_value (given_members given) v)
 given_within given v n h k =
-    or_within n (option_and_then (λ j. member_in j v.name) given) (default_value v.default)
+    subst (λ o. Within n (option_or o (default_value v.default))) (sym (given_looks given v.name))
+    (or_within n (option_and_then (λ j. member_in j v.name) given) (default_value v.default)
     (λ x e. let p = and_then_some (λ j. member_in j v.name) given x e in let top = h p.0 p.1 in let below = member_nests p.0 v.name x p.2 in omega arith)
-    (λ x e. let d = default_nests v.default x e in omega arith)
+    (λ x e. let d = default_nests v.default x e in omega arith))
 
 checked_within : (n at : ℕ) (required : Bool) (o : Option JsonTree) (x : JsonTree) → Within n o → checked_value at required o ≡ Ok (Some x) → objects_nest x ≤ n
 checked_within n at required None x h e = absurd cc
@@ -133,14 +143,14 @@ with_shallow : (n : ℕ) (name : List ℕ) (o : Option JsonTree) (vars : List Va
 with_shallow n name None vars h k = k
 with_shallow n name (Some j) vars h k = (h j refl, k)
 
-values_shallow : (s : SchemaTree) (required : List ℕ → Bool) (given : Option JsonTree) (n : ℕ) (defs : List VarDefTree) (vars : List VarTree) → Within n given → vars_nest defs ≤ n → values_due s required given defs ≡ Ok vars → Shallow n vars
+values_shallow : (s : SchemaTree) (required : List ℕ → Bool) (given : Option JsonTree) (n : ℕ) (defs : List VarDefTree) (vars : List VarTree) → Within n given → vars_nest defs ≤ n → values_due s required (given_members given) defs ≡ Ok vars → Shallow n vars
 values_shallow s required given n [] vars h k e = let same : [] ≡ vars = cc in subst (Shallow n) same tt
 values_shallow s required given n (v ∷ vs) vars h k e =
-    let p = then_ok (λ o. mapped (with_value v.name o) (values_due s required given vs)) (variable_due s required given v) vars e in
-    let q = mapped_ok (with_value v.name p.0) (values_due s required given vs) vars p.2 in
+    let p = then_ok (λ o. mapped (with_value v.name o) (values_due s required (given_members given) vs)) (variable_due s required (given_members given) v) vars e in
+    let q = mapped_ok (with_value v.name p.0) (values_due s required (given_members given) vs) vars p.2 in
     let rest = values_shallow s required given n vs q.0 h (omega arith) q.1 in
     let one : Within n p.0 =
-    λ x same. known_within s n v.at (required v.name) (resolved s v.ty) (given_value given v) x (given_within given v n h (omega arith)) (subst (λ o. variable_due s required given v ≡ Ok o) same p.1) in
+    λ x same. known_within s n v.at (required v.name) (resolved s v.ty) (given_value (given_members given) v) x (given_within given v n h (omega arith)) (subst (λ o. variable_due s required (given_members given) v ≡ Ok o) same p.1) in
     subst (Shallow n) q.2 (with_shallow n v.name p.0 q.0 one rest)
 
 -- the variables of an operation of a document nest as the document does
