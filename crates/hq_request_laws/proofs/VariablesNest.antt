@@ -1,7 +1,7 @@
 -- The coerced variables of a query nest their objects at most 127 deep, where the document and the body of the request nest as they
 -- are read.
-use Rattle.std.proofs.Common.{◌≡◌, ℕ, zero, suc, ◌≤◌, max, List, [], ◌∷◌, Bool, true, false, cond, Option, Some, None, Ok, Err, refl, sym, subst, arith, unwrap_or, option_and_then, slice_get, bytes_eq}
-use Rattle.std.specs.Prelude.{◌&&◌}
+use Rattle.std.proofs.Common.{◌≡◌, ℕ, zero, suc, ◌≤◌, max, List, [], ◌∷◌, Bool, true, false, cond, Option, Some, None, Ok, Err, refl, sym, subst, arith, option_and_then, slice_get, bytes_eq}
+use Rattle.std.specs.Prelude.{◌&&◌, unwrap_or}
 use Rattle.std.specs.Map.{lookup}
 use Rattle.std.specs.Option.{option_or}
 use Rattle.hq_ask_fit.specs.ObjectsNest.{objects_nest, elements_nest, members_nest}
