@@ -33,11 +33,13 @@ lookup-find seen p (x ∷ xs) =
       | false ↦ lookup-find seen p xs
     ])
 
--- the same by a reference to that item
-pub value_seen : {A B : Type 0} (seen : A → List ℕ × B) (p : List ℕ → Bool) (xs : List A) (r : Option (Bor A)) → option_copied r ≡ find (λ x. p (seen x).0) xs
-    → option_map (λ x. (seen x.now).1) r ≡ lookup p (map seen xs)
-value_seen seen p xs None found = ap (option_map (λ x. (seen x).1)) found ∙ sym (lookup-find seen p xs)
-value_seen seen p xs (Some r) found = ap (option_map (λ x. (seen x).1)) found ∙ sym (lookup-find seen p xs)
+-- the same by a reference to that item, which is found by its name
+pub value_seen : {A B : Type 0} (seen : A → List ℕ × B) (name : A → List ℕ) (p : List ℕ → Bool) (xs : List A) (r : Option (Bor A)) → ((x : A) → (seen x).0 ≡ name x)
+    → option_copied r ≡ find (λ x. p (name x)) xs → option_map (λ x. (seen x.now).1) r ≡ lookup p (map seen xs)
+value_seen seen name p xs None same found =
+    ap (option_map (λ x. (seen x).1)) (found ∙ sym (find-alike (λ x. p (seen x).0) (λ x. p (name x)) xs (λ x. ap p (same x)))) ∙ sym (lookup-find seen p xs)
+value_seen seen name p xs (Some r) same found =
+    ap (option_map (λ x. (seen x).1)) (found ∙ sym (find-alike (λ x. p (seen x).0) (λ x. p (name x)) xs (λ x. ap p (same x)))) ∙ sym (lookup-find seen p xs)
 
 -- one more truth value behind others
 pub or_behind : (o before here : Bool) → (o || (before || here)) ≡ (before || (here || o))

@@ -1,5 +1,5 @@
 -- What an operation has, by its place in the document.
-use Rattle.std.proofs.Common.{◌≡◌, refl, ℕ, zero, suc, List, [], ◌∷◌, map, get_or}
+use Rattle.std.proofs.Common.{◌≡◌, refl, ℕ, zero, suc, [], ◌∷◌, map, get_or}
 use Rattle.hq_schema.specs.Schema.{SchemaTree}
 use Rattle.hq_gql_tree.specs.Documents.{DocumentTree, operation, fragment}
 use Rattle.hq_gql_nodes.specs.Known.{resolved}

@@ -1,7 +1,7 @@
 -- The coerced variables of an operation, or the first fault by the order of their definitions (GraphQL October 2021, 6.1.2).
 use Rattle.std.specs.Prelude.{ℕ, List, [], ◌∷◌, Bool, ◌&&◌, if◌then◌else◌, Option, Some, None, option_and_then, unwrap_or, bytes_eq, Result, Ok, Err}
 use Rattle.std.specs.Map.{lookup}
-use Rattle.std.specs.Option.{option_or, option_map_or}
+use Rattle.std.specs.Option.{option_or}
 use Rattle.hq_base.specs.Due.{and_then, mapped}
 use Rattle.hq_base.specs.Json.{JsonTree}
 use Rattle.hq_base.specs.Look.{object_in}

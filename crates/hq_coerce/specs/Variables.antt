@@ -1,5 +1,5 @@
 -- Variables with their coerced values (GraphQL October 2021, 6.1.2).
-use Rattle.std.specs.Prelude.{ℕ, List, map, find, Option, option_map, bytes_eq}
+use Rattle.std.specs.Prelude.{ℕ, List, find, Option, option_map, bytes_eq}
 use Rattle.hq_base.specs.Json.{JsonTree, json_view}
 use Rattle.hq_coerce.specs.declared.variables.VarValue.{VarValue}
 

@@ -1,4 +1,4 @@
-use Rattle.std.proofs.Common.{◌≡◌, ◌∙◌, ◌||◌, Bool, ap, sym, map, take, bytes_eq, arith, rules}
+use Rattle.std.proofs.Common.{◌∙◌, ◌||◌, Bool, ap, sym, map, take, bytes_eq, arith, rules}
 use Rattle.std.specs.List.{list_any}
 use Rattle.std.specs.Option.{option_to_list}
 use Rattle.std.proofs.lemmas.List.Folds.{list_any-append}

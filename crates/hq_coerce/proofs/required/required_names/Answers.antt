@@ -1,6 +1,5 @@
-use Rattle.std.proofs.Common.{◌≡◌, ◌∙◌, ◌||◌, ℕ, List, [], ◌∷◌, Bool, false, ap, sym, map, bytes_eq}
+use Rattle.std.proofs.Common.{◌∙◌, ◌||◌, ℕ, [], ◌∷◌, Bool, ap, map, bytes_eq}
 use Rattle.std.specs.List.{list_any}
-use Rattle.hq_gql_nodes.specs.Names.{has_name}
 use Rattle.hq_gql_nodes.specs.Nodes.{part_view}
 use Rattle.hq_gql_nodes.specs.Reach.{graph_view, reached}
 use Rattle.hq_coerce.specs.Required.{required_at}
