@@ -4,3 +4,5 @@ pub mod CellOrders
 pub mod Closures
 pub mod Sorted
 pub mod Spans
+pub mod Ascending
+pub mod Neighbours

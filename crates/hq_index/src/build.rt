@@ -1,5 +1,5 @@
 //! Row numbers in the order of their keys.
-ghost use Rattle.std.specs.Prelude.{◌≡◌, ◌^◌, ◌<◌, IfOk, OnOk, filter, length, not};
+ghost use Rattle.std.specs.Prelude.{◌≡◌, ◌^◌, ◌<◌, IfOk, OnOk, filter, length, not, true};
 ghost use Rattle.hq_base.specs.Lists.{sort};
 ghost use Rattle.hq_index.specs.Grids.{rows_in};
 ghost use Rattle.hq_index.specs.Indexes.{counted, key_at, by_key, sorted_rows, indexed_rows};
@@ -31,6 +31,18 @@ fn order(grid: &Grid, columns: &[ColId], left: u32, right: u32) -> Ordering
     rows_cmp(columns, grid.row(left as usize), grid.row(right as usize))
 }
 
+// Whether the rows stand in the order of their keys already.
+fn are_sorted(grid: &Grid, columns: &[ColId]) -> bool
+    ensures { result ≡ true → sorted_rows columns.now (rows_in grid.now) ≡ counted 0 (length (rows_in grid.now)) }
+{
+    for at in 1..grid.len() {
+        if rows_cmp(columns, grid.row(at - 1), grid.row(at)).is_gt() {
+            return false;
+        }
+    }
+    true
+}
+
 fn sort_rows(grid: &Grid, columns: &[ColId], rows: &mut Vec<u32>) -> Result<(), Memory>
     ensures { OnOk result (rows.new.items ≡ sort (by_key columns.now (rows_in grid.now)) rows.old.items) }
 {
@@ -44,6 +56,9 @@ pub(crate) fn sorted_rows(alloc: Global, grid: &Grid, columns: &[ColId]) -> Resu
     ensures { IfOk result (λ rows. rows.items ≡ sorted_rows columns.now (rows_in grid.now)) }
 {
     let mut rows = numbers(alloc, grid.len() as u32)?;
+    if are_sorted(grid, columns) {
+        return Ok(rows);
+    }
     sort_rows(grid, columns, &mut rows)?;
     Ok(rows)
 }
