@@ -1,9 +1,9 @@
 -- Numbers that stand in order already.
-use Rattle.std.proofs.Common.{◌≡◌, ℕ, zero, suc, ◌+◌, ◌<◌, ◌≤◌, ◌-◌, List, [], ◌∷◌, length, Ordering, is_gt, false, inl, inr, ap, sym, ◌∙◌, arith}
+use Rattle.std.proofs.Common.{◌≡◌, ℕ, zero, suc, ◌+◌, ◌<◌, ◌≤◌, ◌-◌, List, length, Ordering, is_gt, false, inl, inr, arith}
 use Rattle.std.specs.Cmp.{IsTotalOrder}
 use Rattle.std.proofs.lemmas.Bool.Decides.{eqb_tells}
 use Rattle.std.proofs.lemmas.Cmp.{upto}
-use Rattle.hq_base.specs.Lists.{Each, Before, Ascends, sort}
+use Rattle.hq_base.specs.Lists.{Before, Ascends}
 use Rattle.hq_base.specs.declared.value.Val.{Val}
 use Rattle.hq_base.proofs.Lists.{each_weaken}
 use Rattle.hq_base.proofs.Sorts.{sort_ascending}

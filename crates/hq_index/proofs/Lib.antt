@@ -6,3 +6,4 @@ pub mod Sorted
 pub mod Spans
 pub mod Ascending
 pub mod Neighbours
+pub mod Numbers

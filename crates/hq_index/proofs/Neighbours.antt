@@ -1,15 +1,15 @@
 -- The first key that is repeated, found among rows that follow one another in the order of keys.
 use Rattle.std.proofs.Common.{◌≡◌, ◌∙◌, ℕ, zero, suc, ◌+◌, ◌-◌, ◌<◌, ◌≤◌, List, [], ◌∷◌, ◌++◌, filter, length, get_or, Bool, true, false, cond, Option, Some, None, Ordering, Less, Equal, Greater, is_gt, is_eq, refl, sym, ap, subst, inl, inr, ◌⊎◌, arith}
 use Rattle.std.specs.Cmp.{IsTotalOrder}
-use Rattle.std.proofs.lemmas.Bool.{true≢false, false≢true}
+use Rattle.std.proofs.lemmas.Bool.{true≢false}
 use Rattle.std.proofs.lemmas.Bool.Decides.{eqb_tells, leb_tells}
 use Rattle.std.proofs.lemmas.Cmp.{alike_right, tied_itself}
-use Rattle.hq_base.specs.Lists.{Each, Before, Ascends, sort}
+use Rattle.hq_base.specs.Lists.{Each, Before, Ascends}
 use Rattle.hq_base.specs.declared.value.Val.{Val}
 use Rattle.hq_base.proofs.Lists.{each_passes}
 use Rattle.hq_base.proofs.Sorts.{ascends_sort}
 use Rattle.hq_index.specs.Indexes.{counted, by_key, sorted_rows}
-use Rattle.hq_index.specs.Repeats.{KeysDiffer, TellsRepeat, nearer, same_key, with_pair}
+use Rattle.hq_index.specs.Repeats.{TellsRepeat, nearer, same_key, with_pair}
 use Rattle.hq_index.specs.declared.repeats.Repeat.{Repeat}
 use Rattle.hq_index.proofs.Sorted.{by_key_total, class_sort}
 

@@ -4,3 +4,4 @@ pub mod Keys
 pub mod Indexes
 pub mod Places
 pub mod Repeats
+pub mod Whole

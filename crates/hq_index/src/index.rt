@@ -4,7 +4,7 @@ ghost use Rattle.hq_index.specs.Grids.{rows_in};
 ghost use Rattle.hq_index.specs.Keys.{cell_view};
 ghost use Rattle.hq_index.specs.Repeats.{TellsRepeat};
 
-use crate::build::{leave_keys, sorted_rows};
+use crate::build::{indexed_rows, leave_keys, sorted_rows};
 use crate::key::{KeyCell, key_has_null};
 use crate::place::{end_of, start_of};
 use crate::repeats::first_repeat;
@@ -54,8 +54,7 @@ impl Index {
         ensures over { IfOk result (IsOver (rows_in grid.now)) }
         ensures columns { IfOk result (λ index. columns_of index ≡ columns.items) }
     {
-        let mut entries = sorted_rows(alloc, grid, &columns)?;
-        leave_keys(grid, &columns, &mut entries);
+        let entries = indexed_rows(alloc, grid, &columns)?;
         Ok(Index { columns, entries })
     }
 

@@ -8,6 +8,7 @@ mod key;
 mod place;
 mod repeats;
 mod steps;
+mod whole;
 
 pub use grid::Grid;
 pub use index::{Found, Index, Keyed, Span};
