@@ -4,3 +4,6 @@ pub mod CellOrders
 pub mod Closures
 pub mod Sorted
 pub mod Spans
+pub mod Ascending
+pub mod Neighbours
+pub mod Numbers

@@ -37,7 +37,7 @@ module _ {A : Type 0} (R : A → A → Ordering) (q : A → Bool) where
       ] in
       go (is_gt (R x y)) (q x) (q y) refl refl refl
 
-  class_sort : ((x y : A) → q x ≡ true → q y ≡ true → is_gt (R x y) ≡ false) → (xs : List A) → filter q (sort R xs) ≡ filter q xs
+  pub class_sort : ((x y : A) → q x ≡ true → q y ≡ true → is_gt (R x y) ≡ false) → (xs : List A) → filter q (sort R xs) ≡ filter q xs
   class_sort h [] = refl
   class_sort h (x ∷ xs) =
       let ih = class_sort h xs in

@@ -2,11 +2,13 @@
 ghost use Rattle.std.specs.Prelude.{◌≡◌, ◌+◌, ◌*◌, ◌-◌, ◌^◌, ◌<◌, ◌≤◌, ℕ, IfOk, length, map, take, drop, slice_index_or};
 ghost use Rattle.hq_index.specs.Grids.{rows_in};
 ghost use Rattle.hq_index.specs.Keys.{cell_view};
+ghost use Rattle.hq_index.specs.Repeats.{TellsRepeat};
 
-use crate::build::{leave_keys, sorted_rows};
+use crate::build::{indexed_rows, leave_keys, sorted_rows};
 use crate::key::{KeyCell, key_has_null};
 use crate::place::{end_of, start_of};
-use crate::{Grid, Steps};
+use crate::repeats::first_repeat;
+use crate::{Grid, Repeat, Steps};
 use hq_base::Memory;
 use hq_terms::ColId;
 use std::alloc::Global;
@@ -19,6 +21,13 @@ use std::sync::ledger::{Blank, Ledger};
 pub struct Index {
     columns: Vec<ColId>,
     entries: Vec<u32>,
+}
+
+/// An index, and the first row that has the key of an earlier one, where there is one.
+#[derive(Drop)]
+pub struct Keyed {
+    pub index: Index,
+    pub repeat: Option<Repeat>,
 }
 
 /// The entries from `from` up to, and without, `to`, and how many comparisons found them.
@@ -45,9 +54,25 @@ impl Index {
         ensures over { IfOk result (IsOver (rows_in grid.now)) }
         ensures columns { IfOk result (λ index. columns_of index ≡ columns.items) }
     {
-        let mut entries = sorted_rows(alloc, grid, &columns)?;
-        leave_keys(grid, &columns, &mut entries);
+        let entries = indexed_rows(alloc, grid, &columns)?;
         Ok(Index { columns, entries })
+    }
+
+    /// The index over these columns, and the first row that has the key of an earlier one. There, NULL is as good a value
+    /// as any other. There are fewer than 2 ^ 32 rows.
+    pub fn build_keyed(alloc: Global, grid: &Grid, columns: Vec<ColId>) -> Result<Keyed, Memory>
+        requires { length (rows_in grid.now) < 2 ^ 32 }
+        ensures over { IfOk result (λ keyed. IsOver (rows_in grid.now) keyed.index) }
+        ensures columns { IfOk result (λ keyed. columns_of keyed.index ≡ columns.items) }
+        ensures repeat { IfOk result (λ keyed. TellsRepeat columns.items (rows_in grid.now) keyed.repeat) }
+    {
+        let mut entries = sorted_rows(alloc, grid, &columns)?;
+        let repeat = first_repeat(grid, &columns, &entries);
+        leave_keys(grid, &columns, &mut entries);
+        Ok(Keyed {
+            index: Index { columns, entries },
+            repeat,
+        })
     }
 
     /// Its columns.

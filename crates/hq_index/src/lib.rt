@@ -6,9 +6,12 @@ mod grid;
 mod index;
 mod key;
 mod place;
+mod repeats;
 mod steps;
+mod whole;
 
 pub use grid::Grid;
-pub use index::{Found, Index, Span};
+pub use index::{Found, Index, Keyed, Span};
 pub use key::KeyCell;
+pub use repeats::Repeat;
 pub use steps::Steps;

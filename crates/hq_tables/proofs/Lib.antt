@@ -1,5 +1,5 @@
 pub mod Databases
-pub mod AllRecords
+pub mod Readers
 pub mod Fields
 pub mod Headers
 pub mod Placed

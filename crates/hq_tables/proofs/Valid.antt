@@ -179,7 +179,7 @@ header_parts columns names cs e = by (length names == length columns) (list_all 
     by false b is e = cc
 
 -- what is mapped comes of a value
-mapped_ok : {X Y E : Type 0} (f : X → Y) (r : Result X E) (y : Y) → mapped f r ≡ Ok y → (x : X) × (r ≡ Ok x) × (y ≡ f x)
+pub mapped_ok : {X Y E : Type 0} (f : X → Y) (r : Result X E) (y : Y) → mapped f r ≡ Ok y → (x : X) × (r ≡ Ok x) × (y ≡ f x)
 mapped_ok f (Ok x) y e = (x, refl, cc)
 mapped_ok f (Err w) y e = cc
 

@@ -1,21 +1,33 @@
--- The numbers of records by the keys of their rows.
-use Rattle.std.specs.Prelude.{◌≡◌, ℕ, List, Option}
-use Rattle.std.specs.BTreeMap.{BTreeMap}
-use Rattle.std.specs.Global.{Vec}
-use Rattle.std.specs.Map.{lookup}
-use Rattle.hq_base.specs.declared.value.Val.{Val}
-use Rattle.hq_terms.specs.Database.{Row, same_values}
+-- A table file in two steps: first the rows of its records, and then their keys.
+use Rattle.std.specs.Prelude.{ℕ, ◌+◌, List, [], ◌∷◌, ◌++◌, length, Option, Some, None, Result, Ok, Err}
+use Rattle.hq_base.specs.Due.{and_then}
+use Rattle.hq_terms.specs.Database.{Row, key_of}
+use Rattle.hq_terms.specs.declared.table.Column.{Column}
 use Rattle.hq_terms.specs.declared.table.Table.{Table}
-use Rattle.hq_tables.specs.Load.{line_of_key}
+use Rattle.hq_tables.specs.Load.{line_of_key, record_due, unless_repeated}
+use Rattle.hq_tables.specs.declared.load.refusal.LoadRefusal.{LoadRefusal}
 
--- a key, as it is stored
-abbrev pub Key : Type 0
-Key = Vec Val
+-- the row of a record before those of the later ones, or why it has none
+abbrev pub next_read : (later : List Row × Option LoadRefusal) → Result Row LoadRefusal → List Row × Option LoadRefusal
+next_read later (Ok row) = (row ∷ later.0, later.1)
+next_read later (Err e) = ([], Some e)
 
--- the number that is noted under a key
-abbrev pub line_at : BTreeMap Key ℕ → Key → Option ℕ
-line_at lines key = lookup (λ k. same_values key.items k.items) lines.entries
+-- the rows of the records, of which the first has this number, up to the first that has none, and why that one has none
+abbrev pub rows_read : (line : ℕ) → Table → (names : List (List ℕ)) → List Column → List (List (List ℕ)) → List Row × Option LoadRefusal
+rows_read line t names columns [] = ([], None)
+rows_read line t names columns (r ∷ rs) = next_read (rows_read (line + 1) t names columns rs) (record_due line t names columns r)
 
--- each key has the number of the record whose row has it
-pub record Knows (t : Table) (rows : List Row) (lines : BTreeMap Key ℕ) : Type 0 where
-  pub known : (key : Key) → line_at lines key ≡ line_of_key t rows key.items
+-- rows before those that were read
+abbrev pub behind : List Row → List Row × Option LoadRefusal → List Row × Option LoadRefusal
+behind rows later = (rows ++ later.0, later.1)
+
+-- the rows, where the record behind them was not refused
+abbrev pub unless_refused : List Row → Option LoadRefusal → Result (List Row) LoadRefusal
+unless_refused rows None = Ok rows
+unless_refused rows (Some e) = Err e
+
+-- these rows and the rest, or the first row that has the key of an earlier one, or why the record behind them has no row
+abbrev pub keys_due : Table → (rows rest : List Row) → Option LoadRefusal → Result (List Row) LoadRefusal
+keys_due t rows [] refused = unless_refused rows refused
+keys_due t rows (row ∷ rest) refused =
+    and_then (λ row. keys_due t (rows ++ row ∷ []) rest refused) (unless_repeated (length rows + 2) row (line_of_key t rows (key_of t row)))

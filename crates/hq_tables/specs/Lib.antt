@@ -7,5 +7,6 @@ pub mod Header
 pub mod Load
 pub mod Places
 pub mod Keys
+pub mod Readers
 pub mod Layouts
 pub mod Indexed

@@ -1,11 +1,16 @@
-ghost use Rattle.std.specs.Prelude.{◌≡◌};
-ghost use Rattle.hq_tables.specs.Field.{field_due, typed_due, value_due};
+ghost use Rattle.std.specs.Prelude.{◌≡◌, IfOk, MatchOption, Ok, false, true};
+ghost use Rattle.std.specs.Str.{is_utf8};
+ghost use Rattle.hq_tables.specs.Field.{field_due, field_text, null_due, typed_due};
 ghost use Rattle.hq_tables.specs.declared.field.FieldRefusal.TheVariants as refusal;
 ghost use Rattle.hq_base.specs.Due.{Gives};
+ghost use Rattle.hq_base.specs.Refused.{text_of};
+ghost use Rattle.hq_base.specs.Text.{has_zero};
+ghost use Rattle.hq_base.specs.declared.value.Val.TheVariants as val;
 
-use hq_base::{Txt, TxtRefusal, Ty, Val};
+use hq_base::{Memory, Txt, Ty, Val};
 use hq_terms::{Column, truth_value, whole_number};
 use std::alloc::Global;
+use std::str;
 
 /// The field that stands for NULL.
 const NULL_FIELD: &str = "\\N";
@@ -21,55 +26,94 @@ pub enum FieldRefusal {
     Memory,
 }
 
-impl From<TxtRefusal> for FieldRefusal {
+impl From<Memory> for FieldRefusal {
     ghost use Rattle.std.specs.Prelude.{◌≡◌};
-    ghost use Rattle.hq_tables.specs.Field.{field_refusal};
 
-    ghost from_gives = { λ t f. f ≡ field_refusal t };
+    ghost from_gives = { λ _ f. f ≡ refusal.Memory };
 
-    fn from(refusal: TxtRefusal) -> Self {
-        match refusal {
-            TxtRefusal::NotUtf8 => FieldRefusal::NotUtf8,
-            TxtRefusal::ZeroByte => FieldRefusal::ZeroByte,
-            TxtRefusal::Memory => FieldRefusal::Memory,
-        }
+    fn from(_: Memory) -> Self {
+        FieldRefusal::Memory
     }
 }
 
+// The bytes as `str`, where they are UTF-8.
+fn utf8(bytes: &[u8]) -> Option<&str>
+    ensures { MatchOption result (is_utf8 bytes.now ≡ false) (λ text. (is_utf8 bytes.now ≡ true) × (text.now ≡ bytes.now)) }
+{
+    match str::from_utf8(bytes) {
+        Ok(text) => Some(text),
+        Err(_) => None,
+    }
+}
+
+// Whether a zero byte is among the bytes.
+fn holds_zero(bytes: &[u8]) -> bool
+    ensures { result ≡ has_zero bytes.now }
+{
+    bytes.iter().any(|b| *b == 0)
+}
+
+// The text of a field, which lies in the field itself.
+fn lent_text(field: &[u8]) -> Result<&str, FieldRefusal>
+    ensures text { Gives (λ text. text.now) refusal.Memory (field_text (text_of field.now)) result }
+    ensures no_zero { IfOk result (λ text. has_zero text.now ≡ false) }
+{
+    let Some(text) = utf8(field) else {
+        return Err(FieldRefusal::NotUtf8);
+    };
+    if holds_zero(field) {
+        return Err(FieldRefusal::ZeroByte);
+    }
+    Ok(text)
+}
+
+// A text as the value of a text column.
+fn text_value(alloc: Global, text: &str) -> Result<Val, FieldRefusal>
+    requires { has_zero text.now ≡ false }
+    ensures { Gives (λ v. v) refusal.Memory (Ok (val.Text text.now)) result }
+{
+    let mut value = Txt::new(alloc);
+    value.push_str(text)?;
+    Ok(Val::Text(value))
+}
+
 // A text as a value of the type.
-fn typed(ty: Ty, text: Txt) -> Result<Val, FieldRefusal>
-    ensures { result ≡ typed_due ty text }
+fn typed(alloc: Global, ty: Ty, text: &str) -> Result<Val, FieldRefusal>
+    requires { has_zero text.now ≡ false }
+    ensures { Gives (λ v. v) refusal.Memory (typed_due ty text.now) result }
 {
     match ty {
-        Ty::Text => Ok(Val::Text(text)),
-        Ty::Integer | Ty::Bigint => match whole_number(ty, text.as_str()) {
+        Ty::Text => text_value(alloc, text),
+        Ty::Integer | Ty::Bigint => match whole_number(ty, text) {
             Some(n) => Ok(Val::Int(n)),
             None => Err(FieldRefusal::NotInteger),
         },
-        Ty::Boolean => match truth_value(text.as_str()) {
+        Ty::Boolean => match truth_value(text) {
             Some(b) => Ok(Val::Bool(b)),
             None => Err(FieldRefusal::NotBoolean),
         },
     }
 }
 
-// A text as a value of the column.
-fn value(column: &Column, text: Txt) -> Result<Val, FieldRefusal>
-    ensures { result ≡ value_due column.now text }
+// NULL as a value of the column.
+fn null(column: &Column) -> Result<Val, FieldRefusal>
+    ensures { result ≡ null_due column.now.nullable }
 {
-    if text.as_str() != NULL_FIELD {
-        typed(column.ty, text)
-    } else if column.nullable {
+    if column.nullable {
         Ok(Val::Null)
     } else {
         Err(FieldRefusal::NullInNotNull)
     }
 }
 
-/// The value of a column's field.
+/// The value of a column's field. Only a text takes memory.
 pub fn read_field(alloc: Global, column: &Column, field: &[u8]) -> Result<Val, FieldRefusal>
     ensures { Gives (λ v. v) refusal.Memory (field_due column.now field.now) result }
 {
-    let text = Txt::of(alloc, field)?;
-    value(column, text)
+    let text = lent_text(field)?;
+    if text == NULL_FIELD {
+        null(column)
+    } else {
+        typed(alloc, column.ty, text)
+    }
 }

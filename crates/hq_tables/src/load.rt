@@ -1,7 +1,7 @@
 //! Table files, as `COPY t TO STDOUT WITH (FORMAT csv, HEADER, NULL '\N')` writes them.
 
 mod header;
-mod key;
+mod keys;
 mod layout;
 mod record;
 mod records;
@@ -16,10 +16,12 @@ ghost use Rattle.hq_tables.specs.Load.{table_due};
 ghost use Rattle.hq_tables.specs.declared.load.refusal.LoadRefusal.TheVariants as refusal;
 
 use crate::Rows;
+use csv::ByteRecord;
 use hq_outside::LARGEST_FILE;
 use hq_terms::Table;
+use keys::with_keys;
 use layout::Layout;
-use records::all_records;
+use records::{file_reader, next_record};
 pub use refusal::LoadRefusal;
 use rows::read_rows;
 use std::alloc::Global;
@@ -32,13 +34,14 @@ pub fn load_table(alloc: Global, bytes: &[u8], table: &Table) -> Result<Rows, Lo
     ensures due { Gives (λ rows. rows) refusal.Memory (table_due table.now bytes.now) result }
     ensures valid { IfOk result (λ rows. are_rows table.now rows ≡ true) }
 {
-    let records = all_records(alloc, bytes)?;
-    let Some((header, records)) = records.as_slice().split_first() else {
+    let mut reader = file_reader(alloc, bytes);
+    let mut header = ByteRecord::new(alloc);
+    if !next_record(&mut reader, &mut header)? {
+        return Err(LoadRefusal::Header);
+    }
+    let Some(layout) = Layout::of(alloc, table, &header)? else {
         return Err(LoadRefusal::Header);
     };
-    let Some(layout) = Layout::of(alloc, table, header)? else {
-        return Err(LoadRefusal::Header);
-    };
-    let rows = read_rows(alloc, &layout, records)?;
-    Ok(Rows::of(alloc, rows, table)?)
+    let read = read_rows(alloc, &layout, &mut reader)?;
+    with_keys(alloc, read, table)
 }

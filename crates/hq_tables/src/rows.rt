@@ -68,13 +68,19 @@ fn index_over(alloc: Global, grid: &Grid, columns: &ColList) -> Result<Index, Me
     Index::build(alloc, grid, Vec::from_slice(alloc, columns.as_slice())?)
 }
 
-// The index over the primary key, and that over the columns of each foreign key.
-fn indexes_over(alloc: Global, grid: &Grid, table: &Table) -> Result<Vec<Index>, Memory>
-    requires { length (rows_in grid.now) < 2 ^ 31 }
+// The index over the primary key, and one over the columns of each foreign key.
+fn indexes_over(
+    alloc: Global,
+    grid: &Grid,
+    primary: Index,
+    table: &Table,
+) -> Result<Vec<Index>, Memory>
+    requires few { length (rows_in grid.now) < 2 ^ 31 }
+    requires primary { IsOver (rows_in grid.now) primary }
     ensures { IfOk result (λ indexes. (i : ℕ) (d : Index) → i < length indexes.items → IsOver (rows_in grid.now) (slice_index_or indexes.items i d)) }
 {
     let mut indexes = Vec::new(alloc);
-    indexes.push(index_over(alloc, grid, &table.key)?)?;
+    indexes.push(primary)?;
     for key in table.foreign.as_slice() {
         indexes.push(index_over(alloc, grid, &key.columns)?)?;
     }
@@ -95,12 +101,18 @@ fn are_same(left: &[ColId], right: &[ColId]) -> bool
 }
 
 impl Rows {
-    // The rows of a grid, with the indexes of the table.
-    pub(crate) fn over(alloc: Global, grid: Grid, table: &Table) -> Result<Rows, Memory>
-        requires { length (rows_in grid) < 2 ^ 31 }
+    // The rows of a grid, with this index over the primary key and those over the foreign keys.
+    pub(crate) fn over(
+        alloc: Global,
+        grid: Grid,
+        primary: Index,
+        table: &Table,
+    ) -> Result<Rows, Memory>
+        requires few { length (rows_in grid) < 2 ^ 31 }
+        requires primary { IsOver (rows_in grid) primary }
         ensures { IfOk result (λ kept. kept ≡ rows_in grid) }
     {
-        let indexes = indexes_over(alloc, &grid, table)?;
+        let indexes = indexes_over(alloc, &grid, primary, table)?;
         Ok(Rows { grid, indexes })
     }
 
@@ -114,7 +126,9 @@ impl Rows {
         let width = table.columns.len();
         let count = rows.len();
         let values = flattened(alloc, rows, width)?;
-        Rows::over(alloc, Grid::of(width, count, values), table)
+        let grid = Grid::of(width, count, values);
+        let primary = index_over(alloc, &grid, &table.key)?;
+        Rows::over(alloc, grid, primary, table)
     }
 
     /// How many rows there are.

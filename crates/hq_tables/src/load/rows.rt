@@ -1,56 +1,55 @@
-ghost use Rattle.std.specs.Prelude.{◌++◌, ◌∷◌, ◌<◌, ◌≤◌, ◌^◌, [], length, map, IfOk};
-ghost use Rattle.csv.specs.Records.{fields_of};
-ghost use Rattle.hq_base.specs.Due.{Gives};
-ghost use Rattle.hq_tables.specs.Keys.{Knows};
+ghost use Rattle.std.specs.Prelude.{◌≡◌, ◌≤◌, ◌^◌, length, IfOk};
+ghost use Rattle.hq_index.specs.Grids.{rows_in};
+ghost use Rattle.hq_tables.specs.Keys.{rows_read};
 ghost use Rattle.hq_tables.specs.Layouts.{columns_of, names_of};
-ghost use Rattle.hq_tables.specs.Load.{row_due, rows_due};
-ghost use Rattle.hq_tables.specs.declared.load.refusal.LoadRefusal.TheVariants as refusal;
+ghost use Rattle.hq_tables.specs.Readers.{IsReading, left_of};
 
-use super::key::{Lines, copy_key, note};
 use super::layout::Layout;
 use super::record::read_row;
-use crate::{LoadRefusal, RowList, ValList};
+use super::records::{FileReader, next_record};
+use crate::LoadRefusal;
 use csv::ByteRecord;
-use hq_base::List;
+use hq_base::Memory;
+use hq_index::Grid;
 use std::alloc::Global;
-use std::collections::BTreeMap;
 
-// The row of the next record behind these rows, whose records' numbers are known by key.
-fn next_row(
-    alloc: Global,
-    layout: &Layout<'_>,
-    rows: &RowList,
-    lines: &mut Lines,
-    fields: &ByteRecord,
-) -> Result<ValList, LoadRefusal>
-    requires known { Knows layout.now.table.now rows.now lines.old }
-    requires few { length rows.now < 2 ^ 31 }
-    ensures due { Gives (λ row. row) refusal.Memory (row_due layout.now.table.now (names_of layout.now) (columns_of layout.now) rows.now (fields_of fields.now)) result }
-    ensures known { IfOk result (λ row. Knows layout.now.table.now (rows.now ++ row ∷ []) lines.new) }
-{
-    let line = rows.len() as u64 + 2;
-    let row = read_row(alloc, line, layout, fields)?;
-    let key = copy_key(alloc, row.as_slice(), layout.table.key.as_slice())?;
-    match note(lines, key, line)? {
-        Some(earlier) => Err(LoadRefusal::RepeatedKey { line, earlier }),
-        None => Ok(row),
-    }
+/// Rows of records, and why the record behind them has none, where one has none.
+#[derive(Drop)]
+pub struct ReadRows {
+    pub grid: Grid,
+    pub refusal: Option<LoadRefusal>,
 }
 
-/// The rows of the records behind the header.
+/// The rows of the records that are left, of which the first has the number 2, up to the first record that has none.
 pub fn read_rows(
     alloc: Global,
     layout: &Layout<'_>,
-    records: &[ByteRecord],
-) -> Result<RowList, LoadRefusal>
-    requires { length records.now ≤ 2 ^ 31 }
-    ensures { Gives (λ rows. rows) refusal.Memory (rows_due layout.now.table.now (names_of layout.now) (columns_of layout.now) [] (map fields_of records.now)) result }
+    reader: &mut FileReader<'_>,
+) -> Result<ReadRows, Memory>
+    requires reading { IsReading reader.old }
+    requires few { length (left_of reader.old) ≤ 2 ^ 31 }
+    ensures { IfOk result (λ read. rows_read 2 layout.now.table.now (names_of layout.now) (columns_of layout.now) (left_of reader.old) ≡ (rows_in read.grid, read.refusal)) }
 {
-    let mut rows = List::new(alloc);
-    let mut lines = BTreeMap::new(alloc);
-    for fields in records {
-        let row = next_row(alloc, layout, &rows, &mut lines, fields)?;
-        rows.push(row)?;
+    let width = layout.table.columns.len();
+    let mut fields = ByteRecord::new(alloc);
+    let mut values = Vec::new(alloc);
+    let mut rows = Vec::new(alloc);
+    let mut count = 0usize;
+    while next_record(reader, &mut fields)? {
+        let line = count as u64 + 2;
+        match read_row(alloc, line, layout, &fields, &mut values, &mut rows) {
+            Ok(()) => count += 1,
+            Err(LoadRefusal::Memory) => return Err(Memory),
+            Err(refusal) => {
+                return Ok(ReadRows {
+                    grid: Grid::of(width, count, rows),
+                    refusal: Some(refusal),
+                });
+            }
+        }
     }
-    Ok(rows)
+    Ok(ReadRows {
+        grid: Grid::of(width, count, rows),
+        refusal: None,
+    })
 }
