@@ -1,4 +1,4 @@
--- The selects of lists and of aggregates, put together from their parts.
+-- The selects of lists, put together from their parts.
 use Rattle.std.proofs.Common.{◌≡◌, ◌∙◌, ℕ, List, [], true, false, cond, Option, ap, sym}
 use Rattle.hq_terms.specs.Schema.{Schema, table}
 use Rattle.hq_terms.specs.Selected.{ListArguments}
@@ -38,34 +38,3 @@ unfolding list_tree
 list_of s g t n a b row f given out order is o k r =
     is ∙ ap (λ (x : OutTree). fold x given (fold_alias n)) o ∙ ap (λ (x : List OrderTree). fold (array_of n x) given (fold_alias n)) k
     ∙ ap (λ (x : SelectTree). fold (array_of n (output_orders (list_sorts s t a) s t n 0)) x (fold_alias n)) r
-
--- the rows of an aggregate
-pub needed_rows_of : (s : Schema) (g : Rights) (t n : ℕ) (a : ListArguments) (tie : PredTree) (cs : List ℕ) (f : SelectTree) (b : BodyTree) (outs : List OutTree) (none : List JoinTree) (limit : Option ℕ)
-    → f ≡ rows_tree s t n b outs none limit a.offset → b ≡ body_tree s g t a n tie → outs ≡ needed_outputs (own_look (table s t).columns n) cs → none ≡ [] → limit ≡ a.limit
-    → f ≡ needed_rows_tree s g t a n tie cs
-unfolding needed_rows_tree
-needed_rows_of s g t n a tie cs f b outs none limit is body o empty l =
-    is ∙ ap (λ (x : BodyTree). rows_tree s t n x outs none limit a.offset) body
-    ∙ ap (λ (x : List OutTree). rows_tree s t n (body_tree s g t a n tie) x none limit a.offset) o
-    ∙ ap (λ (x : List JoinTree). rows_tree s t n (body_tree s g t a n tie) (needed_outputs (own_look (table s t).columns n) cs) x limit a.offset) empty
-    ∙ ap (λ (x : Option ℕ). rows_tree s t n (body_tree s g t a n tie) (needed_outputs (own_look (table s t).columns n) cs) [] x a.offset) l
-
-abbrev fold_with : ExprTree → SelectTree → (n : ℕ) → SelectTree
-fold_with value given n = fold (record { value = value; name = value_name }) given (fold_alias n)
-
--- an aggregate
-pub folded_of : (s : Schema) (gs : List Granted) (t n : ℕ) (a : ListArguments) (tie : PredTree) (fs : List KeyedAggField) (given : SelectTree) (value : ExprTree)
-    → given ≡ needed_rows_tree s (rights_in gs) t a n tie (needed fs []) → value ≡ object (pairs_of (summary_pairs (table s t).columns n (needed fs []) fs))
-    → fold_with value given n ≡ folded_tree fs s (rights_in gs) t a n tie
-unfolding folded_tree needed_rows_tree body_tree
-folded_of s gs t n a tie fs given value r v =
-    ap (λ (x : SelectTree). fold_with value x n) r ∙ ap (λ (x : ExprTree). fold_with x (needed_rows_tree s (rights_in gs) t a n tie (needed fs [])) n) v
-
--- the one of both that is taken
-pub summary_folded : (s : Schema) (g : Rights) (t n : ℕ) (a : ListArguments) (tie : PredTree) (fs : List KeyedAggField) → some_aggregate fs ≡ true → folded_tree fs s g t a n tie ≡ summary_tree fs s g t a n tie
-unfolding folded_tree summary_tree
-summary_folded s g t n a tie fs e = sym (ap (λ b. cond b (folded_select fs s g t a n tie) (plain_select fs s t n)) e)
-
-pub summary_plain : (s : Schema) (g : Rights) (t n : ℕ) (a : ListArguments) (tie : PredTree) (fs : List KeyedAggField) → some_aggregate fs ≡ false → plain_select fs s t n ≡ summary_tree fs s g t a n tie
-unfolding summary_tree
-summary_plain s g t n a tie fs e = sym (ap (λ b. cond b (folded_select fs s g t a n tie) (plain_select fs s t n)) e)

@@ -16,9 +16,10 @@ use crate::row::{Row, object};
 use hq_ask_tree::Args;
 use hq_base::Memory;
 use hq_compile_parts::{
-    Context, SortParts, compared_column, conjunction, filter_predicate, fold_alias, from_table,
-    list_sorts, output_orders, sort_parts, value_name, where_predicate,
+    Context, compared_column, conjunction, filter_predicate, fold_alias, from_table, value_name,
+    where_predicate,
 };
+use hq_compile_sorts::{SortParts, list_sorts, output_orders, sort_parts};
 use hq_sql_tree::{Agg, Expr, ExprList, From, JoinList, OrderList, Out, OutList, Pred, Select};
 use hq_terms::{ColId, Column, TableId};
 use std::alloc::Global;
@@ -119,7 +120,7 @@ fn all_joins(mut sorts: JoinList, mut children: JoinList) -> Result<JoinList, Me
 }
 
 /// The rows of a list, with these outputs.
-pub(crate) fn list_rows(
+pub fn list_rows(
     alloc: Global,
     context: &Context,
     t: TableId,
@@ -152,7 +153,7 @@ pub(crate) fn list_rows(
 }
 
 /// A number of rows in 64 bits.
-pub(crate) fn wide(rows: Option<u32>) -> Option<u64>
+pub fn wide(rows: Option<u32>) -> Option<u64>
     ensures { result ≡ rows }
 {
     match rows {
@@ -214,7 +215,7 @@ fn row_outputs(alloc: Global, value: Expr, keys: &mut OutList) -> Result<OutList
 }
 
 /// The fold of number n over rows.
-pub(crate) fn fold(alloc: Global, out: Out, rows: Select, n: u64) -> Result<Select, Memory>
+pub fn fold(alloc: Global, out: Out, rows: Select, n: u64) -> Result<Select, Memory>
     ensures { IfOk result (λ select. select_view select ≡ tree.fold (out_view out) (select_view rows) (fold_alias n)) }
 {
     let rows = Box::new(alloc, rows)?;

@@ -17,11 +17,12 @@ use hq_ask_tree::{AggFields, AggPart, AggParts, AskField, AskFields, KeyedAggPar
 use hq_base::{Memory, Txt};
 use hq_compile_lists::{
     FirstRow, ListStart, Row, empty_row, key_row, list_body, list_select, list_table, list_tie,
-    object, one_row, remote_row, summary_select,
+    object, one_row, remote_row,
 };
 use hq_compile_parts::{
     Context, filter_predicate, first_select, one_join, own_column, take_number, value_column,
 };
+use hq_compile_summaries::summary_select;
 use hq_sql_tree::{Expr, ExprPair, ExprPairList, Join, JoinList, Pred};
 use hq_terms::TableId;
 use std::alloc::Global;
@@ -352,9 +353,8 @@ fn summary_join(
 {
     let n = take_number(next)?;
     let table = list_table(context, start);
-    let tie = list_tie(alloc, context, start, n)?;
     let fields = fields.as_slice();
-    let select = summary_select(alloc, context, table, n, tie, start.args, fields, next)?;
+    let select = summary_select(alloc, context, start, table, n, fields, next)?;
     one_join(alloc, select, n)
 }
 
