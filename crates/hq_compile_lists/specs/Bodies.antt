@@ -3,7 +3,7 @@ use Rattle.std.specs.Prelude.{ℕ, List, [], ◌∷◌, ◌++◌, map, Option, f
 use Rattle.hq_terms.specs.Schema.{Schema, table}
 use Rattle.hq_terms.specs.Selected.{ListArguments, smaller}
 use Rattle.hq_sql_tree.specs.Tree.{ExprTree, column, object, aggregate, json_agg, orders_of, PairTree, pairs_of, OrderTree, OutTree, SelectTree, rows, fold, table as from_table, JoinTree, joins_of, FilterTree, PredTree}
-use Rattle.hq_sql_tree.specs.View.{expr_view, order_view, out_view, pair_view, join_view, filter_view}
+use Rattle.hq_sql_tree.specs.View.{expr_view, order_view, out_view, pair_view, join_view, pred_view}
 use Rattle.hq_compiled.specs.Conditions.{with_member, where_of}
 use Rattle.hq_compiled.specs.Lists.{list_sorts, sorts_from, distinct_columns}
 use Rattle.hq_compiled.specs.Looks.{own_look}
@@ -33,7 +33,7 @@ pub record RowTree : Type 0 where
 abbrev pub body_view : ListBody → BodyTree
 body_view b = record {
   distinct = map expr_view b.distinct.items;
-  condition = filter_view b.filter;
+  condition = where_of (map pred_view b.members.items);
   orders = map order_view b.sorts.orders.items;
   joins = map join_view b.sorts.joins.items;
   outputs = map out_view b.sorts.outputs.items;
@@ -59,17 +59,17 @@ parts_tree s g t a n m = record {
   outputs = key_outputs (list_sorts s t a) s g (own_look (table s t).columns n) t n m 0;
 }
 
--- WHERE of such a list: its tie, the filter, and its own `where`
-abbrev pub condition_tree : Schema → Rights → (t : ℕ) → ListArguments → (n : ℕ) → (tie : PredTree) → FilterTree
-condition_tree s g t a n tie =
-    where_of (with_member tie (with_member (filter_predicate s g t n (filter_from s g t [] n))
-    (with_member (predicate a.wanted s (where_mode s g) (own_look (table s t).columns n) t n (behind_filter s g t [] n)) [])))
+-- the members of WHERE of such a list: its tie, the filter, and its own `where`
+abbrev pub members_tree : Schema → Rights → (t : ℕ) → ListArguments → (n : ℕ) → (tie : PredTree) → List PredTree
+members_tree s g t a n tie =
+    with_member tie (with_member (filter_predicate s g t n (filter_from s g t [] n))
+    (with_member (predicate a.wanted s (where_mode s g) (own_look (table s t).columns n) t n (behind_filter s g t [] n)) []))
 
 -- the body of such a list
 unfoldable pub body_tree : Schema → Rights → (t : ℕ) → ListArguments → (n : ℕ) → (tie : PredTree) → BodyTree
 body_tree s g t a n tie = record {
   distinct = distinct_columns (table s t).columns (own_look (table s t).columns n) a.distinct;
-  condition = condition_tree s g t a n tie;
+  condition = where_of (members_tree s g t a n tie);
   orders = (parts_tree s g t a n (sorts_from s g t [] a n)).orders;
   joins = (parts_tree s g t a n (sorts_from s g t [] a n)).joins;
   outputs = (parts_tree s g t a n (sorts_from s g t [] a n)).outputs;
@@ -85,8 +85,10 @@ abbrev pub object_rows_tree : Schema → Rights → (t : ℕ) → ListArguments 
 object_rows_tree s g t a n b row =
     rows_tree s t n b (record { value = object (pairs_of row.pairs); name = value_name } ∷ b.outputs) row.joins (smaller a.limit (g.limit t)) a.offset
 
+-- the output of the fold over them: the array of their objects, in order
+abbrev pub array_tree : Schema → (t : ℕ) → ListArguments → (n : ℕ) → OutTree
+array_tree s t a n = record { value = aggregate (json_agg (column (fold_alias n) value_name false) (orders_of (output_orders (list_sorts s t a) s t n 0))); name = value_name }
+
 -- a list of them
 unfoldable pub list_tree : Schema → Rights → (t : ℕ) → ListArguments → (n : ℕ) → BodyTree → RowTree → SelectTree
-list_tree s g t a n b row =
-    fold (record { value = aggregate (json_agg (column (fold_alias n) value_name false) (orders_of (output_orders (list_sorts s t a) s t n 0))); name = value_name })
-    (object_rows_tree s g t a n b row) (fold_alias n)
+list_tree s g t a n b row = fold (array_tree s t a n) (object_rows_tree s g t a n b row) (fold_alias n)

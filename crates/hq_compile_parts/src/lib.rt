@@ -9,10 +9,10 @@ mod predicate;
 mod table;
 
 pub use columns::{column_at, compared_column, is_text, own_column, value_at, value_column};
-pub use condition::{conjunction, joined_by_and, literal};
+pub use condition::{joined_by_and, literal, where_of, with_member};
 pub use context::{Context, Granted, GrantedList};
 pub use names::{
     fold_alias, join_alias, key_name, needed_name, table_alias, take_number, unit_name, value_name,
 };
-pub use predicate::{filter_predicate, where_predicate};
-pub use table::{first_select, from_table, key_orders, link, one_join, value_output};
+pub use predicate::{filter_predicate, row_members, where_predicate};
+pub use table::{first_row, first_select, from_table, key_orders, link, one_join, value_output};

@@ -3,7 +3,8 @@ ghost use Rattle.std.specs.Prelude.{◌≡◌, ◌+◌, ◌++◌, ◌∷◌, [],
 ghost use Rattle.hq_terms.specs.Schema.{table};
 ghost use Rattle.hq_sql_tree.specs.Tree as tree;
 ghost use Rattle.hq_sql_tree.specs.View.{expr_view, order_view, out_view, join_view};
-ghost use Rattle.hq_compiled.specs.Looks.{own_look, is_text_column};
+ghost use Rattle.hq_compiled.specs.Looks.{own_look, is_text_column, cell_at};
+ghost use Rattle.hq_compiled.specs.Masks.{value_output};
 ghost use Rattle.hq_compiled.specs.Names.{fold_alias, key_name};
 ghost use Rattle.hq_compiled.specs.Sorts.{end_of, is_text_sort, sort_place, sort_numbers, sort_joins, sorts_numbers, sorts_joins, orders, key_outputs, output_orders};
 ghost use Rattle.hq_compile_parts.specs.Contexts.{context_schema, context_rights};
@@ -13,10 +14,10 @@ ghost use Rattle.hq_compile_sorts.specs.SortSteps.{step_view, step_tree, step_jo
 use crate::sorts::RowSort;
 use hq_base::Memory;
 use hq_compile_parts::{
-    Context, column_at, filter_predicate, first_select, fold_alias, is_text, key_name, link,
-    one_join, take_number, value_at,
+    Context, column_at, first_row, fold_alias, is_text, key_name, link, one_join, row_members,
+    take_number, value_at, value_output,
 };
-use hq_sql_tree::{Expr, JoinList, Order, OrderList, Out, OutList, Pred};
+use hq_sql_tree::{Expr, JoinList, Order, OrderList, Out, OutList, PredList};
 use hq_terms::{ColId, RelId, TableId};
 use std::alloc::Global;
 
@@ -55,14 +56,30 @@ fn sort_column(
     }
 }
 
-// The first relationship of a sort key: its table and number, the link, the table's filter, and the cell that is passed on.
+// The first relationship of a sort key: its table and number, what its row meets, and the output of the cell that is passed on.
 #[derive(Drop)]
 struct SortStep {
     table: TableId,
     number: u64,
-    link: Pred,
-    filter: Pred,
-    value: Expr,
+    members: PredList,
+    outs: OutList,
+}
+
+// The output of the cell of a sort key for a row of table t at the alias of number p; n is the number of the next join.
+fn step_output(
+    alloc: Global,
+    context: &Context,
+    t: TableId,
+    p: u64,
+    rest: &[RelId],
+    n: u64,
+    column: ColId,
+) -> Result<OutList, Memory>
+    ensures { let s = context_schema context.now in
+        IfOk result (λ outs. map out_view outs.items ≡ value_output (cell_at (sort_place false rest.now s (own_look (table s t).columns p) t p n column))) }
+{
+    let value = sort_column(alloc, context, t, p, false, rest, n, column, false)?;
+    value_output(alloc, value)
 }
 
 fn sort_step(
@@ -81,16 +98,13 @@ fn sort_step(
     let number = take_number(next)?;
     let table = context.remote(t, r);
     let link = link(alloc, context, t, r, p, number)?;
-    let filter = filter_predicate(alloc, context, table, number, next)?;
-    let value = sort_column(
-        alloc, context, table, number, false, rest, *next, column, false,
-    )?;
+    let members = row_members(alloc, context, table, number, link, next)?;
+    let outs = step_output(alloc, context, table, number, rest, *next, column)?;
     Ok(SortStep {
         table,
         number,
-        link,
-        filter,
-        value,
+        members,
+        outs,
     })
 }
 
@@ -106,13 +120,13 @@ fn step_joins(
     let SortStep {
         table,
         number,
-        link,
-        filter,
-        value,
+        members,
+        outs,
     } = step;
-    let select = first_select(alloc, context, table, number, link, filter, value, inner)?;
+    let select = first_row(alloc, context, table, number, members, outs, inner)?;
+    let join = one_join(alloc, select, number)?;
     let mut joins = Vec::new(alloc);
-    joins.push(one_join(alloc, select, number)?)?;
+    joins.push(join)?;
     Ok(joins)
 }
 

@@ -356,7 +356,7 @@ fn plain_select(
 {
     let columns = needed(alloc, fields)?;
     let pairs = summary_pairs(alloc, context.columns(t), n, columns.as_slice(), fields)?;
-    one_row(alloc, n, object(pairs), Vec::new(alloc), None)
+    one_row(alloc, n, object(pairs), Vec::new(alloc))
 }
 
 /// The select of `aggregate` over rows of table t, which begin so, at the alias of number n.
