@@ -186,7 +186,7 @@ fn permission_limit(context: &Context, t: TableId) -> Option<u64>
 
 // The value of a row of the fold of number n.
 fn row_value(alloc: Global, n: u64) -> Result<Box<Expr>, Memory>
-    ensures { IfOk result (λ value. expr_view value.target ≡ tree.column (fold_alias n) value_name false) }
+    ensures { IfOk result (λ value. expr_view value.value ≡ tree.column (fold_alias n) value_name false) }
 {
     let alias = fold_alias(alloc, n)?;
     let name = value_name(alloc)?;
