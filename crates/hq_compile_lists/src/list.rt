@@ -16,8 +16,8 @@ use crate::row::{Row, object};
 use hq_ask_tree::Args;
 use hq_base::Memory;
 use hq_compile_parts::{
-    Context, compared_column, fold_alias, from_table, row_members, value_name, where_of,
-    where_predicate, with_member,
+    Context, compared_column, fold_alias, from_table, row_members, value_name, value_output,
+    where_of, where_predicate, with_member,
 };
 use hq_compile_sorts::{SortParts, list_sorts, output_orders, sort_parts};
 use hq_sql_tree::{Agg, Expr, ExprList, JoinList, OrderList, Out, OutList, Pred, PredList, Select};
@@ -215,9 +215,7 @@ fn array_output(alloc: Global, n: u64, order: OrderList) -> Result<Out, Memory>
 fn row_outputs(alloc: Global, value: Expr, keys: &mut OutList) -> Result<OutList, Memory>
     ensures { IfOk result (λ outs. map out_view outs.items ≡ record { value = expr_view value; name = value_name } ∷ map out_view keys.old.items) }
 {
-    let name = value_name(alloc)?;
-    let mut outs = Vec::new(alloc);
-    outs.push(Out { value, name })?;
+    let mut outs = value_output(alloc, value)?;
     outs.append(keys)?;
     Ok(outs)
 }
