@@ -19,7 +19,7 @@ returns-clause-members c =
     let tie = pred_view c.args.tie in
     let wanted = bexp_view c.args.args.now.filter in
     let from : c.args.next.now ≡ n + 1 + 0 = omega arith in
-    let behind : c.row_members.new.next ≡ n + 1 + 0 + filter_numbers s g t = omega arith in
+    let behind = c.in_ok-members.ensures.numbers ∙ ap (λ (m : ℕ). m + filter_numbers s g t) from in
     IfOk-weaker c.with_member.result _ _
     (λ all is. three_members _ _ tie (filter_predicate s g t n (n + 1 + 0)) (own_predicate wanted s (where_mode s g) t n (n + 1 + 0 + filter_numbers s g t)) _ is
     (c.in_ok-members.ensures.members ∙ ap (λ (m : ℕ). with_member tie (with_member (filter_predicate s g t n m) [])) from)
