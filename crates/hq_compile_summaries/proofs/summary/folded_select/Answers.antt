@@ -21,7 +21,7 @@ returns-clause-select c =
     let fs = c.args.fields.now in
     let a = arguments_view c.args.start.now.args.now in
     let tie = start_tie s c.args.start.now n in
-    let out = c.in_ok-out.ensures ∙ ap (λ (columns : List Column). output_of columns n c.as_slice.result.now fs) c.columns-2.ensures
+    let out = c.in_ok-out.ensures ∙ ap (λ (columns : List Column). output_of columns n c.as_slice.result.now fs) c.columns.ensures
     ∙ ap (λ (cs : List ℕ). output_of (table s t).columns n cs fs) (c.as_slice.ensures ∙ c.in_ok-columns.ensures) in
     let rows = c.in_ok-rows.ensures.select ∙ ap (needed_rows_tree s g t a n tie) (c.as_slice-2.ensures ∙ c.in_ok-columns.ensures) in
     IfOk-weaker c.fold.result _ _ (λ select is. is ∙ folded_of s c.args.context.now.granted.now t n a tie fs _ _ rows out) c.fold.ensures
