@@ -2,10 +2,8 @@
 use Rattle.std.specs.Prelude.{ℕ, List, [], ◌∷◌, ◌++◌, map, Option, false}
 use Rattle.hq_terms.specs.Schema.{Schema, table}
 use Rattle.hq_terms.specs.Selected.{ListArguments, smaller}
-use Rattle.hq_ask_tree.specs.declared.aggregate.KeyedAggField.{KeyedAggField}
 use Rattle.hq_sql_tree.specs.Tree.{ExprTree, column, object, aggregate, json_agg, orders_of, PairTree, pairs_of, OrderTree, OutTree, SelectTree, rows, fold, table as from_table, JoinTree, joins_of, FilterTree, PredTree}
-use Rattle.hq_sql_tree.specs.View.{expr_view, order_view, out_view, pair_view, join_view, filter_view}
-use Rattle.hq_compiled.specs.Aggregates.{needed_outputs, folded_select, summary_select}
+use Rattle.hq_sql_tree.specs.View.{expr_view, order_view, out_view, pair_view, join_view, pred_view}
 use Rattle.hq_compiled.specs.Conditions.{with_member, where_of}
 use Rattle.hq_compiled.specs.Lists.{list_sorts, sorts_from, distinct_columns}
 use Rattle.hq_compiled.specs.Looks.{own_look}
@@ -15,7 +13,7 @@ use Rattle.hq_compiled.specs.Predicates.{predicate}
 use Rattle.hq_compiled.specs.Rights.{Rights}
 use Rattle.hq_compiled.specs.Selects.{filter_from, behind_filter}
 use Rattle.hq_compiled.specs.Sorts.{sorts_joins, orders, key_outputs, output_orders}
-use Rattle.hq_compile_parts.specs.declared.order.SortParts.{SortParts}
+use Rattle.hq_compile_sorts.specs.declared.order.SortParts.{SortParts}
 use Rattle.hq_compile_lists.specs.declared.list.ListBody.{ListBody}
 use Rattle.hq_compile_lists.specs.declared.row.Row.{Row}
 
@@ -35,7 +33,7 @@ pub record RowTree : Type 0 where
 abbrev pub body_view : ListBody → BodyTree
 body_view b = record {
   distinct = map expr_view b.distinct.items;
-  condition = filter_view b.filter;
+  condition = where_of (map pred_view b.members.items);
   orders = map order_view b.sorts.orders.items;
   joins = map join_view b.sorts.joins.items;
   outputs = map out_view b.sorts.outputs.items;
@@ -61,17 +59,17 @@ parts_tree s g t a n m = record {
   outputs = key_outputs (list_sorts s t a) s g (own_look (table s t).columns n) t n m 0;
 }
 
--- WHERE of such a list: its tie, the filter, and its own `where`
-abbrev pub condition_tree : Schema → Rights → (t : ℕ) → ListArguments → (n : ℕ) → (tie : PredTree) → FilterTree
-condition_tree s g t a n tie =
-    where_of (with_member tie (with_member (filter_predicate s g t n (filter_from s g t [] n))
-    (with_member (predicate a.wanted s (where_mode s g) (own_look (table s t).columns n) t n (behind_filter s g t [] n)) [])))
+-- the members of WHERE of such a list: its tie, the filter, and its own `where`
+abbrev pub members_tree : Schema → Rights → (t : ℕ) → ListArguments → (n : ℕ) → (tie : PredTree) → List PredTree
+members_tree s g t a n tie =
+    with_member tie (with_member (filter_predicate s g t n (filter_from s g t [] n))
+    (with_member (predicate a.wanted s (where_mode s g) (own_look (table s t).columns n) t n (behind_filter s g t [] n)) []))
 
 -- the body of such a list
 unfoldable pub body_tree : Schema → Rights → (t : ℕ) → ListArguments → (n : ℕ) → (tie : PredTree) → BodyTree
 body_tree s g t a n tie = record {
   distinct = distinct_columns (table s t).columns (own_look (table s t).columns n) a.distinct;
-  condition = condition_tree s g t a n tie;
+  condition = where_of (members_tree s g t a n tie);
   orders = (parts_tree s g t a n (sorts_from s g t [] a n)).orders;
   joins = (parts_tree s g t a n (sorts_from s g t [] a n)).joins;
   outputs = (parts_tree s g t a n (sorts_from s g t [] a n)).outputs;
@@ -87,20 +85,10 @@ abbrev pub object_rows_tree : Schema → Rights → (t : ℕ) → ListArguments 
 object_rows_tree s g t a n b row =
     rows_tree s t n b (record { value = object (pairs_of row.pairs); name = value_name } ∷ b.outputs) row.joins (smaller a.limit (g.limit t)) a.offset
 
+-- the output of the fold over them: the array of their objects, in order
+abbrev pub array_tree : Schema → (t : ℕ) → ListArguments → (n : ℕ) → OutTree
+array_tree s t a n = record { value = aggregate (json_agg (column (fold_alias n) value_name false) (orders_of (output_orders (list_sorts s t a) s t n 0))); name = value_name }
+
 -- a list of them
 unfoldable pub list_tree : Schema → Rights → (t : ℕ) → ListArguments → (n : ℕ) → BodyTree → RowTree → SelectTree
-list_tree s g t a n b row =
-    fold (record { value = aggregate (json_agg (column (fold_alias n) value_name false) (orders_of (output_orders (list_sorts s t a) s t n 0))); name = value_name })
-    (object_rows_tree s g t a n b row) (fold_alias n)
-
--- the selected rows whose outputs are the needed columns, without the permission's limit
-unfoldable pub needed_rows_tree : Schema → Rights → (t : ℕ) → ListArguments → (n : ℕ) → (tie : PredTree) → (needed : List ℕ) → SelectTree
-needed_rows_tree s g t a n tie cs =
-    rows_tree s t n (body_tree s g t a n tie) (needed_outputs (own_look (table s t).columns n) cs) [] a.limit a.offset
-
--- the select of `aggregate` where an aggregate occurs, and in every case
-unfoldable pub folded_tree : List KeyedAggField → Schema → Rights → (t : ℕ) → ListArguments → (n : ℕ) → (tie : PredTree) → SelectTree
-folded_tree fs s g t a n tie = folded_select fs s g t a n tie
-
-unfoldable pub summary_tree : List KeyedAggField → Schema → Rights → (t : ℕ) → ListArguments → (n : ℕ) → (tie : PredTree) → SelectTree
-summary_tree fs s g t a n tie = summary_select fs s g t a n tie
+list_tree s g t a n b row = fold (array_tree s t a n) (object_rows_tree s g t a n b row) (fold_alias n)

@@ -4,22 +4,23 @@ ghost use Rattle.hq_terms.specs.Schema.{table};
 ghost use Rattle.hq_terms.specs.Selected.{smaller};
 ghost use Rattle.hq_ask_tree.specs.Arguments.{arguments_view};
 ghost use Rattle.hq_sql_tree.specs.Tree as tree;
-ghost use Rattle.hq_sql_tree.specs.View.{expr_view, order_view, out_view, select_view, join_view, pred_view, filter_view};
+ghost use Rattle.hq_sql_tree.specs.View.{expr_view, order_view, out_view, select_view, join_view, pred_view};
 ghost use Rattle.hq_compiled.specs.Looks.{own_look};
 ghost use Rattle.hq_compiled.specs.Lists.{list_sorts, distinct_columns, sorts_from, children_from};
 ghost use Rattle.hq_compiled.specs.Names.{fold_alias, value_name};
 ghost use Rattle.hq_compiled.specs.Sorts.{sorts_numbers, output_orders};
 ghost use Rattle.hq_compile_parts.specs.Contexts.{context_schema, context_rights};
-ghost use Rattle.hq_compile_lists.specs.Bodies.{body_view, body_tree, parts_view, parts_tree, condition_tree, row_view, rows_tree, object_rows_tree, list_tree};
+ghost use Rattle.hq_compile_lists.specs.Bodies.{body_view, body_tree, parts_view, parts_tree, members_tree, array_tree, row_view, rows_tree, object_rows_tree, list_tree};
 
 use crate::row::{Row, object};
 use hq_ask_tree::Args;
 use hq_base::Memory;
 use hq_compile_parts::{
-    Context, SortParts, compared_column, conjunction, filter_predicate, fold_alias, from_table,
-    list_sorts, output_orders, sort_parts, value_name, where_predicate,
+    Context, compared_column, fold_alias, from_table, row_members, value_name, value_output,
+    where_of, where_predicate, with_member,
 };
-use hq_sql_tree::{Agg, Expr, ExprList, From, JoinList, OrderList, Out, OutList, Pred, Select};
+use hq_compile_sorts::{SortParts, list_sorts, output_orders, sort_parts};
+use hq_sql_tree::{Agg, Expr, ExprList, JoinList, OrderList, Out, OutList, Pred, PredList, Select};
 use hq_terms::{ColId, Column, TableId};
 use std::alloc::Global;
 
@@ -27,7 +28,8 @@ use std::alloc::Global;
 #[derive(Drop)]
 pub struct ListBody {
     pub distinct: ExprList,
-    pub filter: Option<Pred>,
+    /// The members of WHERE.
+    pub members: PredList,
     pub sorts: SortParts,
 }
 
@@ -47,8 +49,8 @@ fn distinct_columns(
     Ok(exprs)
 }
 
-// WHERE of a list of rows of table t at the alias of number n.
-fn list_condition(
+// The members of WHERE of a list of rows of table t at the alias of number n.
+fn list_members(
     alloc: Global,
     context: &Context,
     t: TableId,
@@ -56,15 +58,15 @@ fn list_condition(
     tie: Pred,
     args: &Args,
     next: &mut u64,
-) -> Result<Option<Pred>, Memory>
+) -> Result<PredList, Memory>
     requires { next.old ≡ n + 1 }
-    ensures condition { let s = context_schema context.now in let g = context_rights context.now in
-        IfOk result (λ filter. filter_view filter ≡ condition_tree s g t (arguments_view args.now) n (pred_view tie)) }
+    ensures members { let s = context_schema context.now in let g = context_rights context.now in
+        IfOk result (λ all. map pred_view all.items ≡ members_tree s g t (arguments_view args.now) n (pred_view tie)) }
     ensures numbers { OnOk result (next.new ≡ sorts_from (context_schema context.now) (context_rights context.now) t [] (arguments_view args.now) n) }
 {
-    let filter = filter_predicate(alloc, context, t, n, next)?;
+    let members = row_members(alloc, context, t, n, tie, next)?;
     let wanted = where_predicate(alloc, context, t, n, &args.filter, next)?;
-    conjunction(alloc, tie, filter, wanted)
+    with_member(members, wanted)
 }
 
 // What the sort keys of a list put into its rows.
@@ -100,12 +102,12 @@ pub fn list_body(
         IfOk result (λ body. body_view body ≡ body_tree s g t (arguments_view args.now) n (pred_view tie)) }
     ensures numbers { OnOk result (next.new ≡ children_from (context_schema context.now) (context_rights context.now) t [] (arguments_view args.now) n) }
 {
-    let filter = list_condition(alloc, context, t, n, tie, args, next)?;
-    let sorts = list_parts(alloc, context, t, n, args, next)?;
+    let members = list_members(alloc, context, t, n, tie, args, next)?;
     let distinct = distinct_columns(alloc, context.columns(t), n, args.distinct.as_slice())?;
+    let sorts = list_parts(alloc, context, t, n, args, next)?;
     Ok(ListBody {
         distinct,
-        filter,
+        members,
         sorts,
     })
 }
@@ -119,7 +121,7 @@ fn all_joins(mut sorts: JoinList, mut children: JoinList) -> Result<JoinList, Me
 }
 
 /// The rows of a list, with these outputs.
-pub(crate) fn list_rows(
+pub fn list_rows(
     alloc: Global,
     context: &Context,
     t: TableId,
@@ -132,19 +134,19 @@ pub(crate) fn list_rows(
 ) -> Result<Select, Memory>
     ensures { IfOk result (λ select. select_view select ≡ rows_tree (context_schema context.now) t n (body_view body) (map out_view outs.items) (map join_view children.items) limit offset) }
 {
-    let from = from_table(alloc, context, t, n)?;
     let ListBody {
         distinct,
-        filter,
+        members,
         sorts,
     } = body;
     let joins = all_joins(sorts.joins, children)?;
+    let from = from_table(alloc, context, t, n)?;
     Ok(Select::Rows {
         distinct,
         outs,
         from,
         joins,
-        filter,
+        filter: where_of(members),
         order: sorts.orders,
         limit,
         offset: wide(offset),
@@ -152,7 +154,7 @@ pub(crate) fn list_rows(
 }
 
 /// A number of rows in 64 bits.
-pub(crate) fn wide(rows: Option<u32>) -> Option<u64>
+pub fn wide(rows: Option<u32>) -> Option<u64>
     ensures { result ≡ rows }
 {
     match rows {
@@ -182,10 +184,9 @@ fn permission_limit(context: &Context, t: TableId) -> Option<u64>
     }
 }
 
-// The array of the values of the fold of number n, in this order.
-fn array_output(alloc: Global, n: u64, order: OrderList) -> Result<Out, Memory>
-    ensures { IfOk result (λ out. out_view out ≡
-        record { value = tree.aggregate (tree.json_agg (tree.column (fold_alias n) value_name false) (tree.orders_of (map order_view order.items))); name = value_name }) }
+// The value of a row of the fold of number n.
+fn row_value(alloc: Global, n: u64) -> Result<Box<Expr>, Memory>
+    ensures { IfOk result (λ value. expr_view value.value ≡ tree.column (fold_alias n) value_name false) }
 {
     let alias = fold_alias(alloc, n)?;
     let name = value_name(alloc)?;
@@ -194,8 +195,16 @@ fn array_output(alloc: Global, n: u64, order: OrderList) -> Result<Out, Memory>
         name,
         collate: false,
     };
-    let value = Box::new(alloc, value)?;
+    Ok(Box::new(alloc, value)?)
+}
+
+// The array of the values of the fold of number n, in this order.
+fn array_output(alloc: Global, n: u64, order: OrderList) -> Result<Out, Memory>
+    ensures { IfOk result (λ out. out_view out ≡
+        record { value = tree.aggregate (tree.json_agg (tree.column (fold_alias n) value_name false) (tree.orders_of (map order_view order.items))); name = value_name }) }
+{
     let name = value_name(alloc)?;
+    let value = row_value(alloc, n)?;
     Ok(Out {
         value: Expr::Agg(Agg::JsonAgg { value, order }),
         name,
@@ -206,15 +215,13 @@ fn array_output(alloc: Global, n: u64, order: OrderList) -> Result<Out, Memory>
 fn row_outputs(alloc: Global, value: Expr, keys: &mut OutList) -> Result<OutList, Memory>
     ensures { IfOk result (λ outs. map out_view outs.items ≡ record { value = expr_view value; name = value_name } ∷ map out_view keys.old.items) }
 {
-    let name = value_name(alloc)?;
-    let mut outs = Vec::new(alloc);
-    outs.push(Out { value, name })?;
+    let mut outs = value_output(alloc, value)?;
     outs.append(keys)?;
     Ok(outs)
 }
 
 /// The fold of number n over rows.
-pub(crate) fn fold(alloc: Global, out: Out, rows: Select, n: u64) -> Result<Select, Memory>
+pub fn fold(alloc: Global, out: Out, rows: Select, n: u64) -> Result<Select, Memory>
     ensures { IfOk result (λ select. select_view select ≡ tree.fold (out_view out) (select_view rows) (fold_alias n)) }
 {
     let rows = Box::new(alloc, rows)?;
@@ -235,6 +242,20 @@ fn list_orders(
 {
     let sorts = list_sorts(alloc, context, t, args)?;
     output_orders(alloc, context, t, n, sorts.as_slice())
+}
+
+// The output of the fold of number n over a list's rows.
+fn list_output(
+    alloc: Global,
+    context: &Context,
+    t: TableId,
+    n: u64,
+    args: &Args,
+) -> Result<Out, Memory>
+    ensures { IfOk result (λ out. out_view out ≡ array_tree (context_schema context.now) t (arguments_view args.now) n) }
+{
+    let order = list_orders(alloc, context, t, n, args)?;
+    array_output(alloc, n, order)
 }
 
 // The rows of a list, with the values and the joins of its children.
@@ -278,8 +299,7 @@ pub fn list_select(
     ensures { IfOk result (λ select. select_view select ≡
         list_tree (context_schema context.now) (context_rights context.now) t (arguments_view args.now) n (body_view body) (row_view row)) }
 {
+    let out = list_output(alloc, context, t, n, args)?;
     let rows = object_rows(alloc, context, t, n, args, body, row)?;
-    let order = list_orders(alloc, context, t, n, args)?;
-    let out = array_output(alloc, n, order)?;
     fold(alloc, out, rows, n)
 }

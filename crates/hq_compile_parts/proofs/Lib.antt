@@ -1,1 +1,2 @@
-pub mod SortLists
+pub mod Members
+mod Remotes

@@ -1,4 +1,2 @@
 pub mod Contexts
 pub mod Unmasked
-pub mod RowSorts
-pub mod SortSteps

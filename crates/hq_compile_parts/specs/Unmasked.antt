@@ -4,7 +4,6 @@ use Rattle.hq_terms.specs.Bexp.{BexpTree, BexpTrees}
 use Rattle.hq_terms.specs.Schema.{Schema, table}
 use Rattle.hq_sql_tree.specs.Tree as tree
 use Rattle.hq_sql_tree.specs.Tree.{FilterTree, JoinTree, OutTree, PredTree, SelectTree}
-use Rattle.hq_compiled.specs.Conditions.{with_member, where_of}
 use Rattle.hq_compiled.specs.Looks.{own_look}
 use Rattle.hq_compiled.specs.Names.{table_alias, unit_name}
 use Rattle.hq_compiled.specs.Predicates.{Mode, predicate, predicates}
@@ -24,10 +23,6 @@ unmasked more guard s = record {
 abbrev pub exists_where : Schema → (u n : ℕ) → FilterTree → PredTree
 exists_where s u n condition =
     tree.exists (tree.rows [] (record { value = tree.bool true; name = unit_name } ∷ []) (tree.table (table s u).schema (table s u).name (table_alias n)) tree.no_join condition [] None None)
-
--- the same of one that is linked and meets two conditions
-abbrev pub some_row : Schema → (u n : ℕ) → (link guard inner : PredTree) → PredTree
-some_row s u n link guard inner = exists_where s u n (where_of (with_member link (with_member guard (with_member inner []))))
 
 -- the first row of table t, at the alias of number n, that meets a filter, in the order of the table's key
 abbrev pub first_row : Schema → (t n : ℕ) → List OutTree → List JoinTree → FilterTree → SelectTree

@@ -32,7 +32,7 @@ pub fn is_text(columns: &[Column], column: ColId) -> bool
 }
 
 /// A column of a table's rows at the alias of this number, with COLLATE "C" or without.
-pub(crate) fn column_at(
+pub fn column_at(
     alloc: Global,
     columns: &[Column],
     number: u64,
@@ -76,7 +76,7 @@ pub fn compared_column(
 }
 
 /// The value that the join of this number gives, with COLLATE "C" or without.
-pub(crate) fn value_at(alloc: Global, number: u64, collate: bool) -> Result<Expr, Memory>
+pub fn value_at(alloc: Global, number: u64, collate: bool) -> Result<Expr, Memory>
     ensures { IfOk result (λ e. expr_view e ≡ tree.column (value_place number).alias (value_place number).name collate) }
 {
     let alias = join_alias(alloc, number)?;

@@ -1,5 +1,5 @@
 //! Conditions: literals, lists of conditions in one, WHERE, and tests of one column.
-ghost use Rattle.std.specs.Prelude.{◌≡◌, ◌++◌, [], IfOk, OnOk, map, not, cond};
+ghost use Rattle.std.specs.Prelude.{◌≡◌, ◌++◌, [], IfOk, map, not, cond};
 ghost use Rattle.hq_sql_tree.specs.Tree as tree;
 ghost use Rattle.hq_sql_tree.specs.View.{expr_view, pred_view, filter_view};
 ghost use Rattle.hq_compiled.specs.Conditions.{literal, operand_literal, joined_by_and, joined_by_or, with_member, where_of, negation_if, within_list};
@@ -69,43 +69,34 @@ pub(crate) fn joined_by_or(mut preds: PredList) -> Pred
     }
 }
 
-// One more member of a WHERE, which is left out where it is TRUE.
-fn push_member(preds: &mut PredList, pred: Pred) -> Result<(), Memory>
-    ensures { OnOk result (map pred_view preds.new.items ≡ map pred_view preds.old.items ++ with_member (pred_view pred) []) }
+/// The members of a WHERE and one more, which is left out where it is TRUE.
+pub fn with_member(mut members: PredList, pred: Pred) -> Result<PredList, Memory>
+    ensures { IfOk result (λ all. map pred_view all.items ≡ map pred_view members.items ++ with_member (pred_view pred) []) }
 {
     match pred {
-        Pred::True => Ok(()),
+        Pred::True => Ok(members),
         pred => {
-            preds.push(pred)?;
-            Ok(())
+            members.push(pred)?;
+            Ok(members)
         }
     }
 }
 
-// WHERE of these members; absent where there is none.
-fn where_of(preds: PredList) -> Option<Pred>
-    ensures { filter_view result ≡ where_of (map pred_view preds.items) }
+/// A WHERE's first member, which is left out where it is TRUE.
+pub(crate) fn first_member(alloc: Global, pred: Pred) -> Result<PredList, Memory>
+    ensures { IfOk result (λ all. map pred_view all.items ≡ with_member (pred_view pred) []) }
 {
-    if preds.is_empty() {
-        return None;
-    }
-    Some(joined_by_and(preds))
+    with_member(Vec::new(alloc), pred)
 }
 
-/// WHERE of three members, each of which is left out where it is TRUE.
-pub fn conjunction(
-    alloc: Global,
-    first: Pred,
-    second: Pred,
-    third: Pred,
-) -> Result<Option<Pred>, Memory>
-    ensures { IfOk result (λ filter. filter_view filter ≡ where_of (with_member (pred_view first) (with_member (pred_view second) (with_member (pred_view third) [])))) }
+/// WHERE of these members; absent where there is none.
+pub fn where_of(members: PredList) -> Option<Pred>
+    ensures { filter_view result ≡ where_of (map pred_view members.items) }
 {
-    let mut preds = Vec::new(alloc);
-    push_member(&mut preds, first)?;
-    push_member(&mut preds, second)?;
-    push_member(&mut preds, third)?;
-    Ok(where_of(preds))
+    if members.is_empty() {
+        return None;
+    }
+    Some(joined_by_and(members))
 }
 
 /// NOT of a condition.

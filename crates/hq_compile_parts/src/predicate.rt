@@ -1,17 +1,22 @@
 //! Boolean expressions as conditions.
-ghost use Rattle.std.specs.Prelude.{◌≡◌, ◌+◌, IfOk, OnOk, map};
+ghost use Rattle.std.specs.Prelude.{◌≡◌, ◌+◌, ◌++◌, [], IfOk, OnOk, map};
+ghost use Rattle.hq_terms.specs.Schema.{rel};
 ghost use Rattle.hq_terms.specs.Bexp.{bexp_view, bexps_of, through};
 ghost use Rattle.hq_sql_tree.specs.Tree as tree;
 ghost use Rattle.hq_sql_tree.specs.View.{pred_view};
-ghost use Rattle.hq_compiled.specs.Predicates.{numbers, numbers_all};
+ghost use Rattle.hq_compiled.specs.Conditions.{with_member, where_of};
+ghost use Rattle.hq_compiled.specs.Predicates.{link, numbers, numbers_all};
 ghost use Rattle.hq_compiled.specs.Masks.{filter_numbers, filter_predicate, where_mode};
 ghost use Rattle.hq_compile_parts.specs.Contexts.{context_schema, context_rights};
-ghost use Rattle.hq_compile_parts.specs.Unmasked.{unmasked, own_predicate, own_predicates};
+ghost use Rattle.hq_compile_parts.specs.Unmasked.{unmasked, exists_where, own_predicate, own_predicates};
 
-use crate::condition::{comparison, is_null, joined_by_and, joined_by_or, like, negation, within};
+use crate::condition::{
+    comparison, first_member, is_null, joined_by_and, joined_by_or, like, negation, with_member,
+    within,
+};
 use crate::context::Context;
 use crate::names::take_number;
-use crate::table::{link, some_row};
+use crate::table::{exists_where, link};
 use hq_base::Memory;
 use hq_sql_tree::{Pred, PredList};
 use hq_terms::{Bexp, BexpList, RelId, TableId};
@@ -164,10 +169,46 @@ fn remote_row<C: Counted>(
 {
     let n = take_number(next)?;
     let remote = context.remote(t, r);
-    let link = link(alloc, context, t, r, p, n)?;
-    let guard = counted.condition(alloc, context, remote, n, next)?;
+    let members = remote_members(alloc, context, counted, t, p, r, n, next)?;
     let inner = predicate(alloc, context, counted, remote, n, inner, next)?;
-    some_row(alloc, context, remote, n, link, guard, inner)
+    remote_exists(alloc, context, remote, n, members, inner)
+}
+
+// What a remote row at the alias of number n meets beside the inner expression: the link, and that it counts.
+fn remote_members<C: Counted>(
+    alloc: Global,
+    context: &Context,
+    counted: &C,
+    t: TableId,
+    p: u64,
+    r: RelId,
+    n: u64,
+    next: &mut u64,
+) -> Result<PredList, Memory>
+    ensures members { let s = context_schema context.now in let g = context_rights context.now in
+        IfOk result (λ all. map pred_view all.items ≡ with_member (link s t (rel s t r) p n) (with_member (C.guard s g (rel s t r).remote n next.old) [])) }
+    ensures numbers { let s = context_schema context.now in OnOk result (next.new ≡ next.old + C.more s (context_rights context.now) (rel s t r).remote) }
+{
+    let link = link(alloc, context, t, r, p, n)?;
+    let members = first_member(alloc, link)?;
+    let guard = counted.condition(alloc, context, context.remote(t, r), n, next)?;
+    with_member(members, guard)
+}
+
+// Whether table u has a row at the alias of number n that meets these members and one more.
+fn remote_exists(
+    alloc: Global,
+    context: &Context,
+    u: TableId,
+    n: u64,
+    members: PredList,
+    inner: Pred,
+) -> Result<Pred, Memory>
+    ensures { IfOk result (λ pred. pred_view pred ≡
+        exists_where (context_schema context.now) u n (where_of (map pred_view members.items ++ with_member (pred_view inner) []))) }
+{
+    let members = with_member(members, inner)?;
+    exists_where(alloc, context, u, n, members)
 }
 
 #[cycle(predicate)]
@@ -207,6 +248,24 @@ pub fn filter_predicate(
         Some(granted) => predicate(alloc, context, &AllRows, t, number, &granted.filter, next),
         None => negation(alloc, Pred::True),
     }
+}
+
+/// The members of a WHERE that each row of a table meets, at the alias of this number: its tie to what stands around, and the table's filter.
+pub fn row_members(
+    alloc: Global,
+    context: &Context,
+    t: TableId,
+    number: u64,
+    tie: Pred,
+    next: &mut u64,
+) -> Result<PredList, Memory>
+    ensures members { let s = context_schema context.now in let g = context_rights context.now in
+        IfOk result (λ all. map pred_view all.items ≡ with_member (pred_view tie) (with_member (filter_predicate s g t number next.old) [])) }
+    ensures numbers { OnOk result (next.new ≡ next.old + filter_numbers (context_schema context.now) (context_rights context.now) t) }
+{
+    let members = first_member(alloc, tie)?;
+    let filter = filter_predicate(alloc, context, t, number, next)?;
+    with_member(members, filter)
 }
 
 /// The `where` of a list of rows of a table at the alias of this number: the permitted remote rows count.

@@ -7,14 +7,14 @@ ghost use Rattle.hq_sql_tree.specs.View.{expr_view, order_view, out_view, select
 ghost use Rattle.hq_compiled.specs.Looks.{own_look, compared_at};
 ghost use Rattle.hq_compiled.specs.Masks.{value_output};
 ghost use Rattle.hq_compiled.specs.Names.{table_alias, join_alias, unit_name};
-ghost use Rattle.hq_compiled.specs.Conditions.{with_member, where_of};
+ghost use Rattle.hq_compiled.specs.Conditions.{where_of};
 ghost use Rattle.hq_compiled.specs.Predicates.{link, link_members};
-ghost use Rattle.hq_compiled.specs.Selects.{key_orders, first_select};
+ghost use Rattle.hq_compiled.specs.Selects.{key_orders};
 ghost use Rattle.hq_compile_parts.specs.Contexts.{context_schema};
-ghost use Rattle.hq_compile_parts.specs.Unmasked.{exists_where, some_row, first_row};
+ghost use Rattle.hq_compile_parts.specs.Unmasked.{exists_where, first_row};
 
 use crate::columns::compared_column;
-use crate::condition::{conjunction, joined_by_and};
+use crate::condition::{joined_by_and, where_of};
 use crate::context::Context;
 use crate::names::{join_alias, table_alias, unit_name, value_name};
 use hq_base::{Memory, Txt};
@@ -187,35 +187,19 @@ fn exists(alloc: Global, select: Select) -> Result<Pred, Memory>
     Ok(Pred::Exists(Box::new(alloc, select)?))
 }
 
-// Whether table u has a row, at the alias of number n, that meets a condition.
-fn exists_where(
+/// Whether table u has a row, at the alias of number n, that meets these members of a WHERE.
+pub(crate) fn exists_where(
     alloc: Global,
     context: &Context,
     u: TableId,
     n: u64,
-    filter: Option<Pred>,
+    members: PredList,
 ) -> Result<Pred, Memory>
-    ensures { IfOk result (λ pred. pred_view pred ≡ exists_where (context_schema context.now) u n (filter_view filter)) }
+    ensures { IfOk result (λ pred. pred_view pred ≡ exists_where (context_schema context.now) u n (where_of (map pred_view members.items))) }
 {
-    let from = from_table(alloc, context, u, n)?;
     let outs = unit_output(alloc)?;
-    exists(alloc, unordered_rows(alloc, outs, from, filter))
-}
-
-/// Whether table u has a row, at the alias of number n, that is linked and meets two conditions.
-pub(crate) fn some_row(
-    alloc: Global,
-    context: &Context,
-    u: TableId,
-    n: u64,
-    link: Pred,
-    guard: Pred,
-    inner: Pred,
-) -> Result<Pred, Memory>
-    ensures { IfOk result (λ pred. pred_view pred ≡ some_row (context_schema context.now) u n (pred_view link) (pred_view guard) (pred_view inner)) }
-{
-    let filter = conjunction(alloc, link, guard, inner)?;
-    exists_where(alloc, context, u, n, filter)
+    let from = from_table(alloc, context, u, n)?;
+    exists(alloc, unordered_rows(alloc, outs, from, where_of(members)))
 }
 
 // The first one of rows in an order.
@@ -242,39 +226,54 @@ fn first_of(
     }
 }
 
-// The first row of table t, at the alias of number n, that meets a filter, in the order of the table's key.
-fn first_row(
+// A table's rows in the order of its key.
+#[derive(Drop)]
+struct KeyedRows {
+    from: From,
+    order: OrderList,
+}
+
+fn keyed_rows(alloc: Global, context: &Context, t: TableId, n: u64) -> Result<KeyedRows, Memory>
+    ensures from { let u = table (context_schema context.now) t in IfOk result (λ rows. from_view rows.from ≡ tree.table u.schema u.name (table_alias n)) }
+    ensures order { let u = table (context_schema context.now) t in IfOk result (λ rows. map order_view rows.order.items ≡ key_orders u.columns n u.key) }
+{
+    let order = key_orders(alloc, context.columns(t), n, context.key(t))?;
+    let from = from_table(alloc, context, t, n)?;
+    Ok(KeyedRows { from, order })
+}
+
+/// The first row of table t, at the alias of number n, that meets these members of a WHERE, in the order of the table's key.
+pub fn first_row(
     alloc: Global,
     context: &Context,
     t: TableId,
     n: u64,
+    members: PredList,
     outs: OutList,
     joins: JoinList,
-    filter: Option<Pred>,
 ) -> Result<Select, Memory>
-    ensures { IfOk result (λ select. select_view select ≡ first_row (context_schema context.now) t n (map out_view outs.items) (map join_view joins.items) (filter_view filter)) }
+    ensures { IfOk result (λ select. select_view select ≡
+        first_row (context_schema context.now) t n (map out_view outs.items) (map join_view joins.items) (where_of (map pred_view members.items))) }
 {
-    let from = from_table(alloc, context, t, n)?;
-    let order = key_orders(alloc, context.columns(t), n, context.key(t))?;
-    Ok(first_of(alloc, outs, from, joins, filter, order))
+    let rows = keyed_rows(alloc, context, t, n)?;
+    Ok(first_of(alloc, outs, rows.from, joins, where_of(members), rows.order))
 }
 
-/// A value at the first row of table t, at the alias of number n, that is tied to what stands around and meets a filter.
+/// A value at that first row.
 pub fn first_select(
     alloc: Global,
     context: &Context,
     t: TableId,
     n: u64,
-    tie: Pred,
-    filter: Pred,
+    members: PredList,
     value: Expr,
     joins: JoinList,
 ) -> Result<Select, Memory>
-    ensures { IfOk result (λ select. select_view select ≡ first_select (context_schema context.now) t n (pred_view tie) (pred_view filter) (expr_view value) (map join_view joins.items)) }
+    ensures { IfOk result (λ select. select_view select ≡
+        first_row (context_schema context.now) t n (value_output (expr_view value)) (map join_view joins.items) (where_of (map pred_view members.items))) }
 {
-    let filter = conjunction(alloc, tie, filter, Pred::True)?;
     let outs = value_output(alloc, value)?;
-    first_row(alloc, context, t, n, outs, joins, filter)
+    first_row(alloc, context, t, n, members, outs, joins)
 }
 
 /// The join of a select under the alias of this number.

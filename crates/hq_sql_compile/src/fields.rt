@@ -17,12 +17,13 @@ use hq_ask_tree::{AggFields, AggPart, AggParts, AskField, AskFields, KeyedAggPar
 use hq_base::{Memory, Txt};
 use hq_compile_lists::{
     FirstRow, ListStart, Row, empty_row, key_row, list_body, list_select, list_table, list_tie,
-    object, one_row, remote_row, summary_select,
+    no_row, object, one_row, remote_row,
 };
 use hq_compile_parts::{
-    Context, filter_predicate, first_select, one_join, own_column, take_number, value_column,
+    Context, first_select, one_join, own_column, row_members, take_number, value_column,
 };
-use hq_sql_tree::{Expr, ExprPair, ExprPairList, Join, JoinList, Pred};
+use hq_compile_summaries::summary_select;
+use hq_sql_tree::{Expr, ExprPair, ExprPairList, Join, JoinList};
 use hq_terms::TableId;
 use std::alloc::Global;
 
@@ -67,8 +68,7 @@ fn empty_join(alloc: Global, next: &mut u64) -> Result<Join, Memory>
     ensures numbers { OnOk result (next.new ≡ next.old + 1) }
 {
     let n = take_number(next)?;
-    let pairs = Vec::new(alloc);
-    let select = one_row(alloc, n, object(pairs), Vec::new(alloc), Some(Pred::False))?;
+    let select = no_row(alloc, n)?;
     one_join(alloc, select, n)
 }
 
@@ -199,11 +199,11 @@ fn first_join(
         OnOk result (next.new ≡ behind_filter s g first.table [] first.number + fields_numbers (fields_view fields.now.items) s g first.table) }
 {
     let FirstRow { table, number, tie } = first;
-    let filter = filter_predicate(alloc, context, table, number, next)?;
+    let members = row_members(alloc, context, table, number, tie, next)?;
     let mut row = empty_row(alloc);
     push_fields(alloc, context, table, number, fields, next, &mut row)?;
     let value = object(row.pairs);
-    let select = first_select(alloc, context, table, number, tie, filter, value, row.joins)?;
+    let select = first_select(alloc, context, table, number, members, value, row.joins)?;
     one_join(alloc, select, number)
 }
 
@@ -248,7 +248,7 @@ fn parts_join(
     let n = take_number(next)?;
     let mut row = empty_row(alloc);
     push_parts(alloc, context, start, parts, next, &mut row)?;
-    let select = one_row(alloc, n, object(row.pairs), row.joins, None)?;
+    let select = one_row(alloc, n, object(row.pairs), row.joins)?;
     one_join(alloc, select, n)
 }
 
@@ -352,9 +352,8 @@ fn summary_join(
 {
     let n = take_number(next)?;
     let table = list_table(context, start);
-    let tie = list_tie(alloc, context, start, n)?;
     let fields = fields.as_slice();
-    let select = summary_select(alloc, context, table, n, tie, start.args, fields, next)?;
+    let select = summary_select(alloc, context, start, table, n, fields, next)?;
     one_join(alloc, select, n)
 }
 

@@ -52,7 +52,7 @@ fn statement(
     let mut next = 1;
     let row = root_row(alloc, context, root, fields, &mut next)?;
     has_64_bits(next);
-    one_row(alloc, 0, object(row.pairs), row.joins, None)
+    one_row(alloc, 0, object(row.pairs), row.joins)
 }
 
 // The statement of a request, whose texts and numbers a tree can hold.

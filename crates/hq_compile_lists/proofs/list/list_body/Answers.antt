@@ -16,4 +16,4 @@ returns-clause-body c =
     body_of s (context_rights c.args.context.now) c.args.t n _ (arguments_view c.args.args.now) (pred_view c.args.tie) _ _ _
     (c.in_ok-distinct.ensures ∙ ap (λ (columns : List Column). distinct_columns columns (own_look columns n) c.as_slice.result.now) c.columns.ensures
     ∙ ap (distinct_columns (table s c.args.t).columns (own_look (table s c.args.t).columns n)) c.as_slice.ensures)
-    c.in_ok-filter.ensures.condition c.in_ok-sorts.ensures.parts c.in_ok-filter.ensures.numbers
+    c.in_ok-members.ensures.members c.in_ok-sorts.ensures.parts c.in_ok-members.ensures.numbers

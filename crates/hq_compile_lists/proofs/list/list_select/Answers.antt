@@ -9,5 +9,5 @@ pub returns : goal.returns
 returns c =
     IfOk-weaker c.fold.result _ _
     (λ select is. list_of (context_schema c.args.context.now) (context_rights c.args.context.now) c.args.t c.args.n (arguments_view c.args.args.now) (body_view c.args.body) (row_view c.args.row)
-    _ _ _ _ is c.in_ok-out.ensures c.in_ok-order.ensures c.in_ok-rows.ensures)
+    _ _ _ is c.in_ok-out.ensures c.in_ok-rows.ensures)
     c.fold.ensures

@@ -1,12 +1,12 @@
-use Rattle.std.proofs.Common.{◌∙◌, List, [], ◌∷◌, ap}
+use Rattle.std.proofs.Common.{◌∙◌, List, [], ◌∷◌, ap, refl}
 use Rattle.std.proofs.lemmas.Result.{IfOk-weaker}
 use Rattle.hq_ask_tree.specs.Arguments.{arguments_view}
 use Rattle.hq_ask_tree.specs.declared.aggregate.KeyedAggField.{KeyedAggField}
 use Rattle.hq_sql_tree.specs.Tree.{JoinTree}
-use Rattle.hq_sql_tree.specs.View.{pred_view, select_view}
+use Rattle.hq_sql_tree.specs.View.{select_view}
 use Rattle.hq_compile_parts.specs.Contexts.{context_schema, context_rights}
-use Rattle.hq_compile_lists.specs.Bodies.{summary_tree}
-use Rattle.hq_compile_lists.specs.Starts.{start_origin}
+use Rattle.hq_compile_lists.specs.Starts.{start_origin, start_tie}
+use Rattle.hq_compile_summaries.specs.SummaryTrees.{summary_tree}
 use Rattle.hq_sql_compile.proofs.ListJoins.{summary_join}
 use Rattle.hq_sql_compile.proofs.fields.summary_join.Goals as goal
 
@@ -19,11 +19,11 @@ returns-clause-join c =
     let a = arguments_view l.args.now in
     let u = c.list_table-table.result in
     let n = c.in_ok-n.n in
-    let tie = pred_view c.in_ok-tie.tie in
+    let tie = start_tie s l n in
     let select = c.in_ok-select.ensures.select ∙ ap (λ (fs : List KeyedAggField). summary_tree fs s g u a n tie) c.as_slice-fields.ensures in
     IfOk-weaker c.one_join.result _ _
     (λ join is. ap (λ (j : JoinTree). j ∷ []) is
     ∙ summary_join s g (start_origin l) a c.args.fields.now l.row_table l.row_number
     u n c.args.next.now tie (select_view c.in_ok-select.select)
-    c.list_table-table.ensures c.in_ok-n.ensures.taken c.in_ok-tie.ensures select)
+    c.list_table-table.ensures c.in_ok-n.ensures.taken refl select)
     c.one_join.ensures

@@ -1,0 +1,2 @@
+pub mod RowSorts
+pub mod SortSteps
