@@ -8,6 +8,7 @@ use hq_gql_tree::{Document, Fault};
 use hq_meta_read::read_meta;
 use hq_role_schema::derive;
 use hq_rules_doc::first_doc_fault;
+use hq_rules_fields::first_field_fault;
 use hq_schema::Schema;
 use hq_terms::{Role, Session, VarList};
 use std::alloc::Global;
@@ -45,14 +46,25 @@ fn push_fault(fault: &Fault, out: &mut String) -> Result<(), Stop> {
     }
 }
 
-/// The first rule of documents that a text violates, and its place.
-pub fn of_document(alloc: Global, case: &Case) -> Result<String, Stop> {
-    let schema = schema_of(alloc, case)?;
-    let document = document_of(alloc, &case.bytes(alloc, "in")?)?;
+fn told(alloc: Global, fault: Option<Fault>) -> Result<String, Stop> {
     let mut out = String::new(alloc);
-    match first_doc_fault(alloc, &document, &schema)? {
+    match fault {
         Some(fault) => push_fault(&fault, &mut out)?,
         None => out.push_str("none")?,
     }
     Ok(out)
+}
+
+/// The first rule of documents that a text violates, and its place.
+pub fn of_document(alloc: Global, case: &Case) -> Result<String, Stop> {
+    let schema = schema_of(alloc, case)?;
+    let document = document_of(alloc, &case.bytes(alloc, "in")?)?;
+    told(alloc, first_doc_fault(alloc, &document, &schema)?)
+}
+
+/// The first rule of fields, arguments and values that a text violates, and its place.
+pub fn of_fields(alloc: Global, case: &Case) -> Result<String, Stop> {
+    let schema = schema_of(alloc, case)?;
+    let document = document_of(alloc, &case.bytes(alloc, "in")?)?;
+    told(alloc, first_field_fault(alloc, &document, &schema)?)
 }
