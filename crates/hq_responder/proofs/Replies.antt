@@ -44,7 +44,7 @@ module _ (tables : List Table) (meta : MetaTree) (session : Session) (database :
   answered_is (Err request.Memory) reply status built fault told = absurd cc
 
 module _ (engine : Engine) (session : Session) (database : Option (List (List Row))) (body : List ℕ) (reply : Reply) (status : reply.status ≡ 200) (built : is_answered (engine_request engine session body) ≡ true)
-  (fault : IfSome (engine_fault engine session body) (λ f. reply.body ≡ fault_text f)) where
+    (fault : IfSome (engine_fault engine session body) (λ f. reply.body ≡ fault_text f)) where
   -- the same over another database
   answered_over : (d : List (List Row)) → engine_reply engine session d body ≡ Some reply.body → is_due engine.catalog.tables (meta_view engine.meta) session (Some d) body reply
   answered_over d told = answered_is engine.catalog.tables (meta_view engine.meta) session (Some d) (engine_request engine session body) reply status built fault told
