@@ -1,0 +1,195 @@
+//! Typed requests in words: tables are `t` with their place, columns `c`, relationships `r`; names of types stand in quotes.
+
+use crate::arguments::push_args;
+use crate::printer::push_bexp;
+use hq_ask_tree::{
+    AggCol, AggField, AggPart, AggParts, Ask, AskField, AskFields, Bound, IntroField, IntroFields,
+    KeyedAggCol, KeyedAggField,
+};
+use hq_base::{Txt, Val};
+use hq_case::{Stop, push_value};
+use hq_terms::{ColId, RelId, TableId};
+
+// What stands before the member at a place.
+fn before(at: usize) -> &'static str {
+    if at == 0 { "" } else { ", " }
+}
+
+// The key of the field at a place.
+fn push_key(at: usize, key: &Txt, out: &mut String) -> Result<(), Stop> {
+    Ok(write!(out, "{}{}: ", before(at), key.as_str())?)
+}
+
+fn push_type(name: &Txt, out: &mut String) -> Result<(), Stop> {
+    Ok(write!(out, "'{}'", name.as_str())?)
+}
+
+fn push_count(col: Option<ColId>, distinct: bool, out: &mut String) -> Result<(), Stop> {
+    out.push_str(if distinct { "count distinct" } else { "count" })?;
+    match col {
+        Some(col) => Ok(write!(out, " c{}", col.at())?),
+        None => Ok(()),
+    }
+}
+
+fn push_taken(word: &str, taken: &[KeyedAggCol], out: &mut String) -> Result<(), Stop> {
+    write!(out, "{word} {{")?;
+    for (at, one) in taken.iter().enumerate() {
+        push_key(at, &one.key, out)?;
+        match &one.field {
+            AggCol::Column { col } => write!(out, "c{}", col.at())?,
+            AggCol::Typename { name } => push_type(name, out)?,
+        }
+    }
+    Ok(out.push_str("}")?)
+}
+
+fn push_summary(field: &AggField, out: &mut String) -> Result<(), Stop> {
+    match field {
+        AggField::Count { col, distinct } => push_count(*col, *distinct, out),
+        AggField::Sum(taken) => push_taken("sum", taken.as_slice(), out),
+        AggField::Min(taken) => push_taken("min", taken.as_slice(), out),
+        AggField::Max(taken) => push_taken("max", taken.as_slice(), out),
+        AggField::Typename { name } => push_type(name, out),
+    }
+}
+
+fn push_summaries(fields: &[KeyedAggField], out: &mut String) -> Result<(), Stop> {
+    out.push_str("of {")?;
+    for (at, one) in fields.iter().enumerate() {
+        push_key(at, &one.key, out)?;
+        push_summary(&one.field, out)?;
+    }
+    Ok(out.push_str("}")?)
+}
+
+// The name of a field of introspection, with its arguments.
+fn push_look_head(field: &IntroField, out: &mut String) -> Result<(), Stop> {
+    out.push_str(field.name.as_str())?;
+    if let Some(name) = &field.type_name {
+        write!(out, " '{}'", name.as_str())?;
+    }
+    Ok(out.push_str(if field.deprecated { " deprecated" } else { "" })?)
+}
+
+#[cycle(look)]
+fn push_look(field: &IntroField, out: &mut String) -> Result<(), Stop> {
+    push_look_head(field, out)?;
+    if field.fields.is_empty() {
+        return Ok(());
+    }
+    push_looks(&field.fields, out)
+}
+
+#[cycle(look)]
+fn push_looks(fields: &IntroFields, out: &mut String) -> Result<(), Stop> {
+    out.push_str(" {")?;
+    for (at, one) in fields.iter().enumerate() {
+        push_key(at, &one.key, out)?;
+        push_look(&one.field, out)?;
+    }
+    Ok(out.push_str("}")?)
+}
+
+// The rows of a list: the relationship, if there is one, and the table.
+fn push_rows(table: TableId, rel: Option<RelId>, out: &mut String) -> Result<(), Stop> {
+    match rel {
+        Some(rel) => Ok(write!(out, "r{} t{}", rel.at(), table.at())?),
+        None => Ok(write!(out, "t{}", table.at())?),
+    }
+}
+
+fn push_values(values: &[Val], out: &mut String) -> Result<(), Stop> {
+    for (at, value) in values.iter().enumerate() {
+        out.push_str(before(at))?;
+        push_value(value, out)?;
+    }
+    Ok(())
+}
+
+#[cycle(ask)]
+fn push_field(field: &AskField, out: &mut String) -> Result<(), Stop> {
+    match field {
+        AskField::Column { col } => Ok(write!(out, "c{}", col.at())?),
+        AskField::Typename { name } => push_type(name, out),
+        AskField::NoQueries => Ok(out.push_str("no queries")?),
+        AskField::Object { rel, fields } => {
+            write!(out, "r{} ", rel.at())?;
+            push_fields(fields, out)
+        }
+        AskField::List {
+            table,
+            rel,
+            args,
+            fields,
+        } => {
+            push_rows(*table, *rel, out)?;
+            push_args(args, out)?;
+            out.push_str(" ")?;
+            push_fields(fields, out)
+        }
+        AskField::ByPk { table, key, fields } => {
+            write!(out, "t{} key ", table.at())?;
+            push_values(key.as_slice(), out)?;
+            out.push_str(" ")?;
+            push_fields(fields, out)
+        }
+        AskField::Aggregate {
+            table,
+            rel,
+            args,
+            parts,
+        } => {
+            push_rows(*table, *rel, out)?;
+            push_args(args, out)?;
+            push_parts(parts, out)
+        }
+        AskField::Introspect { field } => push_look(field, out),
+    }
+}
+
+#[cycle(ask)]
+fn push_fields(fields: &AskFields, out: &mut String) -> Result<(), Stop> {
+    out.push_str("{")?;
+    for (at, one) in fields.iter().enumerate() {
+        push_key(at, &one.key, out)?;
+        push_field(&one.field, out)?;
+    }
+    Ok(out.push_str("}")?)
+}
+
+#[cycle(ask)]
+fn push_part(part: &AggPart, out: &mut String) -> Result<(), Stop> {
+    match part {
+        AggPart::Fields(fields) => push_summaries(fields.as_slice(), out),
+        AggPart::Nodes(fields) => {
+            out.push_str("nodes ")?;
+            push_fields(fields, out)
+        }
+        AggPart::Typename { name } => push_type(name, out),
+    }
+}
+
+#[cycle(ask)]
+fn push_parts(parts: &AggParts, out: &mut String) -> Result<(), Stop> {
+    out.push_str(" aggregate {")?;
+    for (at, one) in parts.iter().enumerate() {
+        push_key(at, &one.key, out)?;
+        push_part(&one.part, out)?;
+    }
+    Ok(out.push_str("}")?)
+}
+
+fn push_bound(bound: &[Bound], out: &mut String) -> Result<(), Stop> {
+    for one in bound {
+        write!(out, "; t{} where ", one.table.at())?;
+        push_bexp(&one.filter, out)?;
+    }
+    Ok(())
+}
+
+/// Adds a typed request: its fields, and each touched table with its bound filter.
+pub fn push_ask(ask: &Ask, out: &mut String) -> Result<(), Stop> {
+    push_fields(&ask.fields, out)?;
+    push_bound(ask.bound.as_slice(), out)
+}

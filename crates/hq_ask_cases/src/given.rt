@@ -1,0 +1,90 @@
+//! Documents, schemas and variables that cases name.
+
+use hq_base::{Bytes, Json, Txt};
+use hq_case::{Case, Stop};
+use hq_coerce::CoerceRefusal;
+use hq_gql_lexer::lex;
+use hq_gql_parser::parse;
+use hq_gql_tree::{Document, Fault};
+use hq_meta_read::read_meta;
+use hq_role_schema::derive;
+use hq_schema::Schema;
+use hq_terms::{Catalog, Meta, Role, Session};
+use std::alloc::Global;
+
+/// The metadata over a catalog that the value of the member `metadata` writes.
+pub fn given_meta(alloc: Global, case: &Case, catalog: &Catalog) -> Result<Meta, Stop> {
+    let bytes = case.json_text(alloc, "metadata")?;
+    match read_meta(alloc, bytes.as_slice(), catalog) {
+        Ok(meta) => Ok(meta),
+        Err(_) => Err(Stop::Shape),
+    }
+}
+
+/// The schema of the role of a session.
+pub fn schema_of(
+    alloc: Global,
+    catalog: &Catalog,
+    meta: &Meta,
+    session: &Session,
+) -> Result<Schema, Stop> {
+    Ok(derive(alloc, catalog, meta, &Role::of(alloc, session)?)?)
+}
+
+// The document that a text spells.
+fn document_of(alloc: Global, text: &Bytes) -> Result<Document, Stop> {
+    let Ok(tokens) = lex(alloc, text.as_slice()) else {
+        return Err(Stop::Shape);
+    };
+    match parse(alloc, &tokens, text.len() as u64) {
+        Ok(document) => Ok(document),
+        Err(_) => Err(Stop::Shape),
+    }
+}
+
+/// The document that the member `in` writes.
+pub fn given_document(alloc: Global, case: &Case) -> Result<Document, Stop> {
+    document_of(alloc, &case.bytes(alloc, "in")?)
+}
+
+/// The name of an operation that the member `operation` writes, if it is there.
+pub fn given_name(alloc: Global, case: &Case) -> Result<Option<Txt>, Stop> {
+    match case.find("operation") {
+        Some(_) => Ok(Some(case.text(alloc, "operation")?)),
+        None => Ok(None),
+    }
+}
+
+/// The variables that the member `variables` writes, if it is there.
+pub fn given_variables(alloc: Global, case: &Case) -> Result<Option<Json>, Stop> {
+    match case.find("variables") {
+        Some(_) => {
+            let bytes = case.bytes(alloc, "variables")?;
+            Ok(Some(Json::from_body(alloc, bytes.as_slice())?))
+        }
+        None => Ok(None),
+    }
+}
+
+/// Adds a fault: its rule, its place, and for a session variable its name and what it should be.
+pub fn push_fault(fault: &Fault, out: &mut String) -> Result<(), Stop> {
+    out.push_str(fault.rule.text())?;
+    if let Some(at) = fault.at {
+        write!(out, " at {at}")?;
+    }
+    if let Some(name) = &fault.name {
+        write!(out, " {}", name.as_str())?;
+    }
+    match fault.want {
+        Some(want) => Ok(write!(out, " {want:?}")?),
+        None => Ok(()),
+    }
+}
+
+/// Adds a refusal.
+pub fn push_refusal(refusal: &CoerceRefusal, out: &mut String) -> Result<(), Stop> {
+    match refusal {
+        CoerceRefusal::Fault(fault) => push_fault(fault, out),
+        CoerceRefusal::Memory => Ok(out.push_str("Memory")?),
+    }
+}
