@@ -1,7 +1,8 @@
-//! Runs the cases of `data/` about the words of a run, who the caller is, and connections.
+//! Runs the cases of `data/` about the words of a run, who the caller is, and connections, of links in memory and of sockets.
 #![tactic(auto)]
 
 mod connections;
+mod loopback;
 mod replies;
 mod secrets;
 mod subject;

@@ -1,4 +1,4 @@
-use crate::{connections, secrets, words};
+use crate::{connections, loopback, secrets, words};
 use hq_case::{Case, Stop, Subject};
 
 /// What cases are about: a file of `data/`, and the public calls that its cases go through.
@@ -7,11 +7,17 @@ pub enum About {
     Words,
     Secrets,
     Connections,
+    Loopback,
 }
 
 impl About {
     /// Each subject, in the order of its line.
-    pub const ALL: [About; 3] = [About::Words, About::Secrets, About::Connections];
+    pub const ALL: [About; 4] = [
+        About::Words,
+        About::Secrets,
+        About::Connections,
+        About::Loopback,
+    ];
 }
 
 impl Subject for About {
@@ -20,6 +26,7 @@ impl Subject for About {
             About::Words => "words",
             About::Secrets => "secrets",
             About::Connections => "connections",
+            About::Loopback => "loopback",
         }
     }
 
@@ -29,6 +36,7 @@ impl Subject for About {
             About::Words => words::command(alloc, case),
             About::Secrets => secrets::caller(alloc, case),
             About::Connections => connections::connection(alloc, case),
+            About::Loopback => loopback::connections(rt, case),
         }
     }
 }

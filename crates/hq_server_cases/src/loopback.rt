@@ -1,0 +1,78 @@
+//! Connections of this machine's own network: each peer connects and writes before any of them is served.
+
+use crate::replies::Replies;
+use hq_base::Bytes;
+use hq_case::{Case, Stop, push_bytes};
+use hq_http::serve_connection;
+use hq_outside::Door;
+use hq_system::TcpDoor;
+use std::alloc::Global;
+use std::io;
+use std::io::{Read, Write};
+use std::net::{Net, OpenStream, Shutdown, TcpStream};
+
+// A peer that has connected to a port, and has written all that it writes.
+fn peer<R: Net>(rt: &R, port: u16, bytes: &[u8]) -> io::Result<R::Stream> {
+    let mut stream = TcpStream::connect(rt, ("127.0.0.1", port))?;
+    stream.write_all(bytes)?;
+    stream.shutdown(Shutdown::Write)?;
+    Ok(stream)
+}
+
+// The peers that write what the elements of the member `in` write.
+fn peers<R: Net>(rt: &R, alloc: Global, case: &Case, port: u16) -> Result<Vec<R::Stream>, Stop> {
+    let mut peers = Vec::new(alloc);
+    for text in case.texts(alloc, "in")?.iter() {
+        let Ok(peer) = peer(rt, port, text.as_bytes()) else {
+            return Err(Stop::Unread);
+        };
+        peers.push(peer)?;
+    }
+    Ok(peers)
+}
+
+// Serves so many connections. Adds how each ends.
+fn serve<D: Door>(
+    alloc: Global,
+    door: &mut D,
+    replies: &mut Replies,
+    count: usize,
+    out: &mut String,
+) -> Result<(), Stop> {
+    for _ in 0..count {
+        if door.accept().is_err() {
+            return Err(Stop::Unread);
+        }
+        let end = serve_connection(alloc, door.link(), replies);
+        write!(out, "{end:?}; ")?;
+    }
+    Ok(())
+}
+
+// What a peer gets.
+fn push_reply<S: Read>(alloc: Global, peer: &mut S, out: &mut String) -> Result<(), Stop> {
+    let mut bytes = Vec::new(alloc);
+    if peer.read_to_end(&mut bytes).is_err() {
+        return Err(Stop::Unread);
+    }
+    push_bytes(alloc, &bytes, out)
+}
+
+/// How the connections end, and what each peer gets.
+pub fn connections(rt: &HostRuntime, case: &Case) -> Result<String, Stop> {
+    let alloc = rt.alloc();
+    let mut replies = Replies::given(alloc, case)?;
+    let mut out = String::new(alloc);
+    let mut door = TcpDoor::new(*rt);
+    let (Ok(()), Some(port)) = (door.listen(0), door.port()) else {
+        return Err(Stop::Unread);
+    };
+    let mut peers = peers(rt, alloc, case, port)?;
+    serve(alloc, &mut door, &mut replies, peers.len(), &mut out)?;
+    drop(door);
+    for peer in &mut peers {
+        out.push_str("| ")?;
+        push_reply(alloc, peer, &mut out)?;
+    }
+    Ok(out)
+}
