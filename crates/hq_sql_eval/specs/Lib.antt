@@ -6,3 +6,4 @@ pub mod Keys
 pub mod Weight
 pub mod Equations
 pub mod Positions
+pub mod Known

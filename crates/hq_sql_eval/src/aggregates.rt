@@ -20,7 +20,7 @@ use std::alloc::Global;
 pub fn taken<'d>(
     alloc: Global,
     agg: &'d Agg,
-    world: &'d Pinned<'d>,
+    world: &Pinned<'d>,
     alias: &'d Txt,
     rows: &[Made<'d>],
     scope: &Scope<'_, 'd>,
@@ -51,7 +51,7 @@ pub fn taken<'d>(
 fn each_value<'d>(
     alloc: Global,
     expr: &'d Expr,
-    world: &'d Pinned<'d>,
+    world: &Pinned<'d>,
     alias: &'d Txt,
     rows: &[Made<'d>],
     scope: &Scope<'_, 'd>,
@@ -76,7 +76,7 @@ fn each_json<'d>(
     alloc: Global,
     expr: &'d Expr,
     order: &'d OrderList,
-    world: &'d Pinned<'d>,
+    world: &Pinned<'d>,
     alias: &'d Txt,
     rows: &[Made<'d>],
     scope: &Scope<'_, 'd>,

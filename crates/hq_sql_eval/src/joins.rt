@@ -27,7 +27,7 @@ pub fn gather<'d>(
     joins: &'d [Join],
     stages: &[Stage],
     filter: &'d Option<Pred>,
-    world: &'d Pinned<'d>,
+    world: &Pinned<'d>,
     scope: &Scope<'_, 'd>,
 ) -> Result<Vec<Joined<'d>>, Memory>
     ensures { IfOk result (λ lists. map (beside (joins_of (map join_view joins.now)) (world_of world.now) (names_of scope.now world.now)) (map joined_view lists.items) ≡ kept_items (kept (filter_view filter.now) (world_of world.now)) (joined (joins_of (map join_view joins.now)) (world_of world.now) (names_of scope.now world.now))) }
@@ -70,7 +70,7 @@ fn spread<'d>(
     rest: &'d [Join],
     stages: &[Stage],
     filter: &'d Option<Pred>,
-    world: &'d Pinned<'d>,
+    world: &Pinned<'d>,
     scope: &Scope<'_, 'd>,
 ) -> Result<Vec<Joined<'d>>, Memory>
     ensures { IfOk result (λ lists. map (beside (join_in (join_view join.now) (joins_of (map join_view rest.now))) (world_of world.now) (names_of scope.now world.now)) (map joined_view lists.items) ≡ kept_items (kept (filter_view filter.now) (world_of world.now)) (flat_map (joined (joins_of (map join_view rest.now)) (world_of world.now)) (map (with_alias (names_of scope.now world.now) (join_view join.now).alias) (map made_view made.entry.items)))) }
@@ -92,7 +92,7 @@ fn gather_beside<'d>(
     rest: &'d [Join],
     stages: &[Stage],
     filter: &'d Option<Pred>,
-    world: &'d Pinned<'d>,
+    world: &Pinned<'d>,
     scope: &Scope<'_, 'd>,
 ) -> Result<Vec<Joined<'d>>, Memory>
     ensures { IfOk result (λ lists. map (beside (joins_of (map join_view rest.now)) (world_of world.now) (with_alias (names_of scope.now world.now) (join_view join.now).alias (made_view row.now))) (map joined_view lists.items) ≡ kept_items (kept (filter_view filter.now) (world_of world.now)) (joined (joins_of (map join_view rest.now)) (world_of world.now) (with_alias (names_of scope.now world.now) (join_view join.now).alias (made_view row.now)))) }
@@ -119,7 +119,7 @@ pub fn asked_at<'d>(
     asked: Asked<'d>,
     joins: &'d [Join],
     joined: &[Option<Made<'d>>],
-    world: &'d Pinned<'d>,
+    world: &Pinned<'d>,
     scope: &Scope<'_, 'd>,
 ) -> Result<Vec<Cell<'d>>, Memory>
     ensures { IfOk result (λ cells. map cell_view cells.items ≡ asked_values asked.entry (beside (joins_of (map join_view joins.now)) (world_of world.now) (names_of scope.now world.now) (map (option_map made_view) joined.now))) }
@@ -161,7 +161,7 @@ pub fn outputs_at<'d>(
     joins: &'d [Join],
     stages: &[Stage],
     joined: &[Option<Made<'d>>],
-    world: &'d Pinned<'d>,
+    world: &Pinned<'d>,
     scope: &Scope<'_, 'd>,
 ) -> Result<Made<'d>, Memory>
     ensures { IfOk result (λ made. made_view made ≡ outputs_of (map out_view outs.now.items) (beside (joins_of (map join_view joins.now)) (world_of world.now) (names_of scope.now world.now) (map (option_map made_view) joined.now))) }
@@ -198,7 +198,7 @@ fn outputs_put_off<'d>(
     stage: Stage,
     stages: &[Stage],
     others: &[Option<Made<'d>>],
-    world: &'d Pinned<'d>,
+    world: &Pinned<'d>,
     scope: &Scope<'_, 'd>,
 ) -> Result<Made<'d>, Memory>
     ensures { IfOk result (λ made. made_view made ≡ outputs_of (map out_view outs.now.items) (beside (joins_of (map join_view rest.now)) (world_of world.now) (with_alias (names_of scope.now world.now) (join_view join.now).alias (first_row (rows_of (join_view join.now).select (world_of world.now) (names_of scope.now world.now)))) (map (option_map made_view) others.now))) }
@@ -224,7 +224,7 @@ fn outputs_put_off<'d>(
 fn outputs<'d>(
     alloc: Global,
     outs: &'d OutList,
-    world: &'d Pinned<'d>,
+    world: &Pinned<'d>,
     scope: &Scope<'_, 'd>,
 ) -> Result<Made<'d>, Memory>
     ensures { IfOk result (λ made. made_view made ≡ outputs_of (map out_view outs.now.items) (names_of scope.now world.now)) }

@@ -6,9 +6,11 @@ mod cells;
 mod clauses;
 mod equations;
 mod joins;
+mod known;
 mod mentions;
 mod place;
 mod positions;
+mod remember;
 mod row;
 mod scope;
 mod single;
@@ -16,5 +18,6 @@ mod stages;
 mod statement;
 mod truths;
 mod values;
+mod work;
 
 pub use statement::eval;

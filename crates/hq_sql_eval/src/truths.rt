@@ -3,9 +3,11 @@ ghost use Rattle.std.specs.Prelude.{◌≡◌, map, IfOk};
 ghost use Rattle.hq_sql_tree.specs.Tree.{preds_of};
 ghost use Rattle.hq_sql_tree.specs.View.{select_view, pred_view, filter_view};
 ghost use Rattle.hq_sql_tree.specs.Meaning.{kept, truth_at, all_true, any_true, has_rows, rows_of};
+ghost use Rattle.hq_sql_closed.specs.Conjuncts.{all_kept, lent_views};
 ghost use Rattle.hq_sql_eval.specs.View.{world_of, names_of};
 
 use crate::clauses::{any_row, made_of, rows};
+use crate::known::known_of;
 use crate::scope::{Group, Pinned, Scope, alias_of, source_of};
 use crate::single::is_whole;
 use crate::stages::{Parts, stages};
@@ -21,7 +23,7 @@ use std::alloc::Global;
 pub fn kept<'d>(
     alloc: Global,
     filter: &'d Option<Pred>,
-    world: &'d Pinned<'d>,
+    world: &Pinned<'d>,
     scope: &Scope<'_, 'd>,
 ) -> Result<bool, Memory>
     ensures { IfOk result (λ b. b ≡ kept (filter_view filter.now) (world_of world.now) (names_of scope.now world.now)) }
@@ -36,7 +38,7 @@ pub fn kept<'d>(
 fn truth<'d>(
     alloc: Global,
     pred: &'d Pred,
-    world: &'d Pinned<'d>,
+    world: &Pinned<'d>,
     scope: &Scope<'_, 'd>,
 ) -> Result<Truth, Memory>
     ensures { IfOk result (λ t. t ≡ truth_at (pred_view pred.now) (world_of world.now) (names_of scope.now world.now)) }
@@ -75,7 +77,7 @@ fn truth<'d>(
 fn all_true<'d>(
     alloc: Global,
     preds: &'d PredList,
-    world: &'d Pinned<'d>,
+    world: &Pinned<'d>,
     scope: &Scope<'_, 'd>,
 ) -> Result<Truth, Memory>
     ensures { IfOk result (λ t. t ≡ all_true (preds_of (map pred_view preds.now.items)) (world_of world.now) (names_of scope.now world.now)) }
@@ -95,7 +97,7 @@ fn all_true<'d>(
 fn any_true<'d>(
     alloc: Global,
     preds: &'d PredList,
-    world: &'d Pinned<'d>,
+    world: &Pinned<'d>,
     scope: &Scope<'_, 'd>,
 ) -> Result<Truth, Memory>
     ensures { IfOk result (λ t. t ≡ any_true (preds_of (map pred_view preds.now.items)) (world_of world.now) (names_of scope.now world.now)) }
@@ -110,12 +112,30 @@ fn any_true<'d>(
     Ok(any)
 }
 
+/// Whether each of these is true.
+#[cycle(eval)]
+pub fn all_hold<'d>(
+    alloc: Global,
+    preds: &[&'d Pred],
+    world: &Pinned<'d>,
+    scope: &Scope<'_, 'd>,
+) -> Result<bool, Memory>
+    ensures { IfOk result (λ b. b ≡ all_kept (lent_views preds.now) (world_of world.now) (names_of scope.now world.now)) }
+{
+    for pred in preds {
+        if !truth(alloc, pred, world, scope)?.is_yes() {
+            return Ok(false);
+        }
+    }
+    Ok(true)
+}
+
 // Whether a select has a row. Without LIMIT and OFFSET it ends at the first row that is kept.
 #[cycle(eval)]
 fn exists<'d>(
     alloc: Global,
     select: &'d Select,
-    world: &'d Pinned<'d>,
+    world: &Pinned<'d>,
     scope: &Scope<'_, 'd>,
 ) -> Result<bool, Memory>
     ensures { IfOk result (λ b. b ≡ has_rows (rows_of (select_view select.now) (world_of world.now) (names_of scope.now world.now))) }
@@ -146,15 +166,10 @@ fn exists<'d>(
             let given = made.as_slice();
             let stages = stages(alloc, parts, list)?;
             let source = source_of(world, from, given);
+            let known = known_of(world, from, list, filter);
+            let alias = alias_of(from);
             any_row(
-                alloc,
-                source,
-                alias_of(from),
-                list,
-                &stages,
-                filter,
-                world,
-                &*scope,
+                alloc, source, alias, list, &stages, filter, known, world, &*scope,
             )
         }
     }

@@ -23,8 +23,8 @@ const STATEMENT_LIMIT: usize = 1_048_576;
 /// Why a statement was not answered.
 #[derive(Debug, Drop, Error)]
 enum Refusal {
-    #[error("no directory is named")]
-    NoDirectory,
+    #[error("one word is wanted, the directory")]
+    Words,
     #[error("{0}")]
     Word(TxtRefusal),
     #[error("{0}")]
@@ -90,7 +90,7 @@ fn answer<F: Files, S: Source, K: Sink>(
     out: &mut K,
 ) -> Result<(), Refusal> {
     let Some(dir) = dir else {
-        return Err(Refusal::NoDirectory);
+        return Err(Refusal::Words);
     };
     let dir = Txt::of(alloc, dir.as_bytes())?;
     let mut db = open(alloc, files, &dir)?;
@@ -109,10 +109,20 @@ fn line(alloc: Global, refusal: &Refusal) -> Result<String, AllocError> {
     Ok(line)
 }
 
+// The word behind the program's name, where there is exactly one.
+fn only_word(arguments: env::Args) -> Option<String> {
+    let mut words = arguments.skip(1);
+    let word = words.next();
+    match words.next() {
+        None => word,
+        Some(_) => None,
+    }
+}
+
 fn main(rt: HostRuntime) -> ExitCode {
     let alloc = rt.alloc();
     let dir = match env::args(&rt) {
-        Ok(arguments) => arguments.skip(1).next(),
+        Ok(arguments) => only_word(arguments),
         Err(_) => None,
     };
     let mut input = StdSource::new(rt.stdin());

@@ -25,8 +25,9 @@ use Rattle.hq_sql_eval.specs.Single.{is_single}
 use Rattle.hq_sql_eval.specs.Sources.{alias_in, rows_given, has_items}
 use Rattle.hq_sql_eval.specs.Positions.{positions_of, rows_at, kept_of}
 use Rattle.hq_sql_eval.proofs.Looked.{at_place}
-use Rattle.hq_sql_eval.specs.Weight.{total, expr_weight, pair_weight, order_weight, out_weight, pred_weight}
-use Rattle.hq_sql_eval.proofs.Weights.{pair_item, order_item, out_item, expr_item, pred_item}
+use Rattle.hq_sql_closed.specs.Conjuncts.{all_kept, lent_views, lent_weight}
+use Rattle.hq_sql_closed.specs.Weight.{total, expr_weight, pair_weight, order_weight, out_weight, pred_weight, filter_weight}
+use Rattle.hq_sql_closed.proofs.Weights.{item_weight, pair_item, order_item, out_item, expr_item, pred_item}
 use Rattle.hq_sql_eval.proofs.Ordered.{elements_are, arranged_is}
 use Rattle.hq_sql_eval.proofs.Evaluated.{members_mapped, outputs_all, later_is, keys_is, spread_step, any_found, any_passed, scan_step, no_images, some_images, no_order, rows_are, exists_is, steps_are}
 use Rattle.hq_sql_eval.proofs.+eval.Goals as goal
