@@ -12,10 +12,10 @@ use Rattle.hq_sql_tree.specs.View.{pred_view}
 use Rattle.hq_sql_closed.specs.Conjuncts.{all_kept, lent_views, lent_weight}
 use Rattle.hq_sql_closed.specs.Split.{IsSplit, kept_one}
 use Rattle.hq_sql_closed.proofs.Conjuncts.{all_alone}
-use Rattle.hq_sql_eval.specs.Known.{Tells, IsKnown, IsRight}
+use Rattle.hq_sql_eval.specs.Known.{Tells, Knows, IsKnown, IsRight}
 use Rattle.hq_sql_eval.specs.Sources.{alias_in, rows_given, has_items}
 use Rattle.hq_sql_eval.specs.View.{source_view, row_in}
-use Rattle.hq_sql_eval.specs.declared.scope.Known.{Known}
+use Rattle.hq_sql_eval.specs.declared.pinned.Known.{Known}
 use Rattle.hq_sql_eval.specs.declared.scope.Source.{Source}
 use Rattle.hq_sql_eval.proofs.Evaluated.{row_in_is}
 
@@ -34,9 +34,9 @@ none_in (x ∷ xs) e = cc
 pub tells_at : (w : World) (from : Source) (alias : List ℕ) (js : JoinTrees) (f : FilterTree) (k : Known) (n : Scope) (i : ℕ) (row : NamedRow)
     → IsKnown w (source_view from) alias js f k → row ≡ row_in from i → i < length k.truths.items → Tells f w k i (with_alias n alias row)
 tells_at w from alias js f k n i row h e lt =
-    let whole = h.whole in
+    let whole = h.knows.whole in
     let within : i < length (source_view from) = omega (arith, whole, lt) in
-    subst (λ r. Tells f w k i (with_alias n alias r)) (row_in_is from i within ∙ sym e) (h.tells n i lt)
+    subst (λ r. Tells f w k i (with_alias n alias r)) (row_in_is from i within ∙ sym e) (h.knows.tells n i lt)
 
 at_map : {A B : Type 0} (f : A → B) (xs : List A) (i : ℕ) (d : A) (e : B) → i < length xs → get_or (map f xs) i e ≡ f (get_or xs i d)
 at_map f [] i d e h = absurd (omega arith)
@@ -49,12 +49,11 @@ length_map f (x ∷ xs) = ap suc (length_map f xs)
 
 -- what was learned is right over these rows
 pub learned_is : (p : PredTree) (w : World) (rows : List NamedRow) (alias : List ℕ) (c : List (Bor Pred)) (m : ℕ) (k : Known) → IsSplit (alias ∷ []) (kept_one p) m [] [] c k.rest.items
-    → k.truths.items ≡ map (λ row. all_kept (lent_views c) w (with_alias nothing alias row)) rows → IsKnown w rows alias no_join (tree.filter p) k
+    → k.truths.items ≡ map (λ row. all_kept (lent_views c) w (with_alias nothing alias row)) rows → Knows w rows alias (tree.filter p) k
 learned_is p w rows alias c m k x e =
     let f : NamedRow → Bool = λ row. all_kept (lent_views c) w (with_alias nothing alias row) in
     let whole : length k.truths.items ≡ length rows = ap length e ∙ length_map f rows in
     record {
-      alone = refl;
       whole = whole;
       tells = λ n i lt. (
           let within : i < length rows = omega (arith, whole, lt) in
@@ -84,12 +83,13 @@ known_at w from given rows alias js f k e a h = subst (λ r. IsKnown w r alias j
 
 -- what is known of a condition is known of the same one without joins
 pub known_same : (w : World) (from from' : FromTree) (js : JoinTrees) (p p' : PredTree) (f : FilterTree) (k : Known) → from ≡ from' → p ≡ p' → js ≡ no_join → f ≡ tree.filter p'
-    → ((made : List NamedRow) → IsKnown w (rows_given from w made) (alias_in from) no_join (tree.filter p) k) → (made : List NamedRow) → IsKnown w (rows_given from' w made) (alias_in from') js f k
+    → ((made : List NamedRow) → Knows w (rows_given from w made) (alias_in from) (tree.filter p) k) → (made : List NamedRow) → IsKnown w (rows_given from' w made) (alias_in from') js f k
 known_same w from from' js p p' f k e h j c known made =
-    subst (λ x. IsKnown w (rows_given from' w made) (alias_in from') js x k) (sym c)
-    (subst (λ x. IsKnown w (rows_given from' w made) (alias_in from') x (tree.filter p') k) (sym j)
-    (subst (λ x. IsKnown w (rows_given from' w made) (alias_in from') no_join (tree.filter x) k) h
-    (subst (λ x. IsKnown w (rows_given x w made) (alias_in x) no_join (tree.filter p) k) e (known made))))
+    record {
+      alone = j;
+      knows = subst (λ x. Knows w (rows_given from' w made) (alias_in from') x k) (ap tree.filter h ∙ sym c)
+          (subst (λ x. Knows w (rows_given x w made) (alias_in x) (tree.filter p) k) e (known made));
+    }
 
 -- one more is right where each is
 pub one_more : (P : Known → Type 0) (xs : List Known) (x : Known) → ((i : ℕ) (d : Known) → i < length xs → P (get_or xs i d)) → P x → (i : ℕ) (d : Known) → i < length (xs ++ (x ∷ [])) → P (get_or (xs ++ (x ∷ [])) i d)

@@ -8,7 +8,8 @@ ghost use Rattle.hq_sql_eval.specs.Keys.{with_json, json_at};
 
 use crate::cells::{sorted, sum_of};
 use crate::row::{Made, Row};
-use crate::scope::{Group, Pinned, Scope};
+use crate::pinned::Pinned;
+use crate::scope::{Group, Scope};
 use crate::values::{keys, value};
 use hq_base::{Json, Memory, Txt};
 use hq_sql_cells::{Cell, Kept, counted, greatest, least};

@@ -13,10 +13,11 @@ ghost use Rattle.hq_sql_eval.specs.Keys.{with_cells, taken_at, outputs_of};
 
 use crate::cells::arranged;
 use crate::joins::{Asked, asked_at, gather, outputs_at};
+use crate::pinned::{Known, Pinned};
 use crate::place::{Place, add_places};
 use crate::positions::{looked_at, number_of, position_at};
 use crate::row::{Made, first_row, one_row};
-use crate::scope::{Group, Known, Pinned, Scope, Source, alias_of, row_at, source_of};
+use crate::scope::{Group, Scope, Source, alias_of, row_at, source_of};
 use crate::stages::{Parts, Stage, stages};
 use crate::truths::all_hold;
 use crate::values::value;

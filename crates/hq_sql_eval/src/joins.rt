@@ -9,9 +9,10 @@ ghost use Rattle.hq_sql_eval.specs.Joined.{join_in, asked_values};
 ghost use Rattle.hq_sql_eval.specs.Keys.{outputs_of};
 
 use crate::clauses::{first, rows};
+use crate::pinned::Pinned;
 use crate::place::{Joined, add_lists, first_joined, other_joined, with_none, with_row};
 use crate::row::{Made, Named, Row, or_null_row};
-use crate::scope::{Group, Pinned, Scope};
+use crate::scope::{Group, Scope};
 use crate::stages::{Stage, first_stage, is_put_off};
 use crate::truths::kept;
 use crate::values::{keys, value, values};

@@ -9,7 +9,8 @@ ghost use Rattle.hq_sql_eval.specs.Known.{IsKnown, IsRight};
 ghost use Rattle.hq_sql_eval.specs.Sources.{alias_in, rows_given};
 ghost use Rattle.hq_sql_eval.specs.View.{source_view, world_of};
 
-use crate::scope::{Known, Pinned, Scope, Source, count, row_at, source_of};
+use crate::pinned::{Known, Pinned};
+use crate::scope::{Scope, Source, count, row_at, source_of};
 use crate::truths::all_hold;
 use hq_base::{Memory, Txt};
 use hq_sql_closed::{Names, same_from, same_pred, split};

@@ -8,6 +8,7 @@ mod equations;
 mod joins;
 mod known;
 mod mentions;
+mod pinned;
 mod place;
 mod positions;
 mod remember;

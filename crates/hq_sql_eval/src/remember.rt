@@ -3,7 +3,7 @@
 ghost use Rattle.std.specs.Prelude.{◌≡◌};
 
 use crate::known::learned;
-use crate::scope::Pinned;
+use crate::pinned::Pinned;
 use hq_base::Memory;
 use hq_sql_tree::{From, JoinList, Pred, PredList, Select};
 use std::alloc::Global;

@@ -1,67 +1,17 @@
 //! What is in scope, and where rows come from.
-ghost use Rattle.std.specs.Prelude.{◌≡◌, ◌&&◌, ◌<◌, ℕ, [], map, length, bytes_eq, slice_index_or};
+ghost use Rattle.std.specs.Prelude.{◌≡◌, ◌&&◌, [], map, length, bytes_eq, slice_index_or};
 ghost use Rattle.hq_sql_tree.specs.View.{from_view};
 ghost use Rattle.hq_sql_tree.specs.Meaning.{rows_named};
-ghost use Rattle.hq_sql_eval.specs.View.{named_view, made_view, row_view, row_in, rows_lent, world_in, world_of, source_view};
+ghost use Rattle.hq_sql_eval.specs.Pins.{rows_lent};
+ghost use Rattle.hq_sql_eval.specs.View.{named_view, made_view, row_view, row_in, world_of, source_view};
 ghost use Rattle.hq_sql_eval.specs.Sources.{alias_in, rows_given};
-ghost use Rattle.hq_sql_eval.specs.Known.{IsRight};
-ghost use Rattle.hq_sql_eval.specs.declared.scope.Known.{Known};
 
+use crate::pinned::{Pinned, Stored};
 use crate::row::{Made, Named, Row};
-use crate::work::Work;
-use hq_base::{Memory, Txt, Val};
-use hq_sql_tree::{From, Pred, Select};
+use hq_base::{Txt, Val};
+use hq_sql_tree::{From, Select};
 use hq_tables::Rows;
 use hq_terms::Table;
-
-/// A table of the catalog with its rows, none where the statement takes none from it.
-#[derive(Clone, Copy)]
-pub struct Stored<'d> {
-    pub table: &'d Table,
-    pub rows: Option<&'d Rows>,
-}
-
-/// Of a condition over the rows of a table: at which of them the conjuncts that mention no other alias are all true, and the other
-/// conjuncts.
-#[derive(Drop)]
-pub struct Known<'d> {
-    pub from: &'d From,
-    pub filter: &'d Pred,
-    pub truths: Vec<bool>,
-    pub rest: Vec<&'d Pred>,
-}
-
-/// The tables of the catalog with their rows, and what is known of conditions over them.
-#[derive(Drop)]
-pub struct Pinned<'d> {
-    pub tables: &'d [Stored<'d>],
-    pub work: &'d Work,
-    pub known: Vec<Known<'d>>,
-    ghost right: { (i : ℕ) (d : Known) → i < length known.items → IsRight (world_in tables.now) (slice_index_or known.items i d) },
-}
-
-impl<'d> Stored<'d> {
-    /// How many rows there are.
-    pub fn number(&self) -> usize
-        ensures { result ≡ length (rows_lent self.now.rows) }
-    {
-        match self.rows {
-            Some(rows) => rows.len(),
-            None => 0,
-        }
-    }
-}
-
-impl<'d> Pinned<'d> {
-    /// Knows one thing more.
-    pub fn add(&mut self, known: Known<'d>) -> Result<(), Memory>
-        requires { IsRight (world_of self.old) known }
-        ensures { self.new.tables ≡ self.old.tables }
-    {
-        self.known.push(known)?;
-        Ok(())
-    }
-}
 
 /// The aliases in scope, the innermost first, each with its row. The row of a join that is put off is the first one of its
 /// select, which is evaluated where a column of it is asked for.

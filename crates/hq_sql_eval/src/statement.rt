@@ -6,12 +6,14 @@ ghost use Rattle.hq_sql_tree.specs.View.{select_view};
 ghost use Rattle.hq_sql_tree.specs.Meaning.{first_value, meaning};
 ghost use Rattle.hq_sql_check.specs.Agree.{HasRows};
 ghost use Rattle.hq_sql_check.specs.Scans.{scans};
-ghost use Rattle.hq_sql_eval.specs.View.{made_view, rows_lent, world_in, world_of};
+ghost use Rattle.hq_sql_eval.specs.Pins.{rows_lent, world_in};
+ghost use Rattle.hq_sql_eval.specs.View.{made_view, world_of};
 
 use crate::clauses::rows;
 use crate::remember::remember;
 use crate::row::{Made, cell_taken};
-use crate::scope::{Pinned, Scope, Stored};
+use crate::pinned::{Pinned, Stored};
+use crate::scope::Scope;
 use crate::work::Work;
 use hq_base::{Json, Memory, Txt};
 use hq_sql_check::{only_scanned_tables_matter, scanned};

@@ -8,7 +8,8 @@ ghost use Rattle.hq_sql_eval.specs.View.{world_of, names_of};
 
 use crate::clauses::{any_row, made_of, rows};
 use crate::known::known_of;
-use crate::scope::{Group, Pinned, Scope, alias_of, source_of};
+use crate::pinned::Pinned;
+use crate::scope::{Group, Scope, alias_of, source_of};
 use crate::single::is_whole;
 use crate::stages::{Parts, stages};
 use crate::values::{value, values};
