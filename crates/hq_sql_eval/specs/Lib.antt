@@ -8,3 +8,4 @@ pub mod Weight
 pub mod Equations
 pub mod Positions
 pub mod Known
+pub mod Narrowed

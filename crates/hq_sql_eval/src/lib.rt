@@ -7,6 +7,7 @@ mod clauses;
 mod equations;
 mod joins;
 mod known;
+mod learn;
 mod mentions;
 mod pinned;
 mod place;

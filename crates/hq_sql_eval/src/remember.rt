@@ -2,7 +2,7 @@
 //! is learned, the answer is the meaning.
 ghost use Rattle.std.specs.Prelude.{◌≡◌};
 
-use crate::known::learned;
+use crate::learn::learned;
 use crate::pinned::Pinned;
 use hq_base::Memory;
 use hq_sql_tree::{From, JoinList, Pred, PredList, Select};

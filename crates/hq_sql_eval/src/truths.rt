@@ -35,8 +35,9 @@ pub fn kept<'d>(
     }
 }
 
+/// The truth of a condition.
 #[cycle(eval)]
-fn truth<'d>(
+pub fn truth<'d>(
     alloc: Global,
     pred: &'d Pred,
     world: &Pinned<'d>,

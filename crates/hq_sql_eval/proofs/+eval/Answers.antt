@@ -30,6 +30,7 @@ use Rattle.hq_sql_closed.specs.Weight.{total, expr_weight, pair_weight, order_we
 use Rattle.hq_sql_closed.proofs.Weights.{item_weight, pair_item, order_item, out_item, expr_item, pred_item}
 use Rattle.hq_sql_eval.proofs.Ordered.{elements_are, arranged_is}
 use Rattle.hq_sql_eval.proofs.Evaluated.{members_mapped, outputs_all, later_is, keys_is, spread_step, any_found, any_passed, scan_step, no_images, some_images, no_order, rows_are, exists_is, steps_are}
+use Rattle.hq_sql_eval.proofs.Learned.{none_in, tells_at, known_out, known_in, known_at}
 use Rattle.hq_sql_eval.proofs.+eval.Goals as goal
 
 -- ---- an item weighs at most its list
@@ -62,6 +63,11 @@ truths::any_true-truth-requires t c =
 pub joins::outputs-value-requires : goal.joins::outputs-value-requires
 joins::outputs-value-requires t c =
     let e : expr_weight c.out-item.result.value ≤ total (map out_weight c.args.outs.now.items) = search (rules, out_item) in
+    omega arith
+
+pub truths::all_hold-truth-requires : goal.truths::all_hold-truth-requires
+truths::all_hold-truth-requires t c =
+    let e : pred_weight c.pred-item.result.now ≤ lent_weight c.args.preds.now = search (rules, item_weight) in
     omega arith
 
 -- ---- values and aggregates
@@ -227,25 +233,6 @@ joins::outputs_put_off-returns-then-eq t c =
 
 -- ---- rows of FROM
 
-pub clauses::any_row-returns-then-not-is_empty : goal.clauses::any_row-returns-then-not-is_empty
-clauses::any_row-returns-then-not-is_empty t c =
-    let js = joins_of (map join_view c.args.joins.now) in
-    let w = world_of c.args.world.now in
-    let n = names_of c.args.scope.now c.args.world.now in
-    let keeps = kept (filter_view c.args.filter.now) w in
-    let i = c.loop-turn.turn in
-    let ps = positions_of c.in_ok-looked.looked in
-    let rs = rows_at c.args.source c.in_ok-looked.looked in
-    let row = row_view c.row_at.result in
-    let long : length rs ≡ length ps = length-map ps (row_in c.args.source) in
-    let within : i < length ps = omega (arith, c.loop-turn-test.true, c.number_of-turn-end.ensures) in
-    let lt : i < length rs = omega (arith, within, long) in
-    let len : c.in_ok-gather.field-0.len ≡ length c.in_ok-gather.field-0.items = omega (arith, c.in_ok-gather.field-0.ok.0) in
-    let is : row ≡ get_or rs i [] = c.row_at.ensures ∙ ap (row_in c.args.source) c.position_at.ensures ∙ sym (at_place c.args.source ps i within) in
-    any_found js w n c.args.alias.now keeps rs i row (map (beside js w (with_alias n c.args.alias.now row)) (map joined_view c.in_ok-gather.field-0.items)) lt is c.in_ok-gather.ensures
-    (some_images (beside js w (with_alias n c.args.alias.now row)) joined_view c.in_ok-gather.field-0.items (subst (λ k. (k == 0) ≡ false) len (sym c.is_empty.ensures ∙ c.if-not-is_empty.true))) c.loop-turn.invariant
-    ∙ ap has_items (c.in_ok-looked.ensures w)
-
 pub clauses::any_row-loop-turn-preserved : goal.clauses::any_row-loop-turn-preserved
 clauses::any_row-loop-turn-preserved t c =
     let js = joins_of (map join_view c.args.joins.now) in
@@ -256,13 +243,12 @@ clauses::any_row-loop-turn-preserved t c =
     let ps = positions_of c.in_ok-looked.looked in
     let rs = rows_at c.args.source c.in_ok-looked.looked in
     let row = row_view c.row_at.result in
+    let here = kept_items keeps (joined js w (with_alias n c.args.alias.now row)) in
     let long : length rs ≡ length ps = length-map ps (row_in c.args.source) in
     let within : i < length ps = omega (arith, c.loop-turn-test.true, c.number_of-turn-end.ensures) in
     let lt : i < length rs = omega (arith, within, long) in
-    let len : c.in_ok-gather.field-0.len ≡ length c.in_ok-gather.field-0.items = omega (arith, c.in_ok-gather.field-0.ok.0) in
-    let is : row ≡ get_or rs i [] = c.row_at.ensures ∙ ap (row_in c.args.source) c.position_at.ensures ∙ sym (at_place c.args.source ps i within) in
-    any_passed js w n c.args.alias.now keeps rs i row (map (beside js w (with_alias n c.args.alias.now row)) (map joined_view c.in_ok-gather.field-0.items)) lt is c.in_ok-gather.ensures
-    (no_images (beside js w (with_alias n c.args.alias.now row)) joined_view c.in_ok-gather.field-0.items (subst (λ k. (k == 0) ≡ true) len (sym c.is_empty.ensures ∙ c.if-not-is_empty.false))) c.loop-turn.invariant
+    let is : row ≡ get_or rs i [] = c.row_at.ensures ∙ ap (row_in c.args.source) c.position_at-position.ensures ∙ sym (at_place c.args.source ps i within) in
+    any_passed js w n c.args.alias.now keeps rs i row here lt is refl (none_in here (sym c.in_ok-keeps_some.ensures ∙ c.if-keeps_some.false)) c.loop-turn.invariant
 
 pub clauses::any_row-returns : goal.clauses::any_row-returns
 clauses::any_row-returns t c =
@@ -370,7 +356,7 @@ truths::exists-returns-in_ok-stages-in-Rows t c =
     subst (λ s. IfOk c.any_row.result (λ b. b ≡ has_rows (rows_of s w n))) (sym whole)
     (IfOk-weaker c.any_row.result _ _
     (λ b h.
-    h ∙ ap (λ js. has_items (kept_items (kept C w) (flat_map (joined (joins_of (map join_view js)) w) (map (with_alias n c.alias_of.result.now) (source_view c.source_of-source.result))))) c.as_slice-list.ensures.value
-    ∙ exists_is D O F J C K w n (map made_view c.in_ok-made-in-Rows.made.items) (source_view c.source_of-source.result) c.alias_of.result.now c.in_ok-made-in-Rows.ensures
-    (c.source_of-source.ensures ∙ ap (λ given. rows_given F w (map made_view given)) c.as_slice-given.ensures.value) c.alias_of.ensures)
+    h ∙ ap (λ js. has_items (kept_items (kept C w) (flat_map (joined (joins_of (map join_view js)) w) (map (with_alias n c.alias_of-alias.result.now) (source_view c.source_of-source.result))))) c.as_slice-list.ensures.value
+    ∙ exists_is D O F J C K w n (map made_view c.in_ok-made-in-Rows.made.items) (source_view c.source_of-source.result) c.alias_of-alias.result.now c.in_ok-made-in-Rows.ensures
+    (c.source_of-source.ensures ∙ ap (λ given. rows_given F w (map made_view given)) c.as_slice-given.ensures.value) c.alias_of-alias.ensures)
     c.any_row.ensures)
