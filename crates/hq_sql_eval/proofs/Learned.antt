@@ -163,10 +163,10 @@ all_yes (row ∷ rows) = ap (λ l. true ∷ l) (all_yes rows)
 pub truths_none : (n : ℕ) (rows : List NamedRow) → n ≡ length rows → replicate n true ≡ map (λ row. true) rows
 truths_none n rows e = ap (λ k. replicate k true) e ∙ all_yes rows
 
--- an EXISTS over a table without joins and pages
-pub table_has : (D : List ExprTree) (O : List OutTree) (F : FromTree) (C : FilterTree) (K : List OrderTree) (w : World) (n : Scope) (schema name alias : List ℕ) → F ≡ tree.table schema name alias
-    → keeps_one (rows_given F w []) (alias_in F) C w n ≡ has_rows (rows_of (tree.rows D O F no_join C K None None) w n)
-table_has D O F C K w n schema name alias e = exists_is D O F no_join C K w n [] (rows_given F w []) (alias_in F) (sym (ap (λ f. made_rows f w n) e)) refl refl
+-- an EXISTS over a table without pages
+pub table_has : (D : List ExprTree) (O : List OutTree) (F : FromTree) (J : JoinTrees) (C : FilterTree) (K : List OrderTree) (w : World) (n : Scope) (schema name alias : List ℕ) → F ≡ tree.table schema name alias
+    → keeps_one (rows_given F w []) (alias_in F) J C w n ≡ has_rows (rows_of (tree.rows D O F J C K None None) w n)
+table_has D O F J C K w n schema name alias e = exists_is D O F J C K w n [] (rows_given F w []) (alias_in F) (sym (ap (λ f. made_rows f w n) e)) refl refl
 
 pub is_true_of : (b : Bool) → is_true (truth_of b) ≡ b
 is_true_of true = refl

@@ -1,7 +1,7 @@
--- Truths of a condition at rows where others were true before, and an EXISTS over a table without joins.
+-- Truths of a condition at rows where others were true before, and of an EXISTS whose FROM gives these rows.
 use Rattle.std.specs.Prelude.{ℕ, List, [], ◌∷◌, Bool, ◌&&◌, map, filter, flat_map}
 use Rattle.hq_sql_tree.specs.Meaning.{NamedRow, Scope as Names, World, with_alias, joined, kept}
-use Rattle.hq_sql_tree.specs.Tree.{FilterTree, no_join}
+use Rattle.hq_sql_tree.specs.Tree.{FilterTree, JoinTrees}
 use Rattle.hq_sql_eval.specs.Sources.{has_items}
 
 -- both true, row by row
@@ -10,6 +10,6 @@ narrowed (b ∷ bs) (t ∷ ts) = (b && t) ∷ narrowed bs ts
 narrowed (b ∷ bs) [] = []
 narrowed [] ts = []
 
--- whether WHERE keeps one of these rows of an alias
-abbrev pub keeps_one : List NamedRow → (alias : List ℕ) → FilterTree → World → Names → Bool
-keeps_one rows alias f w n = has_items (filter (kept f w) (flat_map (joined no_join w) (map (with_alias n alias) rows)))
+-- whether WHERE keeps one of these rows of an alias with its joins
+abbrev pub keeps_one : List NamedRow → (alias : List ℕ) → JoinTrees → FilterTree → World → Names → Bool
+keeps_one rows alias js f w n = has_items (filter (kept f w) (flat_map (joined js w) (map (with_alias n alias) rows)))

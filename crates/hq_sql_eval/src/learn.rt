@@ -4,8 +4,8 @@ ghost use Rattle.hq_sql_closed.specs.Conjuncts.{all_kept, lent_views, lent_weigh
 ghost use Rattle.hq_sql_closed.specs.Split.{kept_one};
 ghost use Rattle.hq_sql_closed.specs.Weight.{filter_weight};
 ghost use Rattle.hq_sql_tree.specs.Meaning.{has_rows, nothing, rows_of, with_alias};
-ghost use Rattle.hq_sql_tree.specs.Tree.{no_join};
-ghost use Rattle.hq_sql_tree.specs.View.{filter_view, from_view, pred_view, select_view};
+ghost use Rattle.hq_sql_tree.specs.Tree.{joins_of};
+ghost use Rattle.hq_sql_tree.specs.View.{filter_view, from_view, join_view, pred_view, select_view};
 ghost use Rattle.hq_sql_eval.specs.Known.{IsKnown, IsRight};
 ghost use Rattle.hq_sql_eval.specs.Narrowed.{narrowed, keeps_one};
 ghost use Rattle.hq_sql_eval.specs.Sources.{alias_in, rows_given};
@@ -18,7 +18,7 @@ use crate::scope::{Scope, Source, alias_of, count, row_at, source_of};
 use crate::truths::truth;
 use hq_base::{Memory, Txt};
 use hq_sql_closed::{Names, split};
-use hq_sql_tree::{From, Pred, Select};
+use hq_sql_tree::{From, Join, Pred, Select};
 use std::alloc::Global;
 
 // Whether a condition is true too, where others were before.
@@ -29,7 +29,7 @@ fn holds<'d>(
     world: &Pinned<'d>,
     scope: &Scope<'_, 'd>,
 ) -> Result<bool, Memory>
-    ensures { IfOk result (λ b. b ≡ (before.entry && kept_one (pred_view pred.now) (world_of world.now) (names_of scope.now world.now))) }
+    ensures { IfOk result (λ b. b ≡ (before && kept_one (pred_view pred.now) (world_of world.now) (names_of scope.now world.now))) }
 {
     if !before {
         return Ok(false);
@@ -37,26 +37,27 @@ fn holds<'d>(
     Ok(truth(alloc, pred, world, scope)?.is_yes())
 }
 
-// The same of an EXISTS over these rows without joins.
+// The same of an EXISTS whose FROM gives these rows.
 fn finds<'s, 'd>(
     alloc: Global,
     before: bool,
     source: Source<'s, 'd>,
     alias: &'d Txt,
+    joins: &'d [Join],
     filter: &'d Option<Pred>,
     known: Option<&Known<'d>>,
     world: &Pinned<'d>,
     scope: &'s Scope<'s, 'd>,
 ) -> Result<bool, Memory>
-    requires known { IfSome known (λ k. IsKnown (world_of world.now) (source_view source) alias.now no_join (filter_view filter.now) k.now) }
+    requires known { IfSome known (λ k. IsKnown (world_of world.now) (source_view source) alias.now (joins_of (map join_view joins.now)) (filter_view filter.now) k.now) }
     requires lighter { IfSome known (λ k. 1 + lent_weight k.now.rest.items ≤ filter_weight filter.now) }
-    ensures { IfOk result (λ b. b ≡ (before.entry && keeps_one (source_view source.entry) alias.now (filter_view filter.now) (world_of world.now) (names_of scope.now world.now))) }
+    ensures { IfOk result (λ b. b ≡ (before && keeps_one (source_view source.entry) alias.now (joins_of (map join_view joins.now)) (filter_view filter.now) (world_of world.now) (names_of scope.now world.now))) }
 {
     if !before {
         return Ok(false);
     }
     any_row(
-        alloc, source, alias, &[], &[], filter, known, world, scope,
+        alloc, source, alias, joins, &[], filter, known, world, scope,
     )
 }
 
@@ -84,21 +85,22 @@ fn narrowed_each<'s, 'd>(
     Ok(truths)
 }
 
-// The same of an EXISTS over the rows of this FROM without joins: what is known of its WHERE is looked up once.
+// The same of an EXISTS over a table: what is known of its WHERE is looked up once.
 fn narrowed_over<'s, 'd>(
     alloc: Global,
     before: &[bool],
     source: Source<'s, 'd>,
     alias: &'d Txt,
     from: &'d From,
+    joins: &'d [Join],
     filter: &'d Option<Pred>,
     world: &Pinned<'d>,
 ) -> Result<Vec<bool>, Memory>
     requires { length before.now ≡ length (source_view source) }
-    ensures { IfOk result (λ truths. truths.items ≡ narrowed before.now (map (λ row. keeps_one (rows_given (from_view from.now) (world_of world.now) []) (alias_in (from_view from.now)) (filter_view filter.now) (world_of world.now) (with_alias nothing alias.now row)) (source_view source.entry))) }
+    ensures { IfOk result (λ truths. truths.items ≡ narrowed before.now (map (λ row. keeps_one (rows_given (from_view from.now) (world_of world.now) []) (alias_in (from_view from.now)) (joins_of (map join_view joins.now)) (filter_view filter.now) (world_of world.now) (with_alias nothing alias.now row)) (source_view source.entry))) }
 {
     let inner = source_of(world, from, &[]);
-    let known = known_of(world, from, &[], filter);
+    let known = known_of(world, from, joins, filter);
     let other = alias_of(from);
     let mut truths = Vec::with_capacity(alloc, before.len())?;
     for position in 0..before.len() {
@@ -112,6 +114,7 @@ fn narrowed_over<'s, 'd>(
             before[position],
             inner,
             other,
+            joins,
             filter,
             known,
             world,
@@ -121,7 +124,7 @@ fn narrowed_over<'s, 'd>(
     Ok(truths)
 }
 
-// The same of an EXISTS over a table without joins and pages; None of any other one.
+// The same of an EXISTS over a table without pages; None of any other one.
 fn narrowed_by<'s, 'd>(
     alloc: Global,
     before: &[bool],
@@ -147,10 +150,8 @@ fn narrowed_by<'s, 'd>(
     let From::Table { .. } = from else {
         return Ok(None);
     };
-    if !joins.is_empty() {
-        return Ok(None);
-    }
-    let truths = narrowed_over(alloc, before, source, alias, from, filter, world)?;
+    let list = joins.as_slice();
+    let truths = narrowed_over(alloc, before, source, alias, from, list, filter, world)?;
     Ok(Some(truths))
 }
 
