@@ -1,5 +1,5 @@
 -- What a collected field stands for, and its arguments.
-use Rattle.std.specs.Prelude.{ℕ, List, Bool, false, cond, Option, Some, None, is_none, is_some, Result, Ok, Err}
+use Rattle.std.specs.Prelude.{ℕ, List, Bool, false, ◌||◌, cond, Option, Some, None, is_some, Result, Ok, Err}
 use Rattle.hq_base.specs.Due.{mapped}
 use Rattle.hq_base.specs.declared.value.Val.{Val}
 use Rattle.hq_arguments.specs.Context.{Context}
@@ -27,9 +27,9 @@ fault_at r h = Fault (fault_of r (Some h.at))
 abbrev pub refused : {A : Type 0} → RuleId → FieldHead → Due A
 refused r h = Err (fault_at r h)
 
--- a field has fields below it exactly where its type has fields (5.3.3)
+-- fields are collected below a field only where its type has fields (5.3.3); none are where directives skip them all
 abbrev pub is_complete : SchemaTree → FieldTree → (empty : Bool) → Bool
-is_complete s f empty = cond empty (is_none (object_at s (base f.ty))) (is_some (object_at s (base f.ty)))
+is_complete s f empty = empty || is_some (object_at s (base f.ty))
 
 -- the definition of a field in a schema, and its coerced arguments
 abbrev pub Known : Type 0

@@ -45,12 +45,11 @@ pub fn refused(rule: RuleId, field: &CollectedField<'_>) -> CoerceRefusal
     CoerceRefusal::Fault(fault_of(rule, Some(place_of(field.first()))))
 }
 
-// Whether a field has fields below it exactly where its type has fields.
+// Whether fields are collected below a field only where its type has fields.
 fn is_complete(schema: &Schema, def: &FieldDef, empty: bool) -> bool
     ensures { result ≡ is_complete (schema_view schema.now) (field_view def.now) empty }
 {
-    let to = object_at(schema, def.ty.base());
-    if empty { to.is_none() } else { to.is_some() }
+    empty || object_at(schema, def.ty.base()).is_some()
 }
 
 fn name_of(field: &Field) -> &Txt

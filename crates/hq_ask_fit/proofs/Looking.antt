@@ -1,5 +1,5 @@
 -- What fields of introspection have: their types accept them, and their keys are those of the collected fields.
-use Rattle.std.proofs.Common.{◌≡◌, ◌∙◌, refl, sym, ap, subst, ℕ, suc, ◌≤◌, arith, List, [], ◌∷◌, Bool, true, false, cond, nat_eq, Option, Some, None, is_some, is_none, Ok, codes, bytes_eq, find, option_and_then}
+use Rattle.std.proofs.Common.{◌≡◌, ◌∙◌, refl, sym, ap, subst, ℕ, suc, ◌≤◌, arith, List, [], ◌∷◌, Bool, true, false, ◌||◌, cond, nat_eq, Option, Some, None, is_some, Ok, codes, bytes_eq, find, option_and_then}
 use Rattle.std.specs.Map.{lookup}
 use Rattle.std.specs.Option.{option_or}
 use Rattle.std.proofs.lemmas.Bool.{and_from, false≢true, eqb-true}
@@ -213,15 +213,15 @@ module _ (tables : List Table) (m : MetaTree) (role : Role) (vars : List VarTree
   Accepted below o ls = (accepts_below ls (Some o) ≡ true) × (looks_levels ls ≤ levels_of below)
 
   -- below a leaf there is nothing
-  leaf_accepted : (f : Fixed) (t : ℕ) (below : CollectedTrees) → cond (is_empty below) true false ≡ true → (ls : IntrospectionTrees) → looks_due c (fixed_place f) t below ≡ Ok ls → Accepted below None ls
+  leaf_accepted : (f : Fixed) (t : ℕ) (below : CollectedTrees) → (is_empty below || false) ≡ true → (ls : IntrospectionTrees) → looks_due c (fixed_place f) t below ≡ Ok ls → Accepted below None ls
   leaf_accepted f t no_collected h ls e = let same : no_look ≡ ls = cc in subst (Accepted no_collected None) same (refl, omega arith)
   leaf_accepted f t (collected key g below others) h ls e = absurd (false≢true h)
 
-  -- below a field with a type there is something, and the type accepts it
-  type_accepted : (f : Fixed) (type : MetaType) → meta_of f ≡ Some type → (t : ℕ) (below : CollectedTrees) → Inner below → are_keys (keys_of below) ≡ true → cond (is_empty below) false true ≡ true
+  -- below a field with a type is nothing, or what the type accepts
+  type_accepted : (f : Fixed) (type : MetaType) → meta_of f ≡ Some type → (t : ℕ) (below : CollectedTrees) → Inner below → are_keys (keys_of below) ≡ true
       → (ls : IntrospectionTrees) → looks_due c (fixed_place f) t below ≡ Ok ls → Accepted below (Some type) ls
-  type_accepted f type is t no_collected inner apart h ls e = absurd (false≢true h)
-  type_accepted f type is t (collected key g below others) inner apart h ls e = by ls (inner t f type is ls e)
+  type_accepted f type is t no_collected inner apart ls e = let same : no_look ≡ ls = cc in subst (Accepted no_collected (Some type)) same (refl, omega arith)
+  type_accepted f type is t (collected key g below others) inner apart ls e = by ls (inner t f type is ls e)
     where
       by : (ls : IntrospectionTrees) → Looked type (collected key g below others) ls → Accepted (collected key g below others) (Some type) ls
       by no_look l = let wrong : [] ≡ keys_of (collected key g below others) = l.keys in cc
@@ -230,12 +230,12 @@ module _ (tables : List Table) (m : MetaTree) (role : Role) (vars : List VarTree
         l.levels,
       )
 
-  -- a field is complete where there is something below it exactly where its type has fields
+  -- a field is complete where there is something below it only where its type has fields
   complete_is : (f : Fixed) (below : CollectedTrees) (k : FieldTree) → base k.ty ≡ fixed_place f → is_complete R k (is_empty below) ≡ true
-      → cond (is_empty below) (is_none (cond (is_object (fixed_kind f)) (Some (fixed_place f)) None)) (is_some (cond (is_object (fixed_kind f)) (Some (fixed_place f)) None)) ≡ true
+      → (is_empty below || is_some (cond (is_object (fixed_kind f)) (Some (fixed_place f)) None)) ≡ true
   complete_is f below k leads h =
       let object : object_at R (base k.ty) ≡ cond (is_object (fixed_kind f)) (Some (fixed_place f)) None = ap (object_at R) leads ∙ object_is f in
-      ap (λ o. cond (is_empty below) (is_none o) (is_some o)) (sym object) ∙ h
+      ap (λ o. is_empty below || is_some o) (sym object) ∙ h
 
   -- what stands below a field whose type each schema has
   pub below_accepted : (f : Fixed) (o : Option MetaType) → meta_of f ≡ o → is_object (fixed_kind f) ≡ is_some o → (t : ℕ) (below : CollectedTrees) → Inner below → are_keys (keys_of below) ≡ true
@@ -244,8 +244,7 @@ module _ (tables : List Table) (m : MetaTree) (role : Role) (vars : List VarTree
       let h = complete_is f below k leads complete in
       leaf_accepted f t below (rw object at h) ls (subst (λ p. looks_due c p t below ≡ Ok ls) leads e)
   below_accepted f (Some type) is object t below inner apart k leads complete ls e =
-      let h = complete_is f below k leads complete in
-      type_accepted f type is t below inner apart (rw object at h) ls (subst (λ p. looks_due c p t below ≡ Ok ls) leads e)
+      type_accepted f type is t below inner apart ls (subst (λ p. looks_due c p t below ≡ Ok ls) leads e)
 
   -- ---- one field
 

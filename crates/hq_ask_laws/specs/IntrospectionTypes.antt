@@ -52,7 +52,7 @@ abbrev pub look_keys : IntrospectionTrees → List (List ℕ)
 look_keys no_look = []
 look_keys (looks key f fs) = key ∷ look_keys fs
 
--- fields that stand in a type: its own, with fields below exactly where they have a type, and keys that differ
+-- fields that stand in a type: its own, with fields below only where they have a type, and keys that differ
 abbrev mutual
   pub accepts : MetaType → IntrospectionTrees → Bool
   accepts type no_look = true
@@ -62,11 +62,11 @@ abbrev mutual
   accepts_one type (look name type_name deprecated fs) = is_none type_name && accepts_below fs (meta_field type name)
 
   -- below a field that its type lacks there is nothing to accept; below a leaf there is nothing; below a field with a type
-  -- there is at least one field, and the keys differ
+  -- are fields whose keys differ, and none where directives skip them all
   pub accepts_below : IntrospectionTrees → Option (Option MetaType) → Bool
   accepts_below no_look None = false
   accepts_below no_look (Some None) = true
-  accepts_below no_look (Some (Some type)) = false
+  accepts_below no_look (Some (Some type)) = true
   accepts_below (looks key f fs) None = false
   accepts_below (looks key f fs) (Some None) = false
   accepts_below (looks key f fs) (Some (Some type)) = are_keys (key ∷ look_keys fs) && accepts_one type f && accepts type fs
