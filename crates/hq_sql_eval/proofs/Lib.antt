@@ -1,4 +1,3 @@
-pub mod Weights
 pub mod NamedCells
 pub mod JoinedRows
 pub mod Ordered
@@ -6,3 +5,4 @@ pub mod Evaluated
 pub mod Stored
 pub mod Asked
 pub mod Looked
+pub mod Learned

@@ -53,9 +53,13 @@ with_json k = (keys_of k, json_view k.row)
 abbrev pub json_at : ExprTree → List OrderTree → Names → List CellTree × JsonTree
 json_at e os names = (key_values os names, json_of (value e [] names))
 
--- a row with its keys and its values of DISTINCT ON
+-- a row with its keys and its values of DISTINCT ON in its scope
+abbrev pub keyed_at : {T : Type 0} → Names → List OrderTree → List ExprTree → T → (List CellTree × List CellTree) × T
+keyed_at names os es t = ((key_values os names, expr_values es names), t)
+
+-- the same, where each row has a scope
 abbrev pub taken_at : {T : Type 0} → (T → Names) → List OrderTree → List ExprTree → T → (List CellTree × List CellTree) × T
-taken_at at os es t = ((key_values os (at t), expr_values es (at t)), t)
+taken_at at os es t = keyed_at (at t) os es t
 
 -- the member of an object at a pair
 abbrev pub member_at : List Names → Names → PairTree → List ℕ × JsonTree

@@ -1,3 +1,4 @@
+pub mod Pins
 pub mod View
 pub mod Sources
 pub mod Joined
@@ -6,3 +7,5 @@ pub mod Keys
 pub mod Weight
 pub mod Equations
 pub mod Positions
+pub mod Known
+pub mod Narrowed

@@ -1,8 +1,12 @@
 -- What a FROM gives.
-use Rattle.std.specs.Prelude.{ℕ, Bool, true, false, List, [], ◌∷◌}
+use Rattle.std.specs.Prelude.{ℕ, Bool, true, false, List, [], ◌∷◌, codes}
+use Rattle.hq_base.specs.Cells as cell
 use Rattle.hq_sql_tree.specs.Tree.{FromTree, table, sub, one}
 use Rattle.hq_sql_tree.specs.Meaning.{NamedRow, Scope as Names, World, rows_of, rows_named}
-use Rattle.hq_sql_eval.specs.View.{row_of_one}
+
+-- the one row of One
+abbrev pub row_of_one : NamedRow
+row_of_one = (codes "u", cell.bool true) ∷ []
 
 -- the alias of a FROM
 abbrev pub alias_in : FromTree → List ℕ

@@ -1,8 +1,6 @@
 -- What rows and scopes in memory are seen as (PostgreSQL, SELECT: FROM, and LATERAL joins).
-use Rattle.std.specs.Prelude.{ℕ, true, List, [], ◌∷◌, map, Option, Some, None, option_map, codes, slice_index_or}
-use Rattle.std.specs.Borrow.{Bor}
+use Rattle.std.specs.Prelude.{ℕ, List, [], ◌∷◌, map, Option, Some, None, option_map, slice_index_or}
 use Rattle.std.specs.Global.{Vec}
-use Rattle.hq_base.specs.Cells as cell
 use Rattle.hq_base.specs.Cells.{CellTree}
 use Rattle.hq_sql_cells.specs.View.{cell_view}
 use Rattle.hq_sql_tree.specs.Tree.{JoinTrees, no_join, join}
@@ -11,10 +9,10 @@ use Rattle.hq_sql_tree.specs.Meaning.{NamedRow, Scope as Names, nothing, with_al
 use Rattle.hq_sql_eval.specs.declared.row.Named.{Named}
 use Rattle.hq_sql_eval.specs.declared.row.Made.{Made}
 use Rattle.hq_sql_eval.specs.declared.row.Row.{Row as Lent}
-use Rattle.hq_terms.specs.Database.{Row}
 use Rattle.hq_sql_eval.specs.declared.row.Row.TheVariants as row
-use Rattle.hq_sql_eval.specs.declared.scope.Stored.{Stored}
-use Rattle.hq_sql_eval.specs.declared.scope.Pinned.{Pinned}
+use Rattle.hq_sql_eval.specs.declared.pinned.Pinned.{Pinned}
+use Rattle.hq_sql_eval.specs.Pins.{rows_lent, world_in}
+use Rattle.hq_sql_eval.specs.Sources.{row_of_one}
 use Rattle.hq_sql_eval.specs.declared.scope.Source.{Source}
 use Rattle.hq_sql_eval.specs.declared.scope.Source.TheVariants as source
 use Rattle.hq_sql_eval.specs.declared.scope.Group.{Group}
@@ -30,26 +28,13 @@ named_view n = (n.name.now, cell_view n.cell)
 abbrev pub made_view : Made → NamedRow
 made_view m = map named_view m.cells.items
 
--- the one row of One
-abbrev pub row_of_one : NamedRow
-row_of_one = (codes "u", cell.bool true) ∷ []
-
 -- a row that is lent
 abbrev pub row_view : Lent → NamedRow
 row_view (row.Stored columns values) = named_row columns.now values.now
 row_view (row.Made cells) = map named_view cells.now
 row_view row.One = row_of_one
 
--- the rows that are lent, none where none are
-abbrev pub rows_lent : Option (Bor (List Row)) → List Row
-rows_lent None = []
-rows_lent (Some rows) = rows.now
-
--- tables with their rows
-abbrev pub world_in : List Stored → World
-world_in stored = record { tables = map (λ s. s.table.now) stored; database = map (λ s. rows_lent s.rows) stored }
-
--- those that are pinned
+-- the tables that are pinned, with their rows
 abbrev pub world_of : Pinned → World
 world_of pinned = world_in pinned.tables.now
 

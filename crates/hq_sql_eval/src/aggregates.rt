@@ -8,7 +8,8 @@ ghost use Rattle.hq_sql_eval.specs.Keys.{with_json, json_at};
 
 use crate::cells::{sorted, sum_of};
 use crate::row::{Made, Row};
-use crate::scope::{Group, Pinned, Scope};
+use crate::pinned::Pinned;
+use crate::scope::{Group, Scope};
 use crate::values::{keys, value};
 use hq_base::{Json, Memory, Txt};
 use hq_sql_cells::{Cell, Kept, counted, greatest, least};
@@ -20,7 +21,7 @@ use std::alloc::Global;
 pub fn taken<'d>(
     alloc: Global,
     agg: &'d Agg,
-    world: &'d Pinned<'d>,
+    world: &Pinned<'d>,
     alias: &'d Txt,
     rows: &[Made<'d>],
     scope: &Scope<'_, 'd>,
@@ -51,7 +52,7 @@ pub fn taken<'d>(
 fn each_value<'d>(
     alloc: Global,
     expr: &'d Expr,
-    world: &'d Pinned<'d>,
+    world: &Pinned<'d>,
     alias: &'d Txt,
     rows: &[Made<'d>],
     scope: &Scope<'_, 'd>,
@@ -76,7 +77,7 @@ fn each_json<'d>(
     alloc: Global,
     expr: &'d Expr,
     order: &'d OrderList,
-    world: &'d Pinned<'d>,
+    world: &Pinned<'d>,
     alias: &'d Txt,
     rows: &[Made<'d>],
     scope: &Scope<'_, 'd>,

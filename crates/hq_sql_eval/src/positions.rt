@@ -10,7 +10,8 @@ ghost use Rattle.hq_sql_eval.specs.declared.scope.Source.TheVariants as source;
 ghost use Rattle.hq_sql_eval.specs.Positions.{positions_of, rows_at, kept_of};
 
 use crate::equations::{asked_key, is_joined};
-use crate::scope::{Scope, Source, Stored, count};
+use crate::pinned::Stored;
+use crate::scope::{Scope, Source, count};
 use hq_base::{Memory, Txt};
 use hq_sql_tree::{Join, Pred};
 use std::alloc::Global;

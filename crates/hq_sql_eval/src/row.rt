@@ -2,7 +2,8 @@
 ghost use Rattle.std.specs.Prelude.{◌≡◌, ◌∷◌, [], map, IfOk};
 ghost use Rattle.hq_sql_cells.specs.View.{cell_view};
 ghost use Rattle.hq_sql_tree.specs.Meaning.{cell_named, named_row, or_null_row};
-ghost use Rattle.hq_sql_eval.specs.View.{named_view, made_view, row_of_one, row_view, first_row};
+ghost use Rattle.hq_sql_eval.specs.Sources.{row_of_one};
+ghost use Rattle.hq_sql_eval.specs.View.{named_view, made_view, row_view, first_row};
 
 use hq_base::{Memory, Txt, Val};
 use hq_sql_cells::Cell;

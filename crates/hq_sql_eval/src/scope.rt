@@ -2,29 +2,16 @@
 ghost use Rattle.std.specs.Prelude.{◌≡◌, ◌&&◌, [], map, length, bytes_eq, slice_index_or};
 ghost use Rattle.hq_sql_tree.specs.View.{from_view};
 ghost use Rattle.hq_sql_tree.specs.Meaning.{rows_named};
-ghost use Rattle.hq_sql_eval.specs.View.{named_view, made_view, row_view, row_in, rows_lent, world_of, source_view};
+ghost use Rattle.hq_sql_eval.specs.Pins.{rows_lent};
+ghost use Rattle.hq_sql_eval.specs.View.{named_view, made_view, row_view, row_in, world_of, source_view};
 ghost use Rattle.hq_sql_eval.specs.Sources.{alias_in, rows_given};
 
+use crate::pinned::{Pinned, Stored};
 use crate::row::{Made, Named, Row};
 use hq_base::{Txt, Val};
 use hq_sql_tree::{From, Select};
 use hq_tables::Rows;
 use hq_terms::Table;
-use std::cell::Cell;
-
-/// A table of the catalog with its rows, none where the statement takes none from it.
-#[derive(Clone, Copy)]
-pub struct Stored<'d> {
-    pub table: &'d Table,
-    pub rows: Option<&'d Rows>,
-}
-
-/// The tables of the catalog with their rows, and the comparisons that look-ups made, staying at the greatest number.
-#[derive(Clone, Copy)]
-pub struct Pinned<'d> {
-    pub tables: &'d [Stored<'d>],
-    pub looked: &'d Cell<u64>,
-}
 
 /// The aliases in scope, the innermost first, each with its row. The row of a join that is put off is the first one of its
 /// select, which is evaluated where a column of it is asked for.
@@ -68,7 +55,7 @@ fn is_named(table: &Table, schema: &Txt, name: &Txt) -> bool
 }
 
 // The rows of the first table of this schema and name.
-fn stored_named<'s, 'd>(world: &'d Pinned<'d>, schema: &Txt, name: &Txt) -> Source<'s, 'd>
+fn stored_named<'s, 'd>(world: &Pinned<'d>, schema: &Txt, name: &Txt) -> Source<'s, 'd>
     ensures { source_view result ≡ rows_named (world_of world.now).tables (world_of world.now).database schema.now name.now }
 {
     for stored in world.tables {
@@ -80,11 +67,7 @@ fn stored_named<'s, 'd>(world: &'d Pinned<'d>, schema: &Txt, name: &Txt) -> Sour
 }
 
 /// The rows that a FROM gives, of which `made` are those of a sub-select.
-pub fn source_of<'s, 'd>(
-    world: &'d Pinned<'d>,
-    from: &'d From,
-    made: &'s [Made<'d>],
-) -> Source<'s, 'd>
+pub fn source_of<'s, 'd>(world: &Pinned<'d>, from: &From, made: &'s [Made<'d>]) -> Source<'s, 'd>
     ensures { source_view result ≡ rows_given (from_view from.now) (world_of world.now) (map made_view made.now) }
 {
     match from {
@@ -103,21 +86,12 @@ pub fn alias_of<'d>(from: &'d From) -> &'d Txt
     }
 }
 
-fn stored_count(rows: Option<&Rows>) -> usize
-    ensures { result ≡ length (rows_lent rows.entry) }
-{
-    match rows {
-        Some(rows) => rows.len(),
-        None => 0,
-    }
-}
-
 /// How many rows there are.
 pub fn count<'s, 'd>(source: Source<'s, 'd>) -> usize
     ensures { result ≡ length (source_view source.entry) }
 {
     match source {
-        Source::Stored(stored) => stored_count(stored.rows),
+        Source::Stored(stored) => stored.number(),
         Source::Made(made) => made.len(),
         Source::One => 1,
     }

@@ -11,7 +11,8 @@ use crate::aggregates::taken;
 use crate::cells::over_none;
 use crate::clauses::first;
 use crate::row::{cell_at, cell_taken};
-use crate::scope::{Group, Pinned, Scope};
+use crate::pinned::Pinned;
+use crate::scope::{Group, Scope};
 use hq_base::{Json, Member, Memory, Txt};
 use hq_sql_cells::Cell;
 use hq_sql_tree::{Expr, ExprList, ExprPairList, OrderList};
@@ -21,7 +22,7 @@ use std::alloc::Global;
 #[cycle(eval)]
 pub fn column_cell<'d>(
     alloc: Global,
-    world: &'d Pinned<'d>,
+    world: &Pinned<'d>,
     scope: &Scope<'_, 'd>,
     alias: &Txt,
     name: &Txt,
@@ -60,7 +61,7 @@ pub fn column_cell<'d>(
 pub fn value<'d>(
     alloc: Global,
     expr: &'d Expr,
-    world: &'d Pinned<'d>,
+    world: &Pinned<'d>,
     group: Group<'_, 'd>,
     scope: &Scope<'_, 'd>,
 ) -> Result<Cell<'d>, Memory>
@@ -86,7 +87,7 @@ pub fn value<'d>(
 fn members<'d>(
     alloc: Global,
     pairs: &'d ExprPairList,
-    world: &'d Pinned<'d>,
+    world: &Pinned<'d>,
     group: Group<'_, 'd>,
     scope: &Scope<'_, 'd>,
 ) -> Result<Vec<Member>, Memory>
@@ -109,7 +110,7 @@ fn members<'d>(
 pub fn keys<'d>(
     alloc: Global,
     order: &'d OrderList,
-    world: &'d Pinned<'d>,
+    world: &Pinned<'d>,
     scope: &Scope<'_, 'd>,
 ) -> Result<Vec<Cell<'d>>, Memory>
     ensures { IfOk result (λ keys. map cell_view keys.items ≡ key_values (map order_view order.now.items) (names_of scope.now world.now)) }
@@ -126,7 +127,7 @@ pub fn keys<'d>(
 pub fn values<'d>(
     alloc: Global,
     exprs: &'d ExprList,
-    world: &'d Pinned<'d>,
+    world: &Pinned<'d>,
     scope: &Scope<'_, 'd>,
 ) -> Result<Vec<Cell<'d>>, Memory>
     ensures { IfOk result (λ values. map cell_view values.items ≡ expr_values (map expr_view exprs.now.items) (names_of scope.now world.now)) }

@@ -4,7 +4,7 @@ use Rattle.hq_index.specs.Keys.{cell_view as key_view}
 use Rattle.hq_sql_tree.specs.Tree.{joins_of}
 use Rattle.hq_sql_tree.specs.View.{join_view, pred_view}
 use Rattle.hq_sql_eval.specs.Equations.{AsksKey}
-use Rattle.hq_sql_eval.specs.View.{rows_lent}
+use Rattle.hq_sql_eval.specs.Pins.{rows_lent}
 use Rattle.hq_sql_eval.proofs.Looked.{looked_is}
 use Rattle.hq_sql_eval.proofs.positions.looked_up.Goals as goal
 

@@ -1,6 +1,7 @@
 use Rattle.std.proofs.Common.{◌≡◌, drop}
 use Rattle.hq_sql_tree.specs.Meaning.{rows_named}
-use Rattle.hq_sql_eval.specs.View.{world_in, world_of}
+use Rattle.hq_sql_eval.specs.Pins.{world_in}
+use Rattle.hq_sql_eval.specs.View.{world_of}
 use Rattle.hq_sql_eval.proofs.scope.stored_named.Given as goal
 
 -- the tables that are left give the rows that all give
