@@ -12,13 +12,14 @@ use Rattle.hq_sql_tree.specs.View.{pred_view}
 use Rattle.hq_sql_closed.specs.Conjuncts.{all_kept, lent_views, lent_weight}
 use Rattle.hq_sql_closed.specs.Split.{IsSplit, kept_one}
 use Rattle.hq_sql_closed.proofs.Conjuncts.{all_alone, all_append}
-use Rattle.hq_sql_eval.specs.Known.{Tells, Knows, IsKnown, IsRight}
+use Rattle.hq_sql_rows.specs.Known.{Tells, Knows, IsKnown, IsRight}
 use Rattle.hq_sql_eval.specs.Narrowed.{narrowed, keeps_one}
-use Rattle.hq_sql_eval.specs.Sources.{alias_in, made_rows, rows_given, has_items}
-use Rattle.hq_sql_eval.specs.View.{source_view, row_in}
-use Rattle.hq_sql_eval.specs.declared.pinned.Known.{Known}
-use Rattle.hq_sql_eval.specs.declared.scope.Source.{Source}
-use Rattle.hq_sql_eval.proofs.Evaluated.{row_in_is, exists_is}
+use Rattle.hq_sql_rows.specs.Sources.{alias_in, made_rows, rows_given, has_items}
+use Rattle.hq_sql_rows.specs.View.{source_view, row_in}
+use Rattle.hq_sql_rows.specs.declared.pinned.Known.{Known}
+use Rattle.hq_sql_rows.specs.declared.scope.Source.{Source}
+use Rattle.hq_sql_rows.proofs.RowsIn.{row_in_is}
+use Rattle.hq_sql_eval.proofs.Evaluated.{exists_is}
 
 -- without joins WHERE decides alone
 pub alone_has : (js : JoinTrees) (f : FilterTree) (w : World) (n : Scope) → js ≡ no_join → has_items (filter (kept f w) (joined js w n)) ≡ kept f w n
@@ -76,23 +77,6 @@ known_in js f w n b rest e h k = sym (alone_has js f w n e ∙ h ∙ ap (λ t. t
 pub known_at : (w : World) (from : FromTree) (given rows : List NamedRow) (alias : List ℕ) (js : JoinTrees) (f : FilterTree) (k : Known) → rows ≡ rows_given from w given → alias ≡ alias_in from
     → ((made : List NamedRow) → IsKnown w (rows_given from w made) (alias_in from) js f k) → IsKnown w rows alias js f k
 known_at w from given rows alias js f k e a h = subst (λ r. IsKnown w r alias js f k) (sym e) (subst (λ b. IsKnown w (rows_given from w given) b js f k) (sym a) (h given))
-
--- what is known of a condition is known of the same one without joins
-pub known_same : (w : World) (from from' : FromTree) (js : JoinTrees) (p p' : PredTree) (f : FilterTree) (k : Known) → from ≡ from' → p ≡ p' → js ≡ no_join → f ≡ tree.filter p'
-    → ((made : List NamedRow) → Knows w (rows_given from w made) (alias_in from) (tree.filter p) k) → (made : List NamedRow) → IsKnown w (rows_given from' w made) (alias_in from') js f k
-known_same w from from' js p p' f k e h j c known made =
-    record {
-      alone = j;
-      knows = subst (λ x. Knows w (rows_given from' w made) (alias_in from') x k) (ap tree.filter h ∙ sym c)
-          (subst (λ x. Knows w (rows_given x w made) (alias_in x) (tree.filter p) k) e (known made));
-    }
-
--- one more is right where each is
-pub one_more : (P : Known → Type 0) (xs : List Known) (x : Known) → ((i : ℕ) (d : Known) → i < length xs → P (get_or xs i d)) → P x → (i : ℕ) (d : Known) → i < length (xs ++ (x ∷ [])) → P (get_or (xs ++ (x ∷ [])) i d)
-one_more P [] x all h zero d lt = h
-one_more P [] x all h (suc i) d lt = absurd (omega arith)
-one_more P (y ∷ ys) x all h zero d lt = all zero d (omega arith)
-one_more P (y ∷ ys) x all h (suc i) d lt = one_more P ys x (λ j e k. all (suc j) e (omega arith)) h i d (omega arith)
 
 -- what is known over the rows of a table is known of it in each scope
 pub of_table : (w : World) (from : FromTree) (schema name alias : List ℕ) (given rows : List NamedRow) (a : List ℕ) (f : FilterTree) (k : Known) → from ≡ tree.table schema name alias → rows ≡ rows_given from w given → a ≡ alias_in from → Knows w rows a f k

@@ -6,23 +6,23 @@ ghost use Rattle.hq_sql_closed.specs.Weight.{filter_weight};
 ghost use Rattle.hq_sql_tree.specs.Tree.{fold, joins_of, no_join};
 ghost use Rattle.hq_sql_tree.specs.View.{expr_view, order_view, out_view, select_view, from_view, join_view, filter_view};
 ghost use Rattle.hq_sql_tree.specs.Meaning.{with_alias, kept, joined, rows_of, order_cmp, distinct_on, offset_by, limited, outputs};
-ghost use Rattle.hq_sql_eval.specs.View.{made_view, joined_view, first_row, source_view, world_of, names_of, names_at, beside};
-ghost use Rattle.hq_sql_eval.specs.Sources.{alias_in, made_rows, rows_given, has_items};
-ghost use Rattle.hq_sql_eval.specs.Known.{IsKnown, Tells};
-ghost use Rattle.hq_sql_eval.specs.Keys.{with_cells, keyed_at, taken_at, outputs_of};
+ghost use Rattle.hq_sql_rows.specs.View.{made_view, joined_view, first_row, source_view, world_of, names_of, names_at, beside};
+ghost use Rattle.hq_sql_rows.specs.Sources.{alias_in, made_rows, rows_given, has_items};
+ghost use Rattle.hq_sql_rows.specs.Known.{IsKnown, Tells};
+ghost use Rattle.hq_sql_rows.specs.Keys.{with_cells, keyed_at, taken_at, outputs_of};
 
-use crate::cells::arranged;
 use crate::joins::{Asked, asked_at, gather, outputs_at};
-use crate::pinned::{Known, Pinned};
-use crate::place::{Place, add_places};
-use crate::positions::{looked_at, number_of, position_at};
-use crate::row::{Made, first_row, one_row};
-use crate::scope::{Group, Scope, Source, alias_of, row_at, source_of};
-use crate::stages::{Parts, Stage, stages};
 use crate::truths::all_hold;
 use crate::values::value;
 use hq_base::{Memory, Txt};
 use hq_sql_cells::{Kept, paged};
+use hq_sql_rows::cells::arranged;
+use hq_sql_rows::pinned::{Known, Pinned};
+use hq_sql_rows::place::{Place, add_places};
+use hq_sql_rows::positions::{looked_at, number_of, position_at};
+use hq_sql_rows::row::{Made, first_row, one_row};
+use hq_sql_rows::scope::{Group, Scope, Source, alias_of, row_at, source_of};
+use hq_sql_rows::stages::{Parts, Stage, stages};
 use hq_sql_tree::{ExprList, From, Join, OrderList, Out, OutList, Pred, Select};
 use std::alloc::Global;
 
@@ -329,7 +329,14 @@ fn with_keys<'d>(
 ) -> Result<Kept<'d, Place<'d>>, Memory>
     ensures { IfOk result (λ kept. with_cells kept ≡ keyed_at (beside (joins_of (map join_view joins.now)) (world_of world.now) (names_of scope.now world.now) (joined_view place.entry.joined)) (map order_view order.now.items) (map expr_view distinct.now.items) place.entry) }
 {
-    let keys = asked_at(alloc, Asked::Keys(order), joins, &place.joined, world, scope)?;
+    let keys = asked_at(
+        alloc,
+        Asked::Keys(order),
+        joins,
+        &place.joined,
+        world,
+        scope,
+    )?;
     let values = Asked::Values(distinct);
     let distinct = asked_at(alloc, values, joins, &place.joined, world, scope)?;
     Ok(Kept {

@@ -6,18 +6,18 @@ ghost use Rattle.hq_sql_closed.specs.Weight.{filter_weight};
 ghost use Rattle.hq_sql_tree.specs.Meaning.{has_rows, nothing, rows_of, with_alias};
 ghost use Rattle.hq_sql_tree.specs.Tree.{joins_of};
 ghost use Rattle.hq_sql_tree.specs.View.{filter_view, from_view, join_view, pred_view, select_view};
-ghost use Rattle.hq_sql_eval.specs.Known.{IsKnown, IsRight};
+ghost use Rattle.hq_sql_rows.specs.Known.{IsKnown, IsRight};
 ghost use Rattle.hq_sql_eval.specs.Narrowed.{narrowed, keeps_one};
-ghost use Rattle.hq_sql_eval.specs.Sources.{alias_in, rows_given};
-ghost use Rattle.hq_sql_eval.specs.View.{names_of, source_view, world_of};
+ghost use Rattle.hq_sql_rows.specs.Sources.{alias_in, rows_given};
+ghost use Rattle.hq_sql_rows.specs.View.{names_of, source_view, world_of};
 
 use crate::clauses::any_row;
-use crate::known::known_of;
-use crate::pinned::{Known, Pinned};
-use crate::scope::{Scope, Source, alias_of, count, row_at, source_of};
 use crate::truths::truth;
 use hq_base::{Memory, Txt};
 use hq_sql_closed::{Names, split};
+use hq_sql_rows::known::known_of;
+use hq_sql_rows::pinned::{Known, Pinned};
+use hq_sql_rows::scope::{Scope, Source, alias_of, count, row_at, source_of};
 use hq_sql_tree::{From, Join, Pred, Select};
 use std::alloc::Global;
 
@@ -57,7 +57,15 @@ fn finds<'s, 'd>(
         return Ok(false);
     }
     any_row(
-        alloc, source, alias, joins, &[], filter, known, world, scope,
+        alloc,
+        source,
+        alias,
+        joins,
+        &[],
+        filter,
+        known,
+        world,
+        scope,
     )
 }
 

@@ -2,24 +2,12 @@
 #![tactic(auto)]
 
 mod aggregates;
-mod cells;
 mod clauses;
-mod equations;
 mod joins;
-mod known;
 mod learn;
-mod mentions;
-mod pinned;
-mod place;
-mod positions;
 mod remember;
-mod row;
-mod scope;
-mod single;
-mod stages;
 mod statement;
 mod truths;
 mod values;
-mod work;
 
 pub use statement::eval;

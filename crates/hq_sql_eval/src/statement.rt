@@ -6,17 +6,17 @@ ghost use Rattle.hq_sql_tree.specs.View.{select_view};
 ghost use Rattle.hq_sql_tree.specs.Meaning.{first_value, meaning};
 ghost use Rattle.hq_sql_check.specs.Agree.{HasRows};
 ghost use Rattle.hq_sql_check.specs.Scans.{scans};
-ghost use Rattle.hq_sql_eval.specs.Pins.{rows_lent, world_in};
-ghost use Rattle.hq_sql_eval.specs.View.{made_view, world_of};
+ghost use Rattle.hq_sql_rows.specs.Pins.{rows_lent, world_in};
+ghost use Rattle.hq_sql_rows.specs.View.{made_view, world_of};
 
 use crate::clauses::rows;
 use crate::remember::remember;
-use crate::row::{Made, cell_taken};
-use crate::pinned::{Pinned, Stored};
-use crate::scope::Scope;
-use crate::work::Work;
 use hq_base::{Json, Memory, Txt};
 use hq_sql_check::{only_scanned_tables_matter, scanned};
+use hq_sql_rows::pinned::{Pinned, Stored};
+use hq_sql_rows::row::{Made, cell_taken};
+use hq_sql_rows::scope::Scope;
+use hq_sql_rows::work::Work;
 use hq_sql_tree::Select;
 use hq_tables::{Rows, Tables};
 use hq_terms::TableId;
@@ -93,11 +93,7 @@ fn eval_plainly<'d>(
 ) -> Result<Json, Memory>
     ensures { IfOk result (λ json. json_view json ≡ meaning (select_view select.now) (world_in tables.now)) }
 {
-    let world = Pinned {
-        tables,
-        work,
-        known: Vec::new(alloc),
-    };
+    let world = Pinned::new(alloc, tables, work);
     eval_over(alloc, select, &world)
 }
 
@@ -110,11 +106,7 @@ fn eval_knowing<'d>(
 ) -> Result<Json, Memory>
     ensures { IfOk result (λ json. json_view json ≡ meaning (select_view select.now) (world_in tables.now)) }
 {
-    let mut world = Pinned {
-        tables,
-        work,
-        known: Vec::new(alloc),
-    };
+    let mut world = Pinned::new(alloc, tables, work);
     remember(alloc, select, &mut world)?;
     eval_over(alloc, select, &world)
 }

@@ -4,17 +4,17 @@ ghost use Rattle.hq_base.specs.Json.{member_view};
 ghost use Rattle.hq_sql_cells.specs.View.{cell_view};
 ghost use Rattle.hq_sql_tree.specs.View.{expr_view, pair_view, order_view};
 ghost use Rattle.hq_sql_tree.specs.Meaning.{cell_named, value};
-ghost use Rattle.hq_sql_eval.specs.View.{names_of, group_of};
-ghost use Rattle.hq_sql_eval.specs.Keys.{expr_values, key_values, member_at};
+ghost use Rattle.hq_sql_rows.specs.View.{names_of, group_of};
+ghost use Rattle.hq_sql_rows.specs.Keys.{expr_values, key_values, member_at};
 
 use crate::aggregates::taken;
-use crate::cells::over_none;
 use crate::clauses::first;
-use crate::row::{cell_at, cell_taken};
-use crate::pinned::Pinned;
-use crate::scope::{Group, Scope};
 use hq_base::{Json, Member, Memory, Txt};
 use hq_sql_cells::Cell;
+use hq_sql_rows::cells::over_none;
+use hq_sql_rows::pinned::Pinned;
+use hq_sql_rows::row::{cell_at, cell_taken};
+use hq_sql_rows::scope::{Group, Scope};
 use hq_sql_tree::{Expr, ExprList, ExprPairList, OrderList};
 use std::alloc::Global;
 

@@ -17,14 +17,14 @@ use Rattle.hq_sql_tree.specs.declared.select.Select.{the_lemmas as select_lemmas
 use Rattle.hq_sql_tree.specs.Tree.{pairs_of, orders_of, joins_of, rows}
 use Rattle.hq_sql_tree.specs.View.{agg_view, expr_view, pair_view, order_view, out_view, select_view, from_view, join_view, filter_view}
 use Rattle.hq_sql_tree.specs.Meaning.{with_alias, value, members, taken, orders_cmp, order_cmp, distinct_on, limited, offset_by, outputs, has_rows, kept, rows_of, joined}
-use Rattle.hq_sql_eval.specs.View.{made_view, named_view, first_row, source_view, row_in, row_view, joined_view, world_of, names_of, names_at, group_of, beside}
-use Rattle.hq_sql_eval.specs.Joined.{join_in, first_joined}
+use Rattle.hq_sql_rows.specs.View.{made_view, named_view, first_row, source_view, row_in, row_view, joined_view, world_of, names_of, names_at, group_of, beside}
+use Rattle.hq_sql_rows.specs.Joined.{join_in, first_joined}
 use Rattle.hq_sql_eval.proofs.JoinedRows.{beside_row}
-use Rattle.hq_sql_eval.specs.Keys.{with_json, json_at, outputs_of}
-use Rattle.hq_sql_eval.specs.Single.{is_single}
-use Rattle.hq_sql_eval.specs.Sources.{alias_in, rows_given, has_items}
-use Rattle.hq_sql_eval.specs.Positions.{positions_of, rows_at, kept_of}
-use Rattle.hq_sql_eval.proofs.Looked.{at_place}
+use Rattle.hq_sql_rows.specs.Keys.{with_json, json_at, outputs_of}
+use Rattle.hq_sql_rows.specs.Single.{is_single}
+use Rattle.hq_sql_rows.specs.Sources.{alias_in, rows_given, has_items}
+use Rattle.hq_sql_rows.specs.Positions.{positions_of, rows_at, kept_of}
+use Rattle.hq_sql_rows.proofs.Looked.{at_place}
 use Rattle.hq_sql_closed.specs.Conjuncts.{all_kept, lent_views, lent_weight}
 use Rattle.hq_sql_closed.specs.Weight.{total, expr_weight, pair_weight, order_weight, out_weight, pred_weight, filter_weight}
 use Rattle.hq_sql_closed.proofs.Weights.{item_weight, pair_item, order_item, out_item, expr_item, pred_item}

@@ -6,13 +6,14 @@ use Rattle.hq_sql_cells.specs.View.{cell_view}
 use Rattle.hq_sql_tree.specs.Tree.{joins_of, preds_of}
 use Rattle.hq_sql_tree.specs.View.{expr_view, pair_view, order_view, out_view, join_view, pred_view, filter_view}
 use Rattle.hq_sql_tree.specs.Meaning.{value, with_alias, joined, kept, all_true, any_true}
-use Rattle.hq_sql_eval.specs.View.{made_view, named_view, joined_view, world_of, names_of, names_at, group_of, beside}
-use Rattle.hq_sql_eval.specs.Joined.{join_in}
-use Rattle.hq_sql_eval.specs.Keys.{expr_values, key_values, member_at, output_at, outputs_of, with_json, json_at, with_cells, taken_at}
-use Rattle.hq_sql_eval.specs.Positions.{rows_at, kept_of}
+use Rattle.hq_sql_rows.specs.View.{made_view, named_view, joined_view, world_of, names_of, names_at, group_of, beside}
+use Rattle.hq_sql_rows.specs.Joined.{join_in}
+use Rattle.hq_sql_rows.specs.Keys.{expr_values, key_values, member_at, output_at, outputs_of, with_json, json_at, with_cells, taken_at}
+use Rattle.hq_sql_rows.specs.Positions.{rows_at, kept_of}
 use Rattle.hq_sql_closed.specs.Conjuncts.{all_kept, lent_views, lent_weight}
 use Rattle.hq_sql_closed.specs.Weight.{total, agg_weight, expr_weight, pair_weight, order_weight, out_weight, from_weight, select_weight, join_weight, pred_weight, filter_weight}
-use Rattle.hq_sql_eval.specs.Weight.{scope_weight, asked_weight}
+use Rattle.hq_sql_rows.specs.Weight.{scope_weight}
+use Rattle.hq_sql_eval.specs.Asked.{asked_weight}
 use Rattle.hq_sql_eval.proofs.+eval.Given as goal
 
 -- ---- loops: what is done so far

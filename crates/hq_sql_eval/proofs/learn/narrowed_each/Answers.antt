@@ -3,8 +3,8 @@ use Rattle.hq_sql_closed.specs.Split.{kept_one}
 use Rattle.hq_sql_tree.specs.Meaning.{NamedRow, nothing, with_alias}
 use Rattle.hq_sql_tree.specs.View.{pred_view}
 use Rattle.hq_sql_eval.specs.Narrowed.{narrowed}
-use Rattle.hq_sql_eval.specs.View.{source_view, row_view, world_of}
-use Rattle.hq_sql_eval.proofs.Evaluated.{row_in_is}
+use Rattle.hq_sql_rows.specs.View.{source_view, row_view, world_of}
+use Rattle.hq_sql_rows.proofs.RowsIn.{row_in_is}
 use Rattle.hq_sql_eval.proofs.Learned.{narrowed_step, narrowed_end}
 use Rattle.hq_sql_eval.proofs.learn.narrowed_each.Goals as goal
 

@@ -4,9 +4,9 @@ use Rattle.hq_sql_tree.specs.Meaning.{NamedRow, nothing, with_alias}
 use Rattle.hq_sql_tree.specs.Tree.{joins_of}
 use Rattle.hq_sql_tree.specs.View.{filter_view, from_view, join_view}
 use Rattle.hq_sql_eval.specs.Narrowed.{narrowed, keeps_one}
-use Rattle.hq_sql_eval.specs.Sources.{alias_in, rows_given}
-use Rattle.hq_sql_eval.specs.View.{source_view, row_view, world_of}
-use Rattle.hq_sql_eval.proofs.Evaluated.{row_in_is}
+use Rattle.hq_sql_rows.specs.Sources.{alias_in, rows_given}
+use Rattle.hq_sql_rows.specs.View.{source_view, row_view, world_of}
+use Rattle.hq_sql_rows.proofs.RowsIn.{row_in_is}
 use Rattle.hq_sql_eval.proofs.Learned.{known_at, narrowed_step, narrowed_end}
 use Rattle.hq_sql_eval.proofs.learn.narrowed_over.Goals as goal
 
