@@ -18,16 +18,17 @@ use Rattle.hq_sql_tree.specs.declared.expr.Expr.{Expr}
 use Rattle.hq_sql_tree.specs.declared.expr.Order.{Order}
 use Rattle.hq_sql_tree.specs.View.{expr_view, order_view}
 use Rattle.hq_sql_tree.specs.Meaning.{NamedRow, Scope, with_alias, World, rows_of, value, members, outputs, joined, order_cmp, distinct_on, limited, offset_by, kept, scopes_of, has_rows}
-use Rattle.hq_sql_eval.specs.declared.scope.Source.{Source}
-use Rattle.hq_sql_eval.specs.declared.scope.Source.TheVariants as source
-use Rattle.hq_sql_eval.specs.View.{first_row, beside, source_view, row_in, joined_view, place_of, names_at}
-use Rattle.hq_sql_eval.specs.declared.row.Made.{Made}
-use Rattle.hq_sql_eval.specs.declared.place.Place.{Place}
-use Rattle.hq_sql_eval.specs.Joined.{put_off}
-use Rattle.hq_sql_eval.specs.Keys.{member_at, output_at, outputs_of}
-use Rattle.hq_sql_eval.specs.Single.{is_single}
-use Rattle.hq_sql_eval.specs.Positions.{kept_of}
-use Rattle.hq_sql_eval.specs.Sources.{alias_in, made_rows, rows_given, has_items}
+use Rattle.hq_sql_rows.specs.declared.scope.Source.{Source}
+use Rattle.hq_sql_rows.specs.declared.scope.Source.TheVariants as source
+use Rattle.hq_sql_rows.specs.View.{first_row, beside, source_view, row_in, joined_view, place_of, names_at}
+use Rattle.hq_sql_rows.specs.declared.row.Made.{Made}
+use Rattle.hq_sql_rows.specs.declared.place.Place.{Place}
+use Rattle.hq_sql_rows.specs.Joined.{put_off}
+use Rattle.hq_sql_rows.specs.Keys.{member_at, output_at, outputs_of}
+use Rattle.hq_sql_rows.specs.Single.{is_single}
+use Rattle.hq_sql_rows.specs.Positions.{kept_of}
+use Rattle.hq_sql_rows.specs.Sources.{alias_in, made_rows, rows_given, has_items}
+use Rattle.hq_sql_rows.proofs.RowsIn.{row_in_is}
 use Rattle.hq_sql_eval.proofs.JoinedRows.{beside_put_off, joined_single}
 
 -- the members of an object are a map over its pairs
@@ -107,13 +108,6 @@ module _ (s : SelectTree) (a : List ℕ) (js : JoinTrees) (w : World) (n : Scope
       ap (λ l. l ++ filter keeps rest) begun ∙ append_assoc (map B all) (filter keeps here) (filter keeps rest) ∙ ap (λ l. map B all ++ l) (sym (filter-append keeps here rest)) ∙ e
 
 -- ---- places
-
--- the row at a place that there is
-pub row_in_is : (from : Source) (i : ℕ) → i < length (source_view from) → get_or (source_view from) i [] ≡ row_in from i
-row_in_is (source.Stored stored) i h = refl
-row_in_is (source.Made made) i h = refl
-row_in_is source.One zero h = refl
-row_in_is source.One (suc i) h = absurd (omega arith)
 
 module _ (js : JoinTrees) (w : World) (n : Scope) (a : List ℕ) (keeps : Scope → Bool) where
   -- the rows that WHERE keeps of these rows of FROM

@@ -4,9 +4,9 @@ use Rattle.std.proofs.lemmas.Bool.{ltb-true}
 use Rattle.hq_base.specs.Lists.{sort, firsts}
 use Rattle.hq_sql_tree.specs.Tree.{ExprTree, OutTree, OrderTree, SelectTree, rows, fold, FromTree, table, sub, one, JoinTrees, no_join, join, FilterTree}
 use Rattle.hq_sql_tree.specs.Meaning.{NamedRow, Scope, with_alias, World, rows_of, scopes_of, joined, kept, or_null_row, order_cmp, distinct_on, same_values, limited, offset_by, outputs}
-use Rattle.hq_sql_eval.specs.View.{first_row, beside}
-use Rattle.hq_sql_eval.specs.Joined.{put_off, first_joined, other_joined}
-use Rattle.hq_sql_eval.specs.Single.{is_single, are_single, is_one_at_most}
+use Rattle.hq_sql_rows.specs.View.{first_row, beside}
+use Rattle.hq_sql_rows.specs.Joined.{put_off, first_joined, other_joined}
+use Rattle.hq_sql_rows.specs.Single.{is_single, are_single, is_one_at_most}
 use Rattle.hq_sql_tree.specs.Form.{is_one}
 
 -- a join that is put off has the first row of its select

@@ -11,7 +11,7 @@ use Rattle.hq_sql_cells.specs.declared.kept.Kept.{Kept}
 use Rattle.hq_sql_cells.specs.Keys.{keys_cmp, same_cells, keys_of, same_group}
 use Rattle.hq_sql_tree.specs.Tree.{ExprTree, OrderTree, orders_of}
 use Rattle.hq_sql_tree.specs.Meaning.{Scope, value, order_cmp, orders_cmp, same_values, distinct_on}
-use Rattle.hq_sql_eval.specs.Keys.{directions_of, row_of, by_keys, distinct_kept, expr_values, key_values, taken_at, with_cells, with_json, json_at}
+use Rattle.hq_sql_rows.specs.Keys.{directions_of, row_of, by_keys, distinct_kept, expr_values, key_values, taken_at, with_cells, with_json, json_at}
 
 -- keys that were taken once compare as ORDER BY does
 pub order_keys : (os : List OrderTree) (x y : Scope) → keys_cmp (directions_of os) (key_values os x) (key_values os y) ≡ order_cmp os x y

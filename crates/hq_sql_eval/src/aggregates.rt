@@ -3,15 +3,16 @@ ghost use Rattle.std.specs.Prelude.{◌≡◌, [], map, IfOk};
 ghost use Rattle.hq_sql_cells.specs.View.{cell_view};
 ghost use Rattle.hq_sql_tree.specs.View.{agg_view, expr_view, order_view};
 ghost use Rattle.hq_sql_tree.specs.Meaning.{with_alias, value, taken};
-ghost use Rattle.hq_sql_eval.specs.View.{made_view, names_of};
-ghost use Rattle.hq_sql_eval.specs.Keys.{with_json, json_at};
+ghost use Rattle.hq_sql_rows.specs.View.{made_view, names_of};
+ghost use Rattle.hq_sql_rows.specs.Keys.{with_json, json_at};
 
-use crate::cells::{sorted, sum_of};
-use crate::row::{Made, Row};
-use crate::scope::{Group, Pinned, Scope};
 use crate::values::{keys, value};
 use hq_base::{Json, Memory, Txt};
 use hq_sql_cells::{Cell, Kept, counted, greatest, least};
+use hq_sql_rows::cells::{sorted, sum_of};
+use hq_sql_rows::pinned::Pinned;
+use hq_sql_rows::row::{Made, Row};
+use hq_sql_rows::scope::{Group, Scope};
 use hq_sql_tree::{Agg, Expr, OrderList};
 use std::alloc::Global;
 
@@ -20,7 +21,7 @@ use std::alloc::Global;
 pub fn taken<'d>(
     alloc: Global,
     agg: &'d Agg,
-    world: &'d Pinned<'d>,
+    world: &Pinned<'d>,
     alias: &'d Txt,
     rows: &[Made<'d>],
     scope: &Scope<'_, 'd>,
@@ -51,7 +52,7 @@ pub fn taken<'d>(
 fn each_value<'d>(
     alloc: Global,
     expr: &'d Expr,
-    world: &'d Pinned<'d>,
+    world: &Pinned<'d>,
     alias: &'d Txt,
     rows: &[Made<'d>],
     scope: &Scope<'_, 'd>,
@@ -76,7 +77,7 @@ fn each_json<'d>(
     alloc: Global,
     expr: &'d Expr,
     order: &'d OrderList,
-    world: &'d Pinned<'d>,
+    world: &Pinned<'d>,
     alias: &'d Txt,
     rows: &[Made<'d>],
     scope: &Scope<'_, 'd>,

@@ -1,22 +1,25 @@
 //! The rows of lateral joins, and what is taken at them.
-ghost use Rattle.std.specs.Prelude.{◌≡◌, map, filter as kept_items, flat_map, IfOk, option_map};
+ghost use Rattle.std.specs.Prelude.{◌≡◌, true, map, filter as kept_items, flat_map, IfOk, option_map};
 ghost use Rattle.hq_sql_cells.specs.View.{cell_view};
-ghost use Rattle.hq_sql_tree.specs.Tree.{joins_of};
+ghost use Rattle.hq_sql_tree.specs.Tree.{joins_of, no_join};
 ghost use Rattle.hq_sql_tree.specs.View.{out_view, join_view, filter_view};
 ghost use Rattle.hq_sql_tree.specs.Meaning.{with_alias, kept, joined, rows_of};
-ghost use Rattle.hq_sql_eval.specs.View.{made_view, joined_view, first_row, world_of, names_of, beside};
-ghost use Rattle.hq_sql_eval.specs.Joined.{join_in, asked_values};
-ghost use Rattle.hq_sql_eval.specs.Keys.{outputs_of};
+ghost use Rattle.hq_sql_rows.specs.View.{made_view, joined_view, first_row, world_of, names_of, beside};
+ghost use Rattle.hq_sql_rows.specs.Joined.{join_in};
+ghost use Rattle.hq_sql_eval.specs.Asked.{asked_values};
+ghost use Rattle.hq_sql_rows.specs.Keys.{outputs_of};
+ghost use Rattle.hq_sql_rows.specs.Single.{is_single};
 
 use crate::clauses::{first, rows};
-use crate::place::{Joined, add_lists, first_joined, other_joined, with_none, with_row};
-use crate::row::{Made, Named, Row, or_null_row};
-use crate::scope::{Group, Pinned, Scope};
-use crate::stages::{Stage, first_stage, is_put_off};
 use crate::truths::kept;
 use crate::values::{keys, value, values};
 use hq_base::Memory;
 use hq_sql_cells::Cell;
+use hq_sql_rows::pinned::Pinned;
+use hq_sql_rows::place::{Joined, add_lists, first_joined, other_joined, with_none, with_row};
+use hq_sql_rows::row::{Made, Named, Row, or_null_row};
+use hq_sql_rows::scope::{Group, Scope};
+use hq_sql_rows::stages::{Stage, first_stage, is_put_off};
 use hq_sql_tree::{ExprList, Join, OrderList, OutList, Pred};
 use std::alloc::Global;
 
@@ -27,38 +30,84 @@ pub fn gather<'d>(
     joins: &'d [Join],
     stages: &[Stage],
     filter: &'d Option<Pred>,
-    world: &'d Pinned<'d>,
+    world: &Pinned<'d>,
     scope: &Scope<'_, 'd>,
 ) -> Result<Vec<Joined<'d>>, Memory>
     ensures { IfOk result (λ lists. map (beside (joins_of (map join_view joins.now)) (world_of world.now) (names_of scope.now world.now)) (map joined_view lists.items) ≡ kept_items (kept (filter_view filter.now) (world_of world.now)) (joined (joins_of (map join_view joins.now)) (world_of world.now) (names_of scope.now world.now))) }
 {
     match joins.split_first() {
-        None => {
-            let mut lists = Vec::new(alloc);
-            if kept(alloc, filter, world, scope)? {
-                lists.push(Vec::new(alloc))?;
-            }
-            Ok(lists)
-        }
+        None => gather_alone(alloc, filter, world, scope),
         Some((join, rest)) => {
             let (stage, others) = first_stage(stages);
-            if !is_put_off(stage, &join.select) {
-                let made = or_null_row(alloc, rows(alloc, &join.select, world, scope)?)?;
-                return spread(alloc, made, join, rest, others, filter, world, scope);
+            if is_put_off(stage, &join.select) {
+                return gather_put_off(alloc, join, rest, stage, others, filter, world, scope);
             }
-            let at = Scope::Later {
-                alias: &join.alias,
-                select: &join.select,
-                outer: &*scope,
-            };
-            let lists = gather(alloc, rest, others, filter, world, &at)?;
-            if stage == Stage::Keys && !lists.is_empty() {
-                let row = first(alloc, &join.select, world, scope)?;
-                return with_row(alloc, row, lists);
-            }
-            with_none(alloc, lists)
+            gather_each(alloc, join, rest, others, filter, world, scope)
         }
     }
+}
+
+// The same where no join is left: the row itself, if WHERE keeps it.
+#[cycle(eval)]
+fn gather_alone<'d>(
+    alloc: Global,
+    filter: &'d Option<Pred>,
+    world: &Pinned<'d>,
+    scope: &Scope<'_, 'd>,
+) -> Result<Vec<Joined<'d>>, Memory>
+    ensures { IfOk result (λ lists. map (beside no_join (world_of world.now) (names_of scope.now world.now)) (map joined_view lists.items) ≡ kept_items (kept (filter_view filter.now) (world_of world.now)) (joined no_join (world_of world.now) (names_of scope.now world.now))) }
+{
+    let mut lists = Vec::new(alloc);
+    if kept(alloc, filter, world, scope)? {
+        lists.push(Vec::new(alloc))?;
+    }
+    Ok(lists)
+}
+
+// The same where the first join gives one row at most, and WHERE does not need it.
+#[cycle(eval)]
+fn gather_put_off<'d>(
+    alloc: Global,
+    join: &'d Join,
+    rest: &'d [Join],
+    stage: Stage,
+    stages: &[Stage],
+    filter: &'d Option<Pred>,
+    world: &Pinned<'d>,
+    scope: &Scope<'_, 'd>,
+) -> Result<Vec<Joined<'d>>, Memory>
+    requires { is_single (join_view join.now).select ≡ true }
+    ensures { IfOk result (λ lists. map (beside (join_in (join_view join.now) (joins_of (map join_view rest.now))) (world_of world.now) (names_of scope.now world.now)) (map joined_view lists.items) ≡ kept_items (kept (filter_view filter.now) (world_of world.now)) (joined (join_in (join_view join.now) (joins_of (map join_view rest.now))) (world_of world.now) (names_of scope.now world.now))) }
+{
+    let at = Scope::Later {
+        alias: &join.alias,
+        select: &join.select,
+        outer: &*scope,
+    };
+    let lists = gather(alloc, rest, stages, filter, world, &at)?;
+    if stage == Stage::Keys && !lists.is_empty() {
+        let row = first(alloc, &join.select, world, scope)?;
+        return with_row(alloc, row, lists);
+    }
+    with_none(alloc, lists)
+}
+
+// The same where the first join is evaluated before WHERE.
+#[cycle(eval)]
+fn gather_each<'d>(
+    alloc: Global,
+    join: &'d Join,
+    rest: &'d [Join],
+    stages: &[Stage],
+    filter: &'d Option<Pred>,
+    world: &Pinned<'d>,
+    scope: &Scope<'_, 'd>,
+) -> Result<Vec<Joined<'d>>, Memory>
+    ensures { IfOk result (λ lists. map (beside (join_in (join_view join.now) (joins_of (map join_view rest.now))) (world_of world.now) (names_of scope.now world.now)) (map joined_view lists.items) ≡ kept_items (kept (filter_view filter.now) (world_of world.now)) (joined (join_in (join_view join.now) (joins_of (map join_view rest.now))) (world_of world.now) (names_of scope.now world.now))) }
+{
+    let made = rows(alloc, &join.select, world, scope)?;
+    let made = or_null_row(alloc, made)?;
+    spread(alloc, made, join, rest, stages, filter, world, scope)
 }
 
 // The same at each of these rows of the first join.
@@ -70,7 +119,7 @@ fn spread<'d>(
     rest: &'d [Join],
     stages: &[Stage],
     filter: &'d Option<Pred>,
-    world: &'d Pinned<'d>,
+    world: &Pinned<'d>,
     scope: &Scope<'_, 'd>,
 ) -> Result<Vec<Joined<'d>>, Memory>
     ensures { IfOk result (λ lists. map (beside (join_in (join_view join.now) (joins_of (map join_view rest.now))) (world_of world.now) (names_of scope.now world.now)) (map joined_view lists.items) ≡ kept_items (kept (filter_view filter.now) (world_of world.now)) (flat_map (joined (joins_of (map join_view rest.now)) (world_of world.now)) (map (with_alias (names_of scope.now world.now) (join_view join.now).alias) (map made_view made.entry.items)))) }
@@ -92,7 +141,7 @@ fn gather_beside<'d>(
     rest: &'d [Join],
     stages: &[Stage],
     filter: &'d Option<Pred>,
-    world: &'d Pinned<'d>,
+    world: &Pinned<'d>,
     scope: &Scope<'_, 'd>,
 ) -> Result<Vec<Joined<'d>>, Memory>
     ensures { IfOk result (λ lists. map (beside (joins_of (map join_view rest.now)) (world_of world.now) (with_alias (names_of scope.now world.now) (join_view join.now).alias (made_view row.now))) (map joined_view lists.items) ≡ kept_items (kept (filter_view filter.now) (world_of world.now)) (joined (joins_of (map join_view rest.now)) (world_of world.now) (with_alias (names_of scope.now world.now) (join_view join.now).alias (made_view row.now)))) }
@@ -119,7 +168,7 @@ pub fn asked_at<'d>(
     asked: Asked<'d>,
     joins: &'d [Join],
     joined: &[Option<Made<'d>>],
-    world: &'d Pinned<'d>,
+    world: &Pinned<'d>,
     scope: &Scope<'_, 'd>,
 ) -> Result<Vec<Cell<'d>>, Memory>
     ensures { IfOk result (λ cells. map cell_view cells.items ≡ asked_values asked.entry (beside (joins_of (map join_view joins.now)) (world_of world.now) (names_of scope.now world.now) (map (option_map made_view) joined.now))) }
@@ -161,7 +210,7 @@ pub fn outputs_at<'d>(
     joins: &'d [Join],
     stages: &[Stage],
     joined: &[Option<Made<'d>>],
-    world: &'d Pinned<'d>,
+    world: &Pinned<'d>,
     scope: &Scope<'_, 'd>,
 ) -> Result<Made<'d>, Memory>
     ensures { IfOk result (λ made. made_view made ≡ outputs_of (map out_view outs.now.items) (beside (joins_of (map join_view joins.now)) (world_of world.now) (names_of scope.now world.now) (map (option_map made_view) joined.now))) }
@@ -198,7 +247,7 @@ fn outputs_put_off<'d>(
     stage: Stage,
     stages: &[Stage],
     others: &[Option<Made<'d>>],
-    world: &'d Pinned<'d>,
+    world: &Pinned<'d>,
     scope: &Scope<'_, 'd>,
 ) -> Result<Made<'d>, Memory>
     ensures { IfOk result (λ made. made_view made ≡ outputs_of (map out_view outs.now.items) (beside (joins_of (map join_view rest.now)) (world_of world.now) (with_alias (names_of scope.now world.now) (join_view join.now).alias (first_row (rows_of (join_view join.now).select (world_of world.now) (names_of scope.now world.now)))) (map (option_map made_view) others.now))) }
@@ -224,7 +273,7 @@ fn outputs_put_off<'d>(
 fn outputs<'d>(
     alloc: Global,
     outs: &'d OutList,
-    world: &'d Pinned<'d>,
+    world: &Pinned<'d>,
     scope: &Scope<'_, 'd>,
 ) -> Result<Made<'d>, Memory>
     ensures { IfOk result (λ made. made_view made ≡ outputs_of (map out_view outs.now.items) (names_of scope.now world.now)) }

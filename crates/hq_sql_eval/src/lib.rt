@@ -2,17 +2,10 @@
 #![tactic(auto)]
 
 mod aggregates;
-mod cells;
 mod clauses;
-mod equations;
 mod joins;
-mod mentions;
-mod place;
-mod positions;
-mod row;
-mod scope;
-mod single;
-mod stages;
+mod learn;
+mod remember;
 mod statement;
 mod truths;
 mod values;

@@ -4,16 +4,17 @@ ghost use Rattle.hq_base.specs.Json.{member_view};
 ghost use Rattle.hq_sql_cells.specs.View.{cell_view};
 ghost use Rattle.hq_sql_tree.specs.View.{expr_view, pair_view, order_view};
 ghost use Rattle.hq_sql_tree.specs.Meaning.{cell_named, value};
-ghost use Rattle.hq_sql_eval.specs.View.{names_of, group_of};
-ghost use Rattle.hq_sql_eval.specs.Keys.{expr_values, key_values, member_at};
+ghost use Rattle.hq_sql_rows.specs.View.{names_of, group_of};
+ghost use Rattle.hq_sql_rows.specs.Keys.{expr_values, key_values, member_at};
 
 use crate::aggregates::taken;
-use crate::cells::over_none;
 use crate::clauses::first;
-use crate::row::{cell_at, cell_taken};
-use crate::scope::{Group, Pinned, Scope};
 use hq_base::{Json, Member, Memory, Txt};
 use hq_sql_cells::Cell;
+use hq_sql_rows::cells::over_none;
+use hq_sql_rows::pinned::Pinned;
+use hq_sql_rows::row::{cell_at, cell_taken};
+use hq_sql_rows::scope::{Group, Scope};
 use hq_sql_tree::{Expr, ExprList, ExprPairList, OrderList};
 use std::alloc::Global;
 
@@ -21,7 +22,7 @@ use std::alloc::Global;
 #[cycle(eval)]
 pub fn column_cell<'d>(
     alloc: Global,
-    world: &'d Pinned<'d>,
+    world: &Pinned<'d>,
     scope: &Scope<'_, 'd>,
     alias: &Txt,
     name: &Txt,
@@ -60,7 +61,7 @@ pub fn column_cell<'d>(
 pub fn value<'d>(
     alloc: Global,
     expr: &'d Expr,
-    world: &'d Pinned<'d>,
+    world: &Pinned<'d>,
     group: Group<'_, 'd>,
     scope: &Scope<'_, 'd>,
 ) -> Result<Cell<'d>, Memory>
@@ -86,7 +87,7 @@ pub fn value<'d>(
 fn members<'d>(
     alloc: Global,
     pairs: &'d ExprPairList,
-    world: &'d Pinned<'d>,
+    world: &Pinned<'d>,
     group: Group<'_, 'd>,
     scope: &Scope<'_, 'd>,
 ) -> Result<Vec<Member>, Memory>
@@ -109,7 +110,7 @@ fn members<'d>(
 pub fn keys<'d>(
     alloc: Global,
     order: &'d OrderList,
-    world: &'d Pinned<'d>,
+    world: &Pinned<'d>,
     scope: &Scope<'_, 'd>,
 ) -> Result<Vec<Cell<'d>>, Memory>
     ensures { IfOk result (λ keys. map cell_view keys.items ≡ key_values (map order_view order.now.items) (names_of scope.now world.now)) }
@@ -126,7 +127,7 @@ pub fn keys<'d>(
 pub fn values<'d>(
     alloc: Global,
     exprs: &'d ExprList,
-    world: &'d Pinned<'d>,
+    world: &Pinned<'d>,
     scope: &Scope<'_, 'd>,
 ) -> Result<Vec<Cell<'d>>, Memory>
     ensures { IfOk result (λ values. map cell_view values.items ≡ expr_values (map expr_view exprs.now.items) (names_of scope.now world.now)) }

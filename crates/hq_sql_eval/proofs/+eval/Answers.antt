@@ -1,4 +1,4 @@
-use Rattle.std.proofs.Common.{rules, ◌≡◌, ◌==◌, ◌≤◌, ◌+◌, ◌<◌, ◌∷◌, [], Some, None, true, false, IfOk, option_map, map, length, ◌++◌, filter as kept_items, flat_map, get_or, subst, sym, ap, ap₂, ◌∙◌, arith}
+use Rattle.std.proofs.Common.{rules, ◌≡◌, ◌==◌, ◌≤◌, ◌+◌, ◌<◌, ◌∷◌, [], Some, None, true, false, IfOk, option_map, map, length, ◌++◌, filter as kept_items, flat_map, get_or, refl, subst, sym, ap, ap₂, ◌∙◌, arith}
 use Rattle.std.proofs.lemmas.List.{map-append, length-map, take_all}
 use Rattle.std.proofs.lemmas.Result.{IfOk-weaker}
 use Rattle.std.specs.Vec.Iter.{into_iter_items}
@@ -17,18 +17,20 @@ use Rattle.hq_sql_tree.specs.declared.select.Select.{the_lemmas as select_lemmas
 use Rattle.hq_sql_tree.specs.Tree.{pairs_of, orders_of, joins_of, rows}
 use Rattle.hq_sql_tree.specs.View.{agg_view, expr_view, pair_view, order_view, out_view, select_view, from_view, join_view, filter_view}
 use Rattle.hq_sql_tree.specs.Meaning.{with_alias, value, members, taken, orders_cmp, order_cmp, distinct_on, limited, offset_by, outputs, has_rows, kept, rows_of, joined}
-use Rattle.hq_sql_eval.specs.View.{made_view, named_view, first_row, source_view, row_in, row_view, joined_view, world_of, names_of, names_at, group_of, beside}
-use Rattle.hq_sql_eval.specs.Joined.{join_in, first_joined}
+use Rattle.hq_sql_rows.specs.View.{made_view, named_view, first_row, source_view, row_in, row_view, joined_view, world_of, names_of, names_at, group_of, beside}
+use Rattle.hq_sql_rows.specs.Joined.{join_in, first_joined}
 use Rattle.hq_sql_eval.proofs.JoinedRows.{beside_row}
-use Rattle.hq_sql_eval.specs.Keys.{with_json, json_at, outputs_of}
-use Rattle.hq_sql_eval.specs.Single.{is_single}
-use Rattle.hq_sql_eval.specs.Sources.{alias_in, rows_given, has_items}
-use Rattle.hq_sql_eval.specs.Positions.{positions_of, rows_at, kept_of}
-use Rattle.hq_sql_eval.proofs.Looked.{at_place}
-use Rattle.hq_sql_eval.specs.Weight.{total, expr_weight, pair_weight, order_weight, out_weight, pred_weight}
-use Rattle.hq_sql_eval.proofs.Weights.{pair_item, order_item, out_item, expr_item, pred_item}
+use Rattle.hq_sql_rows.specs.Keys.{with_json, json_at, outputs_of}
+use Rattle.hq_sql_rows.specs.Single.{is_single}
+use Rattle.hq_sql_rows.specs.Sources.{alias_in, rows_given, has_items}
+use Rattle.hq_sql_rows.specs.Positions.{positions_of, rows_at, kept_of}
+use Rattle.hq_sql_rows.proofs.Looked.{at_place}
+use Rattle.hq_sql_closed.specs.Conjuncts.{all_kept, lent_views, lent_weight}
+use Rattle.hq_sql_closed.specs.Weight.{total, expr_weight, pair_weight, order_weight, out_weight, pred_weight, filter_weight}
+use Rattle.hq_sql_closed.proofs.Weights.{item_weight, pair_item, order_item, out_item, expr_item, pred_item}
 use Rattle.hq_sql_eval.proofs.Ordered.{elements_are, arranged_is}
 use Rattle.hq_sql_eval.proofs.Evaluated.{members_mapped, outputs_all, later_is, keys_is, spread_step, any_found, any_passed, scan_step, no_images, some_images, no_order, rows_are, exists_is, steps_are}
+use Rattle.hq_sql_eval.proofs.Learned.{none_in, tells_at, known_out, known_in, known_at}
 use Rattle.hq_sql_eval.proofs.+eval.Goals as goal
 
 -- ---- an item weighs at most its list
@@ -61,6 +63,11 @@ truths::any_true-truth-requires t c =
 pub joins::outputs-value-requires : goal.joins::outputs-value-requires
 joins::outputs-value-requires t c =
     let e : expr_weight c.out-item.result.value ≤ total (map out_weight c.args.outs.now.items) = search (rules, out_item) in
+    omega arith
+
+pub truths::all_hold-truth-requires : goal.truths::all_hold-truth-requires
+truths::all_hold-truth-requires t c =
+    let e : pred_weight c.pred-item.result.now ≤ lent_weight c.args.preds.now = search (rules, item_weight) in
     omega arith
 
 -- ---- values and aggregates
@@ -131,45 +138,37 @@ aggregates::taken-returns-in_ok-each_value-in-Max t c =
 
 -- ---- joins
 
-pub joins::gather-returns-then-not-is_empty : goal.joins::gather-returns-then-not-is_empty
-joins::gather-returns-then-not-is_empty t c =
-    let j = join_view c.in-Some.join.now in
-    let r = joins_of (map join_view c.in-Some.rest.now) in
+pub joins::gather_put_off-returns-then-not-is_empty : goal.joins::gather_put_off-returns-then-not-is_empty
+joins::gather_put_off-returns-then-not-is_empty t c =
+    let j = join_view c.args.join.now in
+    let r = joins_of (map join_view c.args.rest.now) in
     let w = world_of c.args.world.now in
     let n = names_of c.args.scope.now c.args.world.now in
     let keeps = kept (filter_view c.args.filter.now) w in
-    let views = map joined_view c.in_ok-lists-in-Some.lists.items in
-    let all : joins_of (map join_view c.args.joins.now) ≡ join_in j r = search rules in
-    let alias_is : c.in-Some.join.now.alias ≡ j.alias = search (rules, join_lemmas) in
-    let tested : select_view c.deref.result.now ≡ j.select = search (rules, join_lemmas) in
-    let later : select_view c.deref-in-Some.result.now ≡ j.select = search (rules, join_lemmas) in
+    let views = map joined_view c.in_ok-lists.lists.items in
+    let alias_is : c.args.join.now.alias ≡ j.alias = search (rules, join_lemmas) in
+    let later : select_view c.deref.result.now ≡ j.select = search (rules, join_lemmas) in
     let taken : select_view c.deref-then-not-is_empty.result.now ≡ j.select = search (rules, join_lemmas) in
-    let single : is_single j.select ≡ true = subst (λ s. is_single s ≡ true) tested (c.is_put_off.ensures c.if-not-is_put_off.false) in
-    let row : made_view c.in_ok-row-in-Some.row ≡ first_row (rows_of j.select w n) = subst (λ s. made_view c.in_ok-row-in-Some.row ≡ first_row (rows_of s w n)) taken c.in_ok-row-in-Some.ensures in
+    let row : made_view c.in_ok-row.row ≡ first_row (rows_of j.select w n) = subst (λ s. made_view c.in_ok-row.row ≡ first_row (rows_of s w n)) taken c.in_ok-row.ensures in
     let lists : map (beside r w (with_alias n j.alias (first_row (rows_of j.select w n)))) views ≡ kept_items keeps (joined r w (with_alias n j.alias (first_row (rows_of j.select w n)))) =
     subst (λ s. map (beside r w (with_alias n j.alias (first_row (rows_of s w n)))) views ≡ kept_items keeps (joined r w (with_alias n j.alias (first_row (rows_of s w n))))) later
-    (subst (λ a. map (beside r w (with_alias n a (first_row (rows_of (select_view c.deref-in-Some.result.now) w n)))) views ≡ kept_items keeps (joined r w (with_alias n a (first_row (rows_of (select_view c.deref-in-Some.result.now) w n))))) alias_is c.in_ok-lists-in-Some.ensures) in
-    subst (λ js. IfOk c.with_row.result (λ lists. map (beside js w n) (map joined_view lists.items) ≡ kept_items keeps (joined js w n))) (sym all)
-    (IfOk-weaker c.with_row.result _ _ (λ out h. ap (map (beside (join_in j r) w n)) h ∙ keys_is j.select j.alias r w n keeps single (made_view c.in_ok-row-in-Some.row) row views lists) c.with_row.ensures)
+    (subst (λ a. map (beside r w (with_alias n a (first_row (rows_of (select_view c.deref.result.now) w n)))) views ≡ kept_items keeps (joined r w (with_alias n a (first_row (rows_of (select_view c.deref.result.now) w n))))) alias_is c.in_ok-lists.ensures) in
+    IfOk-weaker c.with_row.result _ _ (λ out h. ap (map (beside (join_in j r) w n)) h ∙ keys_is j.select j.alias r w n keeps c.requires (made_view c.in_ok-row.row) row views lists) c.with_row.ensures
 
-pub joins::gather-returns-else-eq : goal.joins::gather-returns-else-eq
-joins::gather-returns-else-eq t c =
-    let j = join_view c.in-Some.join.now in
-    let r = joins_of (map join_view c.in-Some.rest.now) in
+pub joins::gather_put_off-returns : goal.joins::gather_put_off-returns
+joins::gather_put_off-returns t c =
+    let j = join_view c.args.join.now in
+    let r = joins_of (map join_view c.args.rest.now) in
     let w = world_of c.args.world.now in
     let n = names_of c.args.scope.now c.args.world.now in
     let keeps = kept (filter_view c.args.filter.now) w in
-    let views = map joined_view c.in_ok-lists-in-Some.lists.items in
-    let all : joins_of (map join_view c.args.joins.now) ≡ join_in j r = search rules in
-    let alias_is : c.in-Some.join.now.alias ≡ j.alias = search (rules, join_lemmas) in
-    let tested : select_view c.deref.result.now ≡ j.select = search (rules, join_lemmas) in
-    let later : select_view c.deref-in-Some.result.now ≡ j.select = search (rules, join_lemmas) in
-    let single : is_single j.select ≡ true = subst (λ s. is_single s ≡ true) tested (c.is_put_off.ensures c.if-not-is_put_off.false) in
+    let views = map joined_view c.in_ok-lists.lists.items in
+    let alias_is : c.args.join.now.alias ≡ j.alias = search (rules, join_lemmas) in
+    let later : select_view c.deref.result.now ≡ j.select = search (rules, join_lemmas) in
     let lists : map (beside r w (with_alias n j.alias (first_row (rows_of j.select w n)))) views ≡ kept_items keeps (joined r w (with_alias n j.alias (first_row (rows_of j.select w n)))) =
     subst (λ s. map (beside r w (with_alias n j.alias (first_row (rows_of s w n)))) views ≡ kept_items keeps (joined r w (with_alias n j.alias (first_row (rows_of s w n))))) later
-    (subst (λ a. map (beside r w (with_alias n a (first_row (rows_of (select_view c.deref-in-Some.result.now) w n)))) views ≡ kept_items keeps (joined r w (with_alias n a (first_row (rows_of (select_view c.deref-in-Some.result.now) w n))))) alias_is c.in_ok-lists-in-Some.ensures) in
-    subst (λ js. IfOk c.with_none.result (λ lists. map (beside js w n) (map joined_view lists.items) ≡ kept_items keeps (joined js w n))) (sym all)
-    (IfOk-weaker c.with_none.result _ _ (λ out h. ap (map (beside (join_in j r) w n)) h ∙ later_is j.select j.alias r w n keeps single views lists) c.with_none.ensures)
+    (subst (λ a. map (beside r w (with_alias n a (first_row (rows_of (select_view c.deref.result.now) w n)))) views ≡ kept_items keeps (joined r w (with_alias n a (first_row (rows_of (select_view c.deref.result.now) w n))))) alias_is c.in_ok-lists.ensures) in
+    IfOk-weaker c.with_none.result _ _ (λ out h. ap (map (beside (join_in j r) w n)) h ∙ later_is j.select j.alias r w n keeps c.requires views lists) c.with_none.ensures
 
 pub joins::spread-loop-row-preserved : goal.joins::spread-loop-row-preserved
 joins::spread-loop-row-preserved t c =
@@ -226,8 +225,8 @@ joins::outputs_put_off-returns-then-eq t c =
 
 -- ---- rows of FROM
 
-pub clauses::any_row-returns-then-not-is_empty : goal.clauses::any_row-returns-then-not-is_empty
-clauses::any_row-returns-then-not-is_empty t c =
+pub clauses::any_row-returns-then-keeps : goal.clauses::any_row-returns-then-keeps
+clauses::any_row-returns-then-keeps t c =
     let js = joins_of (map join_view c.args.joins.now) in
     let w = world_of c.args.world.now in
     let n = names_of c.args.scope.now c.args.world.now in
@@ -236,14 +235,12 @@ clauses::any_row-returns-then-not-is_empty t c =
     let ps = positions_of c.in_ok-looked.looked in
     let rs = rows_at c.args.source c.in_ok-looked.looked in
     let row = row_view c.row_at.result in
+    let here = kept_items keeps (joined js w (with_alias n c.args.alias.now row)) in
     let long : length rs ≡ length ps = length-map ps (row_in c.args.source) in
     let within : i < length ps = omega (arith, c.loop-turn-test.true, c.number_of-turn-end.ensures) in
     let lt : i < length rs = omega (arith, within, long) in
-    let len : c.in_ok-gather.field-0.len ≡ length c.in_ok-gather.field-0.items = omega (arith, c.in_ok-gather.field-0.ok.0) in
-    let is : row ≡ get_or rs i [] = c.row_at.ensures ∙ ap (row_in c.args.source) c.position_at.ensures ∙ sym (at_place c.args.source ps i within) in
-    any_found js w n c.args.alias.now keeps rs i row (map (beside js w (with_alias n c.args.alias.now row)) (map joined_view c.in_ok-gather.field-0.items)) lt is c.in_ok-gather.ensures
-    (some_images (beside js w (with_alias n c.args.alias.now row)) joined_view c.in_ok-gather.field-0.items (subst (λ k. (k == 0) ≡ false) len (sym c.is_empty.ensures ∙ c.if-not-is_empty.true))) c.loop-turn.invariant
-    ∙ ap has_items (c.in_ok-looked.ensures w)
+    let is : row ≡ get_or rs i [] = c.row_at.ensures ∙ ap (row_in c.args.source) c.position_at-position.ensures ∙ sym (at_place c.args.source ps i within) in
+    any_found js w n c.args.alias.now keeps rs i row here lt is refl (sym c.in_ok-keeps.ensures ∙ c.if-keeps.true) c.loop-turn.invariant ∙ ap has_items (c.in_ok-looked.ensures w)
 
 pub clauses::any_row-loop-turn-preserved : goal.clauses::any_row-loop-turn-preserved
 clauses::any_row-loop-turn-preserved t c =
@@ -255,13 +252,12 @@ clauses::any_row-loop-turn-preserved t c =
     let ps = positions_of c.in_ok-looked.looked in
     let rs = rows_at c.args.source c.in_ok-looked.looked in
     let row = row_view c.row_at.result in
+    let here = kept_items keeps (joined js w (with_alias n c.args.alias.now row)) in
     let long : length rs ≡ length ps = length-map ps (row_in c.args.source) in
     let within : i < length ps = omega (arith, c.loop-turn-test.true, c.number_of-turn-end.ensures) in
     let lt : i < length rs = omega (arith, within, long) in
-    let len : c.in_ok-gather.field-0.len ≡ length c.in_ok-gather.field-0.items = omega (arith, c.in_ok-gather.field-0.ok.0) in
-    let is : row ≡ get_or rs i [] = c.row_at.ensures ∙ ap (row_in c.args.source) c.position_at.ensures ∙ sym (at_place c.args.source ps i within) in
-    any_passed js w n c.args.alias.now keeps rs i row (map (beside js w (with_alias n c.args.alias.now row)) (map joined_view c.in_ok-gather.field-0.items)) lt is c.in_ok-gather.ensures
-    (no_images (beside js w (with_alias n c.args.alias.now row)) joined_view c.in_ok-gather.field-0.items (subst (λ k. (k == 0) ≡ true) len (sym c.is_empty.ensures ∙ c.if-not-is_empty.false))) c.loop-turn.invariant
+    let is : row ≡ get_or rs i [] = c.row_at.ensures ∙ ap (row_in c.args.source) c.position_at-position.ensures ∙ sym (at_place c.args.source ps i within) in
+    any_passed js w n c.args.alias.now keeps rs i row here lt is refl (none_in here (sym c.in_ok-keeps.ensures ∙ c.if-keeps.false)) c.loop-turn.invariant
 
 pub clauses::any_row-returns : goal.clauses::any_row-returns
 clauses::any_row-returns t c =
@@ -369,7 +365,7 @@ truths::exists-returns-in_ok-stages-in-Rows t c =
     subst (λ s. IfOk c.any_row.result (λ b. b ≡ has_rows (rows_of s w n))) (sym whole)
     (IfOk-weaker c.any_row.result _ _
     (λ b h.
-    h ∙ ap (λ js. has_items (kept_items (kept C w) (flat_map (joined (joins_of (map join_view js)) w) (map (with_alias n c.alias_of.result.now) (source_view c.source_of-source.result))))) c.as_slice-list.ensures.value
-    ∙ exists_is D O F J C K w n (map made_view c.in_ok-made-in-Rows.made.items) (source_view c.source_of-source.result) c.alias_of.result.now c.in_ok-made-in-Rows.ensures
-    (c.source_of-source.ensures ∙ ap (λ given. rows_given F w (map made_view given)) c.as_slice-given.ensures.value) c.alias_of.ensures)
+    h ∙ ap (λ js. has_items (kept_items (kept C w) (flat_map (joined (joins_of (map join_view js)) w) (map (with_alias n c.alias_of-alias.result.now) (source_view c.source_of-source.result))))) c.as_slice-list.ensures.value
+    ∙ exists_is D O F J C K w n (map made_view c.in_ok-made-in-Rows.made.items) (source_view c.source_of-source.result) c.alias_of-alias.result.now c.in_ok-made-in-Rows.ensures
+    (c.source_of-source.ensures ∙ ap (λ given. rows_given F w (map made_view given)) c.as_slice-given.ensures.value) c.alias_of-alias.ensures)
     c.any_row.ensures)

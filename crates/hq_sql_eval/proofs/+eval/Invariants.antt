@@ -6,11 +6,14 @@ use Rattle.hq_sql_cells.specs.View.{cell_view}
 use Rattle.hq_sql_tree.specs.Tree.{joins_of, preds_of}
 use Rattle.hq_sql_tree.specs.View.{expr_view, pair_view, order_view, out_view, join_view, pred_view, filter_view}
 use Rattle.hq_sql_tree.specs.Meaning.{value, with_alias, joined, kept, all_true, any_true}
-use Rattle.hq_sql_eval.specs.View.{made_view, named_view, joined_view, world_of, names_of, names_at, group_of, beside}
-use Rattle.hq_sql_eval.specs.Joined.{join_in}
-use Rattle.hq_sql_eval.specs.Keys.{expr_values, key_values, member_at, output_at, outputs_of, with_json, json_at, with_cells, taken_at}
-use Rattle.hq_sql_eval.specs.Positions.{rows_at, kept_of}
-use Rattle.hq_sql_eval.specs.Weight.{total, agg_weight, expr_weight, pair_weight, order_weight, out_weight, from_weight, select_weight, join_weight, pred_weight, filter_weight, scope_weight, asked_weight}
+use Rattle.hq_sql_rows.specs.View.{made_view, named_view, joined_view, world_of, names_of, names_at, group_of, beside}
+use Rattle.hq_sql_rows.specs.Joined.{join_in}
+use Rattle.hq_sql_rows.specs.Keys.{expr_values, key_values, member_at, output_at, outputs_of, with_json, json_at, with_cells, taken_at}
+use Rattle.hq_sql_rows.specs.Positions.{rows_at, kept_of}
+use Rattle.hq_sql_closed.specs.Conjuncts.{all_kept, lent_views, lent_weight}
+use Rattle.hq_sql_closed.specs.Weight.{total, agg_weight, expr_weight, pair_weight, order_weight, out_weight, from_weight, select_weight, join_weight, pred_weight, filter_weight}
+use Rattle.hq_sql_rows.specs.Weight.{scope_weight}
+use Rattle.hq_sql_eval.specs.Asked.{asked_weight}
 use Rattle.hq_sql_eval.proofs.+eval.Given as goal
 
 -- ---- loops: what is done so far
@@ -35,6 +38,9 @@ invariant-truths::all_true-loop-pred l = and3 l.all (all_true (preds_of (map pre
 
 abbrev pub invariant-truths::any_true-loop-pred : goal.invariant-truths::any_true-loop-pred
 invariant-truths::any_true-loop-pred l = or3 l.any (any_true (preds_of (map pred_view (drop l.pred-index l.pred-items))) (world_of l.world) (names_of l.scope l.world)) ≡ any_true (preds_of (map pred_view l.pred-items)) (world_of l.world) (names_of l.scope l.world)
+
+abbrev pub invariant-truths::all_hold-loop-pred : goal.invariant-truths::all_hold-loop-pred
+invariant-truths::all_hold-loop-pred l = all_kept (lent_views (drop l.pred-index l.preds)) (world_of l.world) (names_of l.scope l.world) ≡ all_kept (lent_views l.preds) (world_of l.world) (names_of l.scope l.world)
 
 abbrev pub invariant-joins::spread-loop-row : goal.invariant-joins::spread-loop-row
 invariant-joins::spread-loop-row l =
@@ -97,17 +103,38 @@ decreases-truths::kept l = filter_weight l.filter.now + scope_weight l.scope.now
 abbrev pub decreases-truths::truth : goal.decreases-truths::truth
 decreases-truths::truth l = pred_weight l.pred.now + scope_weight l.scope.now
 
+abbrev pub decreases-truths::comparison : goal.decreases-truths::comparison
+decreases-truths::comparison l = 1 + (expr_weight l.left.now + (expr_weight l.right.now + scope_weight l.scope.now))
+
+abbrev pub decreases-truths::likeness : goal.decreases-truths::likeness
+decreases-truths::likeness l = 1 + (expr_weight l.left.now + (expr_weight l.right.now + scope_weight l.scope.now))
+
+abbrev pub decreases-truths::membership : goal.decreases-truths::membership
+decreases-truths::membership l = 2 + (expr_weight l.expr.now + (total (map expr_weight l.list.now.items) + scope_weight l.scope.now))
+
 abbrev pub decreases-truths::all_true : goal.decreases-truths::all_true
 decreases-truths::all_true l = 1 + (total (map pred_weight l.preds.now.items) + scope_weight l.scope.now)
 
 abbrev pub decreases-truths::any_true : goal.decreases-truths::any_true
 decreases-truths::any_true l = 1 + (total (map pred_weight l.preds.now.items) + scope_weight l.scope.now)
 
+abbrev pub decreases-truths::all_hold : goal.decreases-truths::all_hold
+decreases-truths::all_hold l = 1 + (lent_weight l.preds.now + scope_weight l.scope.now)
+
 abbrev pub decreases-truths::exists : goal.decreases-truths::exists
 decreases-truths::exists l = 2 + (select_weight l.select.now + scope_weight l.scope.now)
 
 abbrev pub decreases-joins::gather : goal.decreases-joins::gather
 decreases-joins::gather l = 3 + (total (map join_weight l.joins.now) + (filter_weight l.filter.now + scope_weight l.scope.now))
+
+abbrev pub decreases-joins::gather_alone : goal.decreases-joins::gather_alone
+decreases-joins::gather_alone l = 2 + (filter_weight l.filter.now + scope_weight l.scope.now)
+
+abbrev pub decreases-joins::gather_put_off : goal.decreases-joins::gather_put_off
+decreases-joins::gather_put_off l = 2 + (join_weight l.join.now + (total (map join_weight l.rest.now) + (filter_weight l.filter.now + scope_weight l.scope.now)))
+
+abbrev pub decreases-joins::gather_each : goal.decreases-joins::gather_each
+decreases-joins::gather_each l = 2 + (join_weight l.join.now + (total (map join_weight l.rest.now) + (filter_weight l.filter.now + scope_weight l.scope.now)))
 
 abbrev pub decreases-joins::spread : goal.decreases-joins::spread
 decreases-joins::spread l = 6 + (total (map join_weight l.rest.now) + (filter_weight l.filter.now + scope_weight l.scope.now))
@@ -146,14 +173,20 @@ decreases-clauses::rows_over l =
 abbrev pub decreases-clauses::scan : goal.decreases-clauses::scan
 decreases-clauses::scan l = 5 + (total (map join_weight l.joins.now) + (filter_weight l.filter.now + scope_weight l.scope.now))
 
+abbrev pub decreases-clauses::keeps_some : goal.decreases-clauses::keeps_some
+decreases-clauses::keeps_some l = 4 + (total (map join_weight l.joins.now) + (filter_weight l.filter.now + scope_weight l.scope.now))
+
 abbrev pub decreases-clauses::any_row : goal.decreases-clauses::any_row
-decreases-clauses::any_row l = 5 + (total (map join_weight l.joins.now) + (filter_weight l.filter.now + scope_weight l.scope.now))
+decreases-clauses::any_row l = 6 + (total (map join_weight l.joins.now) + (filter_weight l.filter.now + scope_weight l.scope.now))
 
 abbrev pub decreases-clauses::in_order : goal.decreases-clauses::in_order
-decreases-clauses::in_order l = 5 + (total (map order_weight l.order.now.items) + (total (map expr_weight l.distinct.now.items) + (total (map join_weight l.joins.now) + scope_weight l.scope.now)))
+decreases-clauses::in_order l = 6 + (total (map order_weight l.order.now.items) + (total (map expr_weight l.distinct.now.items) + (total (map join_weight l.joins.now) + scope_weight l.scope.now)))
 
 abbrev pub decreases-clauses::keyed : goal.decreases-clauses::keyed
-decreases-clauses::keyed l = 4 + (total (map order_weight l.order.now.items) + (total (map expr_weight l.distinct.now.items) + (total (map join_weight l.joins.now) + scope_weight l.scope.now)))
+decreases-clauses::keyed l = 5 + (total (map order_weight l.order.now.items) + (total (map expr_weight l.distinct.now.items) + (total (map join_weight l.joins.now) + scope_weight l.scope.now)))
+
+abbrev pub decreases-clauses::with_keys : goal.decreases-clauses::with_keys
+decreases-clauses::with_keys l = 3 + (total (map order_weight l.order.now.items) + (total (map expr_weight l.distinct.now.items) + (total (map join_weight l.joins.now) + scope_weight l.scope.now)))
 
 abbrev pub decreases-clauses::all_outputs : goal.decreases-clauses::all_outputs
 decreases-clauses::all_outputs l = 5 + (total (map out_weight l.outs.now.items) + (total (map join_weight l.joins.now) + scope_weight l.scope.now))
