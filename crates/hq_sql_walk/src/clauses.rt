@@ -258,7 +258,8 @@ pub fn any_row<'s, 'd>(
             row: row_at(source, position),
             outer: &*scope,
         };
-        if keeps_some(alloc, position, joins, stages, filter, known, world, &at)? {
+        let keeps = keeps_some(alloc, position, joins, stages, filter, known, world, &at)?;
+        if keeps {
             return Ok(true);
         }
     }

@@ -1,4 +1,4 @@
-use Rattle.std.proofs.Common.{rules, ◌≡◌, ◌==◌, ◌≤◌, ◌+◌, ◌<◌, ◌∷◌, [], Some, None, true, false, IfOk, option_map, map, length, ◌++◌, filter as kept_items, flat_map, get_or, subst, sym, ap, ap₂, ◌∙◌, arith}
+use Rattle.std.proofs.Common.{rules, ◌≡◌, ◌==◌, ◌≤◌, ◌+◌, ◌<◌, ◌∷◌, [], Some, None, true, false, IfOk, option_map, map, length, ◌++◌, filter as kept_items, flat_map, get_or, refl, subst, sym, ap, ap₂, ◌∙◌, arith}
 use Rattle.std.proofs.lemmas.List.{map-append, length-map, take_all}
 use Rattle.std.proofs.lemmas.Result.{IfOk-weaker}
 use Rattle.std.specs.Vec.Iter.{into_iter_items}
@@ -155,8 +155,8 @@ joins::gather_put_off-returns-then-not-is_empty t c =
     (subst (λ a. map (beside r w (with_alias n a (first_row (rows_of (select_view c.deref.result.now) w n)))) views ≡ kept_items keeps (joined r w (with_alias n a (first_row (rows_of (select_view c.deref.result.now) w n))))) alias_is c.in_ok-lists.ensures) in
     IfOk-weaker c.with_row.result _ _ (λ out h. ap (map (beside (join_in j r) w n)) h ∙ keys_is j.select j.alias r w n keeps c.requires (made_view c.in_ok-row.row) row views lists) c.with_row.ensures
 
-pub joins::gather_put_off-returns-else-eq : goal.joins::gather_put_off-returns-else-eq
-joins::gather_put_off-returns-else-eq t c =
+pub joins::gather_put_off-returns : goal.joins::gather_put_off-returns
+joins::gather_put_off-returns t c =
     let j = join_view c.args.join.now in
     let r = joins_of (map join_view c.args.rest.now) in
     let w = world_of c.args.world.now in
@@ -225,8 +225,8 @@ joins::outputs_put_off-returns-then-eq t c =
 
 -- ---- rows of FROM
 
-pub clauses::any_row-returns-then-keeps_some : goal.clauses::any_row-returns-then-keeps_some
-clauses::any_row-returns-then-keeps_some t c =
+pub clauses::any_row-returns-then-keeps : goal.clauses::any_row-returns-then-keeps
+clauses::any_row-returns-then-keeps t c =
     let js = joins_of (map join_view c.args.joins.now) in
     let w = world_of c.args.world.now in
     let n = names_of c.args.scope.now c.args.world.now in
@@ -240,7 +240,7 @@ clauses::any_row-returns-then-keeps_some t c =
     let within : i < length ps = omega (arith, c.loop-turn-test.true, c.number_of-turn-end.ensures) in
     let lt : i < length rs = omega (arith, within, long) in
     let is : row ≡ get_or rs i [] = c.row_at.ensures ∙ ap (row_in c.args.source) c.position_at-position.ensures ∙ sym (at_place c.args.source ps i within) in
-    any_found js w n c.args.alias.now keeps rs i row here lt is refl (sym c.in_ok-keeps_some.ensures ∙ c.if-keeps_some.true) c.loop-turn.invariant ∙ ap has_items (c.in_ok-looked.ensures w)
+    any_found js w n c.args.alias.now keeps rs i row here lt is refl (sym c.in_ok-keeps.ensures ∙ c.if-keeps.true) c.loop-turn.invariant ∙ ap has_items (c.in_ok-looked.ensures w)
 
 pub clauses::any_row-loop-turn-preserved : goal.clauses::any_row-loop-turn-preserved
 clauses::any_row-loop-turn-preserved t c =
@@ -257,7 +257,7 @@ clauses::any_row-loop-turn-preserved t c =
     let within : i < length ps = omega (arith, c.loop-turn-test.true, c.number_of-turn-end.ensures) in
     let lt : i < length rs = omega (arith, within, long) in
     let is : row ≡ get_or rs i [] = c.row_at.ensures ∙ ap (row_in c.args.source) c.position_at-position.ensures ∙ sym (at_place c.args.source ps i within) in
-    any_passed js w n c.args.alias.now keeps rs i row here lt is refl (none_in here (sym c.in_ok-keeps_some.ensures ∙ c.if-keeps_some.false)) c.loop-turn.invariant
+    any_passed js w n c.args.alias.now keeps rs i row here lt is refl (none_in here (sym c.in_ok-keeps.ensures ∙ c.if-keeps.false)) c.loop-turn.invariant
 
 pub clauses::any_row-returns : goal.clauses::any_row-returns
 clauses::any_row-returns t c =
