@@ -1,5 +1,2 @@
-pub mod JoinedRows
-pub mod Ordered
-pub mod Evaluated
 pub mod Stored
 pub mod Learned

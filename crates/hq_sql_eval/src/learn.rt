@@ -11,14 +11,13 @@ ghost use Rattle.hq_sql_eval.specs.Narrowed.{narrowed, keeps_one};
 ghost use Rattle.hq_sql_rows.specs.Sources.{alias_in, rows_given};
 ghost use Rattle.hq_sql_rows.specs.View.{names_of, source_view, world_of};
 
-use crate::clauses::any_row;
-use crate::truths::truth;
 use hq_base::{Memory, Txt};
 use hq_sql_closed::{Names, split};
 use hq_sql_rows::known::known_of;
 use hq_sql_rows::pinned::{Known, Pinned};
 use hq_sql_rows::scope::{Scope, Source, alias_of, count, row_at, source_of};
 use hq_sql_tree::{From, Join, Pred, Select};
+use hq_sql_walk::{any_row, truth};
 use std::alloc::Global;
 
 // Whether a condition is true too, where others were before.

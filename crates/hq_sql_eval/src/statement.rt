@@ -9,7 +9,6 @@ ghost use Rattle.hq_sql_check.specs.Scans.{scans};
 ghost use Rattle.hq_sql_rows.specs.Pins.{rows_lent, world_in};
 ghost use Rattle.hq_sql_rows.specs.View.{made_view, world_of};
 
-use crate::clauses::rows;
 use crate::remember::remember;
 use hq_base::{Json, Memory, Txt};
 use hq_sql_check::{only_scanned_tables_matter, scanned};
@@ -18,6 +17,7 @@ use hq_sql_rows::row::{Made, cell_taken};
 use hq_sql_rows::scope::Scope;
 use hq_sql_rows::work::Work;
 use hq_sql_tree::Select;
+use hq_sql_walk::rows;
 use hq_tables::{Rows, Tables};
 use hq_terms::TableId;
 use std::alloc::Global;

@@ -1,6 +1,6 @@
 -- Rows of joins, of which some are put off.
 use Rattle.std.specs.Prelude.{List, [], ◌∷◌, Option, None}
-use Rattle.hq_sql_tree.specs.Tree.{JoinTree, JoinTrees, no_join, join}
+use Rattle.hq_sql_tree.specs.Tree.{JoinTree, JoinTrees, join}
 use Rattle.hq_sql_tree.specs.Meaning.{NamedRow}
 
 -- one more join in front, which is put off

@@ -1,5 +1,5 @@
 -- What is known of a WHERE: at which rows of its FROM the conjuncts are true that mention nothing else, and which others it has.
-use Rattle.std.specs.Prelude.{◌≡◌, ◌&&◌, ℕ, ◌+◌, ◌<◌, ◌≤◌, List, length, false, slice_index_or, []}
+use Rattle.std.specs.Prelude.{◌≡◌, ◌&&◌, ℕ, ◌<◌, ◌≤◌, List, length, false, slice_index_or, []}
 use Rattle.hq_sql_closed.specs.Conjuncts.{all_kept, lent_views, lent_weight}
 use Rattle.hq_sql_closed.specs.Weight.{pred_weight}
 use Rattle.hq_sql_tree.specs.Meaning.{NamedRow, Scope as Names, World, with_alias, kept}

@@ -7,7 +7,8 @@ use Rattle.hq_sql_eval.specs.Narrowed.{narrowed, keeps_one}
 use Rattle.hq_sql_rows.specs.Sources.{alias_in, rows_given}
 use Rattle.hq_sql_rows.specs.View.{source_view, row_view, world_of}
 use Rattle.hq_sql_rows.proofs.RowsIn.{row_in_is}
-use Rattle.hq_sql_eval.proofs.Learned.{known_at, narrowed_step, narrowed_end}
+use Rattle.hq_sql_eval.proofs.Learned.{narrowed_step, narrowed_end}
+use Rattle.hq_sql_walk.proofs.Told.{known_at}
 use Rattle.hq_sql_eval.proofs.learn.narrowed_over.Goals as goal
 
 pub finds-requires-clause-known : goal.finds-requires-clause-known

@@ -5,8 +5,8 @@ use Rattle.hq_sql_closed.specs.Weight.{total, expr_weight, order_weight}
 use Rattle.hq_sql_tree.specs.Meaning.{Scope as Names}
 use Rattle.hq_sql_tree.specs.View.{expr_view, order_view}
 use Rattle.hq_sql_rows.specs.Keys.{expr_values, key_values}
-use Rattle.hq_sql_eval.specs.declared.joins.Asked.{Asked}
-use Rattle.hq_sql_eval.specs.declared.joins.Asked.TheVariants.{Keys, Values}
+use Rattle.hq_sql_walk.specs.declared.joins.Asked.{Asked}
+use Rattle.hq_sql_walk.specs.declared.joins.Asked.TheVariants.{Keys, Values}
 
 -- the cells that are asked of a row
 abbrev pub asked_values : Asked → Names → List CellTree

@@ -13,8 +13,8 @@ use Rattle.hq_sql_rows.specs.Positions.{rows_at, kept_of}
 use Rattle.hq_sql_closed.specs.Conjuncts.{all_kept, lent_views, lent_weight}
 use Rattle.hq_sql_closed.specs.Weight.{total, agg_weight, expr_weight, pair_weight, order_weight, out_weight, from_weight, select_weight, join_weight, pred_weight, filter_weight}
 use Rattle.hq_sql_rows.specs.Weight.{scope_weight}
-use Rattle.hq_sql_eval.specs.Asked.{asked_weight}
-use Rattle.hq_sql_eval.proofs.+eval.Given as goal
+use Rattle.hq_sql_walk.specs.Asked.{asked_weight}
+use Rattle.hq_sql_walk.proofs.+eval.Given as goal
 
 -- ---- loops: what is done so far
 

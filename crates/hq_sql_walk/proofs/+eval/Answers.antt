@@ -19,7 +19,7 @@ use Rattle.hq_sql_tree.specs.View.{agg_view, expr_view, pair_view, order_view, o
 use Rattle.hq_sql_tree.specs.Meaning.{with_alias, value, members, taken, orders_cmp, order_cmp, distinct_on, limited, offset_by, outputs, has_rows, kept, rows_of, joined}
 use Rattle.hq_sql_rows.specs.View.{made_view, named_view, first_row, source_view, row_in, row_view, joined_view, world_of, names_of, names_at, group_of, beside}
 use Rattle.hq_sql_rows.specs.Joined.{join_in, first_joined}
-use Rattle.hq_sql_eval.proofs.JoinedRows.{beside_row}
+use Rattle.hq_sql_walk.proofs.JoinedRows.{beside_row}
 use Rattle.hq_sql_rows.specs.Keys.{with_json, json_at, outputs_of}
 use Rattle.hq_sql_rows.specs.Single.{is_single}
 use Rattle.hq_sql_rows.specs.Sources.{alias_in, rows_given, has_items}
@@ -28,10 +28,10 @@ use Rattle.hq_sql_rows.proofs.Looked.{at_place}
 use Rattle.hq_sql_closed.specs.Conjuncts.{all_kept, lent_views, lent_weight}
 use Rattle.hq_sql_closed.specs.Weight.{total, expr_weight, pair_weight, order_weight, out_weight, pred_weight, filter_weight}
 use Rattle.hq_sql_closed.proofs.Weights.{item_weight, pair_item, order_item, out_item, expr_item, pred_item}
-use Rattle.hq_sql_eval.proofs.Ordered.{elements_are, arranged_is}
-use Rattle.hq_sql_eval.proofs.Evaluated.{members_mapped, outputs_all, later_is, keys_is, spread_step, any_found, any_passed, scan_step, no_images, some_images, no_order, rows_are, exists_is, steps_are}
-use Rattle.hq_sql_eval.proofs.Learned.{none_in, tells_at, known_out, known_in, known_at}
-use Rattle.hq_sql_eval.proofs.+eval.Goals as goal
+use Rattle.hq_sql_walk.proofs.Ordered.{elements_are, arranged_is}
+use Rattle.hq_sql_walk.proofs.Evaluated.{members_mapped, outputs_all, later_is, keys_is, spread_step, any_found, any_passed, scan_step, no_images, some_images, no_order, rows_are, exists_is, steps_are}
+use Rattle.hq_sql_walk.proofs.Told.{none_in, tells_at, known_out, known_in, known_at}
+use Rattle.hq_sql_walk.proofs.+eval.Goals as goal
 
 -- ---- an item weighs at most its list
 

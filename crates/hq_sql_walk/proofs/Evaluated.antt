@@ -29,7 +29,7 @@ use Rattle.hq_sql_rows.specs.Single.{is_single}
 use Rattle.hq_sql_rows.specs.Positions.{kept_of}
 use Rattle.hq_sql_rows.specs.Sources.{alias_in, made_rows, rows_given, has_items}
 use Rattle.hq_sql_rows.proofs.RowsIn.{row_in_is}
-use Rattle.hq_sql_eval.proofs.JoinedRows.{beside_put_off, joined_single}
+use Rattle.hq_sql_walk.proofs.JoinedRows.{beside_put_off, joined_single}
 
 -- the members of an object are a map over its pairs
 pub members_mapped : (ps : List PairTree) (group : List Scope) (n : Scope) → members_of (map (member_at group n) ps) ≡ members (pairs_of ps) group n

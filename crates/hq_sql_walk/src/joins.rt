@@ -6,7 +6,7 @@ ghost use Rattle.hq_sql_tree.specs.View.{out_view, join_view, filter_view};
 ghost use Rattle.hq_sql_tree.specs.Meaning.{with_alias, kept, joined, rows_of};
 ghost use Rattle.hq_sql_rows.specs.View.{made_view, joined_view, first_row, world_of, names_of, beside};
 ghost use Rattle.hq_sql_rows.specs.Joined.{join_in};
-ghost use Rattle.hq_sql_eval.specs.Asked.{asked_values};
+ghost use Rattle.hq_sql_walk.specs.Asked.{asked_values};
 ghost use Rattle.hq_sql_rows.specs.Keys.{outputs_of};
 ghost use Rattle.hq_sql_rows.specs.Single.{is_single};
 
