@@ -18,45 +18,45 @@ use hq_terms::Session;
 use std::alloc::Global;
 
 // Answers the request of this number, and adds the line of its reply.
-fn put_reply(
+fn put_reply<D: Database>(
     alloc: Global,
     engine: &Engine,
     session: &Session,
     number: u64,
     body: &str,
-    db: &mut SqlDb<MemTables>,
+    db: &mut D,
     out: &mut Bytes,
-) -> Result<(), Memory>
+) -> Result<(), EngineRefusal>
     requires limit { length body.now ≤ 1048576 }
-    requires catalog { ⟦<SqlDb<MemTables> as Database>⟧.tables db.old ≡ engine.now.catalog.tables }
-    ensures line { OnOk result (IfSome (⟦<SqlDb<MemTables> as Database>⟧.database db.old) (λ d.
+    requires catalog { D.tables db.old ≡ engine.now.catalog.tables }
+    ensures line { OnOk result (IfSome (D.database db.old) (λ d.
         out.new ≡ out.old ++ reply_line number (reply_length engine.now.catalog.tables (meta_view engine.now.meta) session.now d body.now))) }
-    ensures tables { ⟦<SqlDb<MemTables> as Database>⟧.tables db.new ≡ ⟦<SqlDb<MemTables> as Database>⟧.tables db.old }
-    ensures database { ⟦<SqlDb<MemTables> as Database>⟧.database db.new ≡ ⟦<SqlDb<MemTables> as Database>⟧.database db.old }
+    ensures tables { D.tables db.new ≡ D.tables db.old }
+    ensures database { D.database db.new ≡ D.database db.old }
 {
-    match engine.answer(alloc, session, body.as_bytes(), db) {
-        Ok(reply) => put_reply_line(out, number, reply.body.len() as u64),
-        // Tables in memory never fail.
-        Err(EngineRefusal::Database { .. } | EngineRefusal::Memory) => Err(Memory),
-    }
+    let reply = engine.answer(alloc, session, body.as_bytes(), db)?;
+    put_reply_line(out, number, reply.body.len() as u64)?;
+    Ok(())
 }
 
 // Answers requests, and adds a line for each reply.
-fn put_replies(
+fn put_replies<D: Database>(
     alloc: Global,
     engine: &Engine,
     session: &Session,
     bodies: &[&str],
-    db: &mut SqlDb<MemTables>,
+    db: &mut D,
     out: &mut Bytes,
-) -> Result<(), Memory>
+) -> Result<(), EngineRefusal>
     requires limit { All (λ body. length body.now ≤ 1048576) bodies.now }
-    requires catalog { ⟦<SqlDb<MemTables> as Database>⟧.tables db.old ≡ engine.now.catalog.tables }
-    ensures lines { OnOk result (IfSome (⟦<SqlDb<MemTables> as Database>⟧.database db.old) (λ d. out.new ≡ out.old
+    requires catalog { D.tables db.old ≡ engine.now.catalog.tables }
+    ensures lines { OnOk result (IfSome (D.database db.old) (λ d. out.new ≡ out.old
         ++ reply_lines (reply_length engine.now.catalog.tables (meta_view engine.now.meta) session.now d) 1 (map (λ b. b.now) bodies.now))) }
 {
-    for (at, body) in bodies.iter().enumerate() {
-        put_reply(alloc, engine, session, at as u64 + 1, body, db, out)?;
+    let mut number = 0u64;
+    for body in bodies {
+        number += 1;
+        put_reply(alloc, engine, session, number, body, db, out)?;
     }
     Ok(())
 }
@@ -74,7 +74,11 @@ fn gen_lines(alloc: Global, data: Generated) -> Result<Bytes, Memory>
     let mut db = SqlDb::new(MemTables::new(catalog, rows));
     let session = caller(alloc)?;
     let mut text = Bytes::new(alloc);
-    put_replies(alloc, &engine, &session, &requests(), &mut db, &mut text)?;
+    match put_replies(alloc, &engine, &session, &requests(), &mut db, &mut text) {
+        Ok(()) => {}
+        // Tables in memory never fail.
+        Err(EngineRefusal::Database { .. } | EngineRefusal::Memory) => return Err(Memory),
+    }
     put_steps_line(&mut text, db.steps())?;
     Ok(text)
 }

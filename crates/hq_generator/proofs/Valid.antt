@@ -1,12 +1,15 @@
 -- The generated database is one of its catalog, and the metadata fits it.
-use Rattle.std.proofs.Common.{◌≡◌, ℕ, ◌+◌, ◌*◌, ◌%◌, ◌==◌, ◌<◌, ◌≤◌, ◌^◌, List, [], ◌∷◌, length, Bool, true, false, ◌&&◌, nat_lt, pos, arith, refl, sym, subst}
+use Rattle.std.proofs.Common.{◌≡◌, ℕ, ◌+◌, ◌*◌, ◌%◌, ◌==◌, ◌<◌, ◌≤◌, ◌^◌, [], ◌∷◌, ◌++◌, length, Bool, true, false, ◌&&◌, nat_lt, pos, arith, refl}
+use Rattle.std.specs.Fmt.{decimal}
 use Rattle.std.specs.List.{list_all}
+use Rattle.std.specs.Prelude.{codes}
 use Rattle.std.specs.Cmp.{first_so}
 use Rattle.std.proofs.lemmas.Bool.{and_from, false_from_ne_true, lt-ltb}
 use Rattle.std.proofs.lemmas.Nat.{mod_below}
 use Rattle.hq_base.proofs.Orders.{same_value}
 use Rattle.hq_base.specs.Cells.{same_cell, int}
 use Rattle.hq_base.specs.Lists.{all_differ}
+use Rattle.hq_base.specs.declared.value.Ty.TheVariants.{Integer, Bigint, Text}
 use Rattle.hq_base.specs.declared.value.Val.{Val}
 use Rattle.hq_base.specs.declared.value.Val.TheVariants as val
 use Rattle.hq_terms.specs.Catalog.{is_catalog}
@@ -16,7 +19,7 @@ use Rattle.hq_terms.specs.declared.table.Column.{Column}
 use Rattle.hq_terms.specs.declared.table.Table.{Table}
 use Rattle.hq_generator.specs.Metadata.{metadata}
 use Rattle.hq_generator.specs.Rows.{article_row, author_row, number, or_null, rows, rows_to}
-use Rattle.hq_generator.specs.Tables.{article_table, author_table, tables}
+use Rattle.hq_generator.specs.Tables.{article_table, author_table, column_of, tables}
 use Rattle.hq_generator.proofs.Numbered.{rows_count, rows_differ, rows_pass}
 
 pub catalog_valid : is_catalog tables ≡ true
@@ -62,14 +65,14 @@ five : (a b c d e : Bool) → a ≡ true → b ≡ true → c ≡ true → d ≡
 five a b c d e h k l m n = cc
 
 author_fits : (i : ℕ) → i ≤ 400000 → row_fits author_table.columns (author_row i) ≡ true
-author_fits i few = three _ _ _ (small i few) refl (nullable_fits _ ((i % 3) == 0) _ refl refl)
+author_fits i few = three _ _ _ (small i few) refl (nullable_fits (column_of (codes "email") Text true) ((i % 3) == 0) (val.Text ((codes "e" ++ decimal i) ++ codes "@x")) refl refl)
 
 article_fits : (authors i : ℕ) → 1 ≤ authors → authors ≤ 100000 → i ≤ 400000 → row_fits article_table.columns (article_row authors i) ≡ true
 article_fits authors i some few number_few =
     let below : (i * 31) % authors < authors = mod_below (i * 31) authors (omega (arith, some)) in
     let digit : i % 10 < 10 = mod_below i 10 (omega arith) in
-    five _ _ _ _ _ (small i number_few) (nullable_fits _ ((i % 7) == 0) _ refl (small ((i * 31) % authors + 1) (omega (arith, below, few)))) refl refl
-    (nullable_fits _ ((i % 5) == 0) _ refl (small_wide (i % 10) (omega (arith, digit))))
+    five _ _ _ _ _ (small i number_few) (nullable_fits (column_of (codes "author_id") Integer true) ((i % 7) == 0) (number ((i * 31) % authors + 1)) refl (small ((i * 31) % authors + 1) (omega (arith, below, few)))) refl refl
+    (nullable_fits (column_of (codes "rating") Bigint true) ((i % 5) == 0) (number (i % 10)) refl (small_wide (i % 10) (omega (arith, digit))))
 
 pub authors_valid : (authors : ℕ) → authors ≤ 100000 → are_rows author_table (rows_to author_row authors) ≡ true
 authors_valid authors few =

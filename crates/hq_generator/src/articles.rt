@@ -64,7 +64,6 @@ fn article_list(alloc: Global, authors: u32) -> Result<RowList, Memory>
 }
 
 /// The rows of the articles, as those of their table.
-#[tactic(auto, using(crate::proofs::Valid::articles_valid))]
 pub fn article_rows(alloc: Global, authors: u32) -> Result<Rows, Memory>
     requires some { 1 ≤ authors }
     requires few { authors ≤ 100000 }

@@ -46,7 +46,6 @@ fn author_list(alloc: Global, authors: u32) -> Result<RowList, Memory>
 }
 
 /// The rows of so many authors, as those of their table.
-#[tactic(auto, using(crate::proofs::Valid::authors_valid))]
 pub fn author_rows(alloc: Global, authors: u32) -> Result<Rows, Memory>
     requires { authors ≤ 100000 }
     ensures { IfOk result (λ rows. rows ≡ rows_to author_row authors) }
