@@ -70,4 +70,4 @@ gen_cut authors steps old new text bytes a failed is same h = rw failed (steps, 
 
 -- want of memory says nothing of what was due
 pub gen_wanting : (authors : ℕ) (old new : Option (List ℕ)) (a : Answer) → a ≡ Err refusal.Memory → GenEnds authors old new a
-gen_wanting authors old new a wanting = rw wanting (0, tt { 0 })
+gen_wanting authors old new a wanting = rw wanting (0, tt {0})

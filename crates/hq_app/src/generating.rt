@@ -1,5 +1,5 @@
 //! Answering requests over a generated database.
-ghost use Rattle.std.specs.Prelude.{◌≡◌, ◌≤◌, ◌++◌, All, length, map, IsErrOf, IfErr, IfOk, IfSome, OnOk};
+ghost use Rattle.std.specs.Prelude.{◌≡◌, ◌≤◌, ◌++◌, ℕ, All, length, map, IsErrOf, IfErr, IfOk, IfSome, OnOk};
 ghost use Rattle.hq_generator.specs.Lines.{reply_line};
 ghost use Rattle.hq_outside.specs.Causes.{Rose};
 ghost use Rattle.hq_terms.specs.Meta.{meta_view};
@@ -62,14 +62,14 @@ fn put_replies<D: Database>(
 }
 
 // The lines of the requests over a generated database.
-fn gen_lines(alloc: Global, data: Generated) -> Result<Bytes, Memory>
-    ensures { IfOk result (λ text. (steps : ℕ) × (text ≡ lines_over data.catalog.tables (meta_view data.meta) data.rows steps)) }
+fn gen_lines(alloc: Global, made: Generated) -> Result<Bytes, Memory>
+    ensures { IfOk result (λ text. (steps : ℕ) × (text ≡ lines_over made.catalog.tables (meta_view made.meta) made.rows steps)) }
 {
     let Generated {
         catalog,
         meta,
         rows,
-    } = data;
+    } = made;
     let engine = Engine::new(alloc, catalog.copy(alloc)?, meta)?;
     let mut db = SqlDb::new(MemTables::new(catalog, rows));
     let session = caller(alloc)?;
