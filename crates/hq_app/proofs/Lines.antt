@@ -19,25 +19,25 @@ use Rattle.hq_app.specs.declared.refusal.Refusal.TheVariants as refusal
 use Rattle.hq_app.proofs.Endings.{told_at}
 
 -- the line of the next request joins those so far
-next_line : {X : Type 0} (text_of : X → List ℕ) (length_of : List ℕ → ℕ) (xs : List X) (i : ℕ) (x : X) (k : ℕ) (lines more : List ℕ) → i < length xs → x ≡ get_or xs i x
-    → more ≡ lines ++ reply_line k (length_of (text_of x))
+next_line : {X : Type 0} (text_of : X → List ℕ) (length_of : List ℕ → ℕ) (xs : List X) (i : ℕ) (x : X) (k : ℕ) (lines more : List ℕ) → i < length xs
+    → more ≡ lines ++ reply_line k (length_of (text_of (get_or xs i x)))
     → more ++ reply_lines length_of (k + 1) (map text_of (drop (i + 1) xs)) ≡ lines ++ reply_lines length_of k (map text_of (drop i xs))
-next_line text_of length_of xs i x k lines more within is joins =
-    let split : drop i xs ≡ x ∷ drop (i + 1) xs = rw add-one (drop-cons xs i x within ∙ ap (λ w. w ∷ drop (suc i) xs) (sym is)) in
+next_line text_of length_of xs i x k lines more within joins =
+    let split : drop i xs ≡ get_or xs i x ∷ drop (i + 1) xs = rw add-one (drop-cons xs i x within) in
     ap (λ w. w ++ reply_lines length_of (k + 1) (map text_of (drop (i + 1) xs))) joins
-    ∙ append_assoc lines (reply_line k (length_of (text_of x))) (reply_lines length_of (k + 1) (map text_of (drop (i + 1) xs)))
+    ∙ append_assoc lines (reply_line k (length_of (text_of (get_or xs i x)))) (reply_lines length_of (k + 1) (map text_of (drop (i + 1) xs)))
     ∙ ap (λ w. lines ++ reply_lines length_of k (map text_of w)) (sym split)
 
 -- the same over a database, where it is told
-pub told_line_more : {W X : Type 0} (before now : Option W) (text_of : X → List ℕ) (length_of : W → List ℕ → ℕ) (xs : List X) (i : ℕ) (x : X) (k : ℕ) (all lines more : List ℕ) → i < length xs → x ≡ get_or xs i x → now ≡ before
+pub told_line_more : {W X : Type 0} (before now : Option W) (text_of : X → List ℕ) (length_of : W → List ℕ → ℕ) (xs : List X) (i : ℕ) (x : X) (k : ℕ) (all lines more : List ℕ) → i < length xs → now ≡ before
     → IfSome before (λ d. lines ++ reply_lines (length_of d) k (map text_of (drop i xs)) ≡ all ++ reply_lines (length_of d) 1 (map text_of xs))
-    → IfSome now (λ d. more ≡ lines ++ reply_line k (length_of d (text_of x)))
+    → IfSome now (λ d. more ≡ lines ++ reply_line k (length_of d (text_of (get_or xs i x))))
     → IfSome before (λ d. more ++ reply_lines (length_of d) (k + 1) (map text_of (drop (i + 1) xs)) ≡ all ++ reply_lines (length_of d) 1 (map text_of xs))
-told_line_more None now text_of length_of xs i x k all lines more within is same h j = tt
-told_line_more (Some d) None text_of length_of xs i x k all lines more within is same h j = cc
-told_line_more (Some d) (Some e) text_of length_of xs i x k all lines more within is same h j =
+told_line_more None now text_of length_of xs i x k all lines more within same h j = tt
+told_line_more (Some d) None text_of length_of xs i x k all lines more within same h j = cc
+told_line_more (Some d) (Some e) text_of length_of xs i x k all lines more within same h j =
     let told : e ≡ d = cc in
-    next_line text_of (length_of d) xs i x k lines more within is (subst (λ u. more ≡ lines ++ reply_line k (length_of u (text_of x))) told j) ∙ h
+    next_line text_of (length_of d) xs i x k lines more within (subst (λ u. more ≡ lines ++ reply_line k (length_of u (text_of (get_or xs i x)))) told j) ∙ h
 
 -- the lines of all requests and of the steps, by what an engine over these contents gives
 pub all_lines : (engine : Engine) (session : Session) (database : Option (List (List Row))) (tables : List Table) (meta : MetaTree) (d : List (List Row)) (bodies : List (List ℕ)) (start text whole : List ℕ) (steps : ℕ)
