@@ -4,8 +4,9 @@ use Rattle.hq_outside.specs.Causes.{Rose}
 use Rattle.hq_outside.specs.declared.files.File.{File}
 use Rattle.hq_serve.specs.Serving.{Told}
 use Rattle.hq_words.specs.declared.command.Command.{Command}
-use Rattle.hq_words.specs.declared.command.Command.TheVariants.{Query, Sql, Check, Serve}
+use Rattle.hq_words.specs.declared.command.Command.TheVariants.{Query, Sql, Check, Serve, Gen}
 use Rattle.hq_app.specs.Ending.{Answer, Ends}
+use Rattle.hq_app.specs.Generating.{GenEnds}
 use Rattle.hq_app.specs.Output.{query_output, sql_output, check_output}
 use Rattle.hq_app.specs.Serving.{SeenDoor, ServeEnds}
 use Rattle.hq_app.specs.declared.done.Done.TheVariants.{Faulty}
@@ -38,6 +39,7 @@ reads_input (Some (Query dir headers)) = true
 reads_input (Some (Sql dir headers)) = true
 reads_input (Some (Check dir)) = false
 reads_input (Some (Serve dir port connections secret unauthorized)) = false
+reads_input (Some (Gen n)) = false
 
 abbrev pub opens_door : Option Command → Bool
 opens_door None = false
@@ -45,9 +47,10 @@ opens_door (Some (Query dir headers)) = false
 opens_door (Some (Sql dir headers)) = false
 opens_door (Some (Check dir)) = false
 opens_door (Some (Serve dir port connections secret unauthorized)) = true
+opens_door (Some (Gen n)) = false
 
 -- The answer is the due one, as far as it says what was due: of a query and of `sql` over told files and a told input, of a check
--- over told files, and of `serve` over what the directory holds. A check tells no fault. Words that ask for no command are bad,
+-- over told files, of `serve` over what the directory holds, and of `gen`. A check tells no fault. Words that ask for no command are bad,
 -- unless memory is wanted.
 abbrev pub Runs : {L : Type 0} → Told L → Option Command → (before after : Outside L) → Answer → Type 0
 Runs t None before after answer = (answer ≡ Err BadWords) ⊎ (answer ≡ Err Memory)
@@ -59,6 +62,7 @@ Runs t (Some (Check dir)) before after answer =
     IfSome before.files.told (λ files. Ends before.out.told after.out.told (check_output dir files) answer) × (answer ≢ Ok Faulty)
 Runs t (Some (Serve dir port connections secret unauthorized)) before after answer =
     ServeEnds t (record { secret = secret; unauthorized = unauthorized }) connections before.door after.door before.out.told after.out.told before.files.told dir answer
+Runs t (Some (Gen n)) before after answer = GenEnds n before.out.told after.out.told answer
 
 -- a load of files failed, before anything of the input was read, or else a read of the input did
 abbrev pub FilesThenInput : {L : Type 0} → (before after : Outside L) → Type 0
@@ -72,10 +76,11 @@ FilesThenDoor before after =
     ⊎ Rose before.door.faults after.door.faults
 
 -- Why a read failed: a query loads files before it reads its input, a check loads files alone, and `serve` loads files before it
--- opens its door.
+-- opens its door. `gen` reads nothing.
 abbrev pub ReadCause : {L : Type 0} → Option Command → (before after : Outside L) → Type 0
 ReadCause None before after = ⊥
 ReadCause (Some (Query dir headers)) before after = FilesThenInput before after
 ReadCause (Some (Sql dir headers)) before after = FilesThenInput before after
 ReadCause (Some (Check dir)) before after = Rose before.files.faults after.files.faults
 ReadCause (Some (Serve dir port connections secret unauthorized)) before after = FilesThenDoor before after
+ReadCause (Some (Gen n)) before after = ⊥

@@ -4,6 +4,7 @@
 mod caller;
 mod check;
 mod done;
+mod generating;
 mod laws;
 mod line;
 mod refusal;

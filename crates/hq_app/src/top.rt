@@ -7,6 +7,7 @@ ghost use Rattle.hq_app.specs.Runs.{ReadCause, Runs, opens_door, outside, reads_
 ghost use Rattle.hq_app.specs.Serving.{seen_door};
 
 use crate::check::check;
+use crate::generating::generate_and_answer;
 use crate::laws::outputs_agree;
 use crate::line::write_line;
 use crate::reply::{query, reply_to};
@@ -68,6 +69,7 @@ fn answered<F: Files, D: Door, S: Source, K: Sink>(
             };
             serve(alloc, &dir, &rule, port, connections, files, door, out)
         }
+        Command::Gen { n } => generate_and_answer(alloc, n, out),
     }
 }
 
@@ -136,8 +138,8 @@ pub fn answer_one<T: Tables, S: Source, K: Sink, E: Sink>(
 /// The program. `query DIR [HEADER]...` answers the request on the standard input over the directory, for the session of the
 /// headers; `sql DIR [HEADER]...` writes the text of SQL that is asked for it and a line end, or `none` and a line end where
 /// none is. `check DIR` loads the directory and writes `ok: T tables, R roles, N rows`. `serve DIR --port P --connections N`
-/// serves so many connections of HTTP at this machine's port, one after the other, and writes a line after each. Everything
-/// that it touches is handed in, and handed back with the status that the program ends with.
+/// serves so many connections of HTTP at this machine's port, one after the other, and writes a line after each. `gen N` makes a
+/// database of N authors, answers five requests over it, and writes how long the replies are. Everything that it touches is handed in, and handed back with the status that the program ends with.
 pub fn run<F: Files, D: Door, S: Source, K: Sink, E: Sink>(
     alloc: Global,
     words: &[Txt],

@@ -23,6 +23,7 @@ fn push_command(command: &Command, out: &mut String) -> Result<(), Stop> {
         Command::Query { dir, headers } => push_request("query", dir, headers, out),
         Command::Sql { dir, headers } => push_request("sql", dir, headers, out),
         Command::Check { dir } => Ok(write!(out, "check {}", dir.as_str())?),
+        Command::Gen { n } => Ok(write!(out, "gen {n}")?),
         Command::Serve {
             dir,
             port,

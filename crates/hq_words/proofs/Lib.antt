@@ -1,3 +1,4 @@
 pub mod Commands
 pub mod Taken
 pub mod Numbers
+mod Authors

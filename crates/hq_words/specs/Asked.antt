@@ -1,13 +1,13 @@
 -- What the words behind the program's name ask: the command's name, and words of its grammar. A header is `name: value`,
--- at most 64 are given, and no secret and no role is empty.
-use Rattle.std.specs.Prelude.{ℕ, List, [], ◌∷◌, length, Bool, true, false, nat_le, Option, Some, None, option_and_then, option_map, unwrap_or, cond, bytes_eq, codes}
+-- at most 64 are given, no secret and no role is empty, and a generated database has from 1 to 100,000 authors.
+use Rattle.std.specs.Prelude.{◌≤◌, ℕ, List, [], ◌∷◌, length, Bool, true, false, ◌&&◌, nat_le, Option, Some, None, option_and_then, option_map, unwrap_or, cond, bytes_eq, codes, ⊤}
 use Rattle.std.specs.Str.Parse.{digits_value, without_leading_plus}
 use Rattle.clap.specs.Words.{Kinds, Row, Text, first_of, all_of, one_of}
 use Rattle.hq_session.specs.Fields.{header_in}
 use Rattle.hq_session.specs.declared.header.Header.{Header}
 use Rattle.hq_words.specs.declared.command.Command.{Command}
-use Rattle.hq_words.specs.declared.command.Command.TheVariants.{Query, Sql, Check, Serve}
-use Rattle.hq_words.specs.Grammar.{request_faults, request_rows, check_faults, check_rows, serve_faults, serve_rows}
+use Rattle.hq_words.specs.declared.command.Command.TheVariants.{Query, Sql, Check, Serve, Gen}
+use Rattle.hq_words.specs.Grammar.{request_faults, request_rows, check_faults, check_rows, serve_faults, serve_rows, gen_faults, gen_rows}
 
 -- the words are in the grammar
 abbrev pub are_taken : Kinds → Bool
@@ -41,6 +41,10 @@ filled None = Some None
 filled (Some []) = None
 filled (Some (b ∷ bs)) = Some (Some (b ∷ bs))
 
+-- so many authors are generated
+abbrev pub are_few : ℕ → Bool
+are_few n = nat_le 1 n && nat_le n 100000
+
 -- ---- the commands
 
 -- the directory and the headers of a request
@@ -66,15 +70,31 @@ serve_in rows =
 abbrev pub serve_of : List Text → Option Command
 serve_of words = cond (are_taken (serve_faults words)) (serve_in (serve_rows words)) None
 
+-- a command that generates so many authors, where they are few
+abbrev pub gen_with : ℕ → Option Command
+gen_with n = cond (are_few n) (Some (Gen n)) None
+
+abbrev pub gen_in : List Row → Option Command
+gen_in rows = option_and_then gen_with (number_in (codes "authors") rows)
+
+abbrev pub gen_of : List Text → Option Command
+gen_of words = cond (are_taken (gen_faults words)) (gen_in (gen_rows words)) None
+
 -- the command of this name with these words
 abbrev pub command_named : (name : Text) → List Text → Option Command
 command_named name words =
     cond (bytes_eq name (codes "query")) (option_map (λ r. Query r.0 r.1) (request_of words)) (
     cond (bytes_eq name (codes "sql")) (option_map (λ r. Sql r.0 r.1) (request_of words)) (
     cond (bytes_eq name (codes "check")) (check_of words) (
-    cond (bytes_eq name (codes "serve")) (serve_of words) None)))
+    cond (bytes_eq name (codes "serve")) (serve_of words) (
+    cond (bytes_eq name (codes "gen")) (gen_of words) None))))
 
 -- the command that words ask for
 abbrev pub command_of : List Text → Option Command
 command_of [] = None
 command_of (name ∷ words) = command_named name words
+
+-- the authors that a command generates are few
+abbrev pub HasFewAuthors : Command → Type 0
+HasFewAuthors (Gen n) = (1 ≤ n) × (n ≤ 100000)
+HasFewAuthors command = ⊤

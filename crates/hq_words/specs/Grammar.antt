@@ -30,6 +30,10 @@ secret_rule = record (new_rule (codes "admin-secret")) { long = Some (codes "adm
 abbrev pub unauthorized_rule : Rule
 unauthorized_rule = record (new_rule (codes "unauthorized-role")) { long = Some (codes "unauthorized-role") }
 
+-- N, a whole number of 32 bits without a sign
+abbrev pub authors_rule : Rule
+authors_rule = record (new_rule (codes "authors")) { required = true; parser = Some (vp.Signed (pos 0) (pos 4294967295)) }
+
 abbrev pub bare : Shape → Shape
 bare s = record s { no_binary_name = true; disable_help_flag = true; disable_version_flag = true }
 
@@ -47,6 +51,10 @@ check_app = with_rule (bare_app (codes "check")) dir_rule
 -- serve DIR --port P --connections N [--admin-secret S] [--unauthorized-role R]
 abbrev pub serve_app : App
 serve_app = with_rule (with_rule (with_rule (with_rule (with_rule (bare_app (codes "serve")) dir_rule) port_rule) connections_rule) secret_rule) unauthorized_rule
+
+-- gen N
+abbrev pub gen_app : App
+gen_app = with_rule (bare_app (codes "gen")) authors_rule
 
 -- why the words behind the command are refused, none where they are in its grammar, and what they say there
 unfoldable pub request_faults : List Text → Kinds
@@ -66,3 +74,9 @@ serve_faults words = fault_of serve_app words
 
 unfoldable pub serve_rows : List Text → List Row
 serve_rows words = matches_of serve_app words
+
+unfoldable pub gen_faults : List Text → Kinds
+gen_faults words = fault_of gen_app words
+
+unfoldable pub gen_rows : List Text → List Row
+gen_rows words = matches_of gen_app words

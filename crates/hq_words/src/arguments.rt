@@ -1,6 +1,6 @@
 ghost use Rattle.std.specs.Prelude.{◌≡◌, IfOk, false};
 ghost use Rattle.clap.specs.Words.{app_of, rule_of};
-ghost use Rattle.hq_words.specs.Grammar.{bare_app, check_app, connections_rule, dir_rule, headers_rule, port_rule, request_app, secret_rule, serve_app, unauthorized_rule};
+ghost use Rattle.hq_words.specs.Grammar.{authors_rule, bare_app, check_app, connections_rule, dir_rule, gen_app, headers_rule, port_rule, request_app, secret_rule, serve_app, unauthorized_rule};
 
 use clap::{Arg, ArgAction, Command, value_parser};
 use std::alloc::{AllocError, Global};
@@ -61,6 +61,16 @@ fn unauthorized_arg<'a>(alloc: Global) -> Arg<'a>
     Arg::new(alloc, "unauthorized-role").long("unauthorized-role")
 }
 
+// N
+fn authors_arg<'a>(alloc: Global) -> Arg<'a>
+    ensures rule { rule_of result ≡ authors_rule }
+    ensures local { result.global ≡ false }
+{
+    Arg::new(alloc, "authors")
+        .required(true)
+        .value_parser(value_parser!(u32))
+}
+
 // A command without arguments.
 fn bare_command<'a>(alloc: Global, name: &'a str) -> Command<'a>
     ensures { app_of result ≡ bare_app name.entry.now }
@@ -97,4 +107,11 @@ pub fn serve_command<'a>(alloc: Global) -> Result<Command<'a>, AllocError>
         .arg(connections_arg(alloc))?
         .arg(secret_arg(alloc))?
         .arg(unauthorized_arg(alloc))
+}
+
+/// N
+pub fn gen_command<'a>(alloc: Global) -> Result<Command<'a>, AllocError>
+    ensures { IfOk result (λ c. app_of c ≡ gen_app) }
+{
+    bare_command(alloc, "gen").arg(authors_arg(alloc))
 }

@@ -1,11 +1,11 @@
-ghost use Rattle.std.specs.Prelude.{◌≡◌, option_map, ok_or};
+ghost use Rattle.std.specs.Prelude.{◌≡◌, option_map, ok_or, IfOk};
 ghost use Rattle.clap.specs.Words.{found_of, rows_of};
 ghost use Rattle.hq_base.specs.Due.{Gives};
-ghost use Rattle.hq_words.specs.Asked.{check_of, command_named, command_of, request_in, request_of, serve_in, serve_of};
+ghost use Rattle.hq_words.specs.Asked.{HasFewAuthors, check_of, command_named, command_of, gen_in, gen_of, gen_with, request_in, request_of, serve_in, serve_of};
 
 use crate::WordsRefusal;
-use crate::parse::{check_matches, request_matches, serve_matches};
-use crate::values::{connections_of, filled, given_headers, port_of, text_of};
+use crate::parse::{check_matches, gen_matches, request_matches, serve_matches};
+use crate::values::{authors_of, connections_of, filled, given_headers, port_of, text_of};
 use clap::ArgMatches;
 use hq_base::Txt;
 use hq_session::Headers;
@@ -35,6 +35,10 @@ pub enum Command {
         connections: u32,
         secret: Option<Txt>,
         unauthorized: Option<Txt>,
+    },
+    /// To answer requests over a generated database of so many authors, from 1 to 100,000.
+    Gen {
+        n: u32,
     },
 }
 
@@ -106,6 +110,36 @@ fn serve(alloc: Global, words: &[Txt]) -> Result<Command, WordsRefusal>
     }
 }
 
+// A command that generates so many authors.
+fn generating(n: u32) -> Result<Command, WordsRefusal>
+    ensures { result ≡ ok_or (gen_with n) WordsRefusal.BadWords }
+{
+    if n < 1 || n > 100_000 {
+        return Err(WordsRefusal::BadWords);
+    }
+    Ok(Command::Gen { n })
+}
+
+// What is to be generated, as the matches say.
+fn gen_from(matches: &ArgMatches<'_>) -> Result<Command, WordsRefusal>
+    ensures { Gives (λ command. command) WordsRefusal.Memory (ok_or (gen_in (rows_of (found_of matches.now))) WordsRefusal.BadWords) result }
+{
+    match authors_of(matches) {
+        Some(n) => generating(n),
+        None => Err(WordsRefusal::Memory),
+    }
+}
+
+// What the words behind `gen` ask.
+fn generate(alloc: Global, words: &[Txt]) -> Result<Command, WordsRefusal>
+    ensures { Gives (λ command. command) WordsRefusal.Memory (ok_or (gen_of words.now) WordsRefusal.BadWords) result }
+{
+    match gen_matches(alloc, words) {
+        Ok(matches) => gen_from(&matches),
+        Err(refusal) => Err(refusal),
+    }
+}
+
 // What the words behind a command's name ask.
 fn command_named(alloc: Global, name: &str, words: &[Txt]) -> Result<Command, WordsRefusal>
     ensures { Gives (λ command. command) WordsRefusal.Memory (ok_or (command_named name.now words.now) WordsRefusal.BadWords) result }
@@ -121,6 +155,7 @@ fn command_named(alloc: Global, name: &str, words: &[Txt]) -> Result<Command, Wo
         }
         "check" => check(alloc, words),
         "serve" => serve(alloc, words),
+        "gen" => generate(alloc, words),
         _ => Err(WordsRefusal::BadWords),
     }
 }
@@ -129,7 +164,8 @@ impl Command {
     /// What these words ask, which are those behind the program's name. BadWords exactly where they are not in the grammar of a
     /// command.
     pub fn read(alloc: Global, words: &[Txt]) -> Result<Command, WordsRefusal>
-        ensures { Gives (λ command. command) WordsRefusal.Memory (ok_or (command_of words.now) WordsRefusal.BadWords) result }
+        ensures asked { Gives (λ command. command) WordsRefusal.Memory (ok_or (command_of words.now) WordsRefusal.BadWords) result }
+        ensures few { IfOk result HasFewAuthors }
     {
         match words {
             [name, words @ ..] => command_named(alloc, name.as_str(), words),

@@ -1,10 +1,10 @@
 ghost use Rattle.std.specs.Prelude.{◌≡◌, true};
 ghost use Rattle.clap.specs.Words.{app_of, fault_of, is_simple_and_free, matches_of};
-ghost use Rattle.hq_words.specs.Grammar.{check_faults, check_rows, request_faults, request_rows, serve_faults, serve_rows};
+ghost use Rattle.hq_words.specs.Grammar.{check_faults, check_rows, gen_faults, gen_rows, request_faults, request_rows, serve_faults, serve_rows};
 ghost use Rattle.hq_words.specs.Parsing.{Parses};
 
 use crate::WordsRefusal;
-use crate::arguments::{check_command, request_command, serve_command};
+use crate::arguments::{check_command, gen_command, request_command, serve_command};
 use clap::error::ErrorKind;
 use clap::{ArgMatches, Command};
 use hq_base::Txt;
@@ -49,6 +49,16 @@ pub fn serve_matches<'a>(alloc: Global, words: &'a [Txt]) -> Result<ArgMatches<'
     ensures { Parses (serve_faults words.entry.now) (serve_rows words.entry.now) result }
 {
     let Ok(command) = serve_command(alloc) else {
+        return Err(WordsRefusal::Memory);
+    };
+    parse(command, words)
+}
+
+/// What the words behind `gen` say.
+pub fn gen_matches<'a>(alloc: Global, words: &'a [Txt]) -> Result<ArgMatches<'a>, WordsRefusal>
+    ensures { Parses (gen_faults words.entry.now) (gen_rows words.entry.now) result }
+{
+    let Ok(command) = gen_command(alloc) else {
         return Err(WordsRefusal::Memory);
     };
     parse(command, words)

@@ -43,6 +43,13 @@ pub fn connections_of(matches: &ArgMatches<'_>) -> Option<u32>
     matches.get_one::<u32>("connections")
 }
 
+/// The number of authors, as the words say it.
+pub fn authors_of(matches: &ArgMatches<'_>) -> Option<u32>
+    ensures { IfSome result (λ authors. number_in (codes "authors") (rows_of (found_of matches.now)) ≡ Some authors) }
+{
+    matches.get_one::<u32>("authors")
+}
+
 /// A text that is not empty, where it is given.
 pub fn filled(text: Option<Txt>) -> Result<Option<Txt>, WordsRefusal>
     ensures { Gives (λ text. text) WordsRefusal.Memory (ok_or (filled text) WordsRefusal.BadWords) result }

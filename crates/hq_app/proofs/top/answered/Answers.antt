@@ -10,16 +10,16 @@ asked (Some y) e x h = let same : y ≡ x = cc in ap (λ z. Some z) same
 
 pub returns-in-Query-clause-runs : goal.returns-in-Query-clause-runs
 returns-in-Query-clause-runs g c =
-    rw (asked (command_of c.args.words.now) _ _ c.in_ok-dir.ensures ∙ ap (λ z. Some z) c.in-Query.is) c.query.ensures.told
+    rw (asked (command_of c.args.words.now) _ _ c.in_ok-dir.ensures.asked ∙ ap (λ z. Some z) c.in-Query.is) c.query.ensures.told
 
 pub returns-in-Sql-clause-runs : goal.returns-in-Sql-clause-runs
 returns-in-Sql-clause-runs g c =
-    rw (asked (command_of c.args.words.now) _ _ c.in_ok-dir.ensures ∙ ap (λ z. Some z) c.in-Sql.is) c.sql.ensures.told
+    rw (asked (command_of c.args.words.now) _ _ c.in_ok-dir.ensures.asked ∙ ap (λ z. Some z) c.in-Sql.is) c.sql.ensures.told
 
 pub returns-in-Check-clause-runs : goal.returns-in-Check-clause-runs
 returns-in-Check-clause-runs g c =
-    rw (asked (command_of c.args.words.now) _ _ c.in_ok-dir.ensures ∙ ap (λ z. Some z) c.in-Check.is) (c.check.ensures.told, c.check.ensures.fault)
+    rw (asked (command_of c.args.words.now) _ _ c.in_ok-dir.ensures.asked ∙ ap (λ z. Some z) c.in-Check.is) (c.check.ensures.told, c.check.ensures.fault)
 
 pub returns-in-Serve-clause-read : goal.returns-in-Serve-clause-read
 returns-in-Serve-clause-read g c =
-    rw (asked (command_of c.args.words.now) _ _ c.in_ok-dir.ensures ∙ ap (λ z. Some z) c.in-Serve.is) c.serve.ensures.read
+    rw (asked (command_of c.args.words.now) _ _ c.in_ok-dir.ensures.asked ∙ ap (λ z. Some z) c.in-Serve.is) c.serve.ensures.read
