@@ -5,7 +5,6 @@ mod arguments;
 mod fields;
 mod given;
 mod operations;
-mod printer;
 mod requests;
 mod subject;
 mod variables;

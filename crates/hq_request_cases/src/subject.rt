@@ -12,6 +12,7 @@ pub enum About {
     Introspection,
     Worlds,
     Requests,
+    Skipped,
     Directories,
     Runs,
     Serving,
@@ -21,7 +22,7 @@ pub enum About {
 
 impl About {
     /// Each subject, in the order of its line.
-    pub const ALL: [About; 13] = [
+    pub const ALL: [About; 14] = [
         About::Worked,
         About::Blog,
         About::Shop,
@@ -30,6 +31,7 @@ impl About {
         About::Introspection,
         About::Worlds,
         About::Requests,
+        About::Skipped,
         About::Directories,
         About::Runs,
         About::Serving,
@@ -49,6 +51,7 @@ impl Subject for About {
             About::Introspection => "introspection",
             About::Worlds => "worlds",
             About::Requests => "requests",
+            About::Skipped => "skipped",
             About::Directories => "directories",
             About::Runs => "runs",
             About::Serving => "serving",
