@@ -1,7 +1,8 @@
 //! The arguments of lists in words.
 
+use crate::printer::push_bexp;
 use hq_ask_tree::{Args, Sort};
-use hq_case::{Stop, push_bexp};
+use hq_case::Stop;
 use hq_terms::{Bexp, ColId, RelId};
 
 fn push_through(through: &[RelId], out: &mut String) -> Result<(), Stop> {

@@ -1,12 +1,13 @@
 //! Typed requests in words: tables are `t` with their place, columns `c`, relationships `r`; names of types stand in quotes.
 
 use crate::arguments::push_args;
+use crate::printer::push_bexp;
 use hq_ask_tree::{
     AggCol, AggField, AggPart, AggParts, Args, Ask, AskField, AskFields, Bound, IntroField,
     IntroFields, KeyedAggCol, KeyedAggField,
 };
 use hq_base::{Txt, Val};
-use hq_case::{Stop, push_bexp, push_value};
+use hq_case::{Stop, push_value};
 use hq_terms::{ColId, RelId, TableId};
 
 // What stands before the member at a place.

@@ -5,6 +5,7 @@ mod arguments;
 mod fields;
 mod given;
 mod operations;
+mod printer;
 mod requests;
 mod subject;
 mod variables;

@@ -4,7 +4,6 @@
 mod case;
 mod given;
 mod input;
-mod printer;
 mod stop;
 mod table;
 mod values;
@@ -12,7 +11,6 @@ mod values;
 pub use case::Case;
 pub use given::{given_catalog, given_headers, given_session};
 pub use input::bytes as input_bytes;
-pub use printer::push_bexp;
 pub use stop::Stop;
 pub use table::{Subject, run_all};
 pub use values::{push_bytes, push_json, push_value, value};

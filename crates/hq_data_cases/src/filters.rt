@@ -1,8 +1,9 @@
 //! Filters of permissions, read and bound.
 
 use crate::given::{given_meta, given_table};
+use crate::printer::push_bexp;
 use hq_base::{Json, top_path};
-use hq_case::{Case, Stop, given_catalog, given_session, push_bexp};
+use hq_case::{Case, Stop, given_catalog, given_session};
 use hq_filter_read::{FilterRefusal, read_filter};
 use hq_terms::{Bexp, BindRefusal, Catalog, Meta};
 use std::alloc::Global;

@@ -6,6 +6,7 @@ mod catalogs;
 mod filters;
 mod given;
 mod metadata;
+mod printer;
 mod rows;
 mod schemas;
 mod subject;

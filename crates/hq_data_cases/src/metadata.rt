@@ -1,8 +1,9 @@
 //! Metadata, read over a catalog, and what a role may see by it.
 
 use crate::given::{given_meta, given_role, given_table};
+use crate::printer::push_bexp;
 use hq_base::Txt;
-use hq_case::{Case, Stop, given_catalog, push_bexp};
+use hq_case::{Case, Stop, given_catalog};
 use hq_meta_read::{MetaRefusal, read_meta};
 use hq_terms::{
     Catalog, ColId, Meta, Pair, Perm, PermView, Rel, Role, RootNames, TableId, Tracked,

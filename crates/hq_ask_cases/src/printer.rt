@@ -1,7 +1,7 @@
 //! Boolean expressions in words: columns are `c` with their place, relationships `r` with theirs, session variables `$`
 //! with their name.
 
-use crate::{Stop, push_value};
+use hq_case::{Stop, push_value};
 use hq_terms::{Bexp, BexpList, Op, Operand};
 
 fn push_operand(operand: &Operand, out: &mut String) -> Result<(), Stop> {

@@ -1,0 +1,112 @@
+//! Boolean expressions in words: columns are `c` with their place, relationships `r` with theirs, session variables `$`
+//! with their name.
+
+use hq_case::{Stop, push_value};
+use hq_terms::{Bexp, BexpList, Op, Operand};
+
+fn push_operand(operand: &Operand, out: &mut String) -> Result<(), Stop> {
+    match operand {
+        Operand::Const(value) => push_value(value, out),
+        Operand::Session(name) => Ok(write!(out, "${}", name.as_str())?),
+    }
+}
+
+// What stands before the member at a place.
+fn before(at: usize) -> &'static str {
+    if at == 0 { "" } else { ", " }
+}
+
+fn push_operands(operands: &[Operand], out: &mut String) -> Result<(), Stop> {
+    out.push_str("[")?;
+    for (at, operand) in operands.iter().enumerate() {
+        out.push_str(before(at))?;
+        push_operand(operand, out)?;
+    }
+    Ok(out.push_str("]")?)
+}
+
+fn sign(op: Op) -> &'static str {
+    match op {
+        Op::Eq => "=",
+        Op::Ne => "<>",
+        Op::Lt => "<",
+        Op::Le => "<=",
+        Op::Gt => ">",
+        Op::Ge => ">=",
+    }
+}
+
+fn like_word(fold: bool, negated: bool) -> &'static str {
+    match (fold, negated) {
+        (false, false) => "like",
+        (false, true) => "not like",
+        (true, false) => "ilike",
+        (true, true) => "not ilike",
+    }
+}
+
+fn in_word(negated: bool) -> &'static str {
+    if negated { "not in" } else { "in" }
+}
+
+fn null_word(yes: bool) -> &'static str {
+    if yes { "null" } else { "not null" }
+}
+
+// A column, a word and an operand.
+fn push_test(col: usize, word: &str, operand: &Operand, out: &mut String) -> Result<(), Stop> {
+    write!(out, "c{col} {word} ")?;
+    push_operand(operand, out)
+}
+
+fn push_within(col: usize, word: &str, operands: &[Operand], out: &mut String) -> Result<(), Stop> {
+    write!(out, "c{col} {word} ")?;
+    push_operands(operands, out)
+}
+
+#[cycle(bexp)]
+fn push_members(word: &str, bexps: &BexpList, out: &mut String) -> Result<(), Stop> {
+    write!(out, "{word}(")?;
+    for (at, bexp) in bexps.iter().enumerate() {
+        out.push_str(before(at))?;
+        push_bexp(bexp, out)?;
+    }
+    Ok(out.push_str(")")?)
+}
+
+#[cycle(bexp)]
+fn push_not(inner: &Bexp, out: &mut String) -> Result<(), Stop> {
+    out.push_str("not ")?;
+    push_bexp(inner, out)
+}
+
+#[cycle(bexp)]
+fn push_through(rel: usize, inner: &Bexp, out: &mut String) -> Result<(), Stop> {
+    write!(out, "r{rel}: ")?;
+    push_bexp(inner, out)
+}
+
+/// Adds an expression.
+#[cycle(bexp)]
+pub fn push_bexp(bexp: &Bexp, out: &mut String) -> Result<(), Stop> {
+    match bexp {
+        Bexp::True => Ok(out.push_str("true")?),
+        Bexp::And(bexps) => push_members("and", bexps, out),
+        Bexp::Or(bexps) => push_members("or", bexps, out),
+        Bexp::Not(inner) => push_not(inner, out),
+        Bexp::Cmp { col, op, operand } => push_test(col.at(), sign(*op), operand, out),
+        Bexp::Within {
+            col,
+            operands,
+            negated,
+        } => push_within(col.at(), in_word(*negated), operands.as_slice(), out),
+        Bexp::IsNull { col, yes } => Ok(write!(out, "c{} is {}", col.at(), null_word(*yes))?),
+        Bexp::Like {
+            col,
+            fold,
+            negated,
+            operand,
+        } => push_test(col.at(), like_word(*fold, *negated), operand, out),
+        Bexp::Through { rel, inner } => push_through(rel.at(), inner, out),
+    }
+}
