@@ -33,13 +33,20 @@ fn outputs(alloc: Global, case: &Case) -> Result<(MemSink, MemSink), Stop> {
     Ok((out, output(alloc, case, "errors")?))
 }
 
-fn world(rt: &HostRuntime, case: &Case) -> Result<Inside, Stop> {
-    let alloc = rt.alloc();
+// The input and the two outputs.
+fn streams(alloc: Global, case: &Case) -> Result<(MemSource, MemSink, MemSink), Stop> {
     let input = input(alloc, case)?;
     let (out, err) = outputs(alloc, case)?;
+    Ok((input, out, err))
+}
+
+fn world(rt: &HostRuntime, case: &Case) -> Result<Inside, Stop> {
+    let alloc = rt.alloc();
+    let files = folder(rt, case)?;
     let door = door(alloc, case)?;
+    let (input, out, err) = streams(alloc, case)?;
     Ok(World {
-        files: folder(rt, case)?,
+        files,
         door,
         input,
         out,
