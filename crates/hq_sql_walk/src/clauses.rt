@@ -1,15 +1,16 @@
 //! The rows of a select.
-ghost use Rattle.std.specs.Prelude.{◌≡◌, ◌+◌, ◌<◌, ◌≤◌, [], map, length, filter as kept_items, flat_map, IfOk, IfSome};
-ghost use Rattle.hq_base.specs.Lists.{sort};
+ghost use Rattle.std.specs.Prelude.{◌≡◌, ◌+◌, ◌<◌, ◌≤◌, map, length, filter as kept_items, IfOk, IfSome};
 ghost use Rattle.hq_sql_closed.specs.Conjuncts.{lent_weight};
 ghost use Rattle.hq_sql_closed.specs.Weight.{filter_weight};
-ghost use Rattle.hq_sql_tree.specs.Tree.{fold, joins_of, no_join};
-ghost use Rattle.hq_sql_tree.specs.View.{expr_view, order_view, out_view, select_view, from_view, join_view, filter_view};
-ghost use Rattle.hq_sql_tree.specs.Meaning.{with_alias, kept, joined, rows_of, order_cmp, distinct_on, offset_by, limited, outputs};
-ghost use Rattle.hq_sql_rows.specs.View.{made_view, joined_view, first_row, source_view, world_of, names_of, names_at, beside};
-ghost use Rattle.hq_sql_rows.specs.Sources.{alias_in, made_rows, rows_given, has_items};
-ghost use Rattle.hq_sql_rows.specs.Known.{IsKnown, Tells};
+ghost use Rattle.hq_sql_tree.specs.Meaning.{kept, joined, rows_of};
+ghost use Rattle.hq_sql_tree.specs.Tree.{fold, no_join};
+ghost use Rattle.hq_sql_tree.specs.View.{expr_view, order_view, out_view, select_view, from_view, filter_view};
 ghost use Rattle.hq_sql_rows.specs.Keys.{with_cells, keyed_at, taken_at, outputs_of};
+ghost use Rattle.hq_sql_rows.specs.Known.{IsKnown, Tells};
+ghost use Rattle.hq_sql_rows.specs.Sources.{made_rows, has_items};
+ghost use Rattle.hq_sql_rows.specs.View.{made_view, first_row, source_view, world_of, names_of};
+ghost use Rattle.hq_sql_walk.specs.Gathered.{joins_view, names_joined};
+ghost use Rattle.hq_sql_walk.specs.Selected.{Scans, arranged_by, kept_from, scope_at, selected};
 
 use crate::joins::{Asked, asked_at, gather, outputs_at};
 use crate::truths::all_hold;
@@ -124,7 +125,7 @@ fn rows_over<'s, 'd>(
     world: &Pinned<'d>,
     scope: &'s Scope<'s, 'd>,
 ) -> Result<Vec<Made<'d>>, Memory>
-    ensures { IfOk result (λ rows. map made_view rows.items ≡ map (outputs (map out_view parts.entry.outs.now.items) []) (limited limit (offset_by offset (distinct_on (map expr_view parts.entry.distinct.now.items) (sort (order_cmp (map order_view parts.entry.order.now.items)) (kept_items (kept (filter_view parts.entry.filter.now) (world_of world.now)) (flat_map (joined (joins_of (map join_view joins.now)) (world_of world.now)) (map (with_alias (names_of scope.now world.now) (alias_in (from_view from.now))) (rows_given (from_view from.now) (world_of world.now) (map made_view made.now)))))))))) }
+    ensures { IfOk result (λ rows. map made_view rows.items ≡ selected parts.entry from.now joins.now limit offset made.now world.now scope.now) }
 {
     let stages = stages(alloc, parts, joins)?;
     let source = source_of(world, from, made);
@@ -169,7 +170,7 @@ fn scan<'s, 'd>(
     world: &Pinned<'d>,
     scope: &'s Scope<'s, 'd>,
 ) -> Result<Vec<Place<'d>>, Memory>
-    ensures { IfOk result (λ places. map (names_at source.entry alias.now (joins_of (map join_view joins.now)) (world_of world.now) (names_of scope.now world.now)) places.items ≡ kept_items (kept (filter_view filter.now) (world_of world.now)) (flat_map (joined (joins_of (map join_view joins.now)) (world_of world.now)) (map (with_alias (names_of scope.now world.now) alias.now) (source_view source.entry)))) }
+    ensures { IfOk result (λ places. Scans source.entry alias.now joins.now filter.now world.now scope.now places.items) }
 {
     let looked = looked_at(
         alloc,
@@ -206,10 +207,10 @@ fn keeps_some<'d>(
     world: &Pinned<'d>,
     scope: &Scope<'_, 'd>,
 ) -> Result<bool, Memory>
-    requires alone { IfSome known (λ k. joins_of (map join_view joins.now) ≡ no_join) }
+    requires alone { IfSome known (λ k. joins_view joins.now ≡ no_join) }
     requires tells { IfSome known (λ k. position < length k.now.truths.items → Tells (filter_view filter.now) (world_of world.now) k.now position (names_of scope.now world.now)) }
     requires lighter { IfSome known (λ k. 1 + lent_weight k.now.rest.items ≤ filter_weight filter.now) }
-    ensures { IfOk result (λ b. b ≡ has_items (kept_items (kept (filter_view filter.now) (world_of world.now)) (joined (joins_of (map join_view joins.now)) (world_of world.now) (names_of scope.now world.now)))) }
+    ensures { IfOk result (λ b. b ≡ has_items (kept_items (kept (filter_view filter.now) (world_of world.now)) (joined (joins_view joins.now) (world_of world.now) (names_of scope.now world.now)))) }
 {
     if let Some(known) = known {
         if let Some(truth) = known.truths.get(position) {
@@ -235,9 +236,9 @@ pub fn any_row<'s, 'd>(
     world: &Pinned<'d>,
     scope: &'s Scope<'s, 'd>,
 ) -> Result<bool, Memory>
-    requires known { IfSome known (λ k. IsKnown (world_of world.now) (source_view source) alias.now (joins_of (map join_view joins.now)) (filter_view filter.now) k.now) }
+    requires known { IfSome known (λ k. IsKnown (world_of world.now) (source_view source) alias.now (joins_view joins.now) (filter_view filter.now) k.now) }
     requires lighter { IfSome known (λ k. 1 + lent_weight k.now.rest.items ≤ filter_weight filter.now) }
-    ensures { IfOk result (λ b. b ≡ has_items (kept_items (kept (filter_view filter.now) (world_of world.now)) (flat_map (joined (joins_of (map join_view joins.now)) (world_of world.now)) (map (with_alias (names_of scope.now world.now) alias.now) (source_view source.entry))))) }
+    ensures { IfOk result (λ b. b ≡ has_items (kept_from (source_view source.entry) alias.now joins.now filter.now world.now scope.now)) }
 {
     let looked = looked_at(
         alloc,
@@ -279,7 +280,7 @@ fn in_order<'s, 'd>(
     world: &Pinned<'d>,
     scope: &'s Scope<'s, 'd>,
 ) -> Result<Vec<Place<'d>>, Memory>
-    ensures { IfOk result (λ sorted. map (names_at source.entry alias.now (joins_of (map join_view joins.now)) (world_of world.now) (names_of scope.now world.now)) sorted.items ≡ distinct_on (map expr_view distinct.now.items) (sort (order_cmp (map order_view order.now.items)) (map (names_at source.entry alias.now (joins_of (map join_view joins.now)) (world_of world.now) (names_of scope.now world.now)) places.entry.items))) }
+    ensures { IfOk result (λ sorted. map (scope_at source.entry alias.now joins.now world.now scope.now) sorted.items ≡ arranged_by distinct.now.items order.now.items (map (scope_at source.entry alias.now joins.now world.now scope.now) places.entry.items)) }
 {
     if order.is_empty() && distinct.is_empty() {
         return Ok(places);
@@ -303,7 +304,7 @@ fn keyed<'s, 'd>(
     world: &Pinned<'d>,
     scope: &'s Scope<'s, 'd>,
 ) -> Result<Vec<Kept<'d, Place<'d>>>, Memory>
-    ensures { IfOk result (λ kept. map with_cells kept.items ≡ map (taken_at (names_at source.entry alias.now (joins_of (map join_view joins.now)) (world_of world.now) (names_of scope.now world.now)) (map order_view order.now.items) (map expr_view distinct.now.items)) places.entry.items) }
+    ensures { IfOk result (λ kept. map with_cells kept.items ≡ map (taken_at (scope_at source.entry alias.now joins.now world.now scope.now) (map order_view order.now.items) (map expr_view distinct.now.items)) places.entry.items) }
 {
     let mut kept = Vec::with_capacity(alloc, places.len())?;
     for place in places {
@@ -328,7 +329,7 @@ fn with_keys<'d>(
     world: &Pinned<'d>,
     scope: &Scope<'_, 'd>,
 ) -> Result<Kept<'d, Place<'d>>, Memory>
-    ensures { IfOk result (λ kept. with_cells kept ≡ keyed_at (beside (joins_of (map join_view joins.now)) (world_of world.now) (names_of scope.now world.now) (joined_view place.entry.joined)) (map order_view order.now.items) (map expr_view distinct.now.items) place.entry) }
+    ensures { IfOk result (λ kept. with_cells kept ≡ keyed_at (names_joined joins.now place.entry.joined.items world.now (names_of scope.now world.now)) (map order_view order.now.items) (map expr_view distinct.now.items) place.entry) }
 {
     let keys = asked_at(
         alloc,
@@ -360,7 +361,7 @@ fn all_outputs<'s, 'd>(
     world: &Pinned<'d>,
     scope: &'s Scope<'s, 'd>,
 ) -> Result<Vec<Made<'d>>, Memory>
-    ensures { IfOk result (λ made. map made_view made.items ≡ map (outputs_of (map out_view outs.now.items)) (map (names_at source.entry alias.now (joins_of (map join_view joins.now)) (world_of world.now) (names_of scope.now world.now)) places.now)) }
+    ensures { IfOk result (λ made. map made_view made.items ≡ map (outputs_of (map out_view outs.now.items)) (map (scope_at source.entry alias.now joins.now world.now scope.now) places.now)) }
 {
     let mut made = Vec::with_capacity(alloc, places.len())?;
     for place in places {
