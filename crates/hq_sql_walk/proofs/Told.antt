@@ -1,25 +1,13 @@
 -- How what is known of a condition is used.
-use Rattle.std.proofs.Common.{◌≡◌, ℕ, zero, suc, ◌+◌, ◌<◌, ◌≤◌, List, [], ◌∷◌, ◌++◌, map, filter, take, length, get_or, replicate, Bool, true, false, cond, ◌&&◌, Option, None, refl, sym, ap, ap₂, subst, ◌∙◌, add-one, arith}
-use Rattle.std.proofs.Math.Seq.{take-suc}
-use Rattle.std.proofs.lemmas.List.{map-append, take_all}
-use Rattle.std.specs.Borrow.{Bor}
-use Rattle.hq_terms.specs.Logic.{is_true, truth_of}
-use Rattle.hq_sql_tree.specs.declared.select.Pred.{Pred}
-use Rattle.hq_sql_tree.specs.Meaning.{NamedRow, Scope, World, nothing, with_alias, joined, kept, has_rows, rows_of}
-use Rattle.hq_sql_tree.specs.Tree as tree
-use Rattle.hq_sql_tree.specs.Tree.{JoinTrees, no_join, FilterTree, FromTree, PredTree, ExprTree, OutTree, OrderTree}
-use Rattle.hq_sql_tree.specs.View.{pred_view}
-use Rattle.hq_sql_closed.specs.Conjuncts.{all_kept, lent_views, lent_weight}
-use Rattle.hq_sql_closed.specs.Split.{IsSplit, kept_one}
-use Rattle.hq_sql_closed.proofs.Conjuncts.{all_alone, all_append}
-use Rattle.hq_sql_rows.specs.Known.{Tells, Knows, IsKnown, IsRight}
-use Rattle.hq_sql_walk.specs.Narrowed.{narrowed, keeps_one}
-use Rattle.hq_sql_rows.specs.Sources.{alias_in, made_rows, rows_given, has_items}
+use Rattle.std.proofs.Common.{◌≡◌, ℕ, ◌<◌, List, [], ◌∷◌, filter, length, Bool, true, false, cond, ◌&&◌, refl, sym, ap, subst, ◌∙◌, arith}
+use Rattle.hq_sql_tree.specs.Meaning.{NamedRow, Scope, World, nothing, with_alias, joined, kept}
+use Rattle.hq_sql_tree.specs.Tree.{JoinTrees, no_join, FilterTree, FromTree}
+use Rattle.hq_sql_rows.specs.Known.{Tells, IsKnown}
+use Rattle.hq_sql_rows.specs.Sources.{alias_in, rows_given, has_items}
 use Rattle.hq_sql_rows.specs.View.{source_view, row_in}
 use Rattle.hq_sql_rows.specs.declared.pinned.Known.{Known}
 use Rattle.hq_sql_rows.specs.declared.scope.Source.{Source}
 use Rattle.hq_sql_rows.proofs.RowsIn.{row_in_is}
-use Rattle.hq_sql_walk.proofs.Evaluated.{exists_is}
 
 -- without joins WHERE decides alone
 pub alone_has : (js : JoinTrees) (f : FilterTree) (w : World) (n : Scope) → js ≡ no_join → has_items (filter (kept f w) (joined js w n)) ≡ kept f w n
