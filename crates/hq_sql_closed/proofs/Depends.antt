@@ -47,7 +47,7 @@ select_has os es ks xs = map_has (outputs os []) (distinct_on es (sort (order_cm
 pub agree_more : (names : List (List ℕ)) (alias : List ℕ) (row : NamedRow) (x y : Scope) → AgreeAt names x y → AgreeAt (alias ∷ names) (with_alias x alias row) (with_alias y alias row)
 agree_more names alias row x y h other named =
     let go : (b : Bool) → (b || is_named names other) ≡ true → cond b row (x other) ≡ cond b row (y other) =
-        elim [ true ↦ λ e. refl | false ↦ λ e. h other e ] in
+    elim [ true ↦ λ e. refl | false ↦ λ e. h other e ] in
     go (bytes_eq alias other) named
 
 value_alike : (names : List (List ℕ)) (x y : Scope) → AgreeAt names x y → (e : ExprTree) → is_bound names e ≡ true → value e [] x ≡ value e [] y
@@ -76,7 +76,7 @@ some_is condition world alias (r ∷ rs) scope =
     let here = with_alias scope alias r in
     let more = flat_map (joined tree.no_join world) (map (with_alias scope alias) rs) in
     let go : (b : Bool) → has_items (cond b (here ∷ filter (kept condition world) more) (filter (kept condition world) more)) ≡ (b || has_items (filter (kept condition world) more)) =
-        elim [ true ↦ refl | false ↦ refl ] in
+    elim [ true ↦ refl | false ↦ refl ] in
     go (kept condition world here) ∙ ap (λ b. kept condition world here || b) (some_is condition world alias rs scope)
 
 -- it keeps one of them alike in scopes of which it keeps the same

@@ -188,7 +188,8 @@ fn same_select(a: &Select, b: &Select) -> bool
                 offset: None,
             },
         ) => {
-            if !is_plain(distinct, joins, order) || !is_plain(other_distinct, other_joins, other_order)
+            if !is_plain(distinct, joins, order)
+                || !is_plain(other_distinct, other_joins, other_order)
             {
                 return false;
             }
