@@ -6,15 +6,17 @@ ghost use Rattle.hq_sql_tree.specs.View.{select_view};
 ghost use Rattle.hq_sql_tree.specs.Meaning.{first_value, meaning};
 ghost use Rattle.hq_sql_check.specs.Agree.{HasRows};
 ghost use Rattle.hq_sql_check.specs.Scans.{scans};
-ghost use Rattle.hq_sql_rows.specs.Pins.{rows_lent, world_in};
+ghost use Rattle.hq_sql_rows.specs.Lent.{rows_lent};
+ghost use Rattle.hq_sql_rows.specs.Pins.{world_in};
 ghost use Rattle.hq_sql_rows.specs.View.{made_view, world_of};
 
 use crate::remember::remember;
 use hq_base::{Json, Memory, Txt};
 use hq_sql_check::{only_scanned_tables_matter, scanned};
-use hq_sql_rows::pinned::{Pinned, Stored};
+use hq_sql_rows::pinned::Pinned;
 use hq_sql_rows::row::{Made, cell_taken};
 use hq_sql_rows::scope::Scope;
+use hq_sql_rows::stored::Stored;
 use hq_sql_rows::work::Work;
 use hq_sql_tree::Select;
 use hq_sql_walk::rows;
@@ -67,10 +69,8 @@ fn stored<'d, T: Tables>(
     let marks = scanned(alloc, select, list)?;
     let mut world = Vec::with_capacity(alloc, list.len())?;
     for (at, table) in list.iter().enumerate() {
-        world.push(Stored {
-            table,
-            rows: stored_rows(tables, marks[at], at),
-        })?;
+        let rows = stored_rows(tables, marks[at], at);
+        world.push(Stored::of(alloc, table, rows, select)?)?;
     }
     Ok(world)
 }

@@ -1,3 +1,4 @@
+pub mod Lent
 pub mod Pins
 pub mod View
 pub mod Sources

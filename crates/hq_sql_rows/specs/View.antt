@@ -11,7 +11,8 @@ use Rattle.hq_sql_rows.specs.declared.row.Made.{Made}
 use Rattle.hq_sql_rows.specs.declared.row.Row.{Row as Lent}
 use Rattle.hq_sql_rows.specs.declared.row.Row.TheVariants as row
 use Rattle.hq_sql_rows.specs.declared.pinned.Pinned.{Pinned}
-use Rattle.hq_sql_rows.specs.Pins.{rows_lent, world_in}
+use Rattle.hq_sql_rows.specs.Lent.{rows_lent}
+use Rattle.hq_sql_rows.specs.Pins.{world_in}
 use Rattle.hq_sql_rows.specs.Sources.{row_of_one}
 use Rattle.hq_sql_rows.specs.declared.scope.Source.{Source}
 use Rattle.hq_sql_rows.specs.declared.scope.Source.TheVariants as source
@@ -40,13 +41,13 @@ world_of pinned = world_in pinned.tables.now
 
 -- the rows of a FROM
 abbrev pub source_view : Source → List NamedRow
-source_view (source.Stored stored) = map (named_row stored.table.now.columns) (rows_lent stored.rows)
+source_view (source.Stored stored) = map (named_row stored.now.table.now.columns) (rows_lent stored.now.rows)
 source_view (source.Made rows) = map made_view rows.now
 source_view source.One = row_of_one ∷ []
 
 -- the row at a place, without cells where there is none
 abbrev pub row_in : Source → ℕ → NamedRow
-row_in (source.Stored stored) position = slice_index_or (map (named_row stored.table.now.columns) (rows_lent stored.rows)) position []
+row_in (source.Stored stored) position = slice_index_or (map (named_row stored.now.table.now.columns) (rows_lent stored.now.rows)) position []
 row_in (source.Made rows) position = slice_index_or (map made_view rows.now) position []
 row_in source.One position = row_of_one
 

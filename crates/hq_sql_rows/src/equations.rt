@@ -248,3 +248,26 @@ pub fn asked_key<'d>(
     }
     Ok(Some(key))
 }
+
+// Whether a condition asks the column to equal one of an alias around the scan.
+fn is_equated(pred: &Pred, alias: &Txt, name: &Txt, joins: &[Join]) -> bool {
+    matches!(forced(pred, alias, name, joins), Some(Expr::Column { .. }))
+}
+
+/// The columns of a table that a condition asks to equal columns around its scan.
+pub fn equated(
+    alloc: Global,
+    table: &Table,
+    alias: &Txt,
+    joins: &[Join],
+    pred: &Pred,
+) -> Result<Vec<ColId>, Memory> {
+    let columns = table.columns.as_slice();
+    let mut all = Vec::new(alloc);
+    for (at, column) in columns.iter().enumerate() {
+        if is_equated(pred, alias, &column.name, joins) && is_first(columns, at, &column.name) {
+            all.push(ColId::new(at))?;
+        }
+    }
+    Ok(all)
+}

@@ -13,4 +13,6 @@ pub mod row;
 pub mod scope;
 pub mod single;
 pub mod stages;
+pub mod stored;
+mod wanted;
 pub mod work;

@@ -1,22 +1,14 @@
 //! The tables that a statement is evaluated over, and what is known of conditions over them.
 ghost use Rattle.std.specs.Prelude.{◌≡◌, ◌<◌, ℕ, length, slice_index_or};
 ghost use Rattle.hq_sql_rows.specs.Known.{IsRight};
-ghost use Rattle.hq_sql_rows.specs.Pins.{rows_lent, world_in};
+ghost use Rattle.hq_sql_rows.specs.Pins.{world_in};
 ghost use Rattle.hq_sql_rows.specs.declared.pinned.Known.{Known};
 
+use crate::stored::Stored;
 use crate::work::Work;
 use hq_base::Memory;
 use hq_sql_tree::{From, Pred};
-use hq_tables::Rows;
-use hq_terms::Table;
 use std::alloc::Global;
-
-/// A table of the catalog with its rows, none where the statement takes none from it.
-#[derive(Clone, Copy)]
-pub struct Stored<'d> {
-    pub table: &'d Table,
-    pub rows: Option<&'d Rows>,
-}
 
 /// Of a condition over the rows of a table: at which of them the conjuncts that mention no other alias are all true, and the other
 /// conjuncts.
@@ -35,18 +27,6 @@ pub struct Pinned<'d> {
     pub work: &'d Work,
     pub known: Vec<Known<'d>>,
     ghost right: { (i : ℕ) (d : Known) → i < length known.items → IsRight (world_in tables.now) (slice_index_or known.items i d) },
-}
-
-impl<'d> Stored<'d> {
-    /// How many rows there are.
-    pub fn number(&self) -> usize
-        ensures { result ≡ length (rows_lent self.now.rows) }
-    {
-        match self.rows {
-            Some(rows) => rows.len(),
-            None => 0,
-        }
-    }
 }
 
 impl<'d> Pinned<'d> {

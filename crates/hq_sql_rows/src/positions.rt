@@ -1,19 +1,23 @@
 //! The places at which a scan looks: all, or those of the rows that have the key that its WHERE asks for.
-ghost use Rattle.std.specs.Prelude.{◌≡◌, ◌<◌, false, map, length, IfOk, IfSome, slice_index_or};
+ghost use Rattle.std.specs.Prelude.{◌≡◌, ◌<◌, ℕ, false, map, length, IfOk, IfSome, slice_index_or};
 ghost use Rattle.hq_sql_tree.specs.Tree.{joins_of};
 ghost use Rattle.hq_sql_tree.specs.View.{join_view, filter_view, pred_view};
 ghost use Rattle.hq_sql_tree.specs.Tree.{filter as filtered};
-ghost use Rattle.hq_sql_tree.specs.Meaning.{World, kept};
-ghost use Rattle.hq_sql_rows.specs.View.{source_view, row_in, scope_of};
+ghost use Rattle.hq_index.specs.Indexes.{IsOver};
+ghost use Rattle.hq_index.specs.declared.index.Index.{Index};
+ghost use Rattle.hq_sql_rows.specs.Lent.{rows_lent};
+ghost use Rattle.hq_sql_rows.specs.View.{row_in};
 ghost use Rattle.hq_sql_rows.specs.Equations.{is_joined};
 ghost use Rattle.hq_sql_rows.specs.declared.scope.Source.TheVariants as source;
-ghost use Rattle.hq_sql_rows.specs.Positions.{positions_of, rows_at, kept_of};
+ghost use Rattle.hq_sql_rows.specs.Positions.{positions_of, rows_at, FindsAll};
 
 use crate::equations::{asked_key, is_joined};
-use crate::pinned::Stored;
 use crate::scope::{Scope, Source, count};
+use crate::stored::Stored;
 use hq_base::{Memory, Txt};
+use hq_index::Index;
 use hq_sql_tree::{Join, Pred};
+use hq_tables::Rows;
 use std::alloc::Global;
 use std::cell::Cell;
 
@@ -49,23 +53,24 @@ pub fn position_at(positions: Positions<'_>, at: usize) -> usize
     }
 }
 
-// The places of the rows that have the key that a condition asks of an index, or all.
-fn looked_up<'d>(
+// The places of the rows that have the key that a condition asks of one of these indexes; None where it asks none of them.
+fn looked_among<'d>(
     alloc: Global,
-    stored: Stored<'d>,
+    stored: &'d Stored<'d>,
+    rows: &'d Rows,
+    indexes: &'d [Index],
     alias: &Txt,
     joins: &[Join],
     pred: &'d Pred,
     looked: &Cell<u64>,
     scope: &Scope<'_, 'd>,
 ) -> Result<Option<&'d [u32]>, Memory>
-    requires { is_joined (joins_of (map join_view joins.now)) alias.now ≡ false }
-    ensures { IfOk result (λ found. IfSome found (λ rows. (w : World) → kept_of (joins_of (map join_view joins.now)) w (scope_of scope.now w) alias.now (kept (filtered (pred_view pred.now)) w) (map (row_in (source.Stored stored.entry)) rows.now) ≡ kept_of (joins_of (map join_view joins.now)) w (scope_of scope.now w) alias.now (kept (filtered (pred_view pred.now)) w) (source_view (source.Stored stored.entry)))) }
+    requires joined { is_joined (joins_of (map join_view joins.now)) alias.now ≡ false }
+    requires rows { rows_lent stored.now.rows ≡ rows.now }
+    requires over { (i : ℕ) (d : Index) → i < length indexes.now → IsOver rows.now (slice_index_or indexes.now i d) }
+    ensures { IfOk result (λ found. IfSome found (λ places. FindsAll (joins_of (map join_view joins.now)) scope.now alias.now (filtered (pred_view pred.now)) (source.Stored stored.entry) (map (row_in (source.Stored stored.entry)) places.now))) }
 {
-    let Some(rows) = stored.rows else {
-        return Ok(None);
-    };
-    for index in rows.indexes() {
+    for index in indexes {
         if let Some(key) = asked_key(
             alloc,
             stored.table,
@@ -83,6 +88,32 @@ fn looked_up<'d>(
     Ok(None)
 }
 
+// The places of the rows that have the key that a condition asks of an index, or all.
+fn looked_up<'d>(
+    alloc: Global,
+    stored: &'d Stored<'d>,
+    alias: &Txt,
+    joins: &[Join],
+    pred: &'d Pred,
+    looked: &Cell<u64>,
+    scope: &Scope<'_, 'd>,
+) -> Result<Option<&'d [u32]>, Memory>
+    requires { is_joined (joins_of (map join_view joins.now)) alias.now ≡ false }
+    ensures { IfOk result (λ found. IfSome found (λ places. FindsAll (joins_of (map join_view joins.now)) scope.now alias.now (filtered (pred_view pred.now)) (source.Stored stored.entry) (map (row_in (source.Stored stored.entry)) places.now))) }
+{
+    let Some(rows) = stored.rows else {
+        return Ok(None);
+    };
+    let own = rows.indexes();
+    if let Some(found) = looked_among(
+        alloc, stored, rows, own, alias, joins, pred, looked, scope,
+    )? {
+        return Ok(Some(found));
+    }
+    let more = stored.more.as_slice();
+    looked_among(alloc, stored, rows, more, alias, joins, pred, looked, scope)
+}
+
 /// The places at which a scan looks. Those rows among them that WHERE keeps are all that it keeps.
 pub fn looked_at<'s, 'd>(
     alloc: Global,
@@ -93,7 +124,7 @@ pub fn looked_at<'s, 'd>(
     looked: &Cell<u64>,
     scope: &Scope<'_, 'd>,
 ) -> Result<Positions<'d>, Memory>
-    ensures { IfOk result (λ positions. (w : World) → kept_of (joins_of (map join_view joins.now)) w (scope_of scope.now w) alias.now (kept (filter_view filter.now) w) (rows_at source.entry positions) ≡ kept_of (joins_of (map join_view joins.now)) w (scope_of scope.now w) alias.now (kept (filter_view filter.now) w) (source_view source.entry)) }
+    ensures { IfOk result (λ positions. FindsAll (joins_of (map join_view joins.now)) scope.now alias.now (filter_view filter.now) source.entry (rows_at source.entry positions)) }
 {
     if let (Source::Stored(stored), Some(pred)) = (source, filter) {
         if !is_joined(joins, alias) {

@@ -2,12 +2,13 @@
 ghost use Rattle.std.specs.Prelude.{◌≡◌, ◌&&◌, [], map, length, bytes_eq, slice_index_or};
 ghost use Rattle.hq_sql_tree.specs.View.{from_view};
 ghost use Rattle.hq_sql_tree.specs.Meaning.{rows_named};
-ghost use Rattle.hq_sql_rows.specs.Pins.{rows_lent};
+ghost use Rattle.hq_sql_rows.specs.Lent.{rows_lent};
 ghost use Rattle.hq_sql_rows.specs.View.{named_view, made_view, row_view, row_in, world_of, source_view};
 ghost use Rattle.hq_sql_rows.specs.Sources.{alias_in, rows_given};
 
-use crate::pinned::{Pinned, Stored};
+use crate::pinned::Pinned;
 use crate::row::{Made, Named, Row};
+use crate::stored::Stored;
 use hq_base::{Txt, Val};
 use hq_sql_tree::{From, Select};
 use hq_tables::Rows;
@@ -43,12 +44,13 @@ pub enum Group<'s, 'd> {
 /// The rows that a FROM gives.
 #[derive(Clone, Copy)]
 pub enum Source<'s, 'd> {
-    Stored(Stored<'d>),
+    Stored(&'d Stored<'d>),
     Made(&'s [Made<'d>]),
     One,
 }
 
-fn is_named(table: &Table, schema: &Txt, name: &Txt) -> bool
+/// Whether a table has this schema and name.
+pub fn is_named(table: &Table, schema: &Txt, name: &Txt) -> bool
     ensures { result ≡ (bytes_eq table.now.schema schema.now && bytes_eq table.now.name name.now) }
 {
     table.schema == *schema && table.name == *name
@@ -60,7 +62,7 @@ fn stored_named<'s, 'd>(world: &Pinned<'d>, schema: &Txt, name: &Txt) -> Source<
 {
     for stored in world.tables {
         if is_named(stored.table, schema, name) {
-            return Source::Stored(*stored);
+            return Source::Stored(stored);
         }
     }
     Source::Made(&[])

@@ -1,0 +1,5 @@
+pub mod Tables
+pub mod Metadata
+pub mod Rows
+pub mod Requests
+pub mod Lines

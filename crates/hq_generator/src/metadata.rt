@@ -1,0 +1,189 @@
+//! The metadata: both relationships, and what the role `user` may see.
+ghost use Rattle.std.specs.Prelude.{◌≡◌, ◌∷◌, [], false, IfOk};
+ghost use Rattle.hq_base.specs.Text.{has_zero};
+ghost use Rattle.hq_terms.specs.Bexp.{bexp_view};
+ghost use Rattle.hq_terms.specs.Meta.{meta_view, perm_view, tracked_view};
+ghost use Rattle.hq_generator.specs.Metadata.{article_filter, article_names, article_perm, article_roots, article_tracked, author_names, author_perm, author_roots, author_tracked, metadata, rel_of};
+
+use crate::text::text;
+use hq_base::{List, Memory, Txt, Val};
+use hq_terms::{
+    Bexp, ColId, Meta, Op, Operand, Pair, Perm, Rel, RelList, RootNames, TableId, Tracked, TxtList,
+};
+use std::alloc::Global;
+
+// The relationships of a table that has one, by one pair of columns.
+fn one_rel(
+    alloc: Global,
+    name: &str,
+    remote: usize,
+    pair: Pair,
+    many: bool,
+) -> Result<RelList, Memory>
+    requires { has_zero name.now ≡ false }
+    ensures { IfOk result (λ rels. rels ≡ rel_of name.now remote pair many ∷ []) }
+{
+    let mut pairs = List::new(alloc);
+    pairs.push(pair)?;
+    let name = text(alloc, name)?;
+    let mut rels = List::new(alloc);
+    rels.push(Rel {
+        name,
+        remote: TableId::new(remote),
+        pairs,
+        many,
+    })?;
+    Ok(rels)
+}
+
+fn author_names(alloc: Global) -> Result<TxtList, Memory>
+    ensures { IfOk result (λ names. names ≡ author_names) }
+{
+    let mut names = List::new(alloc);
+    names.push(text(alloc, "id")?)?;
+    names.push(text(alloc, "name")?)?;
+    names.push(text(alloc, "email")?)?;
+    Ok(names)
+}
+
+fn article_names(alloc: Global) -> Result<TxtList, Memory>
+    ensures { IfOk result (λ names. names ≡ article_names) }
+{
+    let mut names = List::new(alloc);
+    names.push(text(alloc, "id")?)?;
+    names.push(text(alloc, "author_id")?)?;
+    names.push(text(alloc, "title")?)?;
+    names.push(text(alloc, "published")?)?;
+    names.push(text(alloc, "rating")?)?;
+    Ok(names)
+}
+
+fn author_roots(alloc: Global) -> Result<RootNames, Memory>
+    ensures { IfOk result (λ roots. roots ≡ author_roots) }
+{
+    Ok(RootNames {
+        select: text(alloc, "author")?,
+        select_aggregate: text(alloc, "author_aggregate")?,
+        select_by_pk: text(alloc, "author_by_pk")?,
+    })
+}
+
+fn article_roots(alloc: Global) -> Result<RootNames, Memory>
+    ensures { IfOk result (λ roots. roots ≡ article_roots) }
+{
+    Ok(RootNames {
+        select: text(alloc, "article")?,
+        select_aggregate: text(alloc, "article_aggregate")?,
+        select_by_pk: text(alloc, "article_by_pk")?,
+    })
+}
+
+// What the role `user` may see of authors.
+fn author_perm(alloc: Global) -> Result<Perm, Memory>
+    ensures { IfOk result (λ perm. perm_view perm ≡ author_perm) }
+{
+    let role = text(alloc, "user")?;
+    let mut cols = List::new(alloc);
+    cols.push(ColId::new(0))?;
+    cols.push(ColId::new(1))?;
+    Ok(Perm {
+        role,
+        cols,
+        filter: Bexp::True,
+        limit: None,
+        aggregations: false,
+    })
+}
+
+// The articles that are published, or whose author asks.
+fn article_filter(alloc: Global) -> Result<Bexp, Memory>
+    ensures { IfOk result (λ filter. bexp_view filter ≡ article_filter) }
+{
+    let caller = text(alloc, "x-hasura-user-id")?;
+    let mut cases = Vec::new(alloc);
+    cases.push(Bexp::Cmp {
+        col: ColId::new(3),
+        op: Op::Eq,
+        operand: Operand::Const(Val::Bool(true)),
+    })?;
+    cases.push(Bexp::Cmp {
+        col: ColId::new(1),
+        op: Op::Eq,
+        operand: Operand::Session(caller),
+    })?;
+    Ok(Bexp::Or(cases))
+}
+
+// What the role `user` may see of articles.
+fn article_perm(alloc: Global) -> Result<Perm, Memory>
+    ensures { IfOk result (λ perm. perm_view perm ≡ article_perm) }
+{
+    let role = text(alloc, "user")?;
+    let mut cols = List::new(alloc);
+    cols.push(ColId::new(0))?;
+    cols.push(ColId::new(2))?;
+    cols.push(ColId::new(4))?;
+    Ok(Perm {
+        role,
+        cols,
+        filter: article_filter(alloc)?,
+        limit: None,
+        aggregations: true,
+    })
+}
+
+fn author_tracked(alloc: Global) -> Result<Tracked, Memory>
+    ensures { IfOk result (λ tracked. tracked_view tracked ≡ author_tracked) }
+{
+    let name = text(alloc, "author")?;
+    let column_names = author_names(alloc)?;
+    let roots = author_roots(alloc)?;
+    let pair = Pair {
+        own: ColId::new(0),
+        remote: ColId::new(1),
+    };
+    let rels = one_rel(alloc, "articles", 1, pair, true)?;
+    let mut perms = List::new(alloc);
+    perms.push(author_perm(alloc)?)?;
+    Ok(Tracked {
+        table: TableId::new(0),
+        name,
+        column_names,
+        roots,
+        rels,
+        perms,
+    })
+}
+
+fn article_tracked(alloc: Global) -> Result<Tracked, Memory>
+    ensures { IfOk result (λ tracked. tracked_view tracked ≡ article_tracked) }
+{
+    let name = text(alloc, "article")?;
+    let column_names = article_names(alloc)?;
+    let roots = article_roots(alloc)?;
+    let pair = Pair {
+        own: ColId::new(1),
+        remote: ColId::new(0),
+    };
+    let rels = one_rel(alloc, "author", 0, pair, false)?;
+    let mut perms = List::new(alloc);
+    perms.push(article_perm(alloc)?)?;
+    Ok(Tracked {
+        table: TableId::new(1),
+        name,
+        column_names,
+        roots,
+        rels,
+        perms,
+    })
+}
+
+/// The metadata.
+pub fn metadata(alloc: Global) -> Result<Meta, Memory>
+    ensures { IfOk result (λ meta. meta_view meta ≡ metadata) }
+{
+    let mut tracked = List::new(alloc);
+    tracked.push(author_tracked(alloc)?)?;
+    tracked.push(article_tracked(alloc)?)?;
+    Ok(Meta { tracked })
+}
