@@ -5,17 +5,19 @@ ghost use Rattle.hq_sql_closed.specs.Conjuncts.{lent_weight};
 ghost use Rattle.hq_sql_closed.specs.Weight.{filter_weight};
 ghost use Rattle.hq_sql_tree.specs.Tree.{fold, joins_of, no_join};
 ghost use Rattle.hq_sql_tree.specs.View.{expr_view, order_view, out_view, select_view, from_view, join_view, filter_view};
-ghost use Rattle.hq_sql_tree.specs.Meaning.{with_alias, kept, joined, rows_of, order_cmp, distinct_on, offset_by, limited, outputs};
+ghost use Rattle.hq_sql_cells.specs.View.{cell_view};
+ghost use Rattle.hq_sql_tree.specs.Meaning.{with_alias, value, kept, joined, rows_of, order_cmp, distinct_on, offset_by, limited, outputs};
 ghost use Rattle.hq_sql_rows.specs.View.{made_view, joined_view, first_row, source_view, world_of, names_of, names_at, beside};
 ghost use Rattle.hq_sql_rows.specs.Sources.{alias_in, made_rows, rows_given, has_items};
 ghost use Rattle.hq_sql_rows.specs.Known.{IsKnown, Tells};
 ghost use Rattle.hq_sql_rows.specs.Keys.{with_cells, keyed_at, taken_at, outputs_of};
 
+use crate::aggregates::{listed, listed_column};
 use crate::joins::{Asked, asked_at, gather, outputs_at};
 use crate::truths::all_hold;
 use crate::values::value;
 use hq_base::{Memory, Txt};
-use hq_sql_cells::{Kept, paged};
+use hq_sql_cells::{Cell, Kept, paged};
 use hq_sql_rows::cells::arranged;
 use hq_sql_rows::pinned::{Known, Pinned};
 use hq_sql_rows::place::{Place, add_places};
@@ -23,7 +25,7 @@ use hq_sql_rows::positions::{looked_at, number_of, position_at};
 use hq_sql_rows::row::{Made, first_row, one_row};
 use hq_sql_rows::scope::{Group, Scope, Source, alias_of, row_at, source_of};
 use hq_sql_rows::stages::{Parts, Stage, stages};
-use hq_sql_tree::{ExprList, From, Join, OrderList, Out, OutList, Pred, Select};
+use hq_sql_tree::{Expr, ExprList, From, Join, OrderList, Out, OutList, Pred, Select};
 use std::alloc::Global;
 
 /// The rows of a select in its scope.
@@ -90,9 +92,27 @@ fn folded<'d>(
     ensures { IfOk result (λ rows. map made_view rows.items ≡ rows_of (fold (out_view out.now) (select_view select.now) alias.now) (world_of world.now) (names_of scope.now world.now)) }
 {
     let made = rows(alloc, select, world, scope)?;
-    let group = Group::Of { alias, rows: &made };
-    let cell = value(alloc, &out.value, world, group, scope)?;
+    let cell = folded_cell(alloc, &out.value, made, alias, world, scope)?;
     one_row(alloc, &out.name, cell)
+}
+
+// The value of an expression over the rows of a fold, which are used up.
+#[cycle(eval)]
+fn folded_cell<'d>(
+    alloc: Global,
+    expr: &'d Expr,
+    made: Vec<Made<'d>>,
+    alias: &'d Txt,
+    world: &Pinned<'d>,
+    scope: &Scope<'_, 'd>,
+) -> Result<Cell<'d>, Memory>
+    ensures { IfOk result (λ cell. cell_view cell ≡ value (expr_view expr.now) (map (with_alias (names_of scope.now world.now) alias.now) (map made_view made.entry.items)) (names_of scope.now world.now)) }
+{
+    if let Some(chosen) = listed_column(expr, alias) {
+        return listed(alloc, chosen, world, alias, made, scope);
+    }
+    let group = Group::Of { alias, rows: &made };
+    value(alloc, expr, world, group, scope)
 }
 
 /// The rows of a sub-select that a FROM names, none where it names another thing.

@@ -1,9 +1,9 @@
-use Rattle.std.proofs.Common.{◌≡◌, ◌+◌, ◌++◌, [], map, filter, flat_map, take, drop}
+use Rattle.std.proofs.Common.{◌≡◌, ◌+◌, ◌++◌, [], map, filter, flat_map, take, drop, false}
 use Rattle.std.specs.Vec.Iter.{into_iter_items}
 use Rattle.hq_base.specs.Json.{member_view}
 use Rattle.hq_terms.specs.Logic.{and3, or3}
 use Rattle.hq_sql_cells.specs.View.{cell_view}
-use Rattle.hq_sql_tree.specs.Tree.{joins_of, preds_of}
+use Rattle.hq_sql_tree.specs.Tree.{column, joins_of, preds_of}
 use Rattle.hq_sql_tree.specs.View.{expr_view, pair_view, order_view, out_view, join_view, pred_view, filter_view}
 use Rattle.hq_sql_tree.specs.Meaning.{value, with_alias, joined, kept, all_true, any_true}
 use Rattle.hq_sql_rows.specs.View.{made_view, named_view, joined_view, world_of, names_of, names_at, group_of, beside}
@@ -32,6 +32,12 @@ invariant-aggregates::each_value-loop-row l = map cell_view l.cells.items ≡ ma
 
 abbrev pub invariant-aggregates::each_json-loop-row : goal.invariant-aggregates::each_json-loop-row
 invariant-aggregates::each_json-loop-row l = map with_json l.kept.items ≡ map (json_at (expr_view l.expr) (map order_view l.order.items)) (map (with_alias (names_of l.scope l.world) l.alias) (map made_view (take l.row-index l.rows)))
+
+abbrev pub invariant-aggregates::each_taken-loop-row : goal.invariant-aggregates::each_taken-loop-row
+invariant-aggregates::each_taken-loop-row l =
+    let at = json_at (column l.alias l.chosen.name.now false) (map order_view l.chosen.order.now.items) in
+    let beside = with_alias (names_of l.scope l.world) l.alias in
+    map with_json l.kept.items ++ map at (map beside (map made_view (into_iter_items l.row-iterator))) ≡ map at (map beside (map made_view l.fn.rows.items))
 
 abbrev pub invariant-truths::all_true-loop-pred : goal.invariant-truths::all_true-loop-pred
 invariant-truths::all_true-loop-pred l = and3 l.all (all_true (preds_of (map pred_view (drop l.pred-index l.pred-items))) (world_of l.world) (names_of l.scope l.world)) ≡ all_true (preds_of (map pred_view l.pred-items)) (world_of l.world) (names_of l.scope l.world)
@@ -96,6 +102,15 @@ decreases-aggregates::each_value l = 2 + (expr_weight l.expr.now + scope_weight 
 
 abbrev pub decreases-aggregates::each_json : goal.decreases-aggregates::each_json
 decreases-aggregates::each_json l = 3 + (expr_weight l.expr.now + (total (map order_weight l.order.now.items) + scope_weight l.scope.now))
+
+abbrev pub decreases-aggregates::listed : goal.decreases-aggregates::listed
+decreases-aggregates::listed l = 5 + (total (map order_weight l.chosen.order.now.items) + scope_weight l.scope.now)
+
+abbrev pub decreases-aggregates::each_taken : goal.decreases-aggregates::each_taken
+decreases-aggregates::each_taken l = 4 + (total (map order_weight l.chosen.order.now.items) + scope_weight l.scope.now)
+
+abbrev pub decreases-aggregates::keys_beside : goal.decreases-aggregates::keys_beside
+decreases-aggregates::keys_beside l = 3 + (total (map order_weight l.order.now.items) + scope_weight l.scope.now)
 
 abbrev pub decreases-truths::kept : goal.decreases-truths::kept
 decreases-truths::kept l = filter_weight l.filter.now + scope_weight l.scope.now
@@ -162,6 +177,9 @@ decreases-clauses::first l = 2 + (select_weight l.select.now + scope_weight l.sc
 
 abbrev pub decreases-clauses::folded : goal.decreases-clauses::folded
 decreases-clauses::folded l = 5 + (out_weight l.out.now + (select_weight l.select.now + scope_weight l.scope.now))
+
+abbrev pub decreases-clauses::folded_cell : goal.decreases-clauses::folded_cell
+decreases-clauses::folded_cell l = 1 + (expr_weight l.expr.now + scope_weight l.scope.now)
 
 abbrev pub decreases-clauses::made_of : goal.decreases-clauses::made_of
 decreases-clauses::made_of l = from_weight l.from.now + scope_weight l.scope.now
