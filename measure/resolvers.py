@@ -159,7 +159,8 @@ class World:
         """A constant, or in a permission's filter the value of a session variable."""
         if in_filter and isinstance(value, str) and value.lower().startswith("x-hasura-"):
             value = self.variables[value.lower()]
-            return int(value) if kind in ("integer", "bigint") else value in ("t", "true") if kind == "boolean" else value
+        if isinstance(value, str) and kind == "boolean":
+            return value in ("t", "true")
         return int(value) if kind in ("integer", "bigint") else value
 
     def test(self, kind, cell, op, value, in_filter):

@@ -3,8 +3,8 @@
 use crate::arguments::push_args;
 use crate::printer::push_bexp;
 use hq_ask_tree::{
-    AggCol, AggField, AggPart, AggParts, Ask, AskField, AskFields, Bound, IntroField, IntroFields,
-    KeyedAggCol, KeyedAggField,
+    AggCol, AggField, AggPart, AggParts, Args, Ask, AskField, AskFields, Bound, IntroField,
+    IntroFields, KeyedAggCol, KeyedAggField,
 };
 use hq_base::{Txt, Val};
 use hq_case::{Stop, push_value};
@@ -107,50 +107,71 @@ fn push_values(values: &[Val], out: &mut String) -> Result<(), Stop> {
     Ok(())
 }
 
-#[cycle(ask)]
-fn push_field(field: &AskField, out: &mut String) -> Result<(), Stop> {
+fn push_object(rel: RelId, out: &mut String) -> Result<(), Stop> {
+    Ok(write!(out, "r{} ", rel.at())?)
+}
+
+fn push_list(
+    table: TableId,
+    rel: Option<RelId>,
+    args: &Args,
+    out: &mut String,
+) -> Result<(), Stop> {
+    push_rows(table, rel, out)?;
+    push_args(args, out)
+}
+
+fn push_by_key(table: TableId, key: &[Val], out: &mut String) -> Result<(), Stop> {
+    write!(out, "t{} key ", table.at())?;
+    push_values(key, out)?;
+    Ok(out.push_str(" ")?)
+}
+
+// What stands at a field, before the fields below it.
+fn push_head(field: &AskField, out: &mut String) -> Result<(), Stop> {
     match field {
         AskField::Column { col } => Ok(write!(out, "c{}", col.at())?),
         AskField::Typename { name } => push_type(name, out),
         AskField::NoQueries => Ok(out.push_str("no queries")?),
-        AskField::Object { rel, fields } => {
-            write!(out, "r{} ", rel.at())?;
-            push_fields(fields, out)
-        }
+        AskField::Object { rel, .. } => push_object(*rel, out),
         AskField::List {
             table,
             rel,
             args,
-            fields,
-        } => {
-            push_rows(*table, *rel, out)?;
-            push_args(args, out)?;
-            out.push_str(" ")?;
-            push_fields(fields, out)
-        }
-        AskField::ByPk { table, key, fields } => {
-            write!(out, "t{} key ", table.at())?;
-            push_values(key.as_slice(), out)?;
-            out.push_str(" ")?;
-            push_fields(fields, out)
-        }
+            ..
+        } => push_list(*table, *rel, args, out),
+        AskField::ByPk { table, key, .. } => push_by_key(*table, key.as_slice(), out),
         AskField::Aggregate {
             table,
             rel,
             args,
-            parts,
-        } => {
-            push_rows(*table, *rel, out)?;
-            push_args(args, out)?;
-            push_parts(parts, out)
-        }
+            ..
+        } => push_list(*table, *rel, args, out),
         AskField::Introspect { field } => push_look(field, out),
     }
 }
 
+// The fields below a field.
 #[cycle(ask)]
-fn push_fields(fields: &AskFields, out: &mut String) -> Result<(), Stop> {
-    out.push_str("{")?;
+fn push_below(field: &AskField, out: &mut String) -> Result<(), Stop> {
+    match field {
+        AskField::Object { fields, .. } => push_fields("{", fields, out),
+        AskField::List { fields, .. } => push_fields(" {", fields, out),
+        AskField::ByPk { fields, .. } => push_fields("{", fields, out),
+        AskField::Aggregate { parts, .. } => push_parts(parts, out),
+        _ => Ok(()),
+    }
+}
+
+#[cycle(ask)]
+fn push_field(field: &AskField, out: &mut String) -> Result<(), Stop> {
+    push_head(field, out)?;
+    push_below(field, out)
+}
+
+#[cycle(ask)]
+fn push_fields(opening: &str, fields: &AskFields, out: &mut String) -> Result<(), Stop> {
+    out.push_str(opening)?;
     for (at, one) in fields.iter().enumerate() {
         push_key(at, &one.key, out)?;
         push_field(&one.field, out)?;
@@ -162,10 +183,7 @@ fn push_fields(fields: &AskFields, out: &mut String) -> Result<(), Stop> {
 fn push_part(part: &AggPart, out: &mut String) -> Result<(), Stop> {
     match part {
         AggPart::Fields(fields) => push_summaries(fields.as_slice(), out),
-        AggPart::Nodes(fields) => {
-            out.push_str("nodes ")?;
-            push_fields(fields, out)
-        }
+        AggPart::Nodes(fields) => push_fields("nodes {", fields, out),
         AggPart::Typename { name } => push_type(name, out),
     }
 }
@@ -190,6 +208,6 @@ fn push_bound(bound: &[Bound], out: &mut String) -> Result<(), Stop> {
 
 /// Adds a typed request: its fields, and each touched table with its bound filter.
 pub fn push_ask(ask: &Ask, out: &mut String) -> Result<(), Stop> {
-    push_fields(&ask.fields, out)?;
+    push_fields("{", &ask.fields, out)?;
     push_bound(ask.bound.as_slice(), out)
 }

@@ -2,7 +2,7 @@
 
 use hq_base::{Bytes, Json, Txt};
 use hq_case::{Case, Stop};
-use hq_coerce::CoerceRefusal;
+use hq_coerce::{CoerceRefusal, OpRef, choose};
 use hq_gql_lexer::lex;
 use hq_gql_parser::parse;
 use hq_gql_tree::{Document, Fault};
@@ -52,6 +52,14 @@ pub fn given_name(alloc: Global, case: &Case) -> Result<Option<Txt>, Stop> {
     match case.find("operation") {
         Some(_) => Ok(Some(case.text(alloc, "operation")?)),
         None => Ok(None),
+    }
+}
+
+/// The operation of a document that the member `operation` names.
+pub fn given_operation(alloc: Global, case: &Case, document: &Document) -> Result<OpRef, Stop> {
+    match choose(document, given_name(alloc, case)?.as_ref()) {
+        Ok(op) => Ok(op),
+        Err(_) => Err(Stop::Shape),
     }
 }
 

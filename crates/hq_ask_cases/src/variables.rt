@@ -1,11 +1,20 @@
 //! The coerced variables of an operation.
 
 use crate::given::{
-    given_document, given_meta, given_name, given_variables, push_refusal, schema_of,
+    given_document, given_meta, given_operation, given_variables, push_refusal, schema_of,
 };
 use hq_case::{Case, Stop, given_catalog, given_session, push_json};
-use hq_coerce::{VarValue, choose, coerce_variables};
+use hq_coerce::{VarValue, coerce_variables};
+use hq_gql_tree::Document;
+use hq_schema::Schema;
 use std::alloc::Global;
+
+// The schema of the role of a case's session.
+fn given_schema(alloc: Global, case: &Case) -> Result<Schema, Stop> {
+    let catalog = given_catalog(alloc, case)?;
+    let meta = given_meta(alloc, case, &catalog)?;
+    schema_of(alloc, &catalog, &meta, &given_session(alloc, case)?)
+}
 
 // Each variable with its value, in words.
 fn push_values(alloc: Global, values: &[VarValue], out: &mut String) -> Result<(), Stop> {
@@ -17,20 +26,27 @@ fn push_values(alloc: Global, values: &[VarValue], out: &mut String) -> Result<(
     Ok(())
 }
 
+// Adds the variables that have values, or the fault.
+fn push_coerced(
+    alloc: Global,
+    case: &Case,
+    document: &Document,
+    schema: &Schema,
+    out: &mut String,
+) -> Result<(), Stop> {
+    let op = given_operation(alloc, case, document)?;
+    let given = given_variables(alloc, case)?;
+    match coerce_variables(alloc, document, op, schema, given.as_ref()) {
+        Ok(values) => push_values(alloc, values.as_slice(), out),
+        Err(refusal) => push_refusal(&refusal, out),
+    }
+}
+
 /// The variables that have values, or the fault.
 pub fn values(alloc: Global, case: &Case) -> Result<String, Stop> {
-    let catalog = given_catalog(alloc, case)?;
-    let meta = given_meta(alloc, case, &catalog)?;
-    let schema = schema_of(alloc, &catalog, &meta, &given_session(alloc, case)?)?;
+    let schema = given_schema(alloc, case)?;
     let document = given_document(alloc, case)?;
-    let Ok(op) = choose(&document, given_name(alloc, case)?.as_ref()) else {
-        return Err(Stop::Shape);
-    };
-    let given = given_variables(alloc, case)?;
     let mut out = String::new(alloc);
-    match coerce_variables(alloc, &document, op, &schema, given.as_ref()) {
-        Ok(values) => push_values(alloc, values.as_slice(), &mut out)?,
-        Err(refusal) => push_refusal(&refusal, &mut out)?,
-    }
+    push_coerced(alloc, case, &document, &schema, &mut out)?;
     Ok(out)
 }

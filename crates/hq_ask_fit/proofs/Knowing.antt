@@ -1,4 +1,4 @@
--- A field that is known: its definition is found at its place, it has fields below it exactly where its type has fields, and its
+-- A field that is known: its definition is found at its place, it has fields below it only where its type has fields, and its
 -- arguments are those of what it stands for.
 use Rattle.std.proofs.Common.{◌≡◌, refl, ap, subst, ℕ, Bool, true, Option, Some, None, Ok, Err}
 use Rattle.hq_base.specs.Due.{mapped}

@@ -65,12 +65,17 @@ fn push_refusal(refusal: &CatalogRefusal, out: &mut String) -> Result<(), Stop> 
     }
 }
 
+fn push_read(alloc: Global, bytes: &[u8], out: &mut String) -> Result<(), Stop> {
+    match read_catalog(alloc, bytes) {
+        Ok(catalog) => push_tables(catalog.tables.as_slice(), out),
+        Err(refusal) => push_refusal(&refusal, out),
+    }
+}
+
 /// The tables of the catalog that bytes write, or its refusal.
 pub fn catalog(alloc: Global, case: &Case) -> Result<String, Stop> {
+    let bytes = case.bytes(alloc, "in")?;
     let mut out = String::new(alloc);
-    match read_catalog(alloc, case.bytes(alloc, "in")?.as_slice()) {
-        Ok(catalog) => push_tables(catalog.tables.as_slice(), &mut out)?,
-        Err(refusal) => push_refusal(&refusal, &mut out)?,
-    }
+    push_read(alloc, bytes.as_slice(), &mut out)?;
     Ok(out)
 }

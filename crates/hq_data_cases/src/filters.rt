@@ -21,6 +21,19 @@ fn push_refusal(refusal: &FilterRefusal, out: &mut String) -> Result<(), Stop> {
     }
 }
 
+// What a filter over the table of a case gives.
+fn filter_of(
+    alloc: Global,
+    case: &Case,
+    catalog: &Catalog,
+    meta: &Meta,
+    json: &Json,
+) -> Result<Result<Bexp, FilterRefusal>, Stop> {
+    let top = top_path(alloc)?;
+    let table = given_table(case)?;
+    Ok(read_filter(alloc, json, &top, catalog, meta, table))
+}
+
 // What the text of a filter over the table of a case gives.
 fn read(
     alloc: Global,
@@ -29,9 +42,20 @@ fn read(
     meta: &Meta,
 ) -> Result<Result<Bexp, FilterRefusal>, Stop> {
     let json = Json::from_body(alloc, case.bytes(alloc, "in")?.as_slice())?;
-    let top = top_path(alloc)?;
-    let table = given_table(case)?;
-    Ok(read_filter(alloc, &json, &top, catalog, meta, table))
+    filter_of(alloc, case, catalog, meta, &json)
+}
+
+fn push_filter(
+    alloc: Global,
+    case: &Case,
+    catalog: &Catalog,
+    meta: &Meta,
+    out: &mut String,
+) -> Result<(), Stop> {
+    match read(alloc, case, catalog, meta)? {
+        Ok(bexp) => push_bexp(&bexp, out),
+        Err(refusal) => push_refusal(&refusal, out),
+    }
 }
 
 /// The expression of a filter over a table, or its refusal.
@@ -39,10 +63,7 @@ pub fn filter(alloc: Global, case: &Case) -> Result<String, Stop> {
     let catalog = given_catalog(alloc, case)?;
     let meta = given_meta(alloc, case, &catalog)?;
     let mut out = String::new(alloc);
-    match read(alloc, case, &catalog, &meta)? {
-        Ok(bexp) => push_bexp(&bexp, &mut out)?,
-        Err(refusal) => push_refusal(&refusal, &mut out)?,
-    }
+    push_filter(alloc, case, &catalog, &meta, &mut out)?;
     Ok(out)
 }
 
@@ -56,19 +77,34 @@ fn push_fault(refusal: &BindRefusal, out: &mut String) -> Result<(), Stop> {
     }
 }
 
-// The expression of a filter, for the session of the case's headers.
-fn bound(
+// Adds an expression with the values of the case's session in place of its variables, or the first fault.
+fn push_bound(
     alloc: Global,
     case: &Case,
     catalog: &Catalog,
     meta: &Meta,
-) -> Result<Result<Bexp, BindRefusal>, Stop> {
-    let Ok(bexp) = read(alloc, case, catalog, meta)? else {
-        return Err(Stop::Shape);
-    };
+    bexp: &Bexp,
+    out: &mut String,
+) -> Result<(), Stop> {
     let session = given_session(alloc, case)?;
     let table = given_table(case)?;
-    Ok(bexp.bind(alloc, &session, catalog, meta, table))
+    match bexp.bind(alloc, &session, catalog, meta, table) {
+        Ok(bound) => push_bexp(&bound, out),
+        Err(refusal) => push_fault(&refusal, out),
+    }
+}
+
+fn push_binding(
+    alloc: Global,
+    case: &Case,
+    catalog: &Catalog,
+    meta: &Meta,
+    out: &mut String,
+) -> Result<(), Stop> {
+    match read(alloc, case, catalog, meta)? {
+        Ok(bexp) => push_bound(alloc, case, catalog, meta, &bexp, out),
+        Err(_) => Err(Stop::Shape),
+    }
 }
 
 /// The expression of a filter with the values of a session in place of its variables, or the first fault.
@@ -76,9 +112,6 @@ pub fn binding(alloc: Global, case: &Case) -> Result<String, Stop> {
     let catalog = given_catalog(alloc, case)?;
     let meta = given_meta(alloc, case, &catalog)?;
     let mut out = String::new(alloc);
-    match bound(alloc, case, &catalog, &meta)? {
-        Ok(bexp) => push_bexp(&bexp, &mut out)?,
-        Err(refusal) => push_fault(&refusal, &mut out)?,
-    }
+    push_binding(alloc, case, &catalog, &meta, &mut out)?;
     Ok(out)
 }

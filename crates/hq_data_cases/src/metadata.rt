@@ -5,7 +5,9 @@ use crate::printer::push_bexp;
 use hq_base::Txt;
 use hq_case::{Case, Stop, given_catalog};
 use hq_meta_read::{MetaRefusal, read_meta};
-use hq_terms::{ColId, Pair, Perm, PermView, Rel, RootNames, Tracked};
+use hq_terms::{
+    Catalog, ColId, Meta, Pair, Perm, PermView, Rel, Role, RootNames, TableId, Tracked,
+};
 use std::alloc::Global;
 
 fn push_refusal(refusal: &MetaRefusal, out: &mut String) -> Result<(), Stop> {
@@ -25,14 +27,24 @@ fn push_refusal(refusal: &MetaRefusal, out: &mut String) -> Result<(), Stop> {
     }
 }
 
+fn push_verdict(
+    alloc: Global,
+    bytes: &[u8],
+    catalog: &Catalog,
+    out: &mut String,
+) -> Result<(), Stop> {
+    match read_meta(alloc, bytes, catalog) {
+        Ok(_) => Ok(out.push_str("read")?),
+        Err(refusal) => push_refusal(&refusal, out),
+    }
+}
+
 /// Whether the bytes of metadata are read over the catalog, or their refusal.
 pub fn verdict(alloc: Global, case: &Case) -> Result<String, Stop> {
     let catalog = given_catalog(alloc, case)?;
+    let bytes = case.bytes(alloc, "in")?;
     let mut out = String::new(alloc);
-    match read_meta(alloc, case.bytes(alloc, "in")?.as_slice(), &catalog) {
-        Ok(_) => out.push_str("read")?,
-        Err(refusal) => push_refusal(&refusal, &mut out)?,
-    }
+    push_verdict(alloc, bytes.as_slice(), &catalog, &mut out)?;
     Ok(out)
 }
 
@@ -111,14 +123,24 @@ fn push_tracked(tracked: &Tracked, out: &mut String) -> Result<(), Stop> {
     Ok(out.push_str("\n")?)
 }
 
+fn push_all(tracked: &[Tracked], out: &mut String) -> Result<(), Stop> {
+    for one in tracked {
+        push_tracked(one, out)?;
+    }
+    Ok(())
+}
+
+// The metadata of a case.
+fn meta_of(alloc: Global, case: &Case) -> Result<Meta, Stop> {
+    let catalog = given_catalog(alloc, case)?;
+    given_meta(alloc, case, &catalog)
+}
+
 /// The tracked tables of metadata.
 pub fn export(alloc: Global, case: &Case) -> Result<String, Stop> {
-    let catalog = given_catalog(alloc, case)?;
-    let meta = given_meta(alloc, case, &catalog)?;
+    let meta = meta_of(alloc, case)?;
     let mut out = String::new(alloc);
-    for tracked in meta.tracked.as_slice() {
-        push_tracked(tracked, &mut out)?;
-    }
+    push_all(meta.tracked.as_slice(), &mut out)?;
     Ok(out)
 }
 
@@ -130,15 +152,25 @@ fn push_view(view: &PermView, out: &mut String) -> Result<(), Stop> {
     push_most(view.limit, view.aggregations, out)
 }
 
+fn push_seen(
+    alloc: Global,
+    meta: &Meta,
+    role: &Role,
+    table: TableId,
+    out: &mut String,
+) -> Result<(), Stop> {
+    match meta.perm(alloc, role, table)? {
+        Some(view) => push_view(&view, out),
+        None => Ok(out.push_str("nothing")?),
+    }
+}
+
 /// What a role may see of a table.
 pub fn permission(alloc: Global, case: &Case) -> Result<String, Stop> {
-    let catalog = given_catalog(alloc, case)?;
-    let meta = given_meta(alloc, case, &catalog)?;
+    let table = given_table(case)?;
     let role = given_role(alloc, case)?;
+    let meta = meta_of(alloc, case)?;
     let mut out = String::new(alloc);
-    match meta.perm(alloc, &role, given_table(case)?)? {
-        Some(view) => push_view(&view, &mut out)?,
-        None => out.push_str("nothing")?,
-    }
+    push_seen(alloc, &meta, &role, table, &mut out)?;
     Ok(out)
 }

@@ -38,13 +38,23 @@ fn loaded(
     Ok(load_table(alloc, bytes, table))
 }
 
+fn push_loaded(
+    alloc: Global,
+    bytes: &[u8],
+    catalog: &Catalog,
+    out: &mut String,
+) -> Result<(), Stop> {
+    match loaded(alloc, bytes, catalog)? {
+        Ok(rows) => push_rows(&rows, out),
+        Err(refusal) => Ok(write!(out, "{refusal:?}: {refusal}")?),
+    }
+}
+
 /// The rows of a table's file, or its first refusal as it is told.
 pub fn table_file(alloc: Global, case: &Case) -> Result<String, Stop> {
     let catalog = given_catalog(alloc, case)?;
+    let bytes = case.bytes(alloc, "in")?;
     let mut out = String::new(alloc);
-    match loaded(alloc, case.bytes(alloc, "in")?.as_slice(), &catalog)? {
-        Ok(rows) => push_rows(&rows, &mut out)?,
-        Err(refusal) => write!(out, "{refusal:?}: {refusal}")?,
-    }
+    push_loaded(alloc, bytes.as_slice(), &catalog, &mut out)?;
     Ok(out)
 }

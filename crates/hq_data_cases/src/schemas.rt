@@ -1,11 +1,12 @@
 //! Schemas of roles, as the schema definition language writes types (GraphQL October 2021, 3), and look-ups in them.
 
 use crate::given::{given_meta, given_role};
+use hq_base::Txt;
 use hq_case::{Case, Stop, given_catalog};
 use hq_role_schema::derive;
 use hq_schema::{
     ArgDef, ArgDefList, FieldDef, FieldDefList, Kind, Schema, TxtList, TypeDef, TypeDefList,
-    TypeRef,
+    TypeId, TypeRef,
 };
 use std::alloc::Global;
 
@@ -109,30 +110,51 @@ fn push_type(types: &TypeDefList, def: &TypeDef, out: &mut String) -> Result<(),
     Ok(out.push_str("\n")?)
 }
 
-/// The types of a role's schema whose places are from `from` up to `to`.
-pub fn role_schema(alloc: Global, case: &Case) -> Result<String, Stop> {
-    let schema = schema_of(alloc, case)?;
-    let mut out = String::new(alloc);
-    for at in case.place("from")?..case.place("to")? {
-        if let Some(def) = schema.types.get(at) {
-            push_type(&schema.types, def, &mut out)?;
+fn push_types(types: &TypeDefList, from: usize, to: usize, out: &mut String) -> Result<(), Stop> {
+    for at in from..to {
+        if let Some(def) = types.get(at) {
+            push_type(types, def, out)?;
         }
     }
+    Ok(())
+}
+
+/// The types of a role's schema whose places are from `from` up to `to`.
+pub fn role_schema(alloc: Global, case: &Case) -> Result<String, Stop> {
+    let from = case.place("from")?;
+    let to = case.place("to")?;
+    let schema = schema_of(alloc, case)?;
+    let mut out = String::new(alloc);
+    push_types(&schema.types, from, to, &mut out)?;
     Ok(out)
+}
+
+// What the members of a type of the name are.
+fn push_members(schema: &Schema, t: TypeId, name: &Txt, out: &mut String) -> Result<(), Stop> {
+    let field = schema.field(t, name).is_some();
+    let input = schema.input_field(t, name).is_some();
+    let value = schema.enum_value(t, name);
+    Ok(write!(out, "field {field}, input {input}, value {value:?}")?)
+}
+
+fn push_look_up(
+    schema: &Schema,
+    type_name: &Txt,
+    name: &Txt,
+    out: &mut String,
+) -> Result<(), Stop> {
+    match schema.type_named(type_name) {
+        Some(t) => push_members(schema, t, name, out),
+        None => Ok(out.push_str("no type")?),
+    }
 }
 
 /// What is found in a role's schema by the names of a type and of a member.
 pub fn look_ups(alloc: Global, case: &Case) -> Result<String, Stop> {
+    let type_name = case.text(alloc, "in")?;
+    let name = case.text(alloc, "member")?;
     let schema = schema_of(alloc, case)?;
     let mut out = String::new(alloc);
-    let Some(t) = schema.type_named(&case.text(alloc, "in")?) else {
-        out.push_str("no type")?;
-        return Ok(out);
-    };
-    let name = case.text(alloc, "member")?;
-    let field = schema.field(t, &name).is_some();
-    let input = schema.input_field(t, &name).is_some();
-    let value = schema.enum_value(t, &name);
-    write!(out, "field {field}, input {input}, value {value:?}")?;
+    push_look_up(&schema, &type_name, &name, &mut out)?;
     Ok(out)
 }

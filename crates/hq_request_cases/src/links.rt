@@ -26,11 +26,15 @@ fn bytes_in(alloc: Global, link: &Json) -> Result<Bytes, Stop> {
     }
 }
 
-fn link(alloc: Global, link: &Json) -> Result<MemLink, Stop> {
-    let input = bytes_in(alloc, link)?;
+// A link with this input.
+fn link_over(alloc: Global, link: &Json, input: Bytes) -> Result<MemLink, Stop> {
     let reads = failing_calls(alloc, link, "reads")?;
     let writes = failing_calls(alloc, link, "writes")?;
     Ok(MemLink::new(alloc, input, ROOM, reads, writes)?)
+}
+
+fn link(alloc: Global, link: &Json) -> Result<MemLink, Stop> {
+    link_over(alloc, link, bytes_in(alloc, link)?)
 }
 
 fn links(alloc: Global, case: &Case) -> Result<MemLinkList, Stop> {

@@ -3,7 +3,6 @@
 #![tactic(auto)]
 
 mod directory;
-mod generated;
 mod links;
 mod loaded;
 mod pins;

@@ -68,6 +68,22 @@ fn push_answer(
 }
 
 // Adds what comes of the request, and of the same request again.
+fn push_both(
+    alloc: Global,
+    case: &Case,
+    engine: &Engine,
+    session: &Session,
+    db: &mut Failing,
+    out: &mut String,
+) -> Result<(), Stop>
+    requires { ⟦<Failing as Database>⟧.tables db.old ≡ engine.now.catalog.tables }
+{
+    push_answer(alloc, case, engine, session, db, out)?;
+    out.push_str(" | ")?;
+    push_answer(alloc, case, engine, session, db, out)
+}
+
+// Adds what comes of the two requests over what a directory holds.
 fn push_answers(
     alloc: Global,
     case: &Case,
@@ -83,9 +99,7 @@ fn push_answers(
     let session = given_session(alloc, case)?;
     let engine = Engine::new(alloc, catalog.copy(alloc)?, meta)?;
     let mut db = SqlDb::new(FlakyTables::new(MemTables::new(catalog, rows), failing));
-    push_answer(alloc, case, &engine, &session, &mut db, out)?;
-    out.push_str(" | ")?;
-    push_answer(alloc, case, &engine, &session, &mut db, out)
+    push_both(alloc, case, &engine, &session, &mut db, out)
 }
 
 /// The status of the request, what was written and what was told, and then those of the same request again.

@@ -3,6 +3,7 @@
 use crate::directory::{failing, folder};
 use crate::links::{door, push_links};
 use hq_app::{Ran, World, run};
+use hq_base::Txt;
 use hq_case::{Case, Stop, push_bytes};
 use hq_memory::{MemDoor, MemFiles, MemSink, MemSource};
 use std::alloc::Global;
@@ -26,20 +27,24 @@ fn output(alloc: Global, case: &Case, member: &str) -> Result<MemSink, Stop> {
     Ok(MemSink::new(alloc, ROOM, writes)?)
 }
 
-fn world(rt: &HostRuntime, case: &Case) -> Result<Inside, Stop> {
-    let alloc = rt.alloc();
-    Ok(World {
-        files: folder(rt, case)?,
-        door: door(alloc, case)?,
-        input: input(alloc, case)?,
-        out: output(alloc, case, "writes")?,
-        err: output(alloc, case, "errors")?,
-    })
+// The two outputs.
+fn outputs(alloc: Global, case: &Case) -> Result<(MemSink, MemSink), Stop> {
+    let out = output(alloc, case, "writes")?;
+    Ok((out, output(alloc, case, "errors")?))
 }
 
-fn left(alloc: Global, case: &Case, world: Inside) -> Result<Left, Stop> {
-    let words = case.texts(alloc, "words")?;
-    Ok(run(alloc, words.as_slice(), world))
+fn world(rt: &HostRuntime, case: &Case) -> Result<Inside, Stop> {
+    let alloc = rt.alloc();
+    let input = input(alloc, case)?;
+    let (out, err) = outputs(alloc, case)?;
+    let door = door(alloc, case)?;
+    Ok(World {
+        files: folder(rt, case)?,
+        door,
+        input,
+        out,
+        err,
+    })
 }
 
 fn push_left(alloc: Global, case: &Case, left: &Left, out: &mut String) -> Result<(), Stop> {
@@ -49,11 +54,22 @@ fn push_left(alloc: Global, case: &Case, left: &Left, out: &mut String) -> Resul
     push_links(alloc, case, &left.world.door, out)
 }
 
+fn push_run(
+    alloc: Global,
+    case: &Case,
+    words: &[Txt],
+    world: Inside,
+    out: &mut String,
+) -> Result<(), Stop> {
+    let left = run(alloc, words, world);
+    push_left(alloc, case, &left, out)
+}
+
 /// The status of a run, what it wrote, the line that it told, and what each link got.
 pub fn outcome(rt: &HostRuntime, case: &Case) -> Result<String, Stop> {
     let alloc = rt.alloc();
-    let left = left(alloc, case, world(rt, case)?)?;
+    let words = case.texts(alloc, "words")?;
     let mut out = String::new(alloc);
-    push_left(alloc, case, &left, &mut out)?;
+    push_run(alloc, case, words.as_slice(), world(rt, case)?, &mut out)?;
     Ok(out)
 }

@@ -23,14 +23,18 @@ fn answered(alloc: Global, loaded: Loaded, text: &[u8]) -> Result<Json, DbRefusa
     database.run(alloc, text)
 }
 
+fn push_answered(alloc: Global, loaded: Loaded, text: &[u8], out: &mut String) -> Result<(), Stop> {
+    match answered(alloc, loaded, text) {
+        Ok(json) => push_json(alloc, &json, out),
+        Err(refusal) => Ok(write!(out, "{refusal:?}")?),
+    }
+}
+
 /// The JSON that a statement is answered with, or its refusal.
 pub fn answer(rt: &HostRuntime, case: &Case) -> Result<String, Stop> {
     let alloc = rt.alloc();
-    let loaded = loaded(rt, case)?;
+    let text = case.bytes(alloc, "in")?;
     let mut out = String::new(alloc);
-    match answered(alloc, loaded, case.bytes(alloc, "in")?.as_slice()) {
-        Ok(json) => push_json(alloc, &json, &mut out)?,
-        Err(refusal) => write!(out, "{refusal:?}")?,
-    }
+    push_answered(alloc, loaded(rt, case)?, text.as_slice(), &mut out)?;
     Ok(out)
 }

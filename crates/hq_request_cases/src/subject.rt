@@ -1,4 +1,4 @@
-use crate::{generated, pins, runs, statements};
+use crate::{pins, runs, statements};
 use hq_case::{Case, Stop, Subject};
 
 /// What cases are about: a file of `data/`, and the public calls that its cases go through.
@@ -12,10 +12,10 @@ pub enum About {
     Introspection,
     Worlds,
     Requests,
+    Skipped,
     Directories,
     Runs,
     Serving,
-    Generated,
     Statements,
     Pins,
 }
@@ -31,10 +31,10 @@ impl About {
         About::Introspection,
         About::Worlds,
         About::Requests,
+        About::Skipped,
         About::Directories,
         About::Runs,
         About::Serving,
-        About::Generated,
         About::Statements,
         About::Pins,
     ];
@@ -51,10 +51,10 @@ impl Subject for About {
             About::Introspection => "introspection",
             About::Worlds => "worlds",
             About::Requests => "requests",
+            About::Skipped => "skipped",
             About::Directories => "directories",
             About::Runs => "runs",
             About::Serving => "serving",
-            About::Generated => "generated",
             About::Statements => "statements",
             About::Pins => "pins",
         }
@@ -62,7 +62,6 @@ impl Subject for About {
 
     fn told(self, rt: &HostRuntime, case: &Case) -> Result<String, Stop> {
         match self {
-            About::Generated => generated::lines(rt, case),
             About::Statements => statements::answer(rt, case),
             About::Pins => pins::outcomes(rt, case),
             _ => runs::outcome(rt, case),

@@ -31,17 +31,25 @@ fn cell_of<'d>(alloc: Global, value: &'d Val) -> Cell<'d> {
     }
 }
 
+fn truth(alloc: Global, op: &str, cells: &[Cell<'_>]) -> Result<Truth, Stop> {
+    match op {
+        "IN" => is_among(cells),
+        "LIKE" => is_like(alloc, false, cells),
+        "ILIKE" => is_like(alloc, true, cells),
+        op => comparison(op, cells),
+    }
+}
+
+fn truth_of(alloc: Global, op: &str, values: &[Val]) -> Result<Truth, Stop> {
+    let cells = cells(alloc, values)?;
+    truth(alloc, op, &cells)
+}
+
 /// A comparison of two cells, whether the first is among those behind it, or is like the second.
 pub fn test(alloc: Global, case: &Case) -> Result<String, Stop> {
-    let values = values(alloc, case.list("in")?)?;
-    let cells = cells(alloc, &values)?;
     let op = case.text(alloc, "op")?;
-    let truth = match op.as_str() {
-        "IN" => is_among(&cells)?,
-        "LIKE" => is_like(alloc, false, &cells)?,
-        "ILIKE" => is_like(alloc, true, &cells)?,
-        op => comparison(op, &cells)?,
-    };
+    let values = values(alloc, case.list("in")?)?;
+    let truth = truth_of(alloc, op.as_str(), &values)?;
     Ok(format!(in alloc; "{truth:?}")?)
 }
 
@@ -78,37 +86,70 @@ fn op_of(op: &str) -> Result<Op, Stop> {
     }
 }
 
-fn push_cell(alloc: Global, cell: Cell<'_>, out: &mut String) -> Result<(), Stop> {
-    push_json(alloc, &cell.into_json(alloc)?, out)?;
+fn push_told(alloc: Global, json: &Json, out: &mut String) -> Result<(), Stop> {
+    push_json(alloc, json, out)?;
     Ok(out.push_str(" ")?)
+}
+
+fn push_cell(alloc: Global, cell: Cell<'_>, out: &mut String) -> Result<(), Stop> {
+    let json = cell.into_json(alloc)?;
+    push_told(alloc, &json, out)
+}
+
+fn push_copies(alloc: Global, cells: &[Cell<'_>], out: &mut String) -> Result<(), Stop> {
+    for cell in cells {
+        push_cell(alloc, cell.copy(alloc)?, out)?;
+    }
+    Ok(())
 }
 
 /// The JSON of copies of cells.
 pub fn json(alloc: Global, case: &Case) -> Result<String, Stop> {
     let values = values(alloc, case.list("in")?)?;
     let mut out = String::new(alloc);
-    for cell in cells(alloc, &values)? {
-        push_cell(alloc, cell.copy(alloc)?, &mut out)?;
-    }
+    push_copies(alloc, &cells(alloc, &values)?, &mut out)?;
     Ok(out)
+}
+
+fn push_count(alloc: Global, distinct: bool, values: &[Val], out: &mut String) -> Result<(), Stop> {
+    let cells = cells(alloc, values)?;
+    push_cell(alloc, counted(distinct, cells)?, out)
+}
+
+fn push_least(alloc: Global, values: &[Val], out: &mut String) -> Result<(), Stop> {
+    let cells = cells(alloc, values)?;
+    push_cell(alloc, least(cells), out)
+}
+
+fn push_greatest(alloc: Global, values: &[Val], out: &mut String) -> Result<(), Stop> {
+    let cells = cells(alloc, values)?;
+    push_cell(alloc, greatest(cells), out)
+}
+
+fn push_aggregates(alloc: Global, values: &[Val], out: &mut String) -> Result<(), Stop> {
+    push_count(alloc, false, values, out)?;
+    push_count(alloc, true, values, out)?;
+    push_least(alloc, values, out)?;
+    push_greatest(alloc, values, out)
 }
 
 /// How many cells are not NULL, how many different ones are compared, the least and the greatest.
 pub fn aggregates(alloc: Global, case: &Case) -> Result<String, Stop> {
     let values = values(alloc, case.list("in")?)?;
     let mut out = String::new(alloc);
-    for distinct in [false, true] {
-        push_cell(alloc, counted(distinct, cells(alloc, &values)?)?, &mut out)?;
-    }
-    push_cell(alloc, least(cells(alloc, &values)?), &mut out)?;
-    push_cell(alloc, greatest(cells(alloc, &values)?), &mut out)?;
+    push_aggregates(alloc, &values, &mut out)?;
     Ok(out)
+}
+
+fn push_sum(alloc: Global, values: &[Val], out: &mut String) -> Result<(), Stop> {
+    let cells = cells(alloc, values)?;
+    push_cell(alloc, summed(&cells)?, out)
 }
 
 /// The sum of whole numbers.
 pub fn sum(alloc: Global, case: &Case) -> Result<String, Stop> {
     let values = values(alloc, case.list("in")?)?;
     let mut out = String::new(alloc);
-    push_cell(alloc, summed(&cells(alloc, &values)?)?, &mut out)?;
+    push_sum(alloc, &values, &mut out)?;
     Ok(out)
 }

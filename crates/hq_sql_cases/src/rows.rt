@@ -6,11 +6,16 @@ use hq_case::{Case, Stop};
 use hq_sql_cells::{Direction, Kept, first_kept, paged, rows_of, sort_kept};
 use std::alloc::Global;
 
+fn page_of(alloc: Global, offset: Option<u64>, limit: Option<u64>) -> Result<Vec<usize>, Stop> {
+    let rows = vec![in alloc; 0, 1, 2, 3, 4]?;
+    Ok(paged(rows, offset, limit))
+}
+
 /// What an offset and a limit leave of the rows 0 to 4.
 pub fn page(alloc: Global, case: &Case) -> Result<String, Stop> {
-    let rows = vec![in alloc; 0, 1, 2, 3, 4]?;
-    let page = paged(rows, case.number("offset")?, case.number("limit")?);
-    push_places(alloc, page)
+    let offset = case.number("offset")?;
+    let limit = case.number("limit")?;
+    push_places(alloc, page_of(alloc, offset, limit)?)
 }
 
 fn push_places(alloc: Global, places: Vec<usize>) -> Result<String, Stop> {
@@ -21,43 +26,62 @@ fn push_places(alloc: Global, places: Vec<usize>) -> Result<String, Stop> {
     Ok(out)
 }
 
+fn row_of(alloc: Global, json: &Json) -> Result<Vec<Val>, Stop> {
+    match json {
+        Json::Arr(row) => values(alloc, row),
+        _ => Err(Stop::Shape),
+    }
+}
+
 // The values of the rows of a case.
 fn rows_of_values(alloc: Global, case: &Case) -> Result<Vec<Vec<Val>>, Stop> {
     let mut rows = Vec::new(alloc);
     for row in case.list("rows")? {
-        let Json::Arr(row) = row else {
-            return Err(Stop::Shape);
-        };
-        rows.push(values(alloc, row)?)?;
+        rows.push(row_of(alloc, row)?)?;
     }
     Ok(rows)
 }
 
-// Rows that stand for their places. A row's values are its keys and its values of DISTINCT ON.
+// A row that stands for its place. Its values are its keys and its values of DISTINCT ON.
+fn kept_row<'d>(alloc: Global, row: &'d [Val], at: usize) -> Result<Kept<'d, usize>, Stop> {
+    let keys = cells(alloc, row)?;
+    let distinct = cells(alloc, row)?;
+    Ok(Kept {
+        keys,
+        distinct,
+        row: at,
+    })
+}
+
 fn kept<'d>(alloc: Global, rows: &'d [Vec<Val>]) -> Result<Vec<Kept<'d, usize>>, Stop> {
     let mut kept = Vec::new(alloc);
     for (at, row) in rows.iter().enumerate() {
-        kept.push(Kept {
-            keys: cells(alloc, row)?,
-            distinct: cells(alloc, row)?,
-            row: at,
-        })?;
+        kept.push(kept_row(alloc, row, at)?)?;
     }
     Ok(kept)
 }
 
-fn direction(json: &Json) -> Result<Direction, Stop> {
-    let Json::Str(word) = json else {
-        return Err(Stop::Shape);
-    };
-    let (desc, nulls_first) = match word.as_str() {
-        "ASC NULLS LAST" => (false, false),
-        "ASC NULLS FIRST" => (false, true),
-        "DESC NULLS LAST" => (true, false),
-        "DESC NULLS FIRST" => (true, true),
-        _ => return Err(Stop::Shape),
-    };
+fn direction_of(word: &str) -> Result<Direction, Stop> {
+    let (desc, nulls_first) = flags_of(word)?;
     Ok(Direction { desc, nulls_first })
+}
+
+// Whether a direction descends, and whether NULLs come first.
+fn flags_of(word: &str) -> Result<(bool, bool), Stop> {
+    match word {
+        "ASC NULLS LAST" => Ok((false, false)),
+        "ASC NULLS FIRST" => Ok((false, true)),
+        "DESC NULLS LAST" => Ok((true, false)),
+        "DESC NULLS FIRST" => Ok((true, true)),
+        _ => Err(Stop::Shape),
+    }
+}
+
+fn direction(json: &Json) -> Result<Direction, Stop> {
+    match json {
+        Json::Str(word) => direction_of(word.as_str()),
+        _ => Err(Stop::Shape),
+    }
 }
 
 fn directions(alloc: Global, case: &Case) -> Result<Vec<Direction>, Stop> {
@@ -68,18 +92,27 @@ fn directions(alloc: Global, case: &Case) -> Result<Vec<Direction>, Stop> {
     Ok(directions)
 }
 
+fn sorted(alloc: Global, order: &[Direction], values: &[Vec<Val>]) -> Result<Vec<usize>, Stop> {
+    let mut kept = kept(alloc, values)?;
+    sort_kept(order, &mut kept)?;
+    Ok(rows_of(alloc, kept)?)
+}
+
 /// The rows in their order.
 pub fn sort(alloc: Global, case: &Case) -> Result<String, Stop> {
     let order = directions(alloc, case)?;
     let values = rows_of_values(alloc, case)?;
-    let mut kept = kept(alloc, &values)?;
-    sort_kept(&order, &mut kept)?;
-    push_places(alloc, rows_of(alloc, kept)?)
+    push_places(alloc, sorted(alloc, &order, &values)?)
+}
+
+fn firsts(alloc: Global, values: &[Vec<Val>]) -> Result<Vec<usize>, Stop> {
+    let kept = kept(alloc, values)?;
+    let firsts = first_kept(alloc, kept)?;
+    Ok(rows_of(alloc, firsts)?)
 }
 
 /// The first rows of their groups.
 pub fn groups(alloc: Global, case: &Case) -> Result<String, Stop> {
     let values = rows_of_values(alloc, case)?;
-    let firsts = first_kept(alloc, kept(alloc, &values)?)?;
-    push_places(alloc, rows_of(alloc, firsts)?)
+    push_places(alloc, firsts(alloc, &values)?)
 }

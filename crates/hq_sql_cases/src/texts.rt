@@ -4,56 +4,77 @@ use hq_case::{Case, Stop, given_catalog, push_bytes};
 use hq_sql_check::{scanned, well_formed};
 use hq_sql_text::{ReadRefusal, print, read};
 use hq_sql_tree::Select;
+use hq_terms::Table;
 use std::alloc::Global;
 
-// The statement that a case writes, if it is one.
-fn statement(alloc: Global, case: &Case) -> Result<Option<Select>, Stop> {
+// The statement that a case writes, if it is one. In a box, which is let go at little cost where a later step fails.
+fn statement(alloc: Global, case: &Case) -> Result<Option<Box<Select>>, Stop> {
     match read(alloc, case.bytes(alloc, "in")?.as_slice()) {
-        Ok(select) => Ok(Some(select)),
+        Ok(select) => Ok(Some(Box::new(alloc, select)?)),
         Err(ReadRefusal::NotSql) => Ok(None),
         Err(ReadRefusal::Memory) => Err(Stop::Memory),
     }
 }
 
+// `read` where what was read is printed as it stood, and else what is printed.
+fn push_compared(alloc: Global, printed: &[u8], text: &[u8], out: &mut String) -> Result<(), Stop> {
+    if printed == text {
+        return Ok(out.push_str("read")?);
+    }
+    push_bytes(alloc, printed, out)
+}
+
+fn push_printed(alloc: Global, case: &Case, select: &Select, out: &mut String) -> Result<(), Stop> {
+    let printed = print(alloc, select)?;
+    let text = case.bytes(alloc, "in")?;
+    push_compared(alloc, printed.as_slice(), text.as_slice(), out)
+}
+
 /// `read` where what was read is printed as it stood, and else what is printed; or that the text is no SQL.
 pub fn text(alloc: Global, case: &Case) -> Result<String, Stop> {
     let mut out = String::new(alloc);
-    let Some(select) = statement(alloc, case)? else {
-        out.push_str("NotSql")?;
-        return Ok(out);
-    };
-    let printed = print(alloc, &select)?;
-    if printed.as_slice() == case.bytes(alloc, "in")?.as_slice() {
-        out.push_str("read")?;
-    } else {
-        push_bytes(alloc, printed.as_slice(), &mut out)?;
+    match statement(alloc, case)? {
+        Some(select) => push_printed(alloc, case, &select, &mut out)?,
+        None => out.push_str("NotSql")?,
     }
     Ok(out)
 }
 
+fn is_well(alloc: Global, case: &Case, select: &Select) -> Result<bool, Stop> {
+    let catalog = given_catalog(alloc, case)?;
+    Ok(well_formed(alloc, select, &catalog)?)
+}
+
 /// Whether a text of SQL is a statement that is well-formed for the catalog.
 pub fn well(alloc: Global, case: &Case) -> Result<String, Stop> {
-    let catalog = given_catalog(alloc, case)?;
     let Some(select) = statement(alloc, case)? else {
         return Err(Stop::Shape);
     };
-    let well = well_formed(alloc, &select, &catalog)?;
+    let well = is_well(alloc, case, &select)?;
     Ok(format!(in alloc; "{well}")?)
 }
 
-/// The tables of the catalog that a statement takes rows from.
-pub fn scans(alloc: Global, case: &Case) -> Result<String, Stop> {
-    let catalog = given_catalog(alloc, case)?;
-    let Some(select) = statement(alloc, case)? else {
-        return Err(Stop::Shape);
-    };
-    let tables = catalog.tables.as_slice();
-    let marks = scanned(alloc, &select, tables)?;
-    let mut out = String::new(alloc);
-    for (table, marked) in tables.iter().zip(marks.iter()) {
+fn push_marked(tables: &[Table], marks: &[bool], out: &mut String) -> Result<(), Stop> {
+    for (table, marked) in tables.iter().zip(marks) {
         if *marked {
             write!(out, " {}.{}", table.schema.as_str(), table.name.as_str())?;
         }
     }
+    Ok(())
+}
+
+fn push_scans(alloc: Global, case: &Case, select: &Select, out: &mut String) -> Result<(), Stop> {
+    let catalog = given_catalog(alloc, case)?;
+    let marks = scanned(alloc, select, catalog.tables.as_slice())?;
+    push_marked(catalog.tables.as_slice(), &marks, out)
+}
+
+/// The tables of the catalog that a statement takes rows from.
+pub fn scans(alloc: Global, case: &Case) -> Result<String, Stop> {
+    let Some(select) = statement(alloc, case)? else {
+        return Err(Stop::Shape);
+    };
+    let mut out = String::new(alloc);
+    push_scans(alloc, case, &select, &mut out)?;
     Ok(out)
 }

@@ -1,20 +1,8 @@
 //! The evaluation of a statement over the tables that are pinned: the JSON that it means.
 #![tactic(auto)]
 
-mod aggregates;
-mod cells;
-mod clauses;
-mod equations;
-mod joins;
-mod mentions;
-mod place;
-mod positions;
-mod row;
-mod scope;
-mod single;
-mod stages;
+mod learn;
+mod remember;
 mod statement;
-mod truths;
-mod values;
 
 pub use statement::eval;

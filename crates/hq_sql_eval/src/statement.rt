@@ -6,18 +6,23 @@ ghost use Rattle.hq_sql_tree.specs.View.{select_view};
 ghost use Rattle.hq_sql_tree.specs.Meaning.{first_value, meaning};
 ghost use Rattle.hq_sql_check.specs.Agree.{HasRows};
 ghost use Rattle.hq_sql_check.specs.Scans.{scans};
-ghost use Rattle.hq_sql_eval.specs.View.{made_view, rows_lent, world_in, world_of};
+ghost use Rattle.hq_sql_rows.specs.Lent.{rows_lent};
+ghost use Rattle.hq_sql_rows.specs.Pins.{world_in};
+ghost use Rattle.hq_sql_rows.specs.View.{made_view, world_of};
 
-use crate::clauses::rows;
-use crate::row::{Made, cell_taken};
-use crate::scope::{Pinned, Scope, Stored};
+use crate::remember::remember;
 use hq_base::{Json, Memory, Txt};
 use hq_sql_check::{only_scanned_tables_matter, scanned};
+use hq_sql_rows::pinned::Pinned;
+use hq_sql_rows::row::{Made, cell_taken};
+use hq_sql_rows::scope::Scope;
+use hq_sql_rows::stored::Stored;
+use hq_sql_rows::work::Work;
 use hq_sql_tree::Select;
+use hq_sql_walk::rows;
 use hq_tables::{Rows, Tables};
 use hq_terms::TableId;
 use std::alloc::Global;
-use std::cell::Cell;
 
 // The name of a statement's output.
 fn value_name(alloc: Global) -> Result<Txt, Memory>
@@ -64,25 +69,76 @@ fn stored<'d, T: Tables>(
     let marks = scanned(alloc, select, list)?;
     let mut world = Vec::with_capacity(alloc, list.len())?;
     for (at, table) in list.iter().enumerate() {
-        world.push(Stored {
-            table,
-            rows: stored_rows(tables, marks[at], at),
-        })?;
+        let rows = stored_rows(tables, marks[at], at);
+        world.push(Stored::of(alloc, table, rows, select)?)?;
     }
     Ok(world)
 }
 
 /// What a statement means over tables with these rows.
-pub(crate) fn eval_over<'d>(
-    alloc: Global,
-    select: &'d Select,
-    world: &'d Pinned<'d>,
-) -> Result<Json, Memory>
+fn eval_over<'d>(alloc: Global, select: &'d Select, world: &Pinned<'d>) -> Result<Json, Memory>
     ensures { IfOk result (λ json. json_view json ≡ meaning (select_view select.now) (world_of world.now)) }
 {
     let scope = Scope::Nothing;
     let made = rows(alloc, select, world, &scope)?;
     first_value(alloc, made)
+}
+
+// What a statement means, where nothing is known of its conditions. Memory comes also where EXISTS tried more rows than it may.
+fn eval_plainly<'d>(
+    alloc: Global,
+    select: &'d Select,
+    tables: &'d [Stored<'d>],
+    work: &'d Work,
+) -> Result<Json, Memory>
+    ensures { IfOk result (λ json. json_view json ≡ meaning (select_view select.now) (world_in tables.now)) }
+{
+    let world = Pinned::new(alloc, tables, work);
+    eval_over(alloc, select, &world)
+}
+
+// The same, where first is learned what is worth knowing of its conditions.
+fn eval_knowing<'d>(
+    alloc: Global,
+    select: &'d Select,
+    tables: &'d [Stored<'d>],
+    work: &'d Work,
+) -> Result<Json, Memory>
+    ensures { IfOk result (λ json. json_view json ≡ meaning (select_view select.now) (world_in tables.now)) }
+{
+    let mut world = Pinned::new(alloc, tables, work);
+    remember(alloc, select, &mut world)?;
+    eval_over(alloc, select, &world)
+}
+
+// The same: what conditions are is learned only where EXISTS tries many rows, since it costs a look at all rows of their tables.
+fn eval_stored<'d>(
+    alloc: Global,
+    select: &'d Select,
+    tables: &'d [Stored<'d>],
+    work: &'d Work,
+) -> Result<Json, Memory>
+    ensures { IfOk result (λ json. json_view json ≡ meaning (select_view select.now) (world_in tables.now)) }
+{
+    match eval_plainly(alloc, select, tables, work) {
+        Ok(json) => Ok(json),
+        Err(refusal) => {
+            if !work.is_spent() {
+                return Err(refusal);
+            }
+            work.refill();
+            eval_knowing(alloc, select, tables, work)
+        }
+    }
+}
+
+// How many rows EXISTS may try before it: two for each row that there is.
+fn rows_to_try(tables: &[Stored<'_>]) -> u64 {
+    let mut rows = 128u64;
+    for stored in tables {
+        rows = rows.saturating_add(stored.number() as u64);
+    }
+    rows.saturating_mul(2)
 }
 
 /// What a statement means over pinned tables: over each database in which the tables that it takes rows from have the rows
@@ -101,12 +157,8 @@ pub fn eval<T: Tables>(
 {
     only_scanned_tables_matter();
     let stored = stored(alloc, select, tables)?;
-    let compared = Cell::new(0);
-    let world = Pinned {
-        tables: stored.as_slice(),
-        looked: &compared,
-    };
-    let json = eval_over(alloc, select, &world);
-    *looked = looked.saturating_add(compared.get());
+    let work = Work::new(rows_to_try(&stored));
+    let json = eval_stored(alloc, select, stored.as_slice(), &work);
+    *looked = looked.saturating_add(work.looked.get());
     json
 }

@@ -1,0 +1,4 @@
+pub mod Depends
+pub mod Conjuncts
+pub mod Weights
+pub mod Splits

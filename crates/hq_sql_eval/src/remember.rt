@@ -1,0 +1,144 @@
+//! What is worth knowing before a statement is walked: of each EXISTS in whose WHERE another one stands, the inner ones first. Whatever
+//! is learned, the answer is the meaning.
+ghost use Rattle.std.specs.Prelude.{◌≡◌};
+
+use crate::learn::learned;
+use hq_base::Memory;
+use hq_sql_rows::pinned::Pinned;
+use hq_sql_tree::{From, JoinList, Pred, PredList, Select};
+use std::alloc::Global;
+
+// Whether an EXISTS stands in a condition.
+fn has_exists(pred: &Pred) -> bool {
+    match pred {
+        Pred::Not(inner) => has_exists(inner),
+        Pred::And(preds) | Pred::Or(preds) => {
+            for pred in preds {
+                if has_exists(pred) {
+                    return true;
+                }
+            }
+            false
+        }
+        Pred::Exists(_) => true,
+        Pred::True
+        | Pred::False
+        | Pred::Cmp { .. }
+        | Pred::Like { .. }
+        | Pred::Within { .. }
+        | Pred::IsNull(_) => false,
+    }
+}
+
+/// Learns what is worth knowing of the parts of a select.
+#[cycle(remember)]
+pub fn remember<'d>(alloc: Global, select: &'d Select, world: &mut Pinned<'d>) -> Result<(), Memory>
+    ensures { world.new.tables ≡ world.old.tables }
+{
+    match select {
+        Select::Fold { rows, .. } => remember(alloc, rows, world),
+        Select::Rows {
+            from,
+            joins,
+            filter,
+            ..
+        } => {
+            remember_from(alloc, from, world)?;
+            remember_joins(alloc, joins, world)?;
+            remember_filter(alloc, filter, world)
+        }
+    }
+}
+
+#[cycle(remember)]
+fn remember_from<'d>(alloc: Global, from: &'d From, world: &mut Pinned<'d>) -> Result<(), Memory>
+    ensures { world.new.tables ≡ world.old.tables }
+{
+    match from {
+        From::Sub { select, .. } => remember(alloc, select, world),
+        From::Table { .. } | From::One { .. } => Ok(()),
+    }
+}
+
+#[cycle(remember)]
+fn remember_joins<'d>(
+    alloc: Global,
+    joins: &'d JoinList,
+    world: &mut Pinned<'d>,
+) -> Result<(), Memory>
+    ensures { world.new.tables ≡ world.old.tables }
+{
+    for join in joins {
+        remember(alloc, &join.select, world)?;
+    }
+    Ok(())
+}
+
+#[cycle(remember)]
+fn remember_filter<'d>(
+    alloc: Global,
+    filter: &'d Option<Pred>,
+    world: &mut Pinned<'d>,
+) -> Result<(), Memory>
+    ensures { world.new.tables ≡ world.old.tables }
+{
+    match filter {
+        Some(pred) => remember_pred(alloc, pred, world),
+        None => Ok(()),
+    }
+}
+
+#[cycle(remember)]
+fn remember_pred<'d>(alloc: Global, pred: &'d Pred, world: &mut Pinned<'d>) -> Result<(), Memory>
+    ensures { world.new.tables ≡ world.old.tables }
+{
+    match pred {
+        Pred::Not(inner) => remember_pred(alloc, inner, world),
+        Pred::And(preds) | Pred::Or(preds) => remember_preds(alloc, preds, world),
+        Pred::Exists(select) => {
+            remember(alloc, select, world)?;
+            learn(alloc, select, world)
+        }
+        Pred::True
+        | Pred::False
+        | Pred::Cmp { .. }
+        | Pred::Like { .. }
+        | Pred::Within { .. }
+        | Pred::IsNull(_) => Ok(()),
+    }
+}
+
+#[cycle(remember)]
+fn remember_preds<'d>(
+    alloc: Global,
+    preds: &'d PredList,
+    world: &mut Pinned<'d>,
+) -> Result<(), Memory>
+    ensures { world.new.tables ≡ world.old.tables }
+{
+    for pred in preds {
+        remember_pred(alloc, pred, world)?;
+    }
+    Ok(())
+}
+
+// Learns of the WHERE of an EXISTS, where another one stands in it.
+fn learn<'d>(alloc: Global, select: &'d Select, world: &mut Pinned<'d>) -> Result<(), Memory>
+    ensures { world.new.tables ≡ world.old.tables }
+{
+    let Select::Rows {
+        from,
+        filter: Some(pred),
+        ..
+    } = select
+    else {
+        return Ok(());
+    };
+    if !has_exists(pred) {
+        return Ok(());
+    }
+    match learned(alloc, from, pred, &*world)? {
+        Some(known) => world.add(known),
+        None => Ok(()),
+    }
+}

@@ -1,0 +1,5 @@
+pub mod NamedCells
+pub mod RowsIn
+pub mod Asked
+pub mod Looked
+pub mod Knowing

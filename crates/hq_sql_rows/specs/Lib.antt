@@ -1,0 +1,11 @@
+pub mod Lent
+pub mod Pins
+pub mod View
+pub mod Sources
+pub mod Joined
+pub mod Single
+pub mod Keys
+pub mod Weight
+pub mod Equations
+pub mod Positions
+pub mod Known

@@ -1,0 +1,97 @@
+//! Lists of cells: what an aggregate makes of them, and the directions of sort keys.
+ghost use Rattle.std.specs.Prelude.{◌≡◌, [], map, IfOk};
+ghost use Rattle.hq_base.specs.Aggregates.{summed};
+ghost use Rattle.hq_base.specs.Lists.{sort};
+ghost use Rattle.hq_sql_cells.specs.View.{cell_view};
+ghost use Rattle.hq_sql_tree.specs.View.{agg_view, expr_view, order_view};
+ghost use Rattle.hq_sql_tree.specs.Meaning.{taken};
+ghost use Rattle.hq_sql_rows.specs.Keys.{directions_of, row_of, by_keys, distinct_kept};
+
+use hq_base::{Json, Memory};
+use hq_sql_cells::{Cell, Direction, Kept, first_kept, sort_kept, summed};
+use hq_sql_tree::{Agg, ExprList, OrderList};
+use std::alloc::Global;
+
+/// An aggregate over no rows.
+pub fn over_none<'d>(alloc: Global, agg: &Agg) -> Cell<'d>
+    ensures { cell_view result ≡ taken (agg_view agg.now) [] }
+{
+    match agg {
+        Agg::CountAll | Agg::Count { .. } => Cell::Int(0),
+        Agg::Sum(_) | Agg::Min(_) | Agg::Max(_) => Cell::Null,
+        Agg::JsonAgg { .. } => Cell::Json(Json::Arr(Vec::new(alloc))),
+    }
+}
+
+/// The sum of cells.
+pub fn sum_of<'d>(cells: Vec<Cell<'d>>) -> Result<Cell<'d>, Memory>
+    ensures { IfOk result (λ sum. cell_view sum ≡ summed (map cell_view cells.entry.items)) }
+{
+    summed(&cells)
+}
+
+/// The directions of sort keys.
+pub fn directions(alloc: Global, order: &OrderList) -> Result<Vec<Direction>, Memory>
+    ensures { IfOk result (λ directions. directions.items ≡ directions_of (map order_view order.now.items)) }
+{
+    let mut directions = Vec::with_capacity(alloc, order.len())?;
+    for key in order {
+        directions.push(Direction {
+            desc: key.desc,
+            nulls_first: key.nulls_first,
+        })?;
+    }
+    Ok(directions)
+}
+
+// The kept rows by their keys.
+fn by_keys<'d, T: Drop>(
+    alloc: Global,
+    order: &OrderList,
+    kept: Vec<Kept<'d, T>>,
+) -> Result<Vec<Kept<'d, T>>, Memory>
+    ensures { IfOk result (λ all. all.items ≡ sort (by_keys (map order_view order.now.items)) kept.entry.items) }
+{
+    let directions = directions(alloc, order)?;
+    let mut all = kept;
+    sort_kept(&directions, &mut all)?;
+    Ok(all)
+}
+
+/// The rows of kept ones, by their keys.
+pub fn sorted<'d, T: Drop>(
+    alloc: Global,
+    order: &OrderList,
+    kept: Vec<Kept<'d, T>>,
+) -> Result<Vec<T>, Memory>
+    ensures { IfOk result (λ rows. rows.items ≡ map row_of (sort (by_keys (map order_view order.now.items)) kept.entry.items)) }
+{
+    rows_of_kept(alloc, by_keys(alloc, order, kept)?)
+}
+
+/// The rows of kept ones, by their keys, and of these with DISTINCT ON the first of each group.
+pub fn arranged<'d, T: Drop>(
+    alloc: Global,
+    order: &OrderList,
+    distinct: &ExprList,
+    kept: Vec<Kept<'d, T>>,
+) -> Result<Vec<T>, Memory>
+    ensures { IfOk result (λ rows. rows.items ≡ map row_of (distinct_kept (map expr_view distinct.now.items) (sort (by_keys (map order_view order.now.items)) kept.entry.items))) }
+{
+    let kept = by_keys(alloc, order, kept)?;
+    if distinct.is_empty() {
+        return rows_of_kept(alloc, kept);
+    }
+    rows_of_kept(alloc, first_kept(alloc, kept)?)
+}
+
+/// The rows of kept ones.
+fn rows_of_kept<'d, T: Drop>(alloc: Global, kept: Vec<Kept<'d, T>>) -> Result<Vec<T>, Memory>
+    ensures { IfOk result (λ rows. rows.items ≡ map row_of kept.entry.items) }
+{
+    let mut rows = Vec::with_capacity(alloc, kept.len())?;
+    for one in kept {
+        rows.push(one.row)?;
+    }
+    Ok(rows)
+}

@@ -1,0 +1,109 @@
+//! Rows that WHERE keeps, as places.
+ghost use Rattle.std.specs.Prelude.{◌≡◌, ◌∷◌, ◌++◌, map, Some, IfOk, OnOk, option_map};
+ghost use Rattle.hq_sql_rows.specs.View.{made_view, joined_view, place_of};
+ghost use Rattle.hq_sql_rows.specs.Joined.{put_off, first_joined, other_joined};
+
+use crate::row::Made;
+use hq_base::Memory;
+use std::alloc::Global;
+
+/// Of each join, from the first on, the row that was evaluated, or None where it is put off. Those behind the last entry
+/// are put off.
+pub type Joined<'d> = Vec<Option<Made<'d>>>;
+
+/// A row of FROM and its joins: where the row stands in FROM, and the rows of the joins.
+#[derive(Drop)]
+pub struct Place<'d> {
+    pub position: usize,
+    pub joined: Joined<'d>,
+}
+
+/// Adds a place for each row of the joins.
+pub fn add_places<'d>(
+    places: &mut Vec<Place<'d>>,
+    position: usize,
+    lists: Vec<Joined<'d>>,
+) -> Result<(), Memory>
+    ensures { OnOk result (places.new.items ≡ places.old.items ++ map (place_of position) lists.entry.items) }
+{
+    for joined in lists {
+        places.push(Place { position, joined })?;
+    }
+    Ok(())
+}
+
+/// Adds lists behind those that are there.
+pub fn add_lists<'d>(all: &mut Vec<Joined<'d>>, lists: Vec<Joined<'d>>) -> Result<(), Memory>
+    ensures { OnOk result (all.new.items ≡ all.old.items ++ lists.entry.items) }
+{
+    for joined in lists {
+        all.push(joined)?;
+    }
+    Ok(())
+}
+
+fn put_in_front<'d>(joined: Joined<'d>, row: Option<Made<'d>>) -> Result<Joined<'d>, Memory>
+    ensures { IfOk result (λ all. joined_view all ≡ option_map made_view row.entry ∷ joined_view joined.entry) }
+{
+    let mut all = joined;
+    all.insert(0, row)?;
+    Ok(all)
+}
+
+/// Puts a row in front of each list.
+pub fn with_row<'d>(
+    alloc: Global,
+    row: Made<'d>,
+    lists: Vec<Joined<'d>>,
+) -> Result<Vec<Joined<'d>>, Memory>
+    ensures { IfOk result (λ all. map joined_view all.items ≡ map (λ rows. Some (made_view row.entry) ∷ rows) (map joined_view lists.entry.items)) }
+{
+    let mut all = Vec::with_capacity(alloc, lists.len())?;
+    for joined in lists {
+        let copy = row.copy(alloc)?;
+        all.push(put_in_front(joined, Some(copy))?)?;
+    }
+    Ok(all)
+}
+
+fn put_off<'d>(joined: Joined<'d>) -> Result<Joined<'d>, Memory>
+    ensures { IfOk result (λ all. joined_view all ≡ put_off (joined_view joined.entry)) }
+{
+    if joined.is_empty() {
+        return Ok(joined);
+    }
+    let mut all = joined;
+    all.insert(0, None)?;
+    Ok(all)
+}
+
+/// Puts in front of each list that the join is put off.
+pub fn with_none<'d>(alloc: Global, lists: Vec<Joined<'d>>) -> Result<Vec<Joined<'d>>, Memory>
+    ensures { IfOk result (λ all. map joined_view all.items ≡ map put_off (map joined_view lists.entry.items)) }
+{
+    let mut all = Vec::with_capacity(alloc, lists.len())?;
+    for joined in lists {
+        all.push(put_off(joined)?)?;
+    }
+    Ok(all)
+}
+
+/// The first entry, where it is a row.
+pub fn first_joined<'s, 'd>(joined: &'s [Option<Made<'d>>]) -> Option<&'s Made<'d>>
+    ensures { option_map (λ row. made_view row.now) result ≡ first_joined (map (option_map made_view) joined.now) }
+{
+    match joined.first() {
+        Some(Some(row)) => Some(row),
+        _ => None,
+    }
+}
+
+/// The entries behind the first one.
+pub fn other_joined<'s, 'd>(joined: &'s [Option<Made<'d>>]) -> &'s [Option<Made<'d>>]
+    ensures { map (option_map made_view) result.now ≡ other_joined (map (option_map made_view) joined.now) }
+{
+    if joined.is_empty() {
+        return joined;
+    }
+    &joined[1..]
+}

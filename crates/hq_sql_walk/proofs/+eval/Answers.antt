@@ -1,0 +1,371 @@
+use Rattle.std.proofs.Common.{rules, ◌≡◌, ◌==◌, ◌≤◌, ◌+◌, ◌<◌, ◌∷◌, [], Some, None, true, false, IfOk, option_map, map, length, ◌++◌, filter as kept_items, flat_map, get_or, refl, subst, sym, ap, ap₂, ◌∙◌, arith}
+use Rattle.std.proofs.lemmas.List.{map-append, length-map, take_all}
+use Rattle.std.proofs.lemmas.Result.{IfOk-weaker}
+use Rattle.std.specs.Vec.Iter.{into_iter_items}
+use Rattle.hq_base.specs.Cells as cell
+use Rattle.hq_base.specs.Cells.{json_of}
+use Rattle.hq_base.specs.Json as json
+use Rattle.hq_base.specs.Json.{json_view, member_view, members_of, elements_of}
+use Rattle.hq_base.specs.Aggregates.{counted, summed, least, greatest}
+use Rattle.hq_base.specs.Lists.{sort}
+use Rattle.hq_sql_cells.specs.View.{cell_view}
+use Rattle.hq_sql_tree.specs.declared.select.Join.{the_lemmas as join_lemmas}
+use Rattle.hq_base.specs.declared.json.Json.{Arr, Obj, the_lemmas as json_lemmas}
+use Rattle.hq_sql_tree.specs.declared.expr.Agg.{the_lemmas as agg_lemmas}
+use Rattle.hq_sql_tree.specs.declared.expr.Expr.{the_lemmas as expr_lemmas}
+use Rattle.hq_sql_tree.specs.declared.select.Select.{the_lemmas as select_lemmas}
+use Rattle.hq_sql_tree.specs.Tree.{pairs_of, orders_of, joins_of, rows}
+use Rattle.hq_sql_tree.specs.View.{agg_view, expr_view, pair_view, order_view, out_view, select_view, from_view, join_view, filter_view}
+use Rattle.hq_sql_tree.specs.Meaning.{with_alias, value, members, taken, orders_cmp, order_cmp, distinct_on, limited, offset_by, outputs, has_rows, kept, rows_of, joined}
+use Rattle.hq_sql_rows.specs.View.{made_view, named_view, first_row, source_view, row_in, row_view, joined_view, world_of, names_of, names_at, group_of, beside}
+use Rattle.hq_sql_rows.specs.Joined.{join_in, first_joined}
+use Rattle.hq_sql_walk.proofs.JoinedRows.{beside_row}
+use Rattle.hq_sql_rows.specs.Keys.{with_json, json_at, outputs_of}
+use Rattle.hq_sql_rows.specs.Single.{is_single}
+use Rattle.hq_sql_rows.specs.Sources.{alias_in, rows_given, has_items}
+use Rattle.hq_sql_rows.specs.Positions.{positions_of, rows_at, kept_of}
+use Rattle.hq_sql_rows.proofs.Looked.{at_place}
+use Rattle.hq_sql_closed.specs.Conjuncts.{all_kept, lent_views, lent_weight}
+use Rattle.hq_sql_closed.specs.Weight.{total, expr_weight, pair_weight, order_weight, out_weight, pred_weight, filter_weight}
+use Rattle.hq_sql_closed.proofs.Weights.{item_weight, pair_item, order_item, out_item, expr_item, pred_item}
+use Rattle.hq_sql_walk.proofs.Ordered.{elements_are, arranged_is}
+use Rattle.hq_sql_walk.proofs.Evaluated.{members_mapped, outputs_all, later_is, keys_is, spread_step, any_found, any_passed, scan_step, no_images, some_images, no_order, rows_are, exists_is, steps_are}
+use Rattle.hq_sql_walk.proofs.Told.{none_in, tells_at, known_out, known_in, known_at}
+use Rattle.hq_sql_walk.proofs.+eval.Goals as goal
+
+-- ---- an item weighs at most its list
+
+pub values::members-value-requires : goal.values::members-value-requires
+values::members-value-requires t c =
+    let e : expr_weight c.pair-item.result.value ≤ total (map pair_weight c.args.pairs.now.items) = search (rules, pair_item) in
+    omega arith
+
+pub values::keys-value-requires : goal.values::keys-value-requires
+values::keys-value-requires t c =
+    let e : expr_weight c.key-item.result.value ≤ total (map order_weight c.args.order.now.items) = search (rules, order_item) in
+    omega arith
+
+pub values::values-value-requires : goal.values::values-value-requires
+values::values-value-requires t c =
+    let e : expr_weight c.expr-item.result ≤ total (map expr_weight c.args.exprs.now.items) = search (rules, expr_item) in
+    omega arith
+
+pub truths::all_true-truth-requires : goal.truths::all_true-truth-requires
+truths::all_true-truth-requires t c =
+    let e : pred_weight c.pred-item.result ≤ total (map pred_weight c.args.preds.now.items) = search (rules, pred_item) in
+    omega arith
+
+pub truths::any_true-truth-requires : goal.truths::any_true-truth-requires
+truths::any_true-truth-requires t c =
+    let e : pred_weight c.pred-item.result ≤ total (map pred_weight c.args.preds.now.items) = search (rules, pred_item) in
+    omega arith
+
+pub joins::outputs-value-requires : goal.joins::outputs-value-requires
+joins::outputs-value-requires t c =
+    let e : expr_weight c.out-item.result.value ≤ total (map out_weight c.args.outs.now.items) = search (rules, out_item) in
+    omega arith
+
+pub truths::all_hold-truth-requires : goal.truths::all_hold-truth-requires
+truths::all_hold-truth-requires t c =
+    let e : pred_weight c.pred-item.result.now ≤ lent_weight c.args.preds.now = search (rules, item_weight) in
+    omega arith
+
+-- ---- values and aggregates
+
+pub values::value-returns-in_ok-members-in-Object : goal.values::value-returns-in_ok-members-in-Object
+values::value-returns-in_ok-members-in-Object t c =
+    let ms = c.in_ok-members-in-Object.members in
+    let ps = c.in-Object.pairs in
+    let n = names_of c.args.scope.now c.args.world.now in
+    let g = group_of c.args.group n in
+    let lhs : json_view (Obj ms) ≡ json.obj (members_of (map member_view ms.items)) = search (rules, json_lemmas) in
+    let rhs : value (expr_view c.args.expr.now) g n ≡ cell.json (json.obj (members (pairs_of (map pair_view ps.items)) g n)) = search (rules, expr_lemmas) in
+    ap cell.json (lhs ∙ ap (λ l. json.obj (members_of l)) c.in_ok-members-in-Object.ensures ∙ ap json.obj (members_mapped (map pair_view ps.items) g n)) ∙ sym rhs
+
+pub aggregates::taken-returns-in_ok-sorted-in-JsonAgg : goal.aggregates::taken-returns-in_ok-sorted-in-JsonAgg
+aggregates::taken-returns-in_ok-sorted-in-JsonAgg t c =
+    let js = c.in_ok-sorted-in-JsonAgg.field-0 in
+    let e = expr_view c.in-JsonAgg.expr.value in
+    let os = map order_view c.in-JsonAgg.order.items in
+    let ns = map (with_alias (names_of c.args.scope.now c.args.world.now) c.args.alias.now) (map made_view c.args.rows.now) in
+    let lent : c.deref-in-JsonAgg.result.now ≡ c.in-JsonAgg.expr.value = search rules in
+    let kept : map with_json c.in_ok-kept-in-JsonAgg.kept.items ≡ map (json_at e os) ns =
+    subst (λ x. map with_json c.in_ok-kept-in-JsonAgg.kept.items ≡ map (json_at (expr_view x) os) ns) lent c.in_ok-kept-in-JsonAgg.ensures in
+    let lhs : json_view (Arr js) ≡ json.arr (elements_of (map json_view js.items)) = search (rules, json_lemmas) in
+    let rhs : taken (agg_view c.args.agg.now) ns ≡ cell.json (json.arr (elements_of (map (λ n. json_of (value e [] n)) (sort (orders_cmp (orders_of os)) ns)))) = search (rules, agg_lemmas) in
+    ap cell.json (lhs ∙ ap (λ l. json.arr (elements_of l)) (ap (map json_view) c.in_ok-sorted-in-JsonAgg.ensures ∙ elements_are e os c.in_ok-kept-in-JsonAgg.kept.items ns kept)) ∙ sym rhs
+
+pub aggregates::taken-returns-in_ok-each_value-in-Count : goal.aggregates::taken-returns-in_ok-each_value-in-Count
+aggregates::taken-returns-in_ok-each_value-in-Count t c =
+    let e = c.in-Count.expr.value in
+    let d = c.in-Count.distinct in
+    let ns = map (with_alias (names_of c.args.scope.now c.args.world.now) c.args.alias.now) (map made_view c.args.rows.now) in
+    let lent : c.deref.result.now ≡ e = search rules in
+    let cells : map cell_view c.in_ok-each_value-in-Count.field-0.items ≡ map (value (expr_view e) []) ns =
+    subst (λ x. map cell_view c.in_ok-each_value-in-Count.field-0.items ≡ map (value (expr_view x) []) ns) lent c.in_ok-each_value-in-Count.ensures in
+    let rhs : taken (agg_view c.args.agg.now) ns ≡ counted d (map (value (expr_view e) []) ns) = search (rules, agg_lemmas) in
+    IfOk-weaker c.counted.result _ _ (λ cell h. h ∙ ap (counted d) cells ∙ sym rhs) c.counted.ensures.value
+
+pub aggregates::taken-returns-in_ok-each_value-in-Sum : goal.aggregates::taken-returns-in_ok-each_value-in-Sum
+aggregates::taken-returns-in_ok-each_value-in-Sum t c =
+    let e = c.in-Sum.expr.value in
+    let ns = map (with_alias (names_of c.args.scope.now c.args.world.now) c.args.alias.now) (map made_view c.args.rows.now) in
+    let lent : c.deref-in-Sum.result.now ≡ e = search rules in
+    let cells : map cell_view c.in_ok-each_value-in-Sum.field-0.items ≡ map (value (expr_view e) []) ns =
+    subst (λ x. map cell_view c.in_ok-each_value-in-Sum.field-0.items ≡ map (value (expr_view x) []) ns) lent c.in_ok-each_value-in-Sum.ensures in
+    let rhs : taken (agg_view c.args.agg.now) ns ≡ summed (map (value (expr_view e) []) ns) = search (rules, agg_lemmas) in
+    IfOk-weaker c.sum_of.result _ _ (λ cell h. h ∙ ap summed cells ∙ sym rhs) c.sum_of.ensures
+
+pub aggregates::taken-returns-in_ok-each_value-in-Min : goal.aggregates::taken-returns-in_ok-each_value-in-Min
+aggregates::taken-returns-in_ok-each_value-in-Min t c =
+    let e = c.in-Min.expr.value in
+    let ns = map (with_alias (names_of c.args.scope.now c.args.world.now) c.args.alias.now) (map made_view c.args.rows.now) in
+    let lent : c.deref-in-Min.result.now ≡ e = search rules in
+    let cells : map cell_view c.in_ok-each_value-in-Min.field-0.items ≡ map (value (expr_view e) []) ns =
+    subst (λ x. map cell_view c.in_ok-each_value-in-Min.field-0.items ≡ map (value (expr_view x) []) ns) lent c.in_ok-each_value-in-Min.ensures in
+    let rhs : taken (agg_view c.args.agg.now) ns ≡ least (map (value (expr_view e) []) ns) = search (rules, agg_lemmas) in
+    c.least.ensures ∙ ap least cells ∙ sym rhs
+
+pub aggregates::taken-returns-in_ok-each_value-in-Max : goal.aggregates::taken-returns-in_ok-each_value-in-Max
+aggregates::taken-returns-in_ok-each_value-in-Max t c =
+    let e = c.in-Max.expr.value in
+    let ns = map (with_alias (names_of c.args.scope.now c.args.world.now) c.args.alias.now) (map made_view c.args.rows.now) in
+    let lent : c.deref-in-Max.result.now ≡ e = search rules in
+    let cells : map cell_view c.in_ok-each_value-in-Max.field-0.items ≡ map (value (expr_view e) []) ns =
+    subst (λ x. map cell_view c.in_ok-each_value-in-Max.field-0.items ≡ map (value (expr_view x) []) ns) lent c.in_ok-each_value-in-Max.ensures in
+    let rhs : taken (agg_view c.args.agg.now) ns ≡ greatest (map (value (expr_view e) []) ns) = search (rules, agg_lemmas) in
+    c.greatest.ensures ∙ ap greatest cells ∙ sym rhs
+
+-- ---- joins
+
+pub joins::gather_put_off-returns-then-not-is_empty : goal.joins::gather_put_off-returns-then-not-is_empty
+joins::gather_put_off-returns-then-not-is_empty t c =
+    let j = join_view c.args.join.now in
+    let r = joins_of (map join_view c.args.rest.now) in
+    let w = world_of c.args.world.now in
+    let n = names_of c.args.scope.now c.args.world.now in
+    let keeps = kept (filter_view c.args.filter.now) w in
+    let views = map joined_view c.in_ok-lists.lists.items in
+    let alias_is : c.args.join.now.alias ≡ j.alias = search (rules, join_lemmas) in
+    let later : select_view c.deref.result.now ≡ j.select = search (rules, join_lemmas) in
+    let taken : select_view c.deref-then-not-is_empty.result.now ≡ j.select = search (rules, join_lemmas) in
+    let row : made_view c.in_ok-row.row ≡ first_row (rows_of j.select w n) = subst (λ s. made_view c.in_ok-row.row ≡ first_row (rows_of s w n)) taken c.in_ok-row.ensures in
+    let lists : map (beside r w (with_alias n j.alias (first_row (rows_of j.select w n)))) views ≡ kept_items keeps (joined r w (with_alias n j.alias (first_row (rows_of j.select w n)))) =
+    subst (λ s. map (beside r w (with_alias n j.alias (first_row (rows_of s w n)))) views ≡ kept_items keeps (joined r w (with_alias n j.alias (first_row (rows_of s w n))))) later
+    (subst (λ a. map (beside r w (with_alias n a (first_row (rows_of (select_view c.deref.result.now) w n)))) views ≡ kept_items keeps (joined r w (with_alias n a (first_row (rows_of (select_view c.deref.result.now) w n))))) alias_is c.in_ok-lists.ensures) in
+    IfOk-weaker c.with_row.result _ _ (λ out h. ap (map (beside (join_in j r) w n)) h ∙ keys_is j.select j.alias r w n keeps c.requires (made_view c.in_ok-row.row) row views lists) c.with_row.ensures
+
+pub joins::gather_put_off-returns : goal.joins::gather_put_off-returns
+joins::gather_put_off-returns t c =
+    let j = join_view c.args.join.now in
+    let r = joins_of (map join_view c.args.rest.now) in
+    let w = world_of c.args.world.now in
+    let n = names_of c.args.scope.now c.args.world.now in
+    let keeps = kept (filter_view c.args.filter.now) w in
+    let views = map joined_view c.in_ok-lists.lists.items in
+    let alias_is : c.args.join.now.alias ≡ j.alias = search (rules, join_lemmas) in
+    let later : select_view c.deref.result.now ≡ j.select = search (rules, join_lemmas) in
+    let lists : map (beside r w (with_alias n j.alias (first_row (rows_of j.select w n)))) views ≡ kept_items keeps (joined r w (with_alias n j.alias (first_row (rows_of j.select w n)))) =
+    subst (λ s. map (beside r w (with_alias n j.alias (first_row (rows_of s w n)))) views ≡ kept_items keeps (joined r w (with_alias n j.alias (first_row (rows_of s w n))))) later
+    (subst (λ a. map (beside r w (with_alias n a (first_row (rows_of (select_view c.deref.result.now) w n)))) views ≡ kept_items keeps (joined r w (with_alias n a (first_row (rows_of (select_view c.deref.result.now) w n))))) alias_is c.in_ok-lists.ensures) in
+    IfOk-weaker c.with_none.result _ _ (λ out h. ap (map (beside (join_in j r) w n)) h ∙ later_is j.select j.alias r w n keeps c.requires views lists) c.with_none.ensures
+
+pub joins::spread-loop-row-preserved : goal.joins::spread-loop-row-preserved
+joins::spread-loop-row-preserved t c =
+    let j = join_view c.args.join.now in
+    let r = joins_of (map join_view c.args.rest.now) in
+    let w = world_of c.args.world.now in
+    let n = names_of c.args.scope.now c.args.world.now in
+    let keeps = kept (filter_view c.args.filter.now) w in
+    let row = made_view c.in-Some.row in
+    let views = map joined_view c.in_ok-lists.lists.items in
+    let old = map joined_view c.loop-row.all.items in
+    let B = beside (join_in j r) w n in
+    let whole = kept_items keeps (flat_map (joined r w) (map (with_alias n j.alias) (map made_view c.args.made.items))) in
+    let before : map B old ++ kept_items keeps (flat_map (joined r w) (map (with_alias n j.alias) (map made_view (c.in-Some.row ∷ into_iter_items c.next.new.self)))) ≡ whole =
+    subst (λ rs. map B old ++ kept_items keeps (flat_map (joined r w) (map (with_alias n j.alias) (map made_view rs))) ≡ whole) c.in-Some.ensures.steps.0 c.loop-row.invariant in
+    let more : map joined_view c.add_lists.new.all.items ≡ old ++ map (λ rows. Some row ∷ rows) views =
+    ap (map joined_view) c.in_ok-add_lists.ensures ∙ map-append joined_view c.loop-row.all.items c.in_ok-with_row.field-0.items ∙ ap (λ l. old ++ l) c.in_ok-with_row.ensures in
+    subst (λ v. map B v ++ kept_items keeps (flat_map (joined r w) (map (with_alias n j.alias) (map made_view (into_iter_items c.next.new.self)))) ≡ whole) (sym more)
+    (spread_step j.select j.alias r w n keeps row (map made_view (into_iter_items c.next.new.self)) old views whole before c.in_ok-lists.ensures)
+
+pub joins::outputs_at-returns-in-Some-first_joined : goal.joins::outputs_at-returns-in-Some-first_joined
+joins::outputs_at-returns-in-Some-first_joined t c =
+    let j = join_view c.in-Some.join.now in
+    let r = joins_of (map join_view c.in-Some.rest.now) in
+    let w = world_of c.args.world.now in
+    let n = names_of c.args.scope.now c.args.world.now in
+    let O = map out_view c.args.outs.now.items in
+    let views = map (option_map made_view) c.args.joined.now in
+    let others = map (option_map made_view) c.other_joined-others.result.now in
+    let row = made_view c.in-Some-first_joined.row.now in
+    let all : joins_of (map join_view c.args.joins.now) ≡ join_in j r = search rules in
+    let alias_is : c.in-Some.join.now.alias ≡ j.alias = search (rules, join_lemmas) in
+    let first : Some row ≡ first_joined views = c.in-Some-first_joined.ensures in
+    let same : beside r w (with_alias n c.in-Some.join.now.alias (map named_view c.deref.result.now)) others ≡ beside (joins_of (map join_view c.args.joins.now)) w n views =
+    ap (λ a. beside r w (with_alias n a (map named_view c.deref.result.now)) others) alias_is
+    ∙ ap₂ (λ cells rows. beside r w (with_alias n j.alias (map named_view cells)) rows) c.deref.ensures.value c.other_joined-others.ensures
+    ∙ sym (beside_row j.select j.alias r w n views row first) ∙ ap (λ js. beside js w n views) (sym all) in
+    IfOk-weaker c.outputs_at.result _ _ (λ made h. h ∙ ap (outputs_of O) same) c.outputs_at.ensures
+
+pub joins::outputs_put_off-returns-then-eq : goal.joins::outputs_put_off-returns-then-eq
+joins::outputs_put_off-returns-then-eq t c =
+    let j = join_view c.args.join.now in
+    let r = joins_of (map join_view c.args.rest.now) in
+    let w = world_of c.args.world.now in
+    let n = names_of c.args.scope.now c.args.world.now in
+    let O = map out_view c.args.outs.now.items in
+    let others = map (option_map made_view) c.args.others.now in
+    let alias_is : c.args.join.now.alias ≡ j.alias = search (rules, join_lemmas) in
+    let lent : select_view c.deref.result.now ≡ j.select = search (rules, join_lemmas) in
+    let row : made_view c.in_ok-row.row ≡ first_row (rows_of j.select w n) = subst (λ s. made_view c.in_ok-row.row ≡ first_row (rows_of s w n)) lent c.in_ok-row.ensures in
+    let same : beside r w (with_alias n c.args.join.now.alias (map named_view c.deref-then-eq.result.now)) others ≡ beside r w (with_alias n j.alias (first_row (rows_of j.select w n))) others =
+    ap₂ (λ a cells. beside r w (with_alias n a (map named_view cells)) others) alias_is c.deref-then-eq.ensures.value ∙ ap (λ q. beside r w (with_alias n j.alias q) others) row in
+    IfOk-weaker c.outputs_at.result _ _ (λ made h. h ∙ ap (outputs_of O) same) c.outputs_at.ensures
+
+-- ---- rows of FROM
+
+pub clauses::any_row-returns-then-keeps : goal.clauses::any_row-returns-then-keeps
+clauses::any_row-returns-then-keeps t c =
+    let js = joins_of (map join_view c.args.joins.now) in
+    let w = world_of c.args.world.now in
+    let n = names_of c.args.scope.now c.args.world.now in
+    let keeps = kept (filter_view c.args.filter.now) w in
+    let i = c.loop-turn.turn in
+    let ps = positions_of c.in_ok-looked.looked in
+    let rs = rows_at c.args.source c.in_ok-looked.looked in
+    let row = row_view c.row_at.result in
+    let here = kept_items keeps (joined js w (with_alias n c.args.alias.now row)) in
+    let long : length rs ≡ length ps = length-map ps (row_in c.args.source) in
+    let within : i < length ps = omega (arith, c.loop-turn-test.true, c.number_of-turn-end.ensures) in
+    let lt : i < length rs = omega (arith, within, long) in
+    let is : row ≡ get_or rs i [] = c.row_at.ensures ∙ ap (row_in c.args.source) c.position_at-position.ensures ∙ sym (at_place c.args.source ps i within) in
+    any_found js w n c.args.alias.now keeps rs i row here lt is refl (sym c.in_ok-keeps.ensures ∙ c.if-keeps.true) c.loop-turn.invariant ∙ ap has_items (c.in_ok-looked.ensures w)
+
+pub clauses::any_row-loop-turn-preserved : goal.clauses::any_row-loop-turn-preserved
+clauses::any_row-loop-turn-preserved t c =
+    let js = joins_of (map join_view c.args.joins.now) in
+    let w = world_of c.args.world.now in
+    let n = names_of c.args.scope.now c.args.world.now in
+    let keeps = kept (filter_view c.args.filter.now) w in
+    let i = c.loop-turn.turn in
+    let ps = positions_of c.in_ok-looked.looked in
+    let rs = rows_at c.args.source c.in_ok-looked.looked in
+    let row = row_view c.row_at.result in
+    let here = kept_items keeps (joined js w (with_alias n c.args.alias.now row)) in
+    let long : length rs ≡ length ps = length-map ps (row_in c.args.source) in
+    let within : i < length ps = omega (arith, c.loop-turn-test.true, c.number_of-turn-end.ensures) in
+    let lt : i < length rs = omega (arith, within, long) in
+    let is : row ≡ get_or rs i [] = c.row_at.ensures ∙ ap (row_in c.args.source) c.position_at-position.ensures ∙ sym (at_place c.args.source ps i within) in
+    any_passed js w n c.args.alias.now keeps rs i row here lt is refl (none_in here (sym c.in_ok-keeps.ensures ∙ c.if-keeps.false)) c.loop-turn.invariant
+
+pub clauses::any_row-returns : goal.clauses::any_row-returns
+clauses::any_row-returns t c =
+    let w = world_of c.args.world.now in
+    let ps = positions_of c.in_ok-looked.looked in
+    let rs = rows_at c.args.source c.in_ok-looked.looked in
+    let long : length rs ≡ length ps = length-map ps (row_in c.args.source) in
+    let all : length rs ≤ c.loop-turn.turn = omega (arith, long, c.loop-turn-test.false, c.number_of-turn-end.ensures) in
+    let none = subst (λ l. kept_of (joins_of (map join_view c.args.joins.now)) w (names_of c.args.scope.now c.args.world.now) c.args.alias.now (kept (filter_view c.args.filter.now) w) l ≡ []) (take_all c.loop-turn.turn rs all) c.loop-turn.invariant in
+    ap has_items (sym none ∙ c.in_ok-looked.ensures w)
+
+pub clauses::scan-loop-turn-preserved : goal.clauses::scan-loop-turn-preserved
+clauses::scan-loop-turn-preserved t c =
+    let js = joins_of (map join_view c.args.joins.now) in
+    let w = world_of c.args.world.now in
+    let n = names_of c.args.scope.now c.args.world.now in
+    let keeps = kept (filter_view c.args.filter.now) w in
+    let i = c.loop-turn.turn in
+    let ps = positions_of c.in_ok-looked.looked in
+    let rs = rows_at c.args.source c.in_ok-looked.looked in
+    let long : length rs ≡ length ps = length-map ps (row_in c.args.source) in
+    let within : i < length ps = omega (arith, c.loop-turn-test.true, c.number_of-turn-end.ensures) in
+    let lt : i < length rs = omega (arith, within, long) in
+    let at : row_in c.args.source c.position_at-position.result ≡ get_or rs i [] = ap (row_in c.args.source) c.position_at-position.ensures ∙ sym (at_place c.args.source ps i within) in
+    ap (map (names_at c.args.source c.args.alias.now js w n)) c.in_ok-add_places.ensures
+    ∙ scan_step js w n c.args.alias.now keeps c.args.source rs i c.position_at-position.result (row_view c.row_at.result) c.loop-turn.places.items c.in_ok-lists.lists.items lt at c.row_at.ensures c.in_ok-lists.ensures c.loop-turn.invariant
+
+pub clauses::scan-returns : goal.clauses::scan-returns
+clauses::scan-returns t c =
+    let js = joins_of (map join_view c.args.joins.now) in
+    let w = world_of c.args.world.now in
+    let n = names_of c.args.scope.now c.args.world.now in
+    let ps = positions_of c.in_ok-looked.looked in
+    let rs = rows_at c.args.source c.in_ok-looked.looked in
+    let long : length rs ≡ length ps = length-map ps (row_in c.args.source) in
+    let all : length rs ≤ c.loop-turn.turn = omega (arith, long, c.loop-turn-test.false, c.number_of-turn-end.ensures) in
+    c.loop-turn.invariant ∙ ap (kept_of js w n c.args.alias.now (kept (filter_view c.args.filter.now) w)) (take_all c.loop-turn.turn rs all) ∙ c.in_ok-looked.ensures w
+
+-- ---- whole selects
+
+pub clauses::in_order-returns-then-is_empty-2 : goal.clauses::in_order-returns-then-is_empty-2
+clauses::in_order-returns-then-is_empty-2 t c =
+    let first : c.args.order.now.len ≡ length c.args.order.now.items = omega (arith, c.args.order.now.ok.0) in
+    let second : c.args.distinct.now.len ≡ length c.args.distinct.now.items = omega (arith, c.args.distinct.now.ok.0) in
+    no_order c.args.order.now.items c.args.distinct.now.items _ (subst (λ k. (k == 0) ≡ true) first (sym c.is_empty.ensures ∙ c.if-is_empty.true)) (subst (λ k. (k == 0) ≡ true) second (sym c.is_empty-then-is_empty.ensures ∙ c.if-is_empty-2.true))
+
+pub clauses::in_order-returns : goal.clauses::in_order-returns
+clauses::in_order-returns t c =
+    let P = names_at c.args.source c.args.alias.now (joins_of (map join_view c.args.joins.now)) (world_of c.args.world.now) (names_of c.args.scope.now c.args.world.now) in
+    let K = map order_view c.args.order.now.items in
+    let D = map expr_view c.args.distinct.now.items in
+    IfOk-weaker c.arranged.result _ _ (λ sorted h. ap (map P) h ∙ arranged_is P K D c.in_ok-kept.kept.items c.args.places.items c.in_ok-kept.ensures) c.arranged.ensures
+
+pub clauses::rows_over-returns : goal.clauses::rows_over-returns
+clauses::rows_over-returns t c =
+    let js = joins_of (map join_view c.args.joins.now) in
+    let w = world_of c.args.world.now in
+    let n = names_of c.args.scope.now c.args.world.now in
+    let keeps = kept (filter_view c.args.parts.filter.now) w in
+    let D = map expr_view c.args.parts.distinct.now.items in
+    let O = map out_view c.args.parts.outs.now.items in
+    let K = map order_view c.args.parts.order.now.items in
+    let P = names_at c.source_of-source.result c.alias_of-alias.result.now js w n in
+    let page : c.as_slice-places.result.now ≡ limited c.args.limit (offset_by c.args.offset c.in_ok-sorted.sorted.items) = c.as_slice-places.ensures.value ∙ c.paged-page.ensures in
+    IfOk-weaker c.all_outputs.result _ _
+    (λ rows h.
+    h ∙ outputs_all O (map P c.as_slice-places.result.now)
+    ∙ steps_are P D O K c.args.limit c.args.offset _ c.in_ok-found.found.items c.in_ok-sorted.sorted.items c.as_slice-places.result.now c.in_ok-found.ensures c.in_ok-sorted.ensures page
+    ∙ ap₂ (λ a given. map (outputs O []) (limited c.args.limit (offset_by c.args.offset (distinct_on D (sort (order_cmp K) (kept_items keeps (flat_map (joined js w) (map (with_alias n a) given)))))))) c.alias_of-alias.ensures c.source_of-source.ensures)
+    c.all_outputs.ensures
+
+pub clauses::rows-returns-in_ok-made-in-Rows : goal.clauses::rows-returns-in_ok-made-in-Rows
+clauses::rows-returns-in_ok-made-in-Rows t c =
+    let w = world_of c.args.world.now in
+    let n = names_of c.args.scope.now c.args.world.now in
+    let D = map expr_view c.in-Rows.distinct.items in
+    let O = map out_view c.in-Rows.outs.items in
+    let F = from_view c.in-Rows.from in
+    let J = joins_of (map join_view c.in-Rows.joins.items) in
+    let C = filter_view c.in-Rows.filter in
+    let K = map order_view c.in-Rows.order.items in
+    let sel : select_view c.args.select.now ≡ rows D O F J C K c.in-Rows.limit c.in-Rows.offset = search (rules, select_lemmas) in
+    subst (λ s. IfOk c.rows_over.result (λ all. map made_view all.items ≡ rows_of s w n)) (sym sel)
+    (IfOk-weaker c.rows_over.result _ _
+    (λ all h.
+    h
+    ∙ ap₂ (λ js given. map (outputs O []) (limited c.in-Rows.limit (offset_by c.in-Rows.offset (distinct_on D (sort (order_cmp K) (kept_items (kept C w) (flat_map (joined (joins_of (map join_view js)) w) (map (with_alias n (alias_in F)) (rows_given F w (map made_view given))))))))))
+    c.as_slice-list.ensures.value c.as_slice-given.ensures.value
+    ∙ rows_are D O F J C K c.in-Rows.limit c.in-Rows.offset w n (map made_view c.in_ok-made-in-Rows.made.items) c.in_ok-made-in-Rows.ensures)
+    c.rows_over.ensures)
+
+pub truths::exists-returns-in_ok-stages-in-Rows : goal.truths::exists-returns-in_ok-stages-in-Rows
+truths::exists-returns-in_ok-stages-in-Rows t c =
+    let w = world_of c.args.world.now in
+    let n = names_of c.args.scope.now c.args.world.now in
+    let D = map expr_view c.in-Rows.distinct.items in
+    let O = map out_view c.in-Rows.outs.items in
+    let F = from_view c.in-Rows.from in
+    let J = joins_of (map join_view c.in-Rows.joins.items) in
+    let C = filter_view c.in-Rows.filter in
+    let K = map order_view c.in-Rows.order.items in
+    let sel : select_view c.args.select.now ≡ rows D O F J C K c.in-Rows.limit c.in-Rows.offset = search (rules, select_lemmas) in
+    let whole : select_view c.args.select.now ≡ rows D O F J C K None None =
+    sel ∙ ap₂ (λ x y. rows D O F J C K x y) (c.is_whole.ensures.limit c.if-not-is_whole.false) (c.is_whole.ensures.offset c.if-not-is_whole.false) in
+    subst (λ s. IfOk c.any_row.result (λ b. b ≡ has_rows (rows_of s w n))) (sym whole)
+    (IfOk-weaker c.any_row.result _ _
+    (λ b h.
+    h ∙ ap (λ js. has_items (kept_items (kept C w) (flat_map (joined (joins_of (map join_view js)) w) (map (with_alias n c.alias_of-alias.result.now) (source_view c.source_of-source.result))))) c.as_slice-list.ensures.value
+    ∙ exists_is D O F J C K w n (map made_view c.in_ok-made-in-Rows.made.items) (source_view c.source_of-source.result) c.alias_of-alias.result.now c.in_ok-made-in-Rows.ensures
+    (c.source_of-source.ensures ∙ ap (λ given. rows_given F w (map made_view given)) c.as_slice-given.ensures.value) c.alias_of-alias.ensures)
+    c.any_row.ensures)

@@ -1,0 +1,4 @@
+pub mod JoinedRows
+pub mod Ordered
+pub mod Evaluated
+pub mod Told

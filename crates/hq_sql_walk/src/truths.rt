@@ -1,0 +1,216 @@
+//! Truths of conditions.
+ghost use Rattle.std.specs.Prelude.{◌≡◌, map, IfOk};
+ghost use Rattle.hq_sql_tree.specs.Tree.{preds_of, compare, like, within};
+ghost use Rattle.hq_sql_tree.specs.View.{expr_view, select_view, pred_view, filter_view};
+ghost use Rattle.hq_sql_tree.specs.Meaning.{kept, truth_at, all_true, any_true, has_rows, rows_of};
+ghost use Rattle.hq_sql_closed.specs.Conjuncts.{all_kept, lent_views};
+ghost use Rattle.hq_sql_rows.specs.View.{world_of, names_of};
+
+use crate::clauses::{any_row, made_of, rows};
+use crate::values::{value, values};
+use hq_base::Memory;
+use hq_sql_cells::{among, compared, matched};
+use hq_sql_rows::known::known_of;
+use hq_sql_rows::pinned::Pinned;
+use hq_sql_rows::scope::{Group, Scope, alias_of, source_of};
+use hq_sql_rows::single::is_whole;
+use hq_sql_rows::stages::{Parts, stages};
+use hq_sql_tree::{Expr, ExprList, Pred, PredList, Select};
+use hq_terms::{Op, Truth};
+use std::alloc::Global;
+
+/// Whether a WHERE keeps a row: neither where it is false nor where it is unknown.
+#[cycle(eval)]
+pub fn kept<'d>(
+    alloc: Global,
+    filter: &'d Option<Pred>,
+    world: &Pinned<'d>,
+    scope: &Scope<'_, 'd>,
+) -> Result<bool, Memory>
+    ensures { IfOk result (λ b. b ≡ kept (filter_view filter.now) (world_of world.now) (names_of scope.now world.now)) }
+{
+    match filter {
+        None => Ok(true),
+        Some(pred) => Ok(truth(alloc, pred, world, scope)?.is_yes()),
+    }
+}
+
+/// The truth of a condition.
+#[cycle(eval)]
+pub fn truth<'d>(
+    alloc: Global,
+    pred: &'d Pred,
+    world: &Pinned<'d>,
+    scope: &Scope<'_, 'd>,
+) -> Result<Truth, Memory>
+    ensures { IfOk result (λ t. t ≡ truth_at (pred_view pred.now) (world_of world.now) (names_of scope.now world.now)) }
+{
+    match pred {
+        Pred::True => Ok(Truth::Yes),
+        Pred::False => Ok(Truth::No),
+        Pred::Cmp { left, op, right } => comparison(alloc, left, *op, right, world, scope),
+        Pred::Like { left, right, fold } => likeness(alloc, left, right, *fold, world, scope),
+        Pred::Within { value: expr, list } => membership(alloc, expr, list, world, scope),
+        Pred::IsNull(expr) => {
+            let cell = value(alloc, expr, world, Group::Alone, scope)?;
+            Ok(Truth::of(cell.is_null()))
+        }
+        Pred::Not(inner) => Ok(truth(alloc, inner, world, scope)?.negated()),
+        Pred::And(preds) => all_true(alloc, preds, world, scope),
+        Pred::Or(preds) => any_true(alloc, preds, world, scope),
+        Pred::Exists(select) => Ok(Truth::of(exists(alloc, select, world, scope)?)),
+    }
+}
+
+// A comparison of two expressions.
+#[cycle(eval)]
+fn comparison<'d>(
+    alloc: Global,
+    left: &'d Expr,
+    op: Op,
+    right: &'d Expr,
+    world: &Pinned<'d>,
+    scope: &Scope<'_, 'd>,
+) -> Result<Truth, Memory>
+    ensures { IfOk result (λ t. t ≡ truth_at (compare (expr_view left.now) op (expr_view right.now)) (world_of world.now) (names_of scope.now world.now)) }
+{
+    let left = value(alloc, left, world, Group::Alone, scope)?;
+    let right = value(alloc, right, world, Group::Alone, scope)?;
+    Ok(compared(op, &left, &right))
+}
+
+// LIKE and ILIKE.
+#[cycle(eval)]
+fn likeness<'d>(
+    alloc: Global,
+    left: &'d Expr,
+    right: &'d Expr,
+    fold: bool,
+    world: &Pinned<'d>,
+    scope: &Scope<'_, 'd>,
+) -> Result<Truth, Memory>
+    ensures { IfOk result (λ t. t ≡ truth_at (like (expr_view left.now) (expr_view right.now) fold) (world_of world.now) (names_of scope.now world.now)) }
+{
+    let left = value(alloc, left, world, Group::Alone, scope)?;
+    let right = value(alloc, right, world, Group::Alone, scope)?;
+    matched(alloc, fold, &left, &right)
+}
+
+// IN.
+#[cycle(eval)]
+fn membership<'d>(
+    alloc: Global,
+    expr: &'d Expr,
+    list: &'d ExprList,
+    world: &Pinned<'d>,
+    scope: &Scope<'_, 'd>,
+) -> Result<Truth, Memory>
+    ensures { IfOk result (λ t. t ≡ truth_at (within (expr_view expr.now) (map expr_view list.now.items)) (world_of world.now) (names_of scope.now world.now)) }
+{
+    let item = value(alloc, expr, world, Group::Alone, scope)?;
+    let items = values(alloc, list, world, scope)?;
+    Ok(among(&items, &item))
+}
+
+// AND of a list, which ends where one is false.
+#[cycle(eval)]
+fn all_true<'d>(
+    alloc: Global,
+    preds: &'d PredList,
+    world: &Pinned<'d>,
+    scope: &Scope<'_, 'd>,
+) -> Result<Truth, Memory>
+    ensures { IfOk result (λ t. t ≡ all_true (preds_of (map pred_view preds.now.items)) (world_of world.now) (names_of scope.now world.now)) }
+{
+    let mut all = Truth::Yes;
+    for pred in preds {
+        all = all.and(truth(alloc, pred, world, scope)?);
+        if all == Truth::No {
+            return Ok(Truth::No);
+        }
+    }
+    Ok(all)
+}
+
+// OR of a list, which ends where one is true.
+#[cycle(eval)]
+fn any_true<'d>(
+    alloc: Global,
+    preds: &'d PredList,
+    world: &Pinned<'d>,
+    scope: &Scope<'_, 'd>,
+) -> Result<Truth, Memory>
+    ensures { IfOk result (λ t. t ≡ any_true (preds_of (map pred_view preds.now.items)) (world_of world.now) (names_of scope.now world.now)) }
+{
+    let mut any = Truth::No;
+    for pred in preds {
+        any = any.or(truth(alloc, pred, world, scope)?);
+        if any == Truth::Yes {
+            return Ok(Truth::Yes);
+        }
+    }
+    Ok(any)
+}
+
+/// Whether each of these is true.
+#[cycle(eval)]
+pub fn all_hold<'d>(
+    alloc: Global,
+    preds: &[&'d Pred],
+    world: &Pinned<'d>,
+    scope: &Scope<'_, 'd>,
+) -> Result<bool, Memory>
+    ensures { IfOk result (λ b. b ≡ all_kept (lent_views preds.now) (world_of world.now) (names_of scope.now world.now)) }
+{
+    for pred in preds {
+        if !truth(alloc, pred, world, scope)?.is_yes() {
+            return Ok(false);
+        }
+    }
+    Ok(true)
+}
+
+// Whether a select has a row. Without LIMIT and OFFSET it ends at the first row that is kept.
+#[cycle(eval)]
+fn exists<'d>(
+    alloc: Global,
+    select: &'d Select,
+    world: &Pinned<'d>,
+    scope: &Scope<'_, 'd>,
+) -> Result<bool, Memory>
+    ensures { IfOk result (λ b. b ≡ has_rows (rows_of (select_view select.now) (world_of world.now) (names_of scope.now world.now))) }
+{
+    match select {
+        Select::Fold { .. } => Ok(true),
+        Select::Rows {
+            distinct,
+            outs,
+            from,
+            joins,
+            filter,
+            order,
+            limit,
+            offset,
+        } => {
+            if !is_whole(*limit, *offset) {
+                return Ok(!rows(alloc, select, world, scope)?.is_empty());
+            }
+            let made = made_of(alloc, from, world, scope)?;
+            let parts = Parts {
+                distinct,
+                outs,
+                filter,
+                order,
+            };
+            let list = joins.as_slice();
+            let given = made.as_slice();
+            let stages = stages(alloc, parts, list)?;
+            let source = source_of(world, from, given);
+            let known = known_of(world, from, list, filter);
+            let alias = alias_of(from);
+            any_row(
+                alloc, source, alias, list, &stages, filter, known, world, &*scope,
+            )
+        }
+    }
+}
