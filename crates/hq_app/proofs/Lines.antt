@@ -39,19 +39,27 @@ told_line_more (Some d) (Some e) text_of length_of xs i x k all lines more withi
     let told : e ≡ d = cc in
     next_line text_of (length_of d) xs i x k lines more within (subst (λ u. more ≡ lines ++ reply_line k (length_of u (text_of (get_or xs i x)))) told j) ∙ h
 
--- the lines of all requests and of the steps, by what an engine over these contents gives
-pub all_lines : (engine : Engine) (session : Session) (database : Option (List (List Row))) (tables : List Table) (meta : MetaTree) (d : List (List Row)) (bodies : List (List ℕ)) (start text whole : List ℕ) (steps : ℕ)
-    → engine.catalog.tables ≡ tables → meta_view engine.meta ≡ meta → session ≡ caller → database ≡ Some d → bodies ≡ requests → start ≡ []
-    → IfSome database (λ e. text ≡ start ++ reply_lines (reply_length engine.catalog.tables (meta_view engine.meta) session e) 1 bodies)
-    → whole ≡ text ++ steps_line steps → whole ≡ lines_over tables meta d steps
-all_lines engine session database tables meta d bodies start text whole steps same_tables same_meta same_session same_rows same_bodies empty told wrote =
-    let lines = told_at database d (λ (e : List (List Row)). text ≡ start ++ reply_lines (reply_length engine.catalog.tables (meta_view engine.meta) session e) 1 bodies) same_rows told in
-    wrote ∙ ap (λ (w : List ℕ). w ++ steps_line steps) (lines
-    ∙ ap (λ (w : List ℕ). w ++ reply_lines (reply_length engine.catalog.tables (meta_view engine.meta) session d) 1 bodies) empty
-    ∙ ap (λ (ts : List Table). reply_lines (reply_length ts (meta_view engine.meta) session d) 1 bodies) same_tables
-    ∙ ap (λ (m : MetaTree). reply_lines (reply_length tables m session d) 1 bodies) same_meta
-    ∙ ap (λ (s : Session). reply_lines (reply_length tables meta s d) 1 bodies) same_session
-    ∙ ap (λ (bs : List (List ℕ)). reply_lines (reply_length tables meta caller d) 1 bs) same_bodies)
+-- the lines of all requests and of the steps
+pub told_lines : (engine : Engine) (session : Session) (database : Option (List (List Row))) (bodies : List (List ℕ)) (start text whole : List ℕ) (steps : ℕ) → session ≡ caller → bodies ≡ requests → start ≡ []
+    → IfSome database (λ d. text ≡ start ++ reply_lines (reply_length engine.catalog.tables (meta_view engine.meta) session d) 1 bodies)
+    → whole ≡ text ++ steps_line steps → IfSome database (λ d. (n : ℕ) × (whole ≡ lines_over engine.catalog.tables (meta_view engine.meta) d n))
+told_lines engine session None bodies start text whole steps same_session same_bodies empty told wrote = tt
+told_lines engine session (Some d) bodies start text whole steps same_session same_bodies empty told wrote =
+    let tables = engine.catalog.tables in
+    let meta = meta_view engine.meta in (
+      steps,
+      wrote ∙ ap (λ (w : List ℕ). w ++ steps_line steps) (told
+          ∙ ap (λ (w : List ℕ). w ++ reply_lines (reply_length tables meta session d) 1 bodies) empty
+          ∙ ap (λ (s : Session). reply_lines (reply_length tables meta s d) 1 bodies) same_session
+          ∙ ap (λ (bs : List (List ℕ)). reply_lines (reply_length tables meta caller d) 1 bs) same_bodies),
+    )
+
+-- the same by an engine over these contents
+pub lines_by : (engine : Engine) (database : Option (List (List Row))) (tables : List Table) (meta : MetaTree) (d : List (List Row)) (whole : List ℕ) → engine.catalog.tables ≡ tables → meta_view engine.meta ≡ meta → database ≡ Some d
+    → IfSome database (λ e. (n : ℕ) × (whole ≡ lines_over engine.catalog.tables (meta_view engine.meta) e n)) → (n : ℕ) × (whole ≡ lines_over tables meta d n)
+lines_by engine database tables meta d whole same_tables same_meta same_rows told =
+    let h = told_at database d (λ (e : List (List Row)). (n : ℕ) × (whole ≡ lines_over engine.catalog.tables (meta_view engine.meta) e n)) same_rows told in
+    (h.0, h.1 ∙ ap (λ (ts : List Table). lines_over ts (meta_view engine.meta) d h.0) same_tables ∙ ap (λ (m : MetaTree). lines_over tables m d h.0) same_meta)
 
 -- lines over what is generated are those that are due
 pub generated_lines : (authors steps : ℕ) (tables : List Table) (meta : MetaTree) (d : List (List Row)) (text : List ℕ) → tables ≡ generated_tables → meta ≡ metadata → d ≡ generated_rows authors → text ≡ lines_over tables meta d steps

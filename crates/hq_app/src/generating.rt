@@ -1,5 +1,5 @@
 //! Answering requests over a generated database.
-ghost use Rattle.std.specs.Prelude.{◌≡◌, ◌≤◌, ◌++◌, ℕ, All, length, map, IsErrOf, IfErr, IfOk, IfSome, OnOk};
+ghost use Rattle.std.specs.Prelude.{◌≡◌, ◌≤◌, ◌++◌, [], ℕ, All, length, map, IsErrOf, IfErr, IfOk, IfSome, OnOk};
 ghost use Rattle.hq_generator.specs.Lines.{reply_line};
 ghost use Rattle.hq_outside.specs.Causes.{Rose};
 ghost use Rattle.hq_terms.specs.Meta.{meta_view};
@@ -13,7 +13,7 @@ use hq_engine::{Engine, EngineRefusal};
 use hq_generator::{Generated, caller, generate, put_reply_line, put_steps_line, requests};
 use hq_link::Database;
 use hq_outside::{Sink, write_all};
-use hq_tables::MemTables;
+use hq_tables::{MemTables, Tables};
 use hq_terms::Session;
 use std::alloc::Global;
 
@@ -61,6 +61,24 @@ fn put_replies<D: Database>(
     Ok(())
 }
 
+// The lines of the requests over a database.
+fn put_lines<T: Tables>(
+    alloc: Global,
+    engine: &Engine,
+    db: &mut SqlDb<T>,
+    out: &mut Bytes,
+) -> Result<(), EngineRefusal>
+    requires start { out.old ≡ [] }
+    requires catalog { ⟦<SqlDb<T> as Database>⟧.tables db.old ≡ engine.now.catalog.tables }
+    ensures { OnOk result (IfSome (⟦<SqlDb<T> as Database>⟧.database db.old) (λ d.
+        (steps : ℕ) × (out.new ≡ lines_over engine.now.catalog.tables (meta_view engine.now.meta) d steps))) }
+{
+    let session = caller(alloc)?;
+    put_replies(alloc, engine, &session, &requests(), db, out)?;
+    put_steps_line(out, db.steps())?;
+    Ok(())
+}
+
 // The lines of the requests over a generated database.
 fn gen_lines(alloc: Global, made: Generated) -> Result<Bytes, Memory>
     ensures { IfOk result (λ text. (steps : ℕ) × (text ≡ lines_over made.catalog.tables (meta_view made.meta) made.rows steps)) }
@@ -72,15 +90,12 @@ fn gen_lines(alloc: Global, made: Generated) -> Result<Bytes, Memory>
     } = made;
     let engine = Engine::new(alloc, catalog.copy(alloc)?, meta)?;
     let mut db = SqlDb::new(MemTables::new(catalog, rows));
-    let session = caller(alloc)?;
     let mut text = Bytes::new(alloc);
-    match put_replies(alloc, &engine, &session, &requests(), &mut db, &mut text) {
-        Ok(()) => {}
+    match put_lines(alloc, &engine, &mut db, &mut text) {
+        Ok(()) => Ok(text),
         // Tables in memory never fail.
-        Err(EngineRefusal::Database { .. } | EngineRefusal::Memory) => return Err(Memory),
+        Err(EngineRefusal::Database { .. } | EngineRefusal::Memory) => Err(Memory),
     }
-    put_steps_line(&mut text, db.steps())?;
-    Ok(text)
 }
 
 /// Answers five requests over a generated database of so many authors, and writes how long the replies are. Nothing is written
