@@ -2,4 +2,4 @@ mod Endings
 mod Statings
 mod Servings
 mod Worlds
-mod Lines
+pub mod Lines

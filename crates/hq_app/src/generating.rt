@@ -62,6 +62,7 @@ fn put_replies<D: Database>(
 }
 
 // The lines of the requests over a database.
+#[tactic(auto, using(crate::proofs::Lines::told_lines))]
 fn put_lines<T: Tables>(
     alloc: Global,
     engine: &Engine,
@@ -80,6 +81,7 @@ fn put_lines<T: Tables>(
 }
 
 // The lines of the requests over a generated database.
+#[tactic(auto, using(crate::proofs::Lines::lines_by))]
 fn gen_lines(alloc: Global, made: Generated) -> Result<Bytes, Memory>
     ensures { IfOk result (λ text. (steps : ℕ) × (text ≡ lines_over made.catalog.tables (meta_view made.meta) made.rows steps)) }
 {

@@ -3,6 +3,7 @@
 #![tactic(auto)]
 
 mod directory;
+mod generated;
 mod links;
 mod loaded;
 mod pins;

@@ -1,4 +1,4 @@
-use crate::{pins, runs, statements};
+use crate::{generated, pins, runs, statements};
 use hq_case::{Case, Stop, Subject};
 
 /// What cases are about: a file of `data/`, and the public calls that its cases go through.
@@ -16,13 +16,14 @@ pub enum About {
     Directories,
     Runs,
     Serving,
+    Generated,
     Statements,
     Pins,
 }
 
 impl About {
     /// Each subject, in the order of its line.
-    pub const ALL: [About; 14] = [
+    pub const ALL: [About; 15] = [
         About::Worked,
         About::Blog,
         About::Shop,
@@ -35,6 +36,7 @@ impl About {
         About::Directories,
         About::Runs,
         About::Serving,
+        About::Generated,
         About::Statements,
         About::Pins,
     ];
@@ -55,6 +57,7 @@ impl Subject for About {
             About::Directories => "directories",
             About::Runs => "runs",
             About::Serving => "serving",
+            About::Generated => "generated",
             About::Statements => "statements",
             About::Pins => "pins",
         }
@@ -62,6 +65,7 @@ impl Subject for About {
 
     fn told(self, rt: &HostRuntime, case: &Case) -> Result<String, Stop> {
         match self {
+            About::Generated => generated::lines(rt, case),
             About::Statements => statements::answer(rt, case),
             About::Pins => pins::outcomes(rt, case),
             _ => runs::outcome(rt, case),
