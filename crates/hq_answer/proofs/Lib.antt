@@ -1,0 +1,3 @@
+mod Members
+pub mod Parts
+pub mod Texts

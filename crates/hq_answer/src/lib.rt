@@ -1,0 +1,8 @@
+//! JSON as text, member by member: what a database answers with, of which no tree is built.
+#![tactic(auto)]
+
+mod answer;
+mod quoted;
+
+pub use answer::{Answer, AnswerMember};
+pub use quoted::put_quoted;
