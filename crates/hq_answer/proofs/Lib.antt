@@ -1,3 +1,3 @@
 mod Members
-pub mod Parts
+mod Commas
 pub mod Texts

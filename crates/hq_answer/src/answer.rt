@@ -1,11 +1,11 @@
 //! An answer: made of a JSON value, and written.
-ghost use Rattle.std.specs.Prelude.{◌≡◌, ◌++◌, ◌∷◌, ◌==◌, [], if◌then◌else◌, IfOk, OnOk, map};
+ghost use Rattle.std.specs.Prelude.{◌≡◌, ◌++◌, IfOk, OnOk, map};
 ghost use Rattle.std.specs.List.{join_with_byte};
 ghost use Rattle.hq_base.specs.Compact.{compact};
 ghost use Rattle.hq_base.specs.Json.{JsonTree, json_view, member_view, members_of};
 ghost use Rattle.hq_answer.specs.Answers.{IsAnswer, answer_view, answer_text, named_text, named_texts, member_text};
 
-use crate::put_quoted;
+use crate::{put_comma, put_quoted};
 use hq_base::{Bytes, Json, Members, Memory, Txt};
 use std::alloc::Global;
 
@@ -58,13 +58,6 @@ fn put_members(out: &mut Bytes, members: &[AnswerMember]) -> Result<(), Memory>
         out.append(member.text.as_slice())?;
     }
     Ok(())
-}
-
-// A comma before each part but the first.
-fn put_comma(out: &mut Bytes, at: usize) -> Result<(), Memory>
-    ensures { OnOk result (out.new ≡ out.old ++ (if at == 0 then [] else 44 ∷ [])) }
-{
-    if at == 0 { Ok(()) } else { out.push(b',') }
 }
 
 fn put_answer(out: &mut Bytes, answer: &Answer) -> Result<(), Memory>

@@ -2,7 +2,7 @@
 #![tactic(auto)]
 
 mod answer;
-mod quoted;
+mod parts;
 
 pub use answer::{Answer, AnswerMember};
-pub use quoted::put_quoted;
+pub use parts::{put_comma, put_quoted};

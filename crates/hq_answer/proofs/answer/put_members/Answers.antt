@@ -2,7 +2,7 @@ use Rattle.std.proofs.Common.{◌∙◌, ap, ◌++◌, ◌+◌, take}
 use Rattle.hq_base.proofs.Lists.{map_map}
 use Rattle.hq_base.specs.Compact.{quoted}
 use Rattle.hq_answer.specs.Answers.{named_text, member_text}
-use Rattle.hq_answer.proofs.Parts.{next_part, named_part}
+use Rattle.hq_answer.proofs.Commas.{next_part, named_part}
 use Rattle.hq_answer.proofs.answer.put_members.Goals as goal
 
 pub loop-at-preserved : goal.loop-at-preserved

@@ -1,9 +1,16 @@
-//! A name or text in quotes, with the escapes that serde_json writes (RFC 8259, section 7).
-ghost use Rattle.std.specs.Prelude.{◌≡◌, ◌++◌, ◌<◌, OnOk};
+//! Parts of compact text: a name or text in quotes, with the escapes that serde_json writes (RFC 8259, section 7), and commas.
+ghost use Rattle.std.specs.Prelude.{◌≡◌, ◌++◌, ◌∷◌, ◌==◌, ◌<◌, [], if◌then◌else◌, OnOk};
 ghost use Rattle.std.specs.Char.{digit_char};
 ghost use Rattle.hq_base.specs.Compact.{quoted, escaped, short_escape};
 
 use hq_base::{Bytes, Memory, Txt};
+
+/// Appends a comma before each part but the first, which stands at place 0.
+pub fn put_comma(out: &mut Bytes, at: usize) -> Result<(), Memory>
+    ensures { OnOk result (out.new ≡ out.old ++ (if at == 0 then [] else 44 ∷ [])) }
+{
+    if at == 0 { Ok(()) } else { out.push(b',') }
+}
 
 /// Appends a text in quotes. Where memory runs out, a part of it may stand behind `out`.
 pub fn put_quoted(out: &mut Bytes, text: &Txt) -> Result<(), Memory>
