@@ -1,16 +1,17 @@
 -- The answer to a statement: its meaning over the pinned tables is that over the database.
-use Rattle.std.proofs.Common.{◌≡◌, ℕ, zero, suc, ◌<◌, ◌≤◌, List, [], ◌∷◌, length, Bool, true, false, Option, Some, None, ⊎_elim, refl, sym, ap, subst, ◌∙◌, arith}
+use Rattle.std.proofs.Common.{◌≡◌, ℕ, zero, suc, ◌<◌, ◌≤◌, List, [], ◌∷◌, length, Bool, true, false, Option, Some, None, ⊎_elim, refl, sym, subst, ◌∙◌, arith}
 use Rattle.std.specs.Prelude.{IfSome, slice_index_or}
 use Rattle.std.proofs.lemmas.Bool.{false≢true, cases_lt}
-use Rattle.hq_base.specs.Json.{JsonTree}
+use Rattle.hq_answer.specs.Answers.{IsAnswer}
+use Rattle.hq_answer.specs.declared.answer.Answer.{Answer}
 use Rattle.hq_terms.specs.Database.{Row}
 use Rattle.hq_terms.specs.declared.table.Table.{Table}
 use Rattle.hq_sql_tree.specs.Meaning.{meaning}
 use Rattle.hq_sql_tree.specs.Tree.{SelectTree}
 use Rattle.hq_sql_text.specs.Readable.{Spells}
-use Rattle.hq_link.specs.Answered.{Answered, member_names}
+use Rattle.hq_link.specs.Answered.{Answered}
 use Rattle.hq_link.specs.Typed.{IsTyped}
-use Rattle.hq_sql_check.specs.Agree.{HasRows}
+use Rattle.hq_sql_check.specs.Agree.{HasRows, MeansAlike}
 use Rattle.hq_sql_check.specs.Scans.{scans}
 use Rattle.hq_db.proofs.Names.{statement_named}
 
@@ -24,23 +25,26 @@ below_at rows zero t lt = absurd (omega arith)
 below_at rows (suc n) zero lt = refl
 below_at rows (suc n) (suc t) lt = below_at (λ u. rows (suc u)) n t (omega arith)
 
--- a value that is the statement's meaning over each database of the pinned rows is the answer
-pub answers : (tables : List Table) (database : Option (List (List Row))) (rows : ℕ → List Row) (text : List ℕ) (s : SelectTree) (value : JsonTree) → Spells text s → IsTyped tables s
-    → ((t : ℕ) → scans s tables t ≡ true → t < length tables) → ((t : ℕ) → scans s tables t ≡ true → IfSome database (λ d. rows t ≡ slice_index_or d t []))
-    → ((d : List (List Row)) → HasRows s tables rows d → value ≡ meaning s (record { tables = tables; database = d })) → Answered tables database text value
-answers tables database rows text s value spelled typed within pinned is =
+-- what answers with the statement's meaning over each database of the pinned rows is its answer
+pub answers : (tables : List Table) (database : Option (List (List Row))) (rows : ℕ → List Row) (text : List ℕ) (s : SelectTree) (answer : Answer) → Spells text s → IsTyped tables s
+    → ((t : ℕ) → scans s tables t ≡ true → t < length tables) → ((t : ℕ) → scans s tables t ≡ true → IfSome database (λ d. rows t ≡ slice_index_or d t [])) → MeansAlike s tables
+    → ((d : List (List Row)) → HasRows s tables rows d → IsAnswer answer (meaning s (record { tables = tables; database = d }))) → Answered tables database text answer
+answers tables database rows text s answer spelled typed within pinned alike is =
     let d = rows_below rows (length tables) in
     let own : HasRows s tables rows d = λ t scanned. below_at rows (length tables) t (within t scanned) in
+    let value = meaning s (record { tables = tables; database = d }) in
     let meant : (o : Option (List (List Row))) → ((t : ℕ) → scans s tables t ≡ true → IfSome o (λ all. rows t ≡ slice_index_or all t [])) → IfSome o (λ all. value ≡ meaning s (record { tables = tables; database = all })) =
     elim [
       | None ↦ λ p. tt
-      | Some all ↦ λ p. is all (λ t scanned. sym (p t scanned))
+      | Some all ↦ λ p. alike d all (λ t scanned. own t scanned ∙ p t scanned)
     ] in
     record {
+      value = value;
+      is = is d own;
       statement = s;
       spelled = spelled;
       typed = typed;
-      names = ap member_names (is d own) ∙ statement_named tables s (record { tables = tables; database = d }) typed;
+      names = statement_named tables s (record { tables = tables; database = d }) typed;
       meant = meant database pinned;
     }
 

@@ -1,6 +1,5 @@
 //! The answer to a text: reading it, testing it, pinning its tables, and taking what it means.
 ghost use Rattle.std.specs.Prelude.{◌≡◌, ◌⊎◌, ◌≤◌, IfOk, IfErr, Err};
-ghost use Rattle.hq_base.specs.Json.{json_view};
 ghost use Rattle.hq_sql_tree.specs.Tree.{SelectTree};
 ghost use Rattle.hq_sql_tree.specs.View.{select_view};
 ghost use Rattle.hq_sql_text.specs.Readable.{Spells};
@@ -8,9 +7,9 @@ ghost use Rattle.hq_link.specs.Answered.{Answered, NotFitting};
 ghost use Rattle.hq_db.specs.Failures.{RoseFor};
 
 use crate::pinning::pin_tables;
-use hq_base::Json;
+use hq_answer::Answer;
 use hq_link::DbRefusal;
-use hq_sql_check::well_formed;
+use hq_sql_check::{only_scanned_tables_matter, well_formed};
 use hq_sql_eval::eval;
 use hq_sql_text::{ReadRefusal, read};
 use hq_sql_tree::Select;
@@ -37,8 +36,8 @@ pub fn answer<T: Tables>(
     tables: &mut T,
     text: &[u8],
     looked: &mut u64,
-) -> Result<Json, DbRefusal>
-    ensures answered { IfOk result (λ json. Answered (T.tables tables.old) (T.database tables.old) text.now (json_view json)) }
+) -> Result<Answer, DbRefusal>
+    ensures answered { IfOk result (λ answer. Answered (T.tables tables.old) (T.database tables.old) text.now answer) }
     ensures not_sql { result ≡ Err DbRefusal.NotSql → (s : SelectTree) → Spells text.now s → ⊥ }
     ensures not_typed { result ≡ Err DbRefusal.NotTyped → NotFitting (T.tables tables.old) text.now }
     ensures failed { IfErr result (RoseFor (T.faults tables.old) (T.faults tables.new)) }
@@ -47,10 +46,12 @@ pub fn answer<T: Tables>(
     ensures later { T.faults tables.old ≤ T.faults tables.new }
     ensures looked { looked.old ≤ looked.new }
 {
+    only_scanned_tables_matter();
     let select = read_text(alloc, text)?;
     if !well_formed(alloc, &select, tables.catalog())? {
         return Err(DbRefusal::NotTyped);
     }
     pin_tables(alloc, tables, &select)?;
-    Ok(eval(alloc, &select, &*tables, looked)?)
+    let json = eval(alloc, &select, &*tables, looked)?;
+    Ok(Answer::of_json(alloc, json)?)
 }

@@ -1,5 +1,4 @@
 ghost use Rattle.std.specs.Prelude.{◌≡◌, ◌⊎◌, ◌≤◌, None, ℕ, Err, IfOk, IfErr};
-ghost use Rattle.hq_base.specs.Json.{json_view};
 ghost use Rattle.hq_sql_tree.specs.Tree.{SelectTree};
 ghost use Rattle.hq_sql_text.specs.Readable.{Spells};
 ghost use Rattle.hq_link.specs.Answered.{Answered, NotFitting};
@@ -7,7 +6,8 @@ ghost use Rattle.hq_link.specs.Asked.{Asked, NotAsked, TellsFailure};
 ghost use Rattle.hq_db.specs.Steps.{steps_of};
 
 use crate::answer::answer;
-use hq_base::{Bytes, Json};
+use hq_answer::Answer;
+use hq_base::Bytes;
 use hq_link::{Database, DbRefusal};
 use hq_tables::Tables;
 use std::alloc::Global;
@@ -72,13 +72,13 @@ impl<T: Tables> Database for SqlDb<T> {
         self.tables.faults()
     }
 
-    fn run(&mut self, alloc: Global, text: &[u8]) -> Result<Json, DbRefusal>
+    fn run(&mut self, alloc: Global, text: &[u8]) -> Result<Answer, DbRefusal>
         ensures steps { steps_of self.old ≤ steps_of self.new }
 
         // What the trait says.
         ensures failed { IfErr result (λ e. TellsFailure (⟦<SqlDb<T> as Database>⟧.faults self.old) (⟦<SqlDb<T> as Database>⟧.faults self.new) e) }
         ensures asked { Asked (⟦<SqlDb<T> as Database>⟧.asks self.old) (⟦<SqlDb<T> as Database>⟧.asks self.new) (⟦<SqlDb<T> as Database>⟧.last self.new) text.now ⊎ ((result ≡ Err DbRefusal.Memory) × NotAsked (⟦<SqlDb<T> as Database>⟧.asks self.old) (⟦<SqlDb<T> as Database>⟧.asks self.new) (⟦<SqlDb<T> as Database>⟧.last self.old) (⟦<SqlDb<T> as Database>⟧.last self.new)) }
-        ensures answered { IfOk result (λ json. Answered (⟦<SqlDb<T> as Database>⟧.tables self.old) (⟦<SqlDb<T> as Database>⟧.database self.old) text.now (json_view json)) }
+        ensures answered { IfOk result (λ answer. Answered (⟦<SqlDb<T> as Database>⟧.tables self.old) (⟦<SqlDb<T> as Database>⟧.database self.old) text.now answer) }
         ensures not_sql { result ≡ Err DbRefusal.NotSql → (s : SelectTree) → Spells text.now s → ⊥ }
         ensures not_typed { result ≡ Err DbRefusal.NotTyped → NotFitting (⟦<SqlDb<T> as Database>⟧.tables self.old) text.now }
         ensures tables { ⟦<SqlDb<T> as Database>⟧.tables self.new ≡ ⟦<SqlDb<T> as Database>⟧.tables self.old }

@@ -1,5 +1,7 @@
 -- What the text of a request is good for.
-use Rattle.std.specs.Prelude.{◌≡◌, true, List, Result, Ok, Err, ⊤}
+use Rattle.std.specs.Prelude.{◌≡◌, ℕ, true, List, Result, Ok, Err, ⊤}
+use Rattle.hq_answer.specs.Answers.{IsAnswer}
+use Rattle.hq_answer.specs.declared.answer.Answer.{Answer}
 use Rattle.hq_ask_tree.specs.Request.{AskTree}
 use Rattle.hq_ask_tree.specs.Resolve.{resolved}
 use Rattle.hq_ask_tree.specs.Root.{table_fields}
@@ -10,6 +12,7 @@ use Rattle.hq_request.specs.declared.refusal.RequestRefusal.{RequestRefusal}
 use Rattle.hq_sql_text.specs.Readable.{Spells}
 use Rattle.hq_sql_tree.specs.Meaning.{meaning}
 use Rattle.hq_sql_tree.specs.Spelling.{select_text}
+use Rattle.hq_sql_tree.specs.Tree.{SelectTree}
 use Rattle.hq_terms.specs.Database.{Row, is_database}
 use Rattle.hq_terms.specs.Grants.{grants_of}
 use Rattle.hq_terms.specs.Meta.{MetaTree}
@@ -29,3 +32,7 @@ pub record IsStatement (tables : List Table) (meta : MetaTree) (session : Sessio
 abbrev pub HasStatement : List Table → MetaTree → Session → Result AskTree RequestRefusal → Type 0
 HasStatement tables meta session (Ok ask) = has_table_field ask.fields ≡ true → IsStatement tables meta session ask
 HasStatement tables meta session (Err refusal) = ⊤
+
+-- what is answered is the meaning, over a database, of each statement that a text spells
+abbrev pub IsMeaning : List Table → (text : List ℕ) → Answer → List (List Row) → Type 0
+IsMeaning tables text answer d = (s : SelectTree) → Spells text s → IsAnswer answer (meaning s (record { tables = tables; database = d }))

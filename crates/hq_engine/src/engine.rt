@@ -5,10 +5,11 @@ ghost use Rattle.hq_roles.specs.Roles.{AreRoleSchemas};
 
 use crate::statement::{ask, statement_text};
 use crate::{EngineRefusal, Stated, replies_agree};
+use hq_answer::Answer;
 use hq_ask_tree::Ask;
-use hq_base::{Json, Memory, Reply};
+use hq_base::{Memory, Reply};
 use hq_link::Database;
-use hq_reply::{data_reply, fault_reply, root_object, tables_are_resolved};
+use hq_reply::{data_reply, fault_reply, tables_are_resolved};
 use hq_request::{RequestRefusal, request};
 use hq_request_laws::requests_are_formed;
 use hq_roles::RoleSchemas;
@@ -28,14 +29,12 @@ pub struct Engine {
 
 impl Engine {
     ghost use Rattle.std.specs.Prelude.{◌≡◌, ◌≤◌, List as Items, length, true, false, is_some, IfOk, IfErr, IfSome, OnOk, Ok, Some};
-    ghost use Rattle.hq_ask_tree.specs.Fields.{FieldTree};
+    ghost use Rattle.hq_answer.specs.Answers.{IsAnswer};
     ghost use Rattle.hq_ask_tree.specs.Request.{ask_view};
     ghost use Rattle.hq_base.specs.Due.{Gives};
-    ghost use Rattle.hq_base.specs.Json as tree;
-    ghost use Rattle.hq_base.specs.Json.{JsonTree, json_view};
     ghost use Rattle.hq_faults.specs.FaultTexts.{fault_text, tells_fault};
-    ghost use Rattle.hq_reply.specs.DataTexts.{data_text};
-    ghost use Rattle.hq_reply.specs.RootObject.{of_database, root_members};
+    ghost use Rattle.hq_reply.specs.DataTexts.{HasData, data_text};
+    ghost use Rattle.hq_reply.specs.RootObject.{of_database};
     ghost use Rattle.hq_reply.specs.TableObject.{table_object};
     ghost use Rattle.hq_request.specs.Request.{is_answered};
     ghost use Rattle.hq_request.specs.declared.refusal.RequestRefusal.TheVariants as request;
@@ -93,11 +92,11 @@ impl Engine {
         session: &Session,
         request: &Ask,
         db: &mut D,
-    ) -> Result<Json, EngineRefusal>
+    ) -> Result<Answer, EngineRefusal>
         requires session { IsOfSession self.now.catalog.tables (meta_view self.now.meta) session.now (ask_view request.now) }
         requires catalog { D.tables db.old ≡ self.now.catalog.tables }
-        ensures value { let tables = self.now.catalog.tables in let meta = meta_view self.now.meta in IfOk result (λ json. IfSome (D.database db.old) (λ d.
-            json_view json ≡ table_object (of_database (schema_of tables meta) (grants_of session.now tables meta) d) (ask_view request.now).fields)) }
+        ensures value { let tables = self.now.catalog.tables in let meta = meta_view self.now.meta in IfOk result (λ answer. IfSome (D.database db.old) (λ d.
+            IsAnswer answer (table_object (of_database (schema_of tables meta) (grants_of session.now tables meta) d) (ask_view request.now).fields))) }
         ensures asks { Asks (statement_text self.now.catalog.tables (meta_view self.now.meta) (ask_view request.now))
             (record { asks = D.asks db.old; last = D.last db.old }) (record { asks = D.asks db.new; last = D.last db.new }) result }
         ensures statement { OnOk result (HasStatement self.now.catalog.tables (meta_view self.now.meta) session.now (Ok (ask_view request.now))) }
@@ -109,23 +108,25 @@ impl Engine {
         tables_are_resolved();
         match statement_text(alloc, &self.catalog, &self.meta, session, request)? {
             Some(text) => ask(alloc, db, text.as_slice()),
-            None => Ok(Json::Obj(Vec::new(alloc))),
+            None => Ok(Answer::Object(Vec::new(alloc))),
         }
     }
 
-    // The object of all root fields, where `tables` is that of those that start at a table.
-    fn object(
+    // The reply with all root fields, where `tables` answers with the object of those that start at a table.
+    fn reply(
         &self,
         alloc: Global,
         session: &Session,
         request: &Ask,
-        tables: Json,
-    ) -> Result<Json, Memory>
-        ensures { let schema = role_schema self.now.catalog.tables (meta_view self.now.meta) (role_of session.now.role) in let fs = (ask_view request.now).fields in
-            IfOk result (λ json. (of_table : FieldTree → JsonTree) → json_view tables ≡ table_object of_table fs → json_view json ≡ tree.obj (root_members schema of_table fs)) }
+        tables: Answer,
+    ) -> Result<Reply, Memory>
+        ensures status { IfOk result (λ reply. reply.status ≡ 200) }
+        ensures body { let schema = role_schema self.now.catalog.tables (meta_view self.now.meta) (role_of session.now.role) in
+            IfOk result (λ reply. HasData schema (ask_view request.now).fields tables reply.body) }
+        ensures kind { IfOk result (λ reply. tells_fault reply.body ≡ false) }
     {
         let role = Role::of(alloc, session)?;
-        root_object(alloc, self.schema(&role), &request.fields, tables)
+        data_reply(alloc, self.schema(&role), &request.fields, tables)
     }
 
     // The reply to a request of a session.
@@ -151,8 +152,7 @@ impl Engine {
         ensures later { D.faults db.old ≤ D.faults db.new }
     {
         let tables = self.tables(alloc, session, request, db)?;
-        let object = self.object(alloc, session, request, tables)?;
-        Ok(data_reply(alloc, object)?)
+        Ok(self.reply(alloc, session, request, tables)?)
     }
 
     /// The reply to a request of a session, over a database of the engine's catalog. The body has at most 1,048,576 bytes.

@@ -1,24 +1,23 @@
 //! The statement of a request: its text, and asking it.
 ghost use Rattle.std.specs.Prelude.{◌≡◌, ◌⊎◌, ◌≤◌, Err, Ok, IfOk, IfErr, IfSome, OnOk, true};
 ghost use Rattle.hq_ask_tree.specs.Request.{ask_view};
-ghost use Rattle.hq_base.specs.Json.{json_view};
 ghost use Rattle.hq_compile_laws.specs.Asked.{asked_statement};
 ghost use Rattle.hq_link.specs.Asked.{Asked, NotAsked};
 ghost use Rattle.hq_link.specs.Typed.{IsTyped};
 ghost use Rattle.hq_request_laws.specs.Formed.{IsOfSession};
 ghost use Rattle.hq_sql_text.specs.Readable.{Spells};
-ghost use Rattle.hq_sql_tree.specs.Meaning.{meaning};
 ghost use Rattle.hq_sql_tree.specs.Spelling.{select_text};
 ghost use Rattle.hq_sql_tree.specs.Tree.{SelectTree};
 ghost use Rattle.hq_terms.specs.Fits.{fits};
 ghost use Rattle.hq_terms.specs.Meta.{meta_view};
 ghost use Rattle.hq_engine.specs.Asking.{statement_text};
 ghost use Rattle.hq_engine.specs.Failures.{TellsDatabase};
-ghost use Rattle.hq_engine.specs.Statements.{HasStatement, IsStatement};
+ghost use Rattle.hq_engine.specs.Statements.{HasStatement, IsMeaning, IsStatement};
 
 use crate::EngineRefusal;
+use hq_answer::Answer;
 use hq_ask_tree::Ask;
-use hq_base::{Bytes, Json, Memory};
+use hq_base::{Bytes, Memory};
 use hq_link::{Database, DbRefusal};
 use hq_reply::has_table_field;
 use hq_sql_compile::compile;
@@ -69,10 +68,10 @@ pub(crate) fn ask<D: Database>(
     alloc: Global,
     db: &mut D,
     text: &[u8],
-) -> Result<Json, EngineRefusal>
+) -> Result<Answer, EngineRefusal>
     requires { (s : SelectTree) × Spells text.now s × IsTyped (D.tables db.old) s }
     ensures asked { Asked (D.asks db.old) (D.asks db.new) (D.last db.new) text.now ⊎ ((result ≡ Err EngineRefusal.Memory) × NotAsked (D.asks db.old) (D.asks db.new) (D.last db.old) (D.last db.new)) }
-    ensures answered { IfOk result (λ json. IfSome (D.database db.old) (λ d. (s : SelectTree) → Spells text.now s → json_view json ≡ meaning s (record { tables = D.tables db.old; database = d }))) }
+    ensures answered { IfOk result (λ answer. IfSome (D.database db.old) (IsMeaning (D.tables db.old) text.now answer)) }
     ensures failed { IfErr result (TellsDatabase (D.faults db.old) (D.faults db.new)) }
     ensures tables { D.tables db.new ≡ D.tables db.old }
     ensures database { D.database db.new ≡ D.database db.old }
@@ -80,7 +79,7 @@ pub(crate) fn ask<D: Database>(
 {
     one_tree();
     match db.run(alloc, text) {
-        Ok(data) => Ok(data),
+        Ok(answer) => Ok(answer),
         Err(DbRefusal::Failed { before, after }) => Err(EngineRefusal::Database { before, after }),
         Err(DbRefusal::Memory) => Err(EngineRefusal::Memory),
         Err(DbRefusal::NotSql) => unreachable!(),

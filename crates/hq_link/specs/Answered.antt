@@ -2,6 +2,8 @@
 use Rattle.std.specs.Prelude.{◌≡◌, ℕ, List, [], ◌∷◌, Option, Some, None, IfSome}
 use Rattle.hq_base.specs.Json as json
 use Rattle.hq_base.specs.Json.{JsonTree, names_of}
+use Rattle.hq_answer.specs.Answers.{IsAnswer}
+use Rattle.hq_answer.specs.declared.answer.Answer.{Answer}
 use Rattle.hq_terms.specs.Database.{Row}
 use Rattle.hq_terms.specs.declared.table.Table.{Table}
 use Rattle.hq_sql_tree.specs.Meaning.{meaning}
@@ -32,8 +34,11 @@ abbrev pub statement_names : SelectTree → Option (List (List ℕ))
 statement_names (tree.rows distinct outs from joins condition keys limit offset) = lone_names outs
 statement_names (tree.fold out inner alias) = object_names out.value
 
--- the text is that of a statement that fits the catalog, and this is its meaning over the database, where that is told
-pub record Answered (tables : List Table) (database : Option (List (List Row))) (text : List ℕ) (value : JsonTree) : Type 0 where
+-- the text is that of a statement that fits the catalog, and this answers with a value of its names, its meaning over the database
+-- where that is told
+pub record Answered (tables : List Table) (database : Option (List (List Row))) (text : List ℕ) (answer : Answer) : Type 0 where
+  pub value : JsonTree
+  pub is : IsAnswer answer value
   pub statement : SelectTree
   pub spelled : Spells text statement
   pub typed : IsTyped tables statement

@@ -2,14 +2,13 @@ ghost use Rattle.std.specs.Prelude.{◌≡◌, ◌⊎◌, ◌≤◌, ℕ, true, 
 ghost use Rattle.hq_terms.specs.Catalog.{is_catalog};
 ghost use Rattle.hq_terms.specs.Database.{Row, is_database};
 ghost use Rattle.hq_terms.specs.declared.table.Table.{Table};
-ghost use Rattle.hq_base.specs.Json.{json_view};
 ghost use Rattle.hq_sql_tree.specs.Tree.{SelectTree};
 ghost use Rattle.hq_sql_text.specs.Readable.{Spells};
 ghost use Rattle.hq_link.specs.Answered.{Answered, NotFitting};
 ghost use Rattle.hq_link.specs.Asked.{Asked, NotAsked, TellsFailure};
 
 use crate::DbRefusal;
-use hq_base::Json;
+use hq_answer::Answer;
 use std::alloc::Global;
 
 /// A database that answers texts of SQL. No call changes what it holds.
@@ -32,15 +31,15 @@ pub trait Database {
     fn faults(&self) -> u64
         ensures { result ≡ faults self.now };
 
-    /// Answers a text: the JSON that the statement means.
-    fn run(&mut self, alloc: Global, text: &[u8]) -> Result<Json, DbRefusal>
+    /// Answers a text: the JSON that the statement means, as text.
+    fn run(&mut self, alloc: Global, text: &[u8]) -> Result<Answer, DbRefusal>
         ensures failed { IfErr result (λ e. TellsFailure (faults self.old) (faults self.new) e) }
 
         // Each text is counted and kept, unless memory is wanted before it could be.
         ensures asked { Asked (asks self.old) (asks self.new) (last self.new) text.now ⊎ ((result ≡ Err DbRefusal.Memory) × NotAsked (asks self.old) (asks self.new) (last self.old) (last self.new)) }
 
         // Where it is answered, the text is that of a statement that fits the catalog, and this is its meaning.
-        ensures answered { IfOk result (λ json. Answered (tables self.old) (database self.old) text.now (json_view json)) }
+        ensures answered { IfOk result (λ answer. Answered (tables self.old) (database self.old) text.now answer) }
 
         // NotSql comes where no statement is spelled so, and NotTyped where one is that does not fit the catalog.
         ensures not_sql { result ≡ Err DbRefusal.NotSql → (s : SelectTree) → Spells text.now s → ⊥ }

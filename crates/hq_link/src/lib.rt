@@ -1,4 +1,4 @@
-//! The link to a database: a text of SQL in, JSON out.
+//! The link to a database: a text of SQL in, the text of its JSON out.
 #![tactic(auto)]
 
 mod database;

@@ -1,3 +1,4 @@
-mod Members
 mod Resolved
+mod Roots
+mod Texts
 mod Told

@@ -1,4 +1,4 @@
 pub mod DataTexts
 pub mod RootObject
-pub mod RootPairs
+pub mod RootTexts
 pub mod TableObject

@@ -6,5 +6,4 @@ mod root;
 mod tables;
 
 pub use reply::{data_reply, fault_reply, tells_fault};
-pub use root::root_object;
 pub use tables::{has_table_field, tables_are_resolved};

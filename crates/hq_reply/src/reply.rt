@@ -1,25 +1,20 @@
 //! The reply of data, and that of a fault.
-ghost use Rattle.std.specs.Prelude.{◌≡◌, IfOk, codes, true, false};
+ghost use Rattle.std.specs.Prelude.{◌≡◌, IfOk, map, true, false};
+ghost use Rattle.hq_ask_tree.specs.Fields.{fields_of, keyed_field_view};
 ghost use Rattle.hq_base.specs.Compact.{compact};
-ghost use Rattle.hq_base.specs.Json as tree;
 ghost use Rattle.hq_base.specs.Json.{json_view};
-ghost use Rattle.hq_reply.specs.DataTexts.{data_text};
 ghost use Rattle.hq_faults.specs.FaultTexts.{fault_text, tells_fault};
+ghost use Rattle.hq_reply.specs.DataTexts.{HasData};
+ghost use Rattle.hq_schema.specs.Schema.{schema_view};
 
-use hq_base::{Bytes, Json, Member, Memory, Reply, Txt};
+use crate::root::put_fields;
+use crate::tables::members_in;
+use hq_answer::Answer;
+use hq_ask_tree::AskFields;
+use hq_base::{Bytes, Json, Memory, Reply};
 use hq_faults::{RequestFault, fault_json};
+use hq_schema::Schema;
 use std::alloc::Global;
-
-// An object with the one member `data`.
-fn data_object(alloc: Global, value: Json) -> Result<Json, Memory>
-    ensures { IfOk result (λ json. json_view json ≡ tree.obj (tree.member (codes "data") (json_view value) tree.no_member)) }
-{
-    let mut name = Txt::new(alloc);
-    name.push_str("data")?;
-    let mut members = Vec::new(alloc);
-    members.push(Member { name, value })?;
-    Ok(Json::Obj(members))
-}
 
 // The reply whose body is a JSON value.
 fn reply_of(alloc: Global, json: &Json) -> Result<Reply, Memory>
@@ -31,15 +26,23 @@ fn reply_of(alloc: Global, json: &Json) -> Result<Reply, Memory>
     Ok(Reply { status: 200, body })
 }
 
-/// The reply whose data is this value.
-#[tactic(auto, using(crate::proofs::Told::tells_not))]
-pub fn data_reply(alloc: Global, value: Json) -> Result<Reply, Memory>
+/// The reply whose data is the object of root fields for a role with this schema, where `tables` answers with the object of those
+/// that start at a table. Their text is copied once, into the body.
+pub fn data_reply(
+    alloc: Global,
+    schema: &Schema,
+    fields: &AskFields,
+    tables: Answer,
+) -> Result<Reply, Memory>
     ensures status { IfOk result (λ reply. reply.status ≡ 200) }
-    ensures body { IfOk result (λ reply. reply.body ≡ data_text (json_view value)) }
+    ensures body { let fs = fields_of (map keyed_field_view fields.now.items) in IfOk result (λ reply. HasData (schema_view schema.now) fs tables reply.body) }
     ensures kind { IfOk result (λ reply. tells_fault reply.body ≡ false) }
 {
-    let json = data_object(alloc, value)?;
-    reply_of(alloc, &json)
+    let mut body = Bytes::new(alloc);
+    body.append(br#"{"data":{"#)?;
+    put_fields(alloc, &mut body, schema, fields, members_in(alloc, tables))?;
+    body.append(b"}}")?;
+    Ok(Reply { status: 200, body })
 }
 
 /// The reply that tells a fault.

@@ -1,17 +1,15 @@
-//! The object of root fields.
-ghost use Rattle.std.specs.Prelude.{◌≡◌, IfOk, OnOk, map, option_map};
-ghost use Rattle.std.specs.Vec.Iter.{into_iter_items};
-ghost use Rattle.hq_ask_tree.specs.Fields.{FieldTree, FieldTrees, field, fields_of, field_view, keyed_field_view};
-ghost use Rattle.hq_base.specs.Json as tree;
-ghost use Rattle.hq_base.specs.Json.{JsonTree, json_view, member_view, members_of};
+//! The text of the object of root fields.
+ghost use Rattle.std.specs.Prelude.{◌≡◌, ◌++◌, IfOk, OnOk, map, option_map};
+ghost use Rattle.hq_ask_tree.specs.Fields.{fields_of, field_view, keyed_field_view};
+ghost use Rattle.hq_base.specs.Json.{json_view};
 ghost use Rattle.hq_schema.specs.Schema.{schema_view};
-ghost use Rattle.hq_reply.specs.RootObject.{own_value, root_members, no_queries_text};
-ghost use Rattle.hq_reply.specs.RootPairs.{root_pair};
-ghost use Rattle.hq_reply.specs.TableObject.{table_members, table_object};
+ghost use Rattle.hq_reply.specs.RootObject.{own_value, no_queries_text};
+ghost use Rattle.hq_reply.specs.RootTexts.{field_text, keyed_text, members_text, texts_behind, texts_in, texts_of};
 
-use crate::tables::{members_in, next_value};
+use crate::tables::put_next;
+use hq_answer::{AnswerMember, put_comma, put_quoted};
 use hq_ask_tree::{AskField, AskFields, KeyedAskField};
-use hq_base::{Json, Member, Memory, Txt};
+use hq_base::{Bytes, Json, Memory, Txt};
 use hq_introspect::answer;
 use hq_schema::Schema;
 use std::alloc::Global;
@@ -38,40 +36,55 @@ fn own_value(alloc: Global, schema: &Schema, field: &AskField) -> Result<Option<
     }
 }
 
-// A root field as a member of the object; `left` are the members of the fields that start at a table, from this one on.
-fn root_member(
+// Appends the value of a root field: its own, or the next of the members that are left.
+fn put_value(
     alloc: Global,
+    out: &mut Bytes,
     schema: &Schema,
-    keyed: &KeyedAskField,
-    left: &mut IntoIter<Member>,
-) -> Result<Member, Memory>
-    ensures value { IfOk result (λ m. (of_table : FieldTree → JsonTree) (fs : FieldTrees) → let f = keyed_field_view keyed.now in
-        members_of (map member_view (into_iter_items left.old)) ≡ table_members of_table (field f.0 f.1 fs) → member_view m ≡ root_pair (schema_view schema.now) of_table f) }
-    ensures left { OnOk result ((of_table : FieldTree → JsonTree) (fs : FieldTrees) → let f = keyed_field_view keyed.now in
-        members_of (map member_view (into_iter_items left.old)) ≡ table_members of_table (field f.0 f.1 fs) → members_of (map member_view (into_iter_items left.new)) ≡ table_members of_table fs) }
+    field: &AskField,
+    left: &mut IntoIter<AnswerMember>,
+) -> Result<(), Memory>
+    ensures text { OnOk result (out.new ≡ out.old ++ field_text (schema_view schema.now) (texts_in left.old) (field_view field.now)) }
+    ensures left { OnOk result (texts_in left.new ≡ texts_behind (schema_view schema.now) (texts_in left.old) (field_view field.now)) }
 {
-    let name = keyed.key().copy(alloc)?;
-    let value = match own_value(alloc, schema, keyed.field())? {
-        Some(value) => value,
-        None => next_value(left),
-    };
-    Ok(Member { name, value })
+    match own_value(alloc, schema, field)? {
+        Some(value) => value.write_to(alloc, out),
+        None => put_next(out, left),
+    }
 }
 
-/// The object of root fields for a role with this schema, where `tables` is the object of those that start at a table.
-pub fn root_object(
+// The same with the field's key before it.
+fn put_field(
     alloc: Global,
+    out: &mut Bytes,
+    schema: &Schema,
+    keyed: &KeyedAskField,
+    left: &mut IntoIter<AnswerMember>,
+) -> Result<(), Memory>
+    ensures text { OnOk result (out.new ≡ out.old ++ keyed_text (schema_view schema.now) (texts_in left.old) (keyed_field_view keyed.now)) }
+    ensures left { OnOk result (texts_in left.new ≡ texts_behind (schema_view schema.now) (texts_in left.old) (keyed_field_view keyed.now).1) }
+{
+    put_quoted(out, keyed.key())?;
+    out.push(b':')?;
+    put_value(alloc, out, schema, keyed.field(), left)
+}
+
+/// Appends the members of the object of root fields for a role with this schema, where `tables` are those of the fields that start
+/// at a table. Each of these is let go when it is written.
+pub(crate) fn put_fields(
+    alloc: Global,
+    out: &mut Bytes,
     schema: &Schema,
     fields: &AskFields,
-    tables: Json,
-) -> Result<Json, Memory>
-    ensures { IfOk result (λ json. (of_table : FieldTree → JsonTree) → let fs = fields_of (map keyed_field_view fields.now.items) in
-        json_view tables ≡ table_object of_table fs → json_view json ≡ tree.obj (root_members (schema_view schema.now) of_table fs)) }
+    tables: Vec<AnswerMember>,
+) -> Result<(), Memory>
+    ensures { let fs = fields_of (map keyed_field_view fields.now.items) in
+        OnOk result (out.new ≡ out.old ++ members_text (schema_view schema.now) (texts_of tables.items) fs) }
 {
-    let mut left = members_in(alloc, tables).into_iter();
-    let mut members = Vec::new(alloc);
-    for keyed in fields {
-        members.push(root_member(alloc, schema, keyed, &mut left)?)?;
+    let mut left = tables.into_iter();
+    for (at, keyed) in fields.iter().enumerate() {
+        put_comma(out, at)?;
+        put_field(alloc, out, schema, keyed, &mut left)?;
     }
-    Ok(Json::Obj(members))
+    Ok(())
 }

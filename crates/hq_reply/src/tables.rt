@@ -1,18 +1,20 @@
-//! Root fields that start at a table, and the object that their one statement gives.
-ghost use Rattle.std.specs.Prelude.{◌≡◌, ◌∷◌, ℕ, List as Items, map, false};
-ghost use Rattle.std.specs.Vec.Iter.{into_iter_items};
+//! Root fields that start at a table, and the members of the object that their one statement gives.
+ghost use Rattle.std.specs.Prelude.{◌≡◌, ◌++◌, List as Items, None, OnOk, map, false};
+ghost use Rattle.hq_answer.specs.Answers.{IsAnswer, named_text, named_texts};
 ghost use Rattle.hq_ask_tree.specs.Fields.{FieldTree, FieldTrees, fields_of, field_view, keyed_field_view};
 ghost use Rattle.hq_ask_tree.specs.Root.{is_table_field};
 ghost use Rattle.hq_base.specs.Json as tree;
-ghost use Rattle.hq_base.specs.Json.{JsonTree, MemberTrees, json_view, member_view, members_of};
+ghost use Rattle.hq_base.specs.Json.{JsonTree, MemberTrees};
 ghost use Rattle.hq_terms.specs.Database.{Row};
 ghost use Rattle.hq_terms.specs.Grants.{Grants};
 ghost use Rattle.hq_terms.specs.Schema.{Schema};
 ghost use Rattle.hq_reply.specs.RootObject.{has_table_field};
+ghost use Rattle.hq_reply.specs.RootTexts.{texts_in, texts_left, value_text};
 ghost use Rattle.hq_reply.specs.TableObject.{IsResolved, table_object};
 
+use hq_answer::{Answer, AnswerMember};
 use hq_ask_tree::{AskField, AskFields};
-use hq_base::{Json, Member, Members};
+use hq_base::{Bytes, Memory};
 use std::alloc::Global;
 use std::vec::IntoIter;
 
@@ -42,23 +44,23 @@ pub fn has_table_field(fields: &AskFields) -> bool
 }
 
 /// The members of an object; another value has none.
-pub(crate) fn members_in(alloc: Global, value: Json) -> Members
-    ensures { (ms : MemberTrees) → json_view value ≡ tree.obj ms → members_of (map member_view result.items) ≡ ms }
+pub(crate) fn members_in(alloc: Global, answer: Answer) -> Vec<AnswerMember>
+    ensures { (ms : MemberTrees) → IsAnswer answer (tree.obj ms) → map named_text result.items ≡ named_texts ms }
 {
-    match value {
-        Json::Obj(members) => members,
-        _ => Vec::new(alloc),
+    match answer {
+        Answer::Object(members) => members,
+        Answer::Other(_) => Vec::new(alloc),
     }
 }
 
-/// The value of the next member, null where there is none.
-pub(crate) fn next_value(left: &mut IntoIter<Member>) -> Json
-    ensures value { (name : Items ℕ) (j : JsonTree) (ms : MemberTrees) → members_of (map member_view (into_iter_items left.old)) ≡ tree.member name j ms → json_view result ≡ j }
-    ensures left { (name : Items ℕ) (j : JsonTree) (ms : MemberTrees) → members_of (map member_view (into_iter_items left.old)) ≡ tree.member name j ms → members_of (map member_view (into_iter_items left.new)) ≡ ms }
+/// Appends the text of the next member, which is let go, and `null` where there is none.
+pub(crate) fn put_next(out: &mut Bytes, left: &mut IntoIter<AnswerMember>) -> Result<(), Memory>
+    ensures text { OnOk result (out.new ≡ out.old ++ value_text None (texts_in left.old)) }
+    ensures left { OnOk result (texts_in left.new ≡ texts_left None (texts_in left.old)) }
 {
     match left.next() {
-        Some(member) => member.value,
-        None => Json::Null,
+        Some(member) => out.append(member.text.as_slice()),
+        None => out.append(b"null"),
     }
 }
 

@@ -1,8 +1,9 @@
 //! Statements of SQL over a directory that is loaded.
 
 use crate::loaded::loaded;
-use hq_base::Json;
-use hq_case::{Case, Stop, push_json};
+use hq_answer::Answer;
+use hq_base::Bytes;
+use hq_case::{Case, Stop, push_bytes};
 use hq_db::SqlDb;
 use hq_link::{Database, DbRefusal};
 use hq_loading::Loaded;
@@ -18,14 +19,20 @@ fn database(loaded: Loaded) -> SqlDb<MemTables> {
     SqlDb::new(MemTables::new(catalog, rows))
 }
 
-fn answered(alloc: Global, loaded: Loaded, text: &[u8]) -> Result<Json, DbRefusal> {
+fn answered(alloc: Global, loaded: Loaded, text: &[u8]) -> Result<Answer, DbRefusal> {
     let mut database = database(loaded);
     database.run(alloc, text)
 }
 
+fn push_text(alloc: Global, answer: &Answer, out: &mut String) -> Result<(), Stop> {
+    let mut text = Bytes::new(alloc);
+    answer.write_to(&mut text)?;
+    push_bytes(alloc, text.as_slice(), out)
+}
+
 fn push_answered(alloc: Global, loaded: Loaded, text: &[u8], out: &mut String) -> Result<(), Stop> {
     match answered(alloc, loaded, text) {
-        Ok(json) => push_json(alloc, &json, out),
+        Ok(answer) => push_text(alloc, &answer, out),
         Err(refusal) => Ok(write!(out, "{refusal:?}")?),
     }
 }

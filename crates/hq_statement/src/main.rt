@@ -95,9 +95,9 @@ fn answer<F: Files, S: Source, K: Sink>(
     let dir = Txt::of(alloc, dir.as_bytes())?;
     let mut db = open(alloc, files, &dir)?;
     let text = read_all(alloc, input, STATEMENT_LIMIT)?;
-    let json = db.run(alloc, text.as_slice())?;
+    let answer = db.run(alloc, text.as_slice())?;
     let mut bytes = Bytes::new(alloc);
-    json.write_to(alloc, &mut bytes)?;
+    answer.write_to(&mut bytes)?;
     write_all(out, bytes.as_slice())?;
     Ok(())
 }

@@ -1,6 +1,7 @@
-use Rattle.std.proofs.Common.{◌≡◌, ℕ, List, Option, Some, None, Err, ap, subst}
+use Rattle.std.proofs.Common.{◌≡◌, ℕ, List, Option, Some, None, Err, ap, subst, ◌∙◌}
 use Rattle.std.specs.Prelude.{IfSome}
-use Rattle.hq_base.specs.Json.{JsonTree, json_view}
+use Rattle.hq_answer.specs.Answers.{IsAnswer, answer_of}
+use Rattle.hq_answer.specs.declared.answer.Answer.{Answer}
 use Rattle.hq_terms.specs.Database.{Row}
 use Rattle.hq_terms.specs.declared.table.Table.{Table}
 use Rattle.hq_sql_tree.specs.Meaning.{meaning}
@@ -8,14 +9,15 @@ use Rattle.hq_sql_tree.specs.Tree.{SelectTree}
 use Rattle.hq_sql_text.specs.Readable.{Spells}
 use Rattle.hq_link.specs.Answered.{Answered, NotFitting}
 use Rattle.hq_link.specs.Typed.{IsTyped}
+use Rattle.hq_engine.specs.Statements.{IsMeaning}
 use Rattle.hq_engine.proofs.statement.ask.Goals as goal
 
 -- what is answered is the meaning of each statement that the text spells
-answered_means : (tables : List Table) (text : List ℕ) (value : JsonTree) → ((a b : SelectTree) → Spells text a → Spells text b → a ≡ b) → (database : Option (List (List Row))) → Answered tables database text value
-    → IfSome database (λ d. (s : SelectTree) → Spells text s → value ≡ meaning s (record { tables = tables; database = d }))
-answered_means tables text value one None answer = tt
-answered_means tables text value one (Some d) answer =
-    λ s spelled. subst (λ (t : SelectTree). value ≡ meaning t (record { tables = tables; database = d })) (one answer.statement s answer.spelled spelled) answer.meant
+answered_means : (tables : List Table) (text : List ℕ) (answer : Answer) → ((a b : SelectTree) → Spells text a → Spells text b → a ≡ b) → (database : Option (List (List Row))) → Answered tables database text answer
+    → IfSome database (IsMeaning tables text answer)
+answered_means tables text answer one None answered = tt
+answered_means tables text answer one (Some d) answered =
+    λ s spelled. subst (λ (t : SelectTree). IsAnswer answer (meaning t (record { tables = tables; database = d }))) (one answered.statement s answered.spelled spelled) (answered.is ∙ ap answer_of answered.meant)
 
 -- a statement that fits is not one that does not
 both_fit : (tables : List Table) (text : List ℕ) → ((a b : SelectTree) → Spells text a → Spells text b → a ≡ b) → (s : SelectTree) → Spells text s → IsTyped tables s → NotFitting tables text → ⊥
@@ -30,4 +32,4 @@ unreachable-requires-in-Err-NotTyped g c =
 
 pub returns-in-Ok-clause-answered : goal.returns-in-Ok-clause-answered
 returns-in-Ok-clause-answered g c =
-    answered_means (g.D.Database.tables c.args.db.now) c.args.text.now (json_view c.in-Ok.data) (c.one_tree.ensures c.args.text.now) (g.D.Database.database c.args.db.now) c.in-Ok.ensures.answered
+    answered_means (g.D.Database.tables c.args.db.now) c.args.text.now c.in-Ok.answer (c.one_tree.ensures c.args.text.now) (g.D.Database.database c.args.db.now) c.in-Ok.ensures.answered

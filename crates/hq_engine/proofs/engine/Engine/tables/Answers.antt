@@ -1,7 +1,6 @@
 use Rattle.std.proofs.Common.{sym, subst, ◌∙◌}
 use Rattle.std.proofs.lemmas.Result.{IfOk-weaker}
 use Rattle.hq_ask_tree.specs.Request.{ask_view}
-use Rattle.hq_base.specs.Json.{json_view}
 use Rattle.hq_compile_laws.specs.Asked.{asked_statement}
 use Rattle.hq_link.specs.Typed.{IsTyped}
 use Rattle.hq_terms.specs.Grants.{grants_of}
@@ -29,7 +28,7 @@ returns-in-Some-clause-value g c =
     let there = text_there tables meta ask c.in_ok-text.field-0 c.in-Some.text c.in_ok-text.ensures.text c.in-Some.is in
     let is = c.in_ok-text.ensures.statement there.0 in
     IfOk-weaker c.ask.result _ _
-    (λ json has.
+    (λ answer has.
     gives_over tables meta session ask (λ d. c.tables_are_resolved.ensures.values (schema_of tables meta) (grants_of session tables meta) d ask.fields) (g.D.Database.tables c.args.db.now) c.as_slice.result.now
-    (g.D.Database.database c.args.db.now) (json_view json) c.requires.catalog (c.as_slice.ensures ∙ there.1) is (g.met.D.Database.database_fits c.args.db.now) has)
+    (g.D.Database.database c.args.db.now) answer c.requires.catalog (c.as_slice.ensures ∙ there.1) is (g.met.D.Database.database_fits c.args.db.now) has)
     c.ask.ensures.answered
