@@ -6,4 +6,4 @@ use Rattle.hq_arguments.specs.declared.reading.Given.{Given as RustGiven}
 
 -- what an argument that is given is seen as
 abbrev pub given_view : RustGiven → Given
-given_view g = record { arg = arg_view g.arg.now; value = json_view g.value }
+given_view g = record { arg = arg_view g.arg.now; value = json_view g.value.value }

@@ -33,18 +33,19 @@ use hq_schema::{ArgDefList, FieldDef, FieldOrigin};
 use hq_terms::{Bexp, ColId, ColList, TableId};
 use std::alloc::Global;
 
-// The argument `where` of a list of rows of a table.
+// The argument `where` of a list of rows of a table, in a box, so that it is let go in one step.
 fn where_of(
     alloc: Global,
     context: &Context<'_>,
     args: &ArgDefList,
     arguments: &[Argument],
     t: TableId,
-) -> Result<Bexp, ArgRefusal>
-    ensures { let c = context_view context.now in Gives bexp_view refusal.Memory (where_due c t (given_named c (map arg_view args.now) (map argument_view arguments.now) (codes "where"))) result }
+) -> Result<Box<Bexp>, ArgRefusal>
+    ensures { let c = context_view context.now in Gives (λ b. bexp_view b.value) refusal.Memory (where_due c t (given_named c (map arg_view args.now) (map argument_view arguments.now) (codes "where"))) result }
 {
     let given = given_named(alloc, context, args, arguments, "where")?;
-    where_filter(alloc, context, t, given)
+    let filter = where_filter(alloc, context, t, given)?;
+    Ok(Box::new(alloc, filter)?)
 }
 
 // The argument `order_by`.
@@ -104,7 +105,7 @@ fn list(
     let offset = rows_of(alloc, context, args, arguments, "offset")?;
     let distinct = distinct_on_of(alloc, context, args, arguments, sorts.as_slice())?;
     Ok(Args {
-        filter,
+        filter: Box::into_inner(filter),
         sorts,
         limit,
         offset,

@@ -16,11 +16,11 @@ use hq_schema::{ArgDef, ArgDefList, arg_named};
 use std::alloc::Global;
 use std::slice;
 
-/// An argument that is given, with its definition. Its value is not null.
+/// An argument that is given, with its definition. Its value is not null, and lies in a box, so that it is let go in one step.
 #[derive(Drop)]
 pub struct Given<'a> {
     pub arg: &'a ArgDef,
-    pub value: Json,
+    pub value: Box<Json>,
 }
 
 /// The elements of a list; a single value stands for a list of one.
@@ -80,7 +80,10 @@ pub fn given_of<'a>(
 {
     match source(alloc, context.vars, &argument.value.value)? {
         None | Some(Json::Null) => Ok(None),
-        Some(value) => Ok(Some(Given { arg, value })),
+        Some(value) => Ok(Some(Given {
+            arg,
+            value: Box::new(alloc, value)?,
+        })),
     }
 }
 

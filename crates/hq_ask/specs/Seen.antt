@@ -5,4 +5,4 @@ use Rattle.hq_ask.specs.declared.known.Known.{Known as RustKnown}
 use Rattle.hq_schema.specs.Schema.{field_view}
 
 abbrev pub known_view : RustKnown → Known
-known_view k = (field_view k.def.now, field_args_view k.args)
+known_view k = (field_view k.def.now, field_args_view k.args.value)

@@ -155,6 +155,72 @@ fn parts_below(
     ask_parts(alloc, context, to, t, &field.below)
 }
 
+// The row behind a relationship to a table, with its fields in the type that it leads to.
+#[cycle(asking)]
+fn ask_object(
+    alloc: Global,
+    context: &Context<'_>,
+    to: TypeId,
+    table: TableId,
+    rel: RelId,
+    field: &CollectedField<'_>,
+) -> Result<AskField, CoerceRefusal>
+    ensures { Gives field_view refusal.Memory (mapped (object rel) (fields_due (context_view context.now) to table (parts_seen field.now).below)) result }
+{
+    let fields = fields_below(alloc, context, to, table, field)?;
+    Ok(object(rel, fields))
+}
+
+// A list of a table's rows, with their fields.
+#[cycle(asking)]
+fn ask_list(
+    alloc: Global,
+    context: &Context<'_>,
+    to: TypeId,
+    table: TableId,
+    rel: Option<RelId>,
+    args: Box<Args>,
+    field: &CollectedField<'_>,
+) -> Result<AskField, CoerceRefusal>
+    ensures { Gives field_view refusal.Memory (mapped (list (origin_of table rel) (arguments_view args.value)) (fields_due (context_view context.now) to table (parts_seen field.now).below)) result }
+{
+    let fields = fields_below(alloc, context, to, table, field)?;
+    Ok(list(table, rel, Box::into_inner(args), fields))
+}
+
+// The row of a key of a table, with its fields.
+#[cycle(asking)]
+fn ask_row(
+    alloc: Global,
+    context: &Context<'_>,
+    to: TypeId,
+    table: TableId,
+    key: ValList,
+    field: &CollectedField<'_>,
+) -> Result<AskField, CoerceRefusal>
+    ensures { Gives field_view refusal.Memory (mapped (by_key table key) (fields_due (context_view context.now) to table (parts_seen field.now).below)) result }
+{
+    let fields = fields_below(alloc, context, to, table, field)?;
+    Ok(by_key(table, key, fields))
+}
+
+// The aggregates over a list of a table's rows.
+#[cycle(asking)]
+fn ask_aggregate(
+    alloc: Global,
+    context: &Context<'_>,
+    to: TypeId,
+    table: TableId,
+    rel: Option<RelId>,
+    args: Box<Args>,
+    field: &CollectedField<'_>,
+) -> Result<AskField, CoerceRefusal>
+    ensures { Gives field_view refusal.Memory (mapped (aggregate (origin_of table rel) (arguments_view args.value)) (parts_due (context_view context.now) to table (parts_seen field.now).below)) result }
+{
+    let parts = parts_below(alloc, context, to, table, field)?;
+    Ok(aggregate(table, rel, Box::into_inner(args), parts))
+}
+
 // A field with what stands below it in the type that it leads to.
 #[cycle(asking)]
 fn with_below(
@@ -169,21 +235,11 @@ fn with_below(
 {
     match head {
         Head::Leaf(leaf) => Ok(leaf),
-        Head::Object { rel, table } => {
-            let fields = fields_below(alloc, context, to, table, field)?;
-            Ok(object(rel, fields))
-        }
-        Head::List { table, rel, args } => {
-            let fields = fields_below(alloc, context, to, table, field)?;
-            Ok(list(table, rel, args, fields))
-        }
-        Head::Key { table, key } => {
-            let fields = fields_below(alloc, context, to, table, field)?;
-            Ok(by_key(table, key, fields))
-        }
+        Head::Object { rel, table } => ask_object(alloc, context, to, table, rel, field),
+        Head::List { table, rel, args } => { ask_list(alloc, context, to, table, rel, args, field) }
+        Head::Key { table, key } => ask_row(alloc, context, to, table, key, field),
         Head::Aggregate { table, rel, args } => {
-            let parts = parts_below(alloc, context, to, table, field)?;
-            Ok(aggregate(table, rel, args, parts))
+            ask_aggregate(alloc, context, to, table, rel, args, field)
         }
         Head::Introspect { type_name } => introspect(alloc, context, to, t, field, type_name),
     }

@@ -5,7 +5,9 @@ ghost use Rattle.hq_arguments.specs.Context.{context_view};
 ghost use Rattle.hq_arguments.specs.FieldArguments.{field_args_view};
 ghost use Rattle.hq_ask.specs.Heads.{leaf, list_head_due, aggregate_head_due, head_by};
 ghost use Rattle.hq_ask.specs.HeadSeen.{head_view};
+ghost use Rattle.hq_ask.specs.Known.{rows_of};
 ghost use Rattle.hq_ask.specs.Seen.{known_view};
+ghost use Rattle.hq_ask_tree.specs.Arguments.{arguments_view};
 ghost use Rattle.hq_ask_tree.specs.Fields.{field_view};
 ghost use Rattle.hq_collect.specs.TreeSeen.{parts_seen};
 ghost use Rattle.hq_coerce.specs.declared.refusal.CoerceRefusal.TheVariants as refusal;
@@ -21,7 +23,8 @@ use hq_schema::{FieldOrigin, TypeId};
 use hq_terms::{RelId, TableId};
 use std::alloc::Global;
 
-/// A field before what stands below it. Each table is that of the rows that stand below.
+/// A field before what stands below it. Each table is that of the rows that stand below. Arguments lie in a box, so that they are
+/// let go in one step.
 #[derive(Drop)]
 pub enum Head {
     /// A field without fields of its own.
@@ -33,7 +36,7 @@ pub enum Head {
     List {
         table: TableId,
         rel: Option<RelId>,
-        args: Args,
+        args: Box<Args>,
     },
     Key {
         table: TableId,
@@ -42,15 +45,28 @@ pub enum Head {
     Aggregate {
         table: TableId,
         rel: Option<RelId>,
-        args: Args,
+        args: Box<Args>,
     },
     Introspect {
         type_name: Option<Txt>,
     },
 }
 
+// The arguments of a list, in a box.
+fn boxed_rows(
+    alloc: Global,
+    known: Known<'_>,
+    field: &CollectedField<'_>,
+) -> Result<Box<Args>, CoerceRefusal>
+    ensures { Gives (λ args. arguments_view args.value) refusal.Memory (rows_of (parts_seen field.now).head (known_view known.entry).1) result }
+{
+    let args = rows_of(Box::into_inner(known.args), field)?;
+    Ok(Box::new(alloc, args)?)
+}
+
 // A list of a table.
 fn list_head(
+    alloc: Global,
     table: TableId,
     rel: Option<RelId>,
     known: Known<'_>,
@@ -58,12 +74,13 @@ fn list_head(
 ) -> Result<Head, CoerceRefusal>
     ensures { Gives head_view refusal.Memory (list_head_due table rel (parts_seen field.now).head (known_view known.entry)) result }
 {
-    let args = rows_of(known.args, field)?;
+    let args = boxed_rows(alloc, known, field)?;
     Ok(Head::List { table, rel, args })
 }
 
 // The aggregates over a list of a table.
 fn aggregate_head(
+    alloc: Global,
     table: TableId,
     rel: Option<RelId>,
     known: Known<'_>,
@@ -71,7 +88,7 @@ fn aggregate_head(
 ) -> Result<Head, CoerceRefusal>
     ensures { Gives head_view refusal.Memory (aggregate_head_due table rel (parts_seen field.now).head (known_view known.entry)) result }
 {
-    let args = rows_of(known.args, field)?;
+    let args = boxed_rows(alloc, known, field)?;
     Ok(Head::Aggregate { table, rel, args })
 }
 
@@ -104,20 +121,20 @@ pub fn head_of(
             Ok(Head::Object { rel, table })
         }
         FieldOrigin::List(rel) => {
-            list_head(context.scope.remote(t, rel), Some(rel), known, field)
+            list_head(alloc, context.scope.remote(t, rel), Some(rel), known, field)
         }
         FieldOrigin::ListAggregate(rel) => {
-            aggregate_head(context.scope.remote(t, rel), Some(rel), known, field)
+            aggregate_head(alloc, context.scope.remote(t, rel), Some(rel), known, field)
         }
-        FieldOrigin::Rows(table) => list_head(table, None, known, field),
-        FieldOrigin::RowsAggregate(table) => aggregate_head(table, None, known, field),
+        FieldOrigin::Rows(table) => list_head(alloc, table, None, known, field),
+        FieldOrigin::RowsAggregate(table) => aggregate_head(alloc, table, None, known, field),
         FieldOrigin::RowByKey(table) => {
-            let key = key_of(known.args, field)?;
+            let key = key_of(Box::into_inner(known.args), field)?;
             Ok(Head::Key { table, key })
         }
         FieldOrigin::Schema => Ok(Head::Introspect { type_name: None }),
         FieldOrigin::Type => {
-            let name = type_name_of(known.args, field)?;
+            let name = type_name_of(Box::into_inner(known.args), field)?;
             Ok(Head::Introspect {
                 type_name: Some(name),
             })

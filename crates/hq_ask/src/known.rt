@@ -25,11 +25,11 @@ use hq_schema::{FieldDef, Schema, TypeId};
 use hq_terms::{ColId, TableId};
 use std::alloc::Global;
 
-/// The definition of a field in a schema, and its coerced arguments.
+/// The definition of a field in a schema, and its coerced arguments, which lie in a box, so that they are let go in one step.
 #[derive(Drop)]
 pub struct Known<'a> {
     pub def: &'a FieldDef,
-    pub args: FieldArgs,
+    pub args: Box<FieldArgs>,
 }
 
 fn place_of(field: &Field) -> u64
@@ -85,7 +85,10 @@ fn known_of<'a>(
         return Err(refused(RuleId::LeafFieldSelections, field));
     }
     let args = arguments_of(alloc, context, t, def, field)?;
-    Ok(Known { def, args })
+    Ok(Known {
+        def,
+        args: Box::new(alloc, args)?,
+    })
 }
 
 // The definition of a collected field in the object type of a place.

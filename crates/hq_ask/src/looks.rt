@@ -67,8 +67,8 @@ fn keyed(key: Txt, field: IntroField) -> KeyedIntroField
 }
 
 // Whether a field of a type of introspection asks for deprecated things.
-fn flag_of(known: &Known<'_>, field: &CollectedField<'_>) -> Result<bool, CoerceRefusal>
-    ensures { let k = known_view known.now in Gives (λ b. b) refusal.Memory (flag_by (parts_seen field.now).head k k.0.origin) result }
+fn flag_of(known: Known<'_>, field: &CollectedField<'_>) -> Result<bool, CoerceRefusal>
+    ensures { let k = known_view known.entry in Gives (λ b. b) refusal.Memory (flag_by (parts_seen field.now).head k k.0.origin) result }
 {
     match known.def.origin {
         FieldOrigin::Introspection => Ok(deprecated_of(&known.args)),
@@ -88,8 +88,9 @@ fn ask_look(
     ensures { Gives introspection_view refusal.Memory (look_due (context_view context.now) place t (parts_seen field.now)) result }
 {
     let known = known_field_of(alloc, context, place, t, field)?;
-    let deprecated = flag_of(&known, field)?;
-    let fields = ask_looks(alloc, context, known.def.ty.base(), t, &field.below)?;
+    let to = known.def.ty.base();
+    let deprecated = flag_of(known, field)?;
+    let fields = ask_looks(alloc, context, to, t, &field.below)?;
     Ok(look_of(alloc, field, None, deprecated, fields)?)
 }
 

@@ -1,7 +1,7 @@
 use hq_terms::{PairList, TableId};
 
 /// What a relationship goes by: its remote table, and the pairs of columns that join it.
-#[derive(Debug, Drop)]
+#[derive(Drop)]
 pub struct Link {
     pub remote: TableId,
     pub pairs: PairList,

@@ -133,19 +133,26 @@ fn columns_at(
     }
 }
 
-// The filter at a path over a table.
+fn boxed(alloc: Global, filter: Bexp) -> Result<Box<Bexp>, Memory>
+    ensures { IfOk result (λ b. b.value ≡ filter) }
+{
+    Ok(Box::new(alloc, filter)?)
+}
+
+// The filter at a path over a table, in a box, so that it is let go in one step.
 fn filter_at(
     alloc: Global,
     scope: &Scope,
     table: TableId,
     path: &Txt,
     json: &Json,
-) -> Result<Bexp, MetaRefusal>
-    ensures due { Gives bexp_view MetaRefusal.Memory (filter_in (filter_due (json_view json.now) (schema_of scope.now.catalog.now.tables (meta_view scope.now.meta.now)) table path.now)) result }
-    ensures is { IfOk result (λ b. is_filter (bexp_view b) (schema_of scope.now.catalog.now.tables (meta_view scope.now.meta.now)) table ≡ true) }
-    ensures shallow { IfOk result (λ b. depth (bexp_view b) ≤ 2 * nesting (json_view json.now)) }
+) -> Result<Box<Bexp>, MetaRefusal>
+    ensures due { Gives (λ b. bexp_view b.value) MetaRefusal.Memory (filter_in (filter_due (json_view json.now) (schema_of scope.now.catalog.now.tables (meta_view scope.now.meta.now)) table path.now)) result }
+    ensures is { IfOk result (λ b. is_filter (bexp_view b.value) (schema_of scope.now.catalog.now.tables (meta_view scope.now.meta.now)) table ≡ true) }
+    ensures shallow { IfOk result (λ b. depth (bexp_view b.value) ≤ 2 * nesting (json_view json.now)) }
 {
-    Ok(read_filter(alloc, json, path, scope.catalog, scope.meta, table)?)
+    let filter = read_filter(alloc, json, path, scope.catalog, scope.meta, table)?;
+    Ok(boxed(alloc, filter)?)
 }
 
 // A limit: a whole number from 0 on, below 2^63; it may be absent or null.
@@ -233,7 +240,7 @@ fn permission_at(
     Ok(Perm {
         role: role.copy(alloc)?,
         cols,
-        filter,
+        filter: Box::into_inner(filter),
         limit,
         aggregations,
     })
