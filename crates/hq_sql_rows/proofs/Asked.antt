@@ -73,7 +73,8 @@ forces_member ps i p alias name e lt is forces = record { equals = λ w m holds.
 same_name : (a b : List ℕ) → bytes_eq a b ≡ true → a ≡ b
 same_name a b e = (bytes_eq-Decides a b).0 e
 
-column_value : (alias name : List ℕ) (e : ExprTree) (m : Names) → is_column alias name e ≡ true → value e [] m ≡ cell_named (m alias) name
+-- the value of the column of an alias
+pub column_value : (alias name : List ℕ) (e : ExprTree) (m : Names) → is_column alias name e ≡ true → value e [] m ≡ cell_named (m alias) name
 column_value alias name (tree.column a n collate) m is =
     let both = and_parts (bytes_eq alias a) (bytes_eq name n) is in
     ap₂ (λ b c. cell_named (m b) c) (sym (same_name alias a both.0)) (sym (same_name name n both.1))
@@ -93,7 +94,7 @@ forces_right alias name l r is =
 
 -- ---- cells
 
-not_true : (b : Bool) → not b ≡ true → b ≡ false
+pub not_true : (b : Bool) → not b ≡ true → b ≡ false
 not_true true e = cc
 not_true false e = refl
 
@@ -121,7 +122,7 @@ named_at (c ∷ cs) (v ∷ vs) name zero lt here before = rw here refl
 named_at (c ∷ cs) (v ∷ vs) name (suc at) lt here before = rw (before 0 (omega arith)) (named_at cs vs name at (omega arith) here (λ k below. before (suc k) (omega arith)))
 
 -- the cell of the first column of a name
-named_first : (cs : List Column) (row : Row) (name : List ℕ) (at : ℕ) → position (λ c. bytes_eq c.name name) cs ≡ Some at → cell_named (named_row cs row) name ≡ cell_in row at
+pub named_first : (cs : List Column) (row : Row) (name : List ℕ) (at : ℕ) → position (λ c. bytes_eq c.name name) cs ≡ Some at → cell_named (named_row cs row) name ≡ cell_in row at
 named_first cs row name at e =
     let found = position-Some (λ c. bytes_eq c.name name) cs at no_column e in
     named_at cs row name at found.0 found.1 found.2

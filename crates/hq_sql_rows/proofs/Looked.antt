@@ -50,7 +50,7 @@ all_rows source n is =
 
 -- ---- what is in scope at a row with its joins
 
-each_append : {A : Type 0} (P : A → Type 0) (xs ys : List A) → Each P xs → Each P ys → Each P (xs ++ ys)
+pub each_append : {A : Type 0} (P : A → Type 0) (xs ys : List A) → Each P xs → Each P ys → Each P (xs ++ ys)
 each_append P [] ys h k = k
 each_append P (x ∷ xs) ys h k = (h.0, each_append P xs ys h.1 k)
 
@@ -63,10 +63,10 @@ each_flat_map P f g [] h = tt
 each_flat_map P f g (x ∷ xs) h = rw (flat_map-cons f (g x) (map g xs)) (each_append P (f (g x)) (flat_map f (map g xs)) (h x) (each_flat_map P f g xs h))
 
 -- joins change no other alias
-abbrev Keeps : JoinTrees → Names → Names → Type 0
+abbrev pub Keeps : JoinTrees → Names → Names → Type 0
 Keeps js start m = (b : List ℕ) → is_joined js b ≡ false → m b ≡ start b
 
-joined_keeps : (js : JoinTrees) (w : World) (start : Names) → Each (Keeps js start) (joined js w start)
+pub joined_keeps : (js : JoinTrees) (w : World) (start : Names) → Each (Keeps js start) (joined js w start)
 joined_keeps tree.no_join w start = (λ b e. refl, tt)
 joined_keeps (tree.join s a js) w start =
     each_flat_map (Keeps (tree.join s a js) start) (joined js w) (with_alias start a) (or_null_row (rows_of s w start))
@@ -83,7 +83,8 @@ none_kept keeps (m ∷ ms) h =
     go (keeps m) refl
 
 module _ (js : JoinTrees) (w : World) (n : Names) (a : List ℕ) (keeps : Names → Bool) where
-  kept_cons : (r : NamedRow) (rs : List NamedRow) → kept_of js w n a keeps (r ∷ rs) ≡ filter keeps (joined js w (with_alias n a r)) ++ kept_of js w n a keeps rs
+  -- one more row
+  pub kept_cons : (r : NamedRow) (rs : List NamedRow) → kept_of js w n a keeps (r ∷ rs) ≡ filter keeps (joined js w (with_alias n a r)) ++ kept_of js w n a keeps rs
   kept_cons r rs =
       ap (filter keeps) (flat_map-cons (joined js w) (with_alias n a r) (map (with_alias n a) rs))
       ∙ filter-append keeps (joined js w (with_alias n a r)) (flat_map (joined js w) (map (with_alias n a) rs))
@@ -100,8 +101,14 @@ module _ (js : JoinTrees) (w : World) (n : Names) (a : List ℕ) (keeps : Names 
       ] in
       go (q p) refl
 
-same_bytes : (a : List ℕ) → bytes_eq a a ≡ true
+pub same_bytes : (a : List ℕ) → bytes_eq a a ≡ true
 same_bytes a = (bytes_eq-Decides a a).1 refl
+
+-- the rows of a table, place by place
+pub stored_rows : (columns : List Column) (rows : List Row) → map (λ q. get_or (map (named_row columns) rows) q []) (counted 0 (length rows)) ≡ map (named_row columns) rows
+stored_rows columns rows =
+    let f : ℕ → NamedRow = λ q. get_or (map (named_row columns) rows) q [] in
+    ap (λ k. map f (counted 0 k)) (sym (length-map rows (named_row columns))) ∙ counted_all (map (named_row columns) rows) f 0 [] (λ i lt. let e : 0 + i ≡ i = omega arith in ap f e)
 
 is_yes : (t : Truth) → is_true t ≡ true → t ≡ Yes
 is_yes Yes e = refl
@@ -125,8 +132,7 @@ looked_is columns rows key_columns key alias js p scope w asked alone =
     let none : (k : ℕ) → q k ≡ false → filter keeps (joined js w (with_alias n alias (f k))) ≡ [] =
     λ k out. none_kept keeps (joined js w (with_alias n alias (f k)))
     (each_weaken (Keeps js (with_alias n alias (f k))) (λ m. keeps m ≡ true → ⊥) (λ m around. never k out m around) (joined js w (with_alias n alias (f k))) (joined_keeps js w (with_alias n alias (f k)))) in
-    let all : map f (counted 0 (length rows)) ≡ map (named_row columns) rows = ap (λ k. map f (counted 0 k)) (sym (length-map rows (named_row columns))) ∙ counted_all (map (named_row columns) rows) f 0 [] (λ i lt. let e : 0 + i ≡ i = omega arith in ap f e) in
-    left_out js w n alias keeps f q none (counted 0 (length rows)) ∙ ap (kept_of js w n alias keeps) all
+    left_out js w n alias keeps f q none (counted 0 (length rows)) ∙ ap (kept_of js w n alias keeps) (stored_rows columns rows)
 
 -- ---- places one after the other
 

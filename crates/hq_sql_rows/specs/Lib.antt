@@ -8,4 +8,6 @@ pub mod Keys
 pub mod Weight
 pub mod Equations
 pub mod Positions
+pub mod Ordered
 pub mod Known
+pub mod Pages

@@ -31,8 +31,8 @@ pub fn is_joined(joins: &[Join], alias: &Txt) -> bool
     false
 }
 
-// Whether an expression is the column of an alias.
-fn is_column(expr: &Expr, alias: &Txt, name: &Txt) -> bool
+/// Whether an expression is the column of an alias.
+pub(crate) fn is_column(expr: &Expr, alias: &Txt, name: &Txt) -> bool
     ensures { result ≡ is_column alias.now name.now (expr_view expr.now) }
 {
     match expr {
@@ -191,8 +191,8 @@ fn first_named(columns: &[Column], name: &Txt) -> Option<usize>
     columns.iter().position(|column| column.name == *name)
 }
 
-// Whether the column is the first one of its name.
-fn is_first(columns: &[Column], at: usize, name: &Txt) -> bool
+/// Whether the column is the first one of its name.
+pub(crate) fn is_first(columns: &[Column], at: usize, name: &Txt) -> bool
     ensures { result ≡ true → position (λ c. bytes_eq c.name name.now) columns.now ≡ Some at }
 {
     match first_named(columns, name) {

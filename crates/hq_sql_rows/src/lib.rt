@@ -6,6 +6,8 @@ pub mod cells;
 mod equations;
 pub mod known;
 mod mentions;
+pub mod ordered;
+pub mod pages;
 pub mod pinned;
 pub mod place;
 pub mod positions;

@@ -21,13 +21,15 @@ use hq_tables::Rows;
 use std::alloc::Global;
 use std::cell::Cell;
 
-/// Places in a source, in file order.
+/// Places in a source.
 #[derive(Clone, Copy)]
 pub enum Positions<'d> {
     /// So many, from the first one on.
     All(usize),
-    /// Those of an index.
+    /// Some of an index, in file order.
     Entries(&'d [u32]),
+    /// All of an index, in its order.
+    Ordered(&'d Index),
 }
 
 /// How many there are.
@@ -38,6 +40,7 @@ pub fn number_of(positions: Positions<'_>) -> usize
     match positions {
         Positions::All(number) => number,
         Positions::Entries(rows) => rows.len(),
+        Positions::Ordered(index) => index.len(),
     }
 }
 
@@ -50,6 +53,7 @@ pub fn position_at(positions: Positions<'_>, at: usize) -> usize
     match positions {
         Positions::All(_) => at,
         Positions::Entries(rows) => rows[at] as usize,
+        Positions::Ordered(index) => index.at(at),
     }
 }
 

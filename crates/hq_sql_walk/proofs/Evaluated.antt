@@ -1,6 +1,6 @@
 -- Steps of the evaluation of a select.
 use Rattle.std.proofs.Common.{◌≡◌, ◌==◌, ◌<◌, ◌+◌, ℕ, zero, suc, List, [], ◌∷◌, ◌++◌, map, filter, flat_map, take, drop, length, get_or, Bool, true, false, cond, Option, Some, None, Ordering, refl, sym, ap, ap₂, ◌∙◌, append-nil, append_assoc, add-one, is_gt, arith}
-use Rattle.std.proofs.lemmas.List.{map-append, take-append-drop}
+use Rattle.std.proofs.lemmas.List.{map-append, take-append-drop, take_all}
 use Rattle.std.proofs.lemmas.Bool.{ne_eqb, false≢true}
 use Rattle.std.specs.Global.{Vec}
 use Rattle.std.proofs.Math.Seq.{take-suc}
@@ -28,7 +28,7 @@ use Rattle.hq_sql_rows.specs.Keys.{member_at, output_at, outputs_of}
 use Rattle.hq_sql_rows.specs.Single.{is_single}
 use Rattle.hq_sql_rows.specs.Positions.{kept_of}
 use Rattle.hq_sql_rows.specs.Sources.{alias_in, made_rows, rows_given, has_items}
-use Rattle.hq_sql_rows.proofs.RowsIn.{row_in_is}
+use Rattle.hq_sql_rows.specs.Pages.{is_enough, Suffices}
 use Rattle.hq_sql_walk.proofs.JoinedRows.{beside_put_off, joined_single}
 
 -- the members of an object are a map over its pairs
@@ -143,16 +143,35 @@ module _ (js : JoinTrees) (w : World) (n : Scope) (a : List ℕ) (keeps : Scope 
   any_passed rs i r here lt e h k none =
       kept_step rs i lt ∙ ap₂ (λ x y. x ++ y) none (ap (λ q. filter keeps (joined js w (with_alias n a q))) (sym e) ∙ sym h ∙ k)
 
-  -- the places of one more row of FROM
-  pub scan_step : (from : Source) (rs : List NamedRow) (i p : ℕ) (r : NamedRow) (old : List Place) (lists : List (Vec (Option Made))) → i < length rs → row_in from p ≡ get_or rs i [] → r ≡ row_in from p
+  -- the places of one more row of FROM, behind what is there
+  pub scan_step : (before : List Scope) (from : Source) (rs : List NamedRow) (i p : ℕ) (r : NamedRow) (old : List Place) (lists : List (Vec (Option Made))) → i < length rs → row_in from p ≡ get_or rs i [] → r ≡ row_in from p
       → map (beside js w (with_alias n a r)) (map joined_view lists) ≡ filter keeps (joined js w (with_alias n a r))
-      → map (names_at from a js w n) old ≡ kept_here (take i rs) → map (names_at from a js w n) (old ++ map (place_of p) lists) ≡ kept_here (take (i + 1) rs)
-  scan_step from rs i p r old lists lt at e h k =
+      → before ++ map (names_at from a js w n) old ≡ kept_here (take i rs) → before ++ map (names_at from a js w n) (old ++ map (place_of p) lists) ≡ kept_here (take (i + 1) rs)
+  scan_step before from rs i p r old lists lt at e h k =
       let there : r ≡ get_or rs i [] = e ∙ at in
-      let placed : map (names_at from a js w n) (map (place_of p) lists) ≡ filter keeps (joined js w (with_alias n a (get_or rs i []))) =
-      map_map (names_at from a js w n) (place_of p) lists ∙ ap (λ q. map (λ l. beside js w (with_alias n a q) (joined_view l)) lists) (sym e) ∙ sym (map_map (beside js w (with_alias n a r)) joined_view lists) ∙ h
+      let P = names_at from a js w n in
+      let placed : map P (map (place_of p) lists) ≡ filter keeps (joined js w (with_alias n a (get_or rs i []))) =
+      map_map P (place_of p) lists ∙ ap (λ q. map (λ l. beside js w (with_alias n a q) (joined_view l)) lists) (sym e) ∙ sym (map_map (beside js w (with_alias n a r)) joined_view lists) ∙ h
       ∙ ap (λ q. filter keeps (joined js w (with_alias n a q))) there in
-      map-append (names_at from a js w n) old (map (place_of p) lists) ∙ ap₂ (λ x y. x ++ y) k placed ∙ sym (kept_step rs i lt)
+      ap (λ l. before ++ l) (map-append P old (map (place_of p) lists)) ∙ sym (append_assoc before (map P old) (map P (map (place_of p) lists))) ∙ ap₂ (λ x y. x ++ y) k placed ∙ sym (kept_step rs i lt)
+
+  -- the places of all positions from the first one on
+  pub scan_all : (rs : List NamedRow) (next end : ℕ) (found : List Scope) → found ≡ kept_here (take next rs) → next ≡ end → end ≡ length rs → found ≡ kept_here rs
+  scan_all rs next end found k whole all = k ∙ ap kept_here (take_all next rs (omega (arith, whole, all)))
+
+  -- the page of the places of enough positions, from the first one on
+  pub page_front : (limit offset bound : Option ℕ) (rs : List NamedRow) (next end : ℕ) (found : List Scope) (count : ℕ) → Suffices limit offset bound → found ≡ kept_here (take next rs) → count ≡ length found → (is_enough bound count ≡ false → next ≡ end) → end ≡ length rs
+      → limited limit (offset_by offset found) ≡ limited limit (offset_by offset (kept_here rs))
+  page_front limit offset bound rs next end found count suffices k long whole all =
+      let page : List Scope → List Scope = λ l. limited limit (offset_by offset l) in
+      let behind = kept_here (drop next rs) in
+      let parts : found ++ behind ≡ kept_here rs = ap (λ l. l ++ behind) k ∙ sym (kept_append (take next rs) (drop next rs)) ∙ ap kept_here (take-append-drop next rs) in
+      let go : (b : Bool) → is_enough bound count ≡ b → page found ≡ page (kept_here rs) =
+      elim [
+        | true ↦ λ e. sym (suffices found behind (ap (is_enough bound) (sym long) ∙ e)) ∙ ap page parts
+        | false ↦ λ e. ap page (scan_all rs next end found k (whole e) all)
+      ] in
+      go (is_enough bound count) refl
 
 pub no_images : {A B C : Type 0} (f : B → C) (g : A → B) (xs : List A) → (length xs == 0) ≡ true → map f (map g xs) ≡ []
 no_images f g [] e = refl
@@ -163,15 +182,6 @@ some_images f g [] e = cc
 some_images f g (x ∷ xs) e = refl
 
 -- ---- ORDER BY and DISTINCT ON
-
-put_front : (x : Scope) (xs : List Scope) → put (order_cmp []) x xs ≡ x ∷ xs
-put_front x [] = refl
-put_front x (y ∷ ys) = refl
-
--- without ORDER BY the rows keep their order
-pub sort_none : (xs : List Scope) → sort (order_cmp []) xs ≡ xs
-sort_none [] = refl
-sort_none (x ∷ xs) = ap (put (order_cmp []) x) (sort_none xs) ∙ put_front x xs
 
 put_has : (R : Scope → Scope → Ordering) (x : Scope) (xs : List Scope) → has_items (put R x xs) ≡ true
 put_has R x [] = refl
@@ -195,12 +205,6 @@ map_has f (x ∷ xs) = refl
 -- a select without LIMIT and OFFSET has a row where WHERE keeps one
 pub select_has : (os : List OutTree) (es : List ExprTree) (ks : List OrderTree) (xs : List Scope) → has_rows (map (outputs os []) (distinct_on es (sort (order_cmp ks) xs))) ≡ has_items xs
 select_has os es ks xs = map_has (outputs os []) (distinct_on es (sort (order_cmp ks) xs)) ∙ distinct_has es (sort (order_cmp ks) xs) ∙ sort_has (order_cmp ks) xs
-
--- without ORDER BY and DISTINCT ON the rows stay
-pub no_order : (os : List Order) (es : List Expr) (xs : List Scope) → (length os == 0) ≡ true → (length es == 0) ≡ true → xs ≡ distinct_on (map expr_view es) (sort (order_cmp (map order_view os)) xs)
-no_order [] [] xs e k = sym (sort_none xs)
-no_order (o ∷ os) es xs e k = absurd (false≢true (sym (ne_eqb (length (o ∷ os)) 0 (λ k. absurd (omega arith))) ∙ e))
-no_order [] (x ∷ es) xs e k = absurd (false≢true (sym (ne_eqb (length (x ∷ es)) 0 (λ j. absurd (omega arith))) ∙ k))
 
 -- ---- whole selects
 
@@ -239,9 +243,6 @@ offset_map : {A B : Type 0} (f : A → B) (o : Option ℕ) (xs : List A) → map
 offset_map f None xs = refl
 offset_map f (Some n) xs = drop_map f n xs
 
--- the steps of a select, from its rows that WHERE keeps to its outputs
-pub steps_are : (P : Place → Scope) (D : List ExprTree) (O : List OutTree) (K : List OrderTree) (limit offset : Option ℕ) (gathered : List Scope) (found sorted page : List Place) → map P found ≡ gathered → map P sorted ≡ distinct_on D (sort (order_cmp K) (map P found)) → page ≡ limited limit (offset_by offset sorted)
-    → map (outputs O []) (map P page) ≡ map (outputs O []) (limited limit (offset_by offset (distinct_on D (sort (order_cmp K) gathered))))
-steps_are P D O K limit offset gathered found sorted page f s p =
-    ap (map (outputs O []))
-    (ap (map P) p ∙ limited_map P limit (offset_by offset sorted) ∙ ap (limited limit) (offset_map P offset sorted ∙ ap (offset_by offset) (s ∙ ap (λ ns. distinct_on D (sort (order_cmp K) ns)) f)))
+-- the page of images is the image of the page
+pub paged_map : {A B : Type 0} (f : A → B) (limit offset : Option ℕ) (xs : List A) → map f (limited limit (offset_by offset xs)) ≡ limited limit (offset_by offset (map f xs))
+paged_map f limit offset xs = limited_map f limit (offset_by offset xs) ∙ ap (limited limit) (offset_map f offset xs)

@@ -1,15 +1,18 @@
 //! The rows of a select.
-ghost use Rattle.std.specs.Prelude.{◌≡◌, ◌+◌, ◌<◌, ◌≤◌, [], map, length, filter as kept_items, flat_map, IfOk, IfSome};
-ghost use Rattle.hq_base.specs.Lists.{sort};
+ghost use Rattle.std.specs.Prelude.{◌≡◌, ◌+◌, ◌<◌, ◌≤◌, false, map, length, filter as kept_items, IfOk, IfSome};
 ghost use Rattle.hq_sql_closed.specs.Conjuncts.{lent_weight};
 ghost use Rattle.hq_sql_closed.specs.Weight.{filter_weight};
-ghost use Rattle.hq_sql_tree.specs.Tree.{fold, joins_of, no_join};
-ghost use Rattle.hq_sql_tree.specs.View.{expr_view, order_view, out_view, select_view, from_view, join_view, filter_view};
-ghost use Rattle.hq_sql_tree.specs.Meaning.{with_alias, kept, joined, rows_of, order_cmp, distinct_on, offset_by, limited, outputs};
-ghost use Rattle.hq_sql_rows.specs.View.{made_view, joined_view, first_row, source_view, world_of, names_of, names_at, beside};
-ghost use Rattle.hq_sql_rows.specs.Sources.{alias_in, made_rows, rows_given, has_items};
-ghost use Rattle.hq_sql_rows.specs.Known.{IsKnown, Tells};
+ghost use Rattle.hq_sql_tree.specs.Meaning.{kept, joined, rows_of};
+ghost use Rattle.hq_sql_tree.specs.Tree.{fold, no_join};
+ghost use Rattle.hq_sql_tree.specs.View.{expr_view, order_view, out_view, select_view, from_view, filter_view};
 ghost use Rattle.hq_sql_rows.specs.Keys.{with_cells, keyed_at, taken_at, outputs_of};
+ghost use Rattle.hq_sql_rows.specs.Known.{IsKnown, Tells};
+ghost use Rattle.hq_sql_rows.specs.Pages.{is_enough};
+ghost use Rattle.hq_sql_rows.specs.Positions.{positions_of, rows_at};
+ghost use Rattle.hq_sql_rows.specs.Sources.{made_rows, has_items};
+ghost use Rattle.hq_sql_rows.specs.View.{made_view, first_row, source_view, world_of, names_of};
+ghost use Rattle.hq_sql_walk.specs.Gathered.{joins_view, names_joined};
+ghost use Rattle.hq_sql_walk.specs.Selected.{Continues, Pages, PagesFront, arranged_by, kept_from, scope_at, selected};
 
 use crate::joins::{Asked, asked_at, gather, outputs_at};
 use crate::truths::all_hold;
@@ -17,9 +20,11 @@ use crate::values::value;
 use hq_base::{Memory, Txt};
 use hq_sql_cells::{Kept, paged};
 use hq_sql_rows::cells::arranged;
+use hq_sql_rows::ordered::{Looked, ordered_at};
+use hq_sql_rows::pages::{enough, has_enough};
 use hq_sql_rows::pinned::{Known, Pinned};
 use hq_sql_rows::place::{Place, add_places};
-use hq_sql_rows::positions::{looked_at, number_of, position_at};
+use hq_sql_rows::positions::{Positions, looked_at, number_of, position_at};
 use hq_sql_rows::row::{Made, first_row, one_row};
 use hq_sql_rows::scope::{Group, Scope, Source, alias_of, row_at, source_of};
 use hq_sql_rows::stages::{Parts, Stage, stages};
@@ -124,18 +129,117 @@ fn rows_over<'s, 'd>(
     world: &Pinned<'d>,
     scope: &'s Scope<'s, 'd>,
 ) -> Result<Vec<Made<'d>>, Memory>
-    ensures { IfOk result (λ rows. map made_view rows.items ≡ map (outputs (map out_view parts.entry.outs.now.items) []) (limited limit (offset_by offset (distinct_on (map expr_view parts.entry.distinct.now.items) (sort (order_cmp (map order_view parts.entry.order.now.items)) (kept_items (kept (filter_view parts.entry.filter.now) (world_of world.now)) (flat_map (joined (joins_of (map join_view joins.now)) (world_of world.now)) (map (with_alias (names_of scope.now world.now) (alias_in (from_view from.now))) (rows_given (from_view from.now) (world_of world.now) (map made_view made.now)))))))))) }
+    ensures { IfOk result (λ rows. map made_view rows.items ≡ selected parts.entry from.now joins.now limit offset made.now world.now scope.now) }
 {
     let stages = stages(alloc, parts, joins)?;
     let source = source_of(world, from, made);
     let alias = alias_of(from);
-    let found = scan(
+    let paged = page(
+        alloc, source, alias, joins, &stages, parts, limit, offset, world, scope,
+    )?;
+    let places = paged.as_slice();
+    all_outputs(
+        alloc, source, alias, joins, &stages, parts.outs, places, world, scope,
+    )
+}
+
+/// The rows of a select over a source, as places: of those that WHERE keeps, by ORDER BY, what DISTINCT ON, OFFSET and LIMIT leave.
+#[cycle(eval)]
+pub fn page<'s, 'd>(
+    alloc: Global,
+    source: Source<'s, 'd>,
+    alias: &'d Txt,
+    joins: &'d [Join],
+    stages: &[Stage],
+    parts: Parts<'d>,
+    limit: Option<u64>,
+    offset: Option<u64>,
+    world: &Pinned<'d>,
+    scope: &'s Scope<'s, 'd>,
+) -> Result<Vec<Place<'d>>, Memory>
+    ensures { IfOk result (λ places. Pages (source_view source.entry) source.entry alias.now joins.now parts.entry limit offset world.now scope.now places.items) }
+{
+    let looked = ordered_at(
         alloc,
         source,
         alias,
         joins,
-        &stages,
+        parts,
+        &world.work.looked,
+        &*scope,
+    )?;
+    match looked {
+        Looked::Arranged(at) => page_front(
+            alloc,
+            source,
+            alias,
+            joins,
+            stages,
+            parts.filter,
+            at,
+            limit,
+            offset,
+            world,
+            scope,
+        ),
+        Looked::Unsorted(at) => page_sorted(
+            alloc, source, alias, joins, stages, parts, at, limit, offset, world, scope,
+        ),
+    }
+}
+
+// The same, where what WHERE keeps at these positions stands in order: the scan ends where OFFSET and LIMIT have enough.
+#[cycle(eval)]
+fn page_front<'s, 'd>(
+    alloc: Global,
+    source: Source<'s, 'd>,
+    alias: &'d Txt,
+    joins: &'d [Join],
+    stages: &[Stage],
+    filter: &'d Option<Pred>,
+    positions: Positions<'d>,
+    limit: Option<u64>,
+    offset: Option<u64>,
+    world: &Pinned<'d>,
+    scope: &'s Scope<'s, 'd>,
+) -> Result<Vec<Place<'d>>, Memory>
+    ensures { IfOk result (λ places. PagesFront (rows_at source.entry positions.entry) source.entry alias.now joins.now filter.now limit offset world.now scope.now places.items) }
+{
+    let bound = enough(limit, offset);
+    let found = scan_from(
+        alloc, source, alias, joins, stages, filter, positions, 0, bound, world, scope,
+    )?;
+    let page = paged(found.places, offset, limit);
+    Ok(page)
+}
+
+// The same, where it does not.
+#[cycle(eval)]
+fn page_sorted<'s, 'd>(
+    alloc: Global,
+    source: Source<'s, 'd>,
+    alias: &'d Txt,
+    joins: &'d [Join],
+    stages: &[Stage],
+    parts: Parts<'d>,
+    positions: Positions<'d>,
+    limit: Option<u64>,
+    offset: Option<u64>,
+    world: &Pinned<'d>,
+    scope: &'s Scope<'s, 'd>,
+) -> Result<Vec<Place<'d>>, Memory>
+    ensures { IfOk result (λ places. Pages (rows_at source.entry positions.entry) source.entry alias.now joins.now parts.entry limit offset world.now scope.now places.items) }
+{
+    let found = scan_from(
+        alloc,
+        source,
+        alias,
+        joins,
+        stages,
         parts.filter,
+        positions,
+        0,
+        None,
         world,
         scope,
     )?;
@@ -146,43 +250,47 @@ fn rows_over<'s, 'd>(
         joins,
         parts.distinct,
         parts.order,
-        found,
+        found.places,
         world,
         scope,
     )?;
     let page = paged(sorted, offset, limit);
-    let places = page.as_slice();
-    all_outputs(
-        alloc, source, alias, joins, &stages, parts.outs, places, world, scope,
-    )
+    Ok(page)
 }
 
-// The rows of FROM and the joins that WHERE keeps.
+/// Places of rows that WHERE keeps, and the number of the next position.
+#[derive(Drop)]
+pub struct Piece<'d> {
+    pub places: Vec<Place<'d>>,
+    pub next: usize,
+}
+
+/// The places of the rows of FROM and the joins that WHERE keeps, among those at the positions from this one on: of all of them, or up
+/// to a position behind which there are enough places.
 #[cycle(eval)]
-fn scan<'s, 'd>(
+pub fn scan_from<'s, 'd>(
     alloc: Global,
     source: Source<'s, 'd>,
     alias: &'d Txt,
     joins: &'d [Join],
     stages: &[Stage],
     filter: &'d Option<Pred>,
+    positions: Positions<'d>,
+    from: usize,
+    enough: Option<usize>,
     world: &Pinned<'d>,
     scope: &'s Scope<'s, 'd>,
-) -> Result<Vec<Place<'d>>, Memory>
-    ensures { IfOk result (λ places. map (names_at source.entry alias.now (joins_of (map join_view joins.now)) (world_of world.now) (names_of scope.now world.now)) places.items ≡ kept_items (kept (filter_view filter.now) (world_of world.now)) (flat_map (joined (joins_of (map join_view joins.now)) (world_of world.now)) (map (with_alias (names_of scope.now world.now) alias.now) (source_view source.entry)))) }
+) -> Result<Piece<'d>, Memory>
+    requires { from ≤ length (positions_of positions) }
+    ensures places { IfOk result (λ piece. Continues source.entry positions.entry from alias.now joins.now filter.now world.now scope.now piece) }
+    ensures within { IfOk result (λ piece. piece.next ≤ length (positions_of positions.entry)) }
+    ensures forward { IfOk result (λ piece. from < length (positions_of positions.entry) → from < piece.next) }
+    ensures whole { IfOk result (λ piece. is_enough enough (length piece.places.items) ≡ false → piece.next ≡ length (positions_of positions.entry)) }
 {
-    let looked = looked_at(
-        alloc,
-        source,
-        alias,
-        joins,
-        filter,
-        &world.work.looked,
-        &*scope,
-    )?;
     let mut places = Vec::new(alloc);
-    for turn in 0..number_of(looked) {
-        let position = position_at(looked, turn);
+    let end = number_of(positions);
+    for turn in from..end {
+        let position = position_at(positions, turn);
         let at = Scope::Bound {
             alias,
             row: row_at(source, position),
@@ -190,8 +298,12 @@ fn scan<'s, 'd>(
         };
         let lists = gather(alloc, joins, stages, filter, world, &at)?;
         add_places(&mut places, position, lists)?;
+        if has_enough(enough, places.len()) {
+            let next = turn + 1;
+            return Ok(Piece { places, next });
+        }
     }
-    Ok(places)
+    Ok(Piece { places, next: end })
 }
 
 // Whether WHERE keeps a row of the joins at a row of FROM, where something may be known of the row of this position.
@@ -206,10 +318,10 @@ fn keeps_some<'d>(
     world: &Pinned<'d>,
     scope: &Scope<'_, 'd>,
 ) -> Result<bool, Memory>
-    requires alone { IfSome known (λ k. joins_of (map join_view joins.now) ≡ no_join) }
+    requires alone { IfSome known (λ k. joins_view joins.now ≡ no_join) }
     requires tells { IfSome known (λ k. position < length k.now.truths.items → Tells (filter_view filter.now) (world_of world.now) k.now position (names_of scope.now world.now)) }
     requires lighter { IfSome known (λ k. 1 + lent_weight k.now.rest.items ≤ filter_weight filter.now) }
-    ensures { IfOk result (λ b. b ≡ has_items (kept_items (kept (filter_view filter.now) (world_of world.now)) (joined (joins_of (map join_view joins.now)) (world_of world.now) (names_of scope.now world.now)))) }
+    ensures { IfOk result (λ b. b ≡ has_items (kept_items (kept (filter_view filter.now) (world_of world.now)) (joined (joins_view joins.now) (world_of world.now) (names_of scope.now world.now)))) }
 {
     if let Some(known) = known {
         if let Some(truth) = known.truths.get(position) {
@@ -235,9 +347,9 @@ pub fn any_row<'s, 'd>(
     world: &Pinned<'d>,
     scope: &'s Scope<'s, 'd>,
 ) -> Result<bool, Memory>
-    requires known { IfSome known (λ k. IsKnown (world_of world.now) (source_view source) alias.now (joins_of (map join_view joins.now)) (filter_view filter.now) k.now) }
+    requires known { IfSome known (λ k. IsKnown (world_of world.now) (source_view source) alias.now (joins_view joins.now) (filter_view filter.now) k.now) }
     requires lighter { IfSome known (λ k. 1 + lent_weight k.now.rest.items ≤ filter_weight filter.now) }
-    ensures { IfOk result (λ b. b ≡ has_items (kept_items (kept (filter_view filter.now) (world_of world.now)) (flat_map (joined (joins_of (map join_view joins.now)) (world_of world.now)) (map (with_alias (names_of scope.now world.now) alias.now) (source_view source.entry))))) }
+    ensures { IfOk result (λ b. b ≡ has_items (kept_from (source_view source.entry) alias.now joins.now filter.now world.now scope.now)) }
 {
     let looked = looked_at(
         alloc,
@@ -279,7 +391,7 @@ fn in_order<'s, 'd>(
     world: &Pinned<'d>,
     scope: &'s Scope<'s, 'd>,
 ) -> Result<Vec<Place<'d>>, Memory>
-    ensures { IfOk result (λ sorted. map (names_at source.entry alias.now (joins_of (map join_view joins.now)) (world_of world.now) (names_of scope.now world.now)) sorted.items ≡ distinct_on (map expr_view distinct.now.items) (sort (order_cmp (map order_view order.now.items)) (map (names_at source.entry alias.now (joins_of (map join_view joins.now)) (world_of world.now) (names_of scope.now world.now)) places.entry.items))) }
+    ensures { IfOk result (λ sorted. map (scope_at source.entry alias.now joins.now world.now scope.now) sorted.items ≡ arranged_by distinct.now.items order.now.items (map (scope_at source.entry alias.now joins.now world.now scope.now) places.entry.items)) }
 {
     if order.is_empty() && distinct.is_empty() {
         return Ok(places);
@@ -303,7 +415,7 @@ fn keyed<'s, 'd>(
     world: &Pinned<'d>,
     scope: &'s Scope<'s, 'd>,
 ) -> Result<Vec<Kept<'d, Place<'d>>>, Memory>
-    ensures { IfOk result (λ kept. map with_cells kept.items ≡ map (taken_at (names_at source.entry alias.now (joins_of (map join_view joins.now)) (world_of world.now) (names_of scope.now world.now)) (map order_view order.now.items) (map expr_view distinct.now.items)) places.entry.items) }
+    ensures { IfOk result (λ kept. map with_cells kept.items ≡ map (taken_at (scope_at source.entry alias.now joins.now world.now scope.now) (map order_view order.now.items) (map expr_view distinct.now.items)) places.entry.items) }
 {
     let mut kept = Vec::with_capacity(alloc, places.len())?;
     for place in places {
@@ -328,7 +440,7 @@ fn with_keys<'d>(
     world: &Pinned<'d>,
     scope: &Scope<'_, 'd>,
 ) -> Result<Kept<'d, Place<'d>>, Memory>
-    ensures { IfOk result (λ kept. with_cells kept ≡ keyed_at (beside (joins_of (map join_view joins.now)) (world_of world.now) (names_of scope.now world.now) (joined_view place.entry.joined)) (map order_view order.now.items) (map expr_view distinct.now.items) place.entry) }
+    ensures { IfOk result (λ kept. with_cells kept ≡ keyed_at (names_joined joins.now place.entry.joined.items world.now (names_of scope.now world.now)) (map order_view order.now.items) (map expr_view distinct.now.items) place.entry) }
 {
     let keys = asked_at(
         alloc,
@@ -360,7 +472,7 @@ fn all_outputs<'s, 'd>(
     world: &Pinned<'d>,
     scope: &'s Scope<'s, 'd>,
 ) -> Result<Vec<Made<'d>>, Memory>
-    ensures { IfOk result (λ made. map made_view made.items ≡ map (outputs_of (map out_view outs.now.items)) (map (names_at source.entry alias.now (joins_of (map join_view joins.now)) (world_of world.now) (names_of scope.now world.now)) places.now)) }
+    ensures { IfOk result (λ made. map made_view made.items ≡ map (outputs_of (map out_view outs.now.items)) (map (scope_at source.entry alias.now joins.now world.now scope.now) places.now)) }
 {
     let mut made = Vec::with_capacity(alloc, places.len())?;
     for place in places {

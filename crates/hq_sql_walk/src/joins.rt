@@ -1,14 +1,13 @@
 //! The rows of lateral joins, and what is taken at them.
-ghost use Rattle.std.specs.Prelude.{◌≡◌, true, map, filter as kept_items, flat_map, IfOk, option_map};
+ghost use Rattle.std.specs.Prelude.{◌≡◌, true, map, IfOk};
 ghost use Rattle.hq_sql_cells.specs.View.{cell_view};
-ghost use Rattle.hq_sql_tree.specs.Tree.{joins_of, no_join};
-ghost use Rattle.hq_sql_tree.specs.View.{out_view, join_view, filter_view};
-ghost use Rattle.hq_sql_tree.specs.Meaning.{with_alias, kept, joined, rows_of};
-ghost use Rattle.hq_sql_rows.specs.View.{made_view, joined_view, first_row, world_of, names_of, beside};
-ghost use Rattle.hq_sql_rows.specs.Joined.{join_in};
-ghost use Rattle.hq_sql_walk.specs.Asked.{asked_values};
+ghost use Rattle.hq_sql_tree.specs.Tree.{no_join};
+ghost use Rattle.hq_sql_tree.specs.View.{out_view, join_view};
 ghost use Rattle.hq_sql_rows.specs.Keys.{outputs_of};
 ghost use Rattle.hq_sql_rows.specs.Single.{is_single};
+ghost use Rattle.hq_sql_rows.specs.View.{made_view, names_of};
+ghost use Rattle.hq_sql_walk.specs.Asked.{asked_values};
+ghost use Rattle.hq_sql_walk.specs.Gathered.{Gathers, Spreads, first_join, joins_view, names_behind, names_beside, names_joined};
 
 use crate::clauses::{first, rows};
 use crate::truths::kept;
@@ -33,7 +32,7 @@ pub fn gather<'d>(
     world: &Pinned<'d>,
     scope: &Scope<'_, 'd>,
 ) -> Result<Vec<Joined<'d>>, Memory>
-    ensures { IfOk result (λ lists. map (beside (joins_of (map join_view joins.now)) (world_of world.now) (names_of scope.now world.now)) (map joined_view lists.items) ≡ kept_items (kept (filter_view filter.now) (world_of world.now)) (joined (joins_of (map join_view joins.now)) (world_of world.now) (names_of scope.now world.now))) }
+    ensures { IfOk result (λ lists. Gathers (joins_view joins.now) filter.now world.now (names_of scope.now world.now) lists.items) }
 {
     match joins.split_first() {
         None => gather_alone(alloc, filter, world, scope),
@@ -55,7 +54,7 @@ fn gather_alone<'d>(
     world: &Pinned<'d>,
     scope: &Scope<'_, 'd>,
 ) -> Result<Vec<Joined<'d>>, Memory>
-    ensures { IfOk result (λ lists. map (beside no_join (world_of world.now) (names_of scope.now world.now)) (map joined_view lists.items) ≡ kept_items (kept (filter_view filter.now) (world_of world.now)) (joined no_join (world_of world.now) (names_of scope.now world.now))) }
+    ensures { IfOk result (λ lists. Gathers no_join filter.now world.now (names_of scope.now world.now) lists.items) }
 {
     let mut lists = Vec::new(alloc);
     if kept(alloc, filter, world, scope)? {
@@ -77,7 +76,7 @@ fn gather_put_off<'d>(
     scope: &Scope<'_, 'd>,
 ) -> Result<Vec<Joined<'d>>, Memory>
     requires { is_single (join_view join.now).select ≡ true }
-    ensures { IfOk result (λ lists. map (beside (join_in (join_view join.now) (joins_of (map join_view rest.now))) (world_of world.now) (names_of scope.now world.now)) (map joined_view lists.items) ≡ kept_items (kept (filter_view filter.now) (world_of world.now)) (joined (join_in (join_view join.now) (joins_of (map join_view rest.now))) (world_of world.now) (names_of scope.now world.now))) }
+    ensures { IfOk result (λ lists. Gathers (first_join join.now rest.now) filter.now world.now (names_of scope.now world.now) lists.items) }
 {
     let at = Scope::Later {
         alias: &join.alias,
@@ -103,7 +102,7 @@ fn gather_each<'d>(
     world: &Pinned<'d>,
     scope: &Scope<'_, 'd>,
 ) -> Result<Vec<Joined<'d>>, Memory>
-    ensures { IfOk result (λ lists. map (beside (join_in (join_view join.now) (joins_of (map join_view rest.now))) (world_of world.now) (names_of scope.now world.now)) (map joined_view lists.items) ≡ kept_items (kept (filter_view filter.now) (world_of world.now)) (joined (join_in (join_view join.now) (joins_of (map join_view rest.now))) (world_of world.now) (names_of scope.now world.now))) }
+    ensures { IfOk result (λ lists. Gathers (first_join join.now rest.now) filter.now world.now (names_of scope.now world.now) lists.items) }
 {
     let made = rows(alloc, &join.select, world, scope)?;
     let made = or_null_row(alloc, made)?;
@@ -122,7 +121,7 @@ fn spread<'d>(
     world: &Pinned<'d>,
     scope: &Scope<'_, 'd>,
 ) -> Result<Vec<Joined<'d>>, Memory>
-    ensures { IfOk result (λ lists. map (beside (join_in (join_view join.now) (joins_of (map join_view rest.now))) (world_of world.now) (names_of scope.now world.now)) (map joined_view lists.items) ≡ kept_items (kept (filter_view filter.now) (world_of world.now)) (flat_map (joined (joins_of (map join_view rest.now)) (world_of world.now)) (map (with_alias (names_of scope.now world.now) (join_view join.now).alias) (map made_view made.entry.items)))) }
+    ensures { IfOk result (λ lists. Spreads join.now rest.now made.entry.items filter.now world.now (names_of scope.now world.now) lists.items) }
 {
     let mut all = Vec::new(alloc);
     for row in made {
@@ -144,7 +143,7 @@ fn gather_beside<'d>(
     world: &Pinned<'d>,
     scope: &Scope<'_, 'd>,
 ) -> Result<Vec<Joined<'d>>, Memory>
-    ensures { IfOk result (λ lists. map (beside (joins_of (map join_view rest.now)) (world_of world.now) (with_alias (names_of scope.now world.now) (join_view join.now).alias (made_view row.now))) (map joined_view lists.items) ≡ kept_items (kept (filter_view filter.now) (world_of world.now)) (joined (joins_of (map join_view rest.now)) (world_of world.now) (with_alias (names_of scope.now world.now) (join_view join.now).alias (made_view row.now)))) }
+    ensures { IfOk result (λ lists. Gathers (joins_view rest.now) filter.now world.now (names_beside join.now row.now world.now scope.now) lists.items) }
 {
     let at = Scope::Bound {
         alias: &join.alias,
@@ -171,7 +170,7 @@ pub fn asked_at<'d>(
     world: &Pinned<'d>,
     scope: &Scope<'_, 'd>,
 ) -> Result<Vec<Cell<'d>>, Memory>
-    ensures { IfOk result (λ cells. map cell_view cells.items ≡ asked_values asked.entry (beside (joins_of (map join_view joins.now)) (world_of world.now) (names_of scope.now world.now) (map (option_map made_view) joined.now))) }
+    ensures { IfOk result (λ cells. map cell_view cells.items ≡ asked_values asked.entry (names_joined joins.now joined.now world.now (names_of scope.now world.now))) }
 {
     match joins.split_first() {
         None => match asked {
@@ -213,7 +212,7 @@ pub fn outputs_at<'d>(
     world: &Pinned<'d>,
     scope: &Scope<'_, 'd>,
 ) -> Result<Made<'d>, Memory>
-    ensures { IfOk result (λ made. made_view made ≡ outputs_of (map out_view outs.now.items) (beside (joins_of (map join_view joins.now)) (world_of world.now) (names_of scope.now world.now) (map (option_map made_view) joined.now))) }
+    ensures { IfOk result (λ made. made_view made ≡ outputs_of (map out_view outs.now.items) (names_joined joins.now joined.now world.now (names_of scope.now world.now))) }
 {
     match joins.split_first() {
         None => outputs(alloc, outs, world, scope),
@@ -250,7 +249,7 @@ fn outputs_put_off<'d>(
     world: &Pinned<'d>,
     scope: &Scope<'_, 'd>,
 ) -> Result<Made<'d>, Memory>
-    ensures { IfOk result (λ made. made_view made ≡ outputs_of (map out_view outs.now.items) (beside (joins_of (map join_view rest.now)) (world_of world.now) (with_alias (names_of scope.now world.now) (join_view join.now).alias (first_row (rows_of (join_view join.now).select (world_of world.now) (names_of scope.now world.now)))) (map (option_map made_view) others.now))) }
+    ensures { IfOk result (λ made. made_view made ≡ outputs_of (map out_view outs.now.items) (names_joined rest.now others.now world.now (names_behind join.now world.now scope.now))) }
 {
     if stage == Stage::Outputs {
         let row = first(alloc, &join.select, world, scope)?;

@@ -7,5 +7,6 @@ mod joins;
 mod truths;
 mod values;
 
-pub use clauses::{any_row, rows};
+pub use clauses::{Piece, any_row, first, page, rows, scan_from};
 pub use truths::truth;
+pub use values::value;

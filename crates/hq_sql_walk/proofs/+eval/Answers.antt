@@ -1,4 +1,4 @@
-use Rattle.std.proofs.Common.{rules, ◌≡◌, ◌==◌, ◌≤◌, ◌+◌, ◌<◌, ◌∷◌, [], Some, None, true, false, IfOk, option_map, map, length, ◌++◌, filter as kept_items, flat_map, get_or, refl, subst, sym, ap, ap₂, ◌∙◌, arith}
+use Rattle.std.proofs.Common.{rules, ◌≡◌, ◌==◌, ◌≤◌, ◌+◌, ◌<◌, ◌∷◌, [], Some, None, true, false, IfOk, option_map, map, length, ◌++◌, filter as kept_items, flat_map, take, get_or, refl, subst, sym, ap, ap₂, ◌∙◌, arith}
 use Rattle.std.proofs.lemmas.List.{map-append, length-map, take_all}
 use Rattle.std.proofs.lemmas.Result.{IfOk-weaker}
 use Rattle.std.specs.Vec.Iter.{into_iter_items}
@@ -23,13 +23,14 @@ use Rattle.hq_sql_walk.proofs.JoinedRows.{beside_row}
 use Rattle.hq_sql_rows.specs.Keys.{with_json, json_at, outputs_of}
 use Rattle.hq_sql_rows.specs.Single.{is_single}
 use Rattle.hq_sql_rows.specs.Sources.{alias_in, rows_given, has_items}
-use Rattle.hq_sql_rows.specs.Positions.{positions_of, rows_at, kept_of}
+use Rattle.hq_sql_rows.specs.Positions.{positions_of, rows_at, kept_of, FindsAll, FindsArranged}
+use Rattle.hq_sql_rows.proofs.InOrder.{none_arranged}
 use Rattle.hq_sql_rows.proofs.Looked.{at_place}
 use Rattle.hq_sql_closed.specs.Conjuncts.{all_kept, lent_views, lent_weight}
 use Rattle.hq_sql_closed.specs.Weight.{total, expr_weight, pair_weight, order_weight, out_weight, pred_weight, filter_weight}
 use Rattle.hq_sql_closed.proofs.Weights.{item_weight, pair_item, order_item, out_item, expr_item, pred_item}
 use Rattle.hq_sql_walk.proofs.Ordered.{elements_are, arranged_is}
-use Rattle.hq_sql_walk.proofs.Evaluated.{members_mapped, outputs_all, later_is, keys_is, spread_step, any_found, any_passed, scan_step, no_images, some_images, no_order, rows_are, exists_is, steps_are}
+use Rattle.hq_sql_walk.proofs.Evaluated.{members_mapped, outputs_all, later_is, keys_is, spread_step, any_found, any_passed, scan_step, no_images, some_images, rows_are, exists_is, paged_map, scan_all, page_front}
 use Rattle.hq_sql_walk.proofs.Told.{none_in, tells_at, known_out, known_in, known_at}
 use Rattle.hq_sql_walk.proofs.+eval.Goals as goal
 
@@ -269,32 +270,60 @@ clauses::any_row-returns t c =
     let none = subst (λ l. kept_of (joins_of (map join_view c.args.joins.now)) w (names_of c.args.scope.now c.args.world.now) c.args.alias.now (kept (filter_view c.args.filter.now) w) l ≡ []) (take_all c.loop-turn.turn rs all) c.loop-turn.invariant in
     ap has_items (sym none ∙ c.in_ok-looked.ensures w)
 
-pub clauses::scan-loop-turn-preserved : goal.clauses::scan-loop-turn-preserved
-clauses::scan-loop-turn-preserved t c =
+pub clauses::scan_from-loop-turn-preserved : goal.clauses::scan_from-loop-turn-preserved
+clauses::scan_from-loop-turn-preserved t c =
     let js = joins_of (map join_view c.args.joins.now) in
     let w = world_of c.args.world.now in
     let n = names_of c.args.scope.now c.args.world.now in
+    let a = c.args.alias.now in
     let keeps = kept (filter_view c.args.filter.now) w in
     let i = c.loop-turn.turn in
-    let ps = positions_of c.in_ok-looked.looked in
-    let rs = rows_at c.args.source c.in_ok-looked.looked in
+    let ps = positions_of c.args.positions in
+    let rs = rows_at c.args.source c.args.positions in
+    let before = kept_of js w n a keeps (take c.args.from rs) in
     let long : length rs ≡ length ps = length-map ps (row_in c.args.source) in
-    let within : i < length ps = omega (arith, c.loop-turn-test.true, c.number_of-turn-end.ensures) in
+    let within : i < length ps = omega (arith, c.loop-turn-test.true, c.number_of-end.ensures) in
     let lt : i < length rs = omega (arith, within, long) in
     let at : row_in c.args.source c.position_at-position.result ≡ get_or rs i [] = ap (row_in c.args.source) c.position_at-position.ensures ∙ sym (at_place c.args.source ps i within) in
-    ap (map (names_at c.args.source c.args.alias.now js w n)) c.in_ok-add_places.ensures
-    ∙ scan_step js w n c.args.alias.now keeps c.args.source rs i c.position_at-position.result (row_view c.row_at.result) c.loop-turn.places.items c.in_ok-lists.lists.items lt at c.row_at.ensures c.in_ok-lists.ensures c.loop-turn.invariant
+    record {
+      from = omega (arith, c.loop-turn.invariant.from);
+      places = ap (λ l. before ++ map (names_at c.args.source a js w n) l) c.in_ok-add_places.ensures
+          ∙ scan_step js w n a keeps before c.args.source rs i c.position_at-position.result (row_view c.row_at.result) c.loop-turn.places.items c.in_ok-lists.lists.items lt at c.row_at.ensures c.in_ok-lists.ensures c.loop-turn.invariant.places;
+    }
 
-pub clauses::scan-returns : goal.clauses::scan-returns
-clauses::scan-returns t c =
+pub clauses::scan_from-returns-then-has_enough-clause-places : goal.clauses::scan_from-returns-then-has_enough-clause-places
+clauses::scan_from-returns-then-has_enough-clause-places t c =
     let js = joins_of (map join_view c.args.joins.now) in
     let w = world_of c.args.world.now in
     let n = names_of c.args.scope.now c.args.world.now in
-    let ps = positions_of c.in_ok-looked.looked in
-    let rs = rows_at c.args.source c.in_ok-looked.looked in
+    let a = c.args.alias.now in
+    let keeps = kept (filter_view c.args.filter.now) w in
+    let i = c.loop-turn.turn in
+    let ps = positions_of c.args.positions in
+    let rs = rows_at c.args.source c.args.positions in
+    let before = kept_of js w n a keeps (take c.args.from rs) in
     let long : length rs ≡ length ps = length-map ps (row_in c.args.source) in
-    let all : length rs ≤ c.loop-turn.turn = omega (arith, long, c.loop-turn-test.false, c.number_of-turn-end.ensures) in
-    c.loop-turn.invariant ∙ ap (kept_of js w n c.args.alias.now (kept (filter_view c.args.filter.now) w)) (take_all c.loop-turn.turn rs all) ∙ c.in_ok-looked.ensures w
+    let within : i < length ps = omega (arith, c.loop-turn-test.true, c.number_of-end.ensures) in
+    let lt : i < length rs = omega (arith, within, long) in
+    let at : row_in c.args.source c.position_at-position.result ≡ get_or rs i [] = ap (row_in c.args.source) c.position_at-position.ensures ∙ sym (at_place c.args.source ps i within) in
+    ap (λ l. before ++ map (names_at c.args.source a js w n) l) c.in_ok-add_places.ensures
+    ∙ scan_step js w n a keeps before c.args.source rs i c.position_at-position.result (row_view c.row_at.result) c.loop-turn.places.items c.in_ok-lists.lists.items lt at c.row_at.ensures c.in_ok-lists.ensures c.loop-turn.invariant.places
+
+pub clauses::scan_from-returns-clause-places : goal.clauses::scan_from-returns-clause-places
+clauses::scan_from-returns-clause-places t c =
+    let js = joins_of (map join_view c.args.joins.now) in
+    let w = world_of c.args.world.now in
+    let n = names_of c.args.scope.now c.args.world.now in
+    let a = c.args.alias.now in
+    let keeps = kept (filter_view c.args.filter.now) w in
+    let i = c.loop-turn.turn in
+    let ps = positions_of c.args.positions in
+    let rs = rows_at c.args.source c.args.positions in
+    let before = kept_of js w n a keeps (take c.args.from rs) in
+    let long : length rs ≡ length ps = length-map ps (row_in c.args.source) in
+    let end : length rs ≤ c.number_of-end.result = omega (arith, long, c.number_of-end.ensures) in
+    let all : length rs ≤ i = omega (arith, long, c.loop-turn-test.false, c.number_of-end.ensures) in
+    c.loop-turn.invariant.places ∙ ap (kept_of js w n a keeps) (take_all i rs all ∙ sym (take_all c.number_of-end.result rs end))
 
 -- ---- whole selects
 
@@ -302,7 +331,7 @@ pub clauses::in_order-returns-then-is_empty-2 : goal.clauses::in_order-returns-t
 clauses::in_order-returns-then-is_empty-2 t c =
     let first : c.args.order.now.len ≡ length c.args.order.now.items = omega (arith, c.args.order.now.ok.0) in
     let second : c.args.distinct.now.len ≡ length c.args.distinct.now.items = omega (arith, c.args.distinct.now.ok.0) in
-    no_order c.args.order.now.items c.args.distinct.now.items _ (subst (λ k. (k == 0) ≡ true) first (sym c.is_empty.ensures ∙ c.if-is_empty.true)) (subst (λ k. (k == 0) ≡ true) second (sym c.is_empty-then-is_empty.ensures ∙ c.if-is_empty-2.true))
+    none_arranged c.args.order.now.items c.args.distinct.now.items _ (subst (λ k. (k == 0) ≡ true) first (sym c.is_empty.ensures ∙ c.if-is_empty.true)) (subst (λ k. (k == 0) ≡ true) second (sym c.is_empty-then-is_empty.ensures ∙ c.if-is_empty-2.true))
 
 pub clauses::in_order-returns : goal.clauses::in_order-returns
 clauses::in_order-returns t c =
@@ -310,6 +339,55 @@ clauses::in_order-returns t c =
     let K = map order_view c.args.order.now.items in
     let D = map expr_view c.args.distinct.now.items in
     IfOk-weaker c.arranged.result _ _ (λ sorted h. ap (map P) h ∙ arranged_is P K D c.in_ok-kept.kept.items c.args.places.items c.in_ok-kept.ensures) c.arranged.ensures
+
+pub clauses::page-returns-in-Arranged : goal.clauses::page-returns-in-Arranged
+clauses::page-returns-in-Arranged t c =
+    let js = joins_of (map join_view c.args.joins.now) in
+    let D = map expr_view c.args.parts.distinct.now.items in
+    let K = map order_view c.args.parts.order.now.items in
+    let finds : FindsArranged js c.args.scope.now c.args.alias.now (filter_view c.args.parts.filter.now) D K c.args.source (rows_at c.args.source c.in-Arranged.at) = rw c.in-Arranged.is at c.in_ok-looked.ensures in
+    IfOk-weaker c.page_front.result _ _ (λ places h. h ∙ ap (λ l. limited c.args.limit (offset_by c.args.offset l)) (finds (world_of c.args.world.now))) c.page_front.ensures
+
+pub clauses::page-returns-in-Unsorted : goal.clauses::page-returns-in-Unsorted
+clauses::page-returns-in-Unsorted t c =
+    let js = joins_of (map join_view c.args.joins.now) in
+    let D = map expr_view c.args.parts.distinct.now.items in
+    let K = map order_view c.args.parts.order.now.items in
+    let finds : FindsAll js c.args.scope.now c.args.alias.now (filter_view c.args.parts.filter.now) c.args.source (rows_at c.args.source c.in-Unsorted.at) = rw c.in-Unsorted.is at c.in_ok-looked.ensures in
+    IfOk-weaker c.page_sorted.result _ _ (λ places h. h ∙ ap (λ l. limited c.args.limit (offset_by c.args.offset (distinct_on D (sort (order_cmp K) l)))) (finds (world_of c.args.world.now))) c.page_sorted.ensures
+
+pub clauses::page_front-returns : goal.clauses::page_front-returns
+clauses::page_front-returns t c =
+    let js = joins_of (map join_view c.args.joins.now) in
+    let w = world_of c.args.world.now in
+    let n = names_of c.args.scope.now c.args.world.now in
+    let a = c.args.alias.now in
+    let keeps = kept (filter_view c.args.filter.now) w in
+    let P = names_at c.args.source a js w n in
+    let ps = positions_of c.args.positions in
+    let rs = rows_at c.args.source c.args.positions in
+    let found = c.in_ok-found.found.places.items in
+    let long : length ps ≡ length rs = sym (length-map ps (row_in c.args.source)) in
+    ap (map P) c.paged-page.ensures ∙ paged_map P c.args.limit c.args.offset found
+    ∙ page_front js w n a keeps c.args.limit c.args.offset c.enough-bound.result rs c.in_ok-found.found.next (length ps) (map P found) (length found) c.enough-bound.ensures c.in_ok-found.ensures.places (sym (length-map found P)) c.in_ok-found.ensures.whole long
+
+pub clauses::page_sorted-returns : goal.clauses::page_sorted-returns
+clauses::page_sorted-returns t c =
+    let js = joins_of (map join_view c.args.joins.now) in
+    let w = world_of c.args.world.now in
+    let n = names_of c.args.scope.now c.args.world.now in
+    let a = c.args.alias.now in
+    let keeps = kept (filter_view c.args.parts.filter.now) w in
+    let D = map expr_view c.args.parts.distinct.now.items in
+    let K = map order_view c.args.parts.order.now.items in
+    let P = names_at c.args.source a js w n in
+    let ps = positions_of c.args.positions in
+    let rs = rows_at c.args.source c.args.positions in
+    let found = c.in_ok-found.found.places.items in
+    let long : length ps ≡ length rs = sym (length-map ps (row_in c.args.source)) in
+    ap (map P) c.paged-page.ensures ∙ paged_map P c.args.limit c.args.offset c.in_ok-sorted.sorted.items
+    ∙ ap (λ l. limited c.args.limit (offset_by c.args.offset l))
+    (c.in_ok-sorted.ensures ∙ ap (λ l. distinct_on D (sort (order_cmp K) l)) (scan_all js w n a keeps rs c.in_ok-found.found.next (length ps) (map P found) c.in_ok-found.ensures.places (c.in_ok-found.ensures.whole refl) long))
 
 pub clauses::rows_over-returns : goal.clauses::rows_over-returns
 clauses::rows_over-returns t c =
@@ -321,11 +399,9 @@ clauses::rows_over-returns t c =
     let O = map out_view c.args.parts.outs.now.items in
     let K = map order_view c.args.parts.order.now.items in
     let P = names_at c.source_of-source.result c.alias_of-alias.result.now js w n in
-    let page : c.as_slice-places.result.now ≡ limited c.args.limit (offset_by c.args.offset c.in_ok-sorted.sorted.items) = c.as_slice-places.ensures.value ∙ c.paged-page.ensures in
     IfOk-weaker c.all_outputs.result _ _
     (λ rows h.
-    h ∙ outputs_all O (map P c.as_slice-places.result.now)
-    ∙ steps_are P D O K c.args.limit c.args.offset _ c.in_ok-found.found.items c.in_ok-sorted.sorted.items c.as_slice-places.result.now c.in_ok-found.ensures c.in_ok-sorted.ensures page
+    h ∙ outputs_all O (map P c.as_slice-places.result.now) ∙ ap (map (outputs O [])) (ap (map P) c.as_slice-places.ensures.value ∙ c.in_ok-paged.ensures)
     ∙ ap₂ (λ a given. map (outputs O []) (limited c.args.limit (offset_by c.args.offset (distinct_on D (sort (order_cmp K) (kept_items keeps (flat_map (joined js w) (map (with_alias n a) given)))))))) c.alias_of-alias.ensures c.source_of-source.ensures)
     c.all_outputs.ensures
 

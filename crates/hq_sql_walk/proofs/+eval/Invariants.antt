@@ -1,4 +1,4 @@
-use Rattle.std.proofs.Common.{◌≡◌, ◌+◌, ◌++◌, [], map, filter, flat_map, take, drop}
+use Rattle.std.proofs.Common.{◌≡◌, ◌≤◌, ◌+◌, ◌++◌, [], map, filter, flat_map, take, drop}
 use Rattle.std.specs.Vec.Iter.{into_iter_items}
 use Rattle.hq_base.specs.Json.{member_view}
 use Rattle.hq_terms.specs.Logic.{and3, or3}
@@ -14,6 +14,7 @@ use Rattle.hq_sql_closed.specs.Conjuncts.{all_kept, lent_views, lent_weight}
 use Rattle.hq_sql_closed.specs.Weight.{total, agg_weight, expr_weight, pair_weight, order_weight, out_weight, from_weight, select_weight, join_weight, pred_weight, filter_weight}
 use Rattle.hq_sql_rows.specs.Weight.{scope_weight}
 use Rattle.hq_sql_walk.specs.Asked.{asked_weight}
+use Rattle.hq_sql_walk.specs.Selected.{kept_from, scope_at}
 use Rattle.hq_sql_walk.proofs.+eval.Given as goal
 
 -- ---- loops: what is done so far
@@ -51,10 +52,13 @@ invariant-joins::spread-loop-row l =
 abbrev pub invariant-joins::outputs-loop-out : goal.invariant-joins::outputs-loop-out
 invariant-joins::outputs-loop-out l = map named_view l.cells.items ≡ map (output_at (names_of l.scope l.world)) (map out_view (take l.out-index l.out-items))
 
-abbrev pub invariant-clauses::scan-loop-turn : goal.invariant-clauses::scan-loop-turn
-invariant-clauses::scan-loop-turn l =
-    map (names_at l.source l.alias (joins_of (map join_view l.joins)) (world_of l.world) (names_of l.scope l.world)) l.places.items
-    ≡ kept_of (joins_of (map join_view l.joins)) (world_of l.world) (names_of l.scope l.world) l.alias (kept (filter_view l.filter) (world_of l.world)) (take l.turn (rows_at l.source l.looked))
+abbrev pub invariant-clauses::scan_from-loop-turn : goal.invariant-clauses::scan_from-loop-turn
+invariant-clauses::scan_from-loop-turn l =
+    record {
+      from : l.from ≤ l.turn;
+      places : kept_from (take l.from (rows_at l.source l.positions)) l.alias l.joins l.filter l.world l.scope ++ map (scope_at l.source l.alias l.joins l.world l.scope) l.places.items
+          ≡ kept_from (take l.turn (rows_at l.source l.positions)) l.alias l.joins l.filter l.world l.scope;
+    }
 
 abbrev pub invariant-clauses::any_row-loop-turn : goal.invariant-clauses::any_row-loop-turn
 invariant-clauses::any_row-loop-turn l =
@@ -168,10 +172,21 @@ decreases-clauses::made_of l = from_weight l.from.now + scope_weight l.scope.now
 
 abbrev pub decreases-clauses::rows_over : goal.decreases-clauses::rows_over
 decreases-clauses::rows_over l =
-    7 + (total (map out_weight l.parts.outs.now.items) + (total (map join_weight l.joins.now) + (filter_weight l.parts.filter.now + (total (map order_weight l.parts.order.now.items) + (total (map expr_weight l.parts.distinct.now.items) + scope_weight l.scope.now)))))
+    9 + (total (map out_weight l.parts.outs.now.items) + (total (map join_weight l.joins.now) + (filter_weight l.parts.filter.now + (total (map order_weight l.parts.order.now.items) + (total (map expr_weight l.parts.distinct.now.items) + scope_weight l.scope.now)))))
 
-abbrev pub decreases-clauses::scan : goal.decreases-clauses::scan
-decreases-clauses::scan l = 5 + (total (map join_weight l.joins.now) + (filter_weight l.filter.now + scope_weight l.scope.now))
+abbrev pub decreases-clauses::page : goal.decreases-clauses::page
+decreases-clauses::page l =
+    8 + (total (map join_weight l.joins.now) + (filter_weight l.parts.filter.now + (total (map order_weight l.parts.order.now.items) + (total (map expr_weight l.parts.distinct.now.items) + scope_weight l.scope.now))))
+
+abbrev pub decreases-clauses::page_front : goal.decreases-clauses::page_front
+decreases-clauses::page_front l = 6 + (total (map join_weight l.joins.now) + (filter_weight l.filter.now + scope_weight l.scope.now))
+
+abbrev pub decreases-clauses::page_sorted : goal.decreases-clauses::page_sorted
+decreases-clauses::page_sorted l =
+    7 + (total (map join_weight l.joins.now) + (filter_weight l.parts.filter.now + (total (map order_weight l.parts.order.now.items) + (total (map expr_weight l.parts.distinct.now.items) + scope_weight l.scope.now))))
+
+abbrev pub decreases-clauses::scan_from : goal.decreases-clauses::scan_from
+decreases-clauses::scan_from l = 5 + (total (map join_weight l.joins.now) + (filter_weight l.filter.now + scope_weight l.scope.now))
 
 abbrev pub decreases-clauses::keeps_some : goal.decreases-clauses::keeps_some
 decreases-clauses::keeps_some l = 4 + (total (map join_weight l.joins.now) + (filter_weight l.filter.now + scope_weight l.scope.now))
