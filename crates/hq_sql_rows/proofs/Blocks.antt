@@ -9,16 +9,17 @@ use Rattle.hq_sql_rows.proofs.Looked.{each_append}
 
 module _ {B : Type 0} (S : B → B → Ordering) where
   -- each item put in its place, the last one first
-  abbrev put_each : List B → List B → List B
+  abbrev pub put_each : List B → List B → List B
   put_each [] zs = zs
   put_each (x ∷ xs) zs = put S x (put_each xs zs)
 
-  sort_append : (xs ys : List B) → sort S (xs ++ ys) ≡ put_each xs (sort S ys)
+  -- a front of the list is put into the rest, sorted
+  pub sort_append : (xs ys : List B) → sort S (xs ++ ys) ≡ put_each xs (sort S ys)
   sort_append [] ys = refl
   sort_append (x ∷ xs) ys = ap (put S x) (sort_append xs ys)
 
   -- an item that belongs behind none stays in front
-  put_front : (x : B) (ys : List B) → Each (Before S x) ys → put S x ys ≡ x ∷ ys
+  pub put_front : (x : B) (ys : List B) → Each (Before S x) ys → put S x ys ≡ x ∷ ys
   put_front x [] h = refl
   put_front x (y ∷ ys) h = rw h.0 refl
 

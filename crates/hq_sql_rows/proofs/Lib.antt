@@ -6,3 +6,4 @@ pub mod Knowing
 pub mod Blocks
 pub mod InOrder
 pub mod Enough
+pub mod Tops

@@ -11,3 +11,4 @@ pub mod Positions
 pub mod Ordered
 pub mod Known
 pub mod Pages
+pub mod Exists

@@ -4,6 +4,7 @@
 
 pub mod cells;
 mod equations;
+pub mod exists;
 pub mod known;
 mod mentions;
 pub mod ordered;

@@ -1,6 +1,8 @@
 //! How many rows a page needs.
-ghost use Rattle.std.specs.Prelude.{◌≡◌};
+ghost use Rattle.std.specs.Prelude.{◌≡◌, [], IfSome};
 ghost use Rattle.hq_sql_rows.specs.Pages.{is_enough, Suffices};
+
+use hq_sql_tree::ExprList;
 
 /// Whether so many rows are enough. Without a bound no number is.
 pub fn has_enough(bound: Option<usize>, number: usize) -> bool
@@ -24,5 +26,17 @@ pub fn enough(limit: Option<u64>, offset: Option<u64>) -> Option<usize>
             let sum = limit.checked_add(offset)?;
             Some(sum as usize)
         }
+    }
+}
+
+/// How many rows behind ORDER BY OFFSET and LIMIT need, where DISTINCT ON groups none.
+pub fn enough_sorted(distinct: &ExprList, limit: Option<u64>, offset: Option<u64>) -> Option<usize>
+    ensures alone { IfSome result (λ bound. distinct.now.items ≡ []) }
+    ensures suffices { Suffices limit offset result }
+{
+    if distinct.is_empty() {
+        enough(limit, offset)
+    } else {
+        None
     }
 }

@@ -32,6 +32,16 @@ pub fn add_places<'d>(
     Ok(())
 }
 
+/// The places, and more behind them.
+pub fn with_more<'d>(places: Vec<Place<'d>>, more: Vec<Place<'d>>) -> Result<Vec<Place<'d>>, Memory>
+    ensures { IfOk result (λ all. all.items ≡ places.entry.items ++ more.entry.items) }
+{
+    let mut all = places;
+    let mut more = more;
+    all.append(&mut more)?;
+    Ok(all)
+}
+
 /// Adds lists behind those that are there.
 pub fn add_lists<'d>(all: &mut Vec<Joined<'d>>, lists: Vec<Joined<'d>>) -> Result<(), Memory>
     ensures { OnOk result (all.new.items ≡ all.old.items ++ lists.entry.items) }

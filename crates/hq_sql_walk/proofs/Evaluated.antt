@@ -1,5 +1,5 @@
 -- Steps of the evaluation of a select.
-use Rattle.std.proofs.Common.{◌≡◌, ◌==◌, ◌<◌, ◌+◌, ℕ, zero, suc, List, [], ◌∷◌, ◌++◌, map, filter, flat_map, take, drop, length, get_or, Bool, true, false, cond, Option, Some, None, Ordering, refl, sym, ap, ap₂, ◌∙◌, append-nil, append_assoc, add-one, is_gt, arith}
+use Rattle.std.proofs.Common.{◌≡◌, ◌==◌, ◌≤◌, ◌<◌, ◌+◌, ℕ, zero, suc, List, [], ◌∷◌, ◌++◌, map, filter, flat_map, take, drop, length, get_or, Bool, true, false, cond, not, Option, Some, None, Ordering, refl, sym, ap, ap₂, ◌∙◌, append-nil, append_assoc, add-one, is_gt, arith}
 use Rattle.std.proofs.lemmas.List.{map-append, take-append-drop, take_all}
 use Rattle.std.proofs.lemmas.Bool.{ne_eqb, false≢true}
 use Rattle.std.specs.Global.{Vec}
@@ -17,7 +17,9 @@ use Rattle.hq_sql_tree.specs.Tree.{ExprTree, PairTree, pairs_of, OutTree, OrderT
 use Rattle.hq_sql_tree.specs.declared.expr.Expr.{Expr}
 use Rattle.hq_sql_tree.specs.declared.expr.Order.{Order}
 use Rattle.hq_sql_tree.specs.View.{expr_view, order_view}
-use Rattle.hq_sql_tree.specs.Meaning.{NamedRow, Scope, with_alias, World, rows_of, value, members, outputs, joined, order_cmp, distinct_on, limited, offset_by, kept, scopes_of, has_rows}
+use Rattle.hq_sql_tree.specs.Tree.{PredTrees, no_pred, pred}
+use Rattle.hq_sql_rows.specs.Exists.{holds_exists, all_true_of}
+use Rattle.hq_sql_tree.specs.Meaning.{truth_at, all_true, NamedRow, Scope, with_alias, World, rows_of, value, members, outputs, joined, order_cmp, distinct_on, limited, offset_by, kept, scopes_of, has_rows}
 use Rattle.hq_sql_rows.specs.declared.scope.Source.{Source}
 use Rattle.hq_sql_rows.specs.declared.scope.Source.TheVariants as source
 use Rattle.hq_sql_rows.specs.View.{first_row, beside, source_view, row_in, joined_view, place_of, names_at}
@@ -29,6 +31,8 @@ use Rattle.hq_sql_rows.specs.Single.{is_single}
 use Rattle.hq_sql_rows.specs.Positions.{kept_of}
 use Rattle.hq_sql_rows.specs.Sources.{alias_in, made_rows, rows_given, has_items}
 use Rattle.hq_sql_rows.specs.Pages.{is_enough, Suffices}
+use Rattle.hq_sql_rows.proofs.Enough.{bound_page}
+use Rattle.hq_sql_rows.proofs.Tops.{first_sorted, order_total}
 use Rattle.hq_sql_walk.proofs.JoinedRows.{beside_put_off, joined_single}
 
 -- the members of an object are a map over its pairs
@@ -60,6 +64,36 @@ and3_assoc Unknown No c = refl
 and3_assoc Unknown Unknown Yes = refl
 and3_assoc Unknown Unknown No = refl
 and3_assoc Unknown Unknown Unknown = refl
+
+and3_comm : (a b : Truth) → and3 a b ≡ and3 b a
+and3_comm Yes Yes = refl
+and3_comm Yes No = refl
+and3_comm Yes Unknown = refl
+and3_comm No Yes = refl
+and3_comm No No = refl
+and3_comm No Unknown = refl
+and3_comm Unknown Yes = refl
+and3_comm Unknown No = refl
+and3_comm Unknown Unknown = refl
+
+-- the others first, and then those that hold an EXISTS
+pub tried_first : (ps : PredTrees) (w : World) (n : Scope) → and3 (all_true_of false ps w n) (all_true_of true ps w n) ≡ all_true ps w n
+tried_first no_pred w n = refl
+tried_first (pred p ps) w n =
+    let t = truth_at p w n in
+    let plain = all_true_of false ps w n in
+    let others = all_true_of true ps w n in
+    let rest = tried_first ps w n in
+    let go : (b : Bool) → and3 (cond (not b) (and3 t plain) plain) (cond b (and3 t others) others) ≡ and3 t (all_true ps w n) =
+    elim [
+      | true ↦ sym (and3_assoc plain t others) ∙ ap (λ x. and3 x others) (and3_comm plain t) ∙ and3_assoc t plain others ∙ ap (and3 t) rest
+      | false ↦ and3_assoc t plain others ∙ ap (and3 t) rest
+    ] in
+    go (holds_exists p)
+
+-- where one of the others is false, the rest tells nothing
+pub tried_no : (ps : PredTrees) (w : World) (n : Scope) → all_true_of false ps w n ≡ No → all_true ps w n ≡ No
+tried_no ps w n e = sym (tried_first ps w n) ∙ ap (λ t. and3 t (all_true_of true ps w n)) e
 
 pub or3_no : (t : Truth) → or3 t No ≡ t
 or3_no Yes = refl
@@ -158,6 +192,18 @@ module _ (js : JoinTrees) (w : World) (n : Scope) (a : List ℕ) (keeps : Scope 
   -- the places of all positions from the first one on
   pub scan_all : (rs : List NamedRow) (next end : ℕ) (found : List Scope) → found ≡ kept_here (take next rs) → next ≡ end → end ≡ length rs → found ≡ kept_here rs
   scan_all rs next end found k whole all = k ∙ ap kept_here (take_all next rs (omega (arith, whole, all)))
+
+  -- the first rows by ORDER BY, behind one more stretch
+  pub top_step : (os : List OrderTree) (bound next more : ℕ) (rs : List NamedRow) (top found sorted : List Scope) → top ≡ take bound (sort (order_cmp os) (kept_here (take next rs))) → kept_here (take next rs) ++ found ≡ kept_here (take more rs)
+      → sorted ≡ sort (order_cmp os) (top ++ found) → take bound sorted ≡ take bound (sort (order_cmp os) (kept_here (take more rs)))
+  top_step os bound next more rs top found sorted t f s =
+      ap (take bound) (s ∙ ap (λ l. sort (order_cmp os) (l ++ found)) t) ∙ first_sorted (order_total os) bound (kept_here (take next rs)) found ∙ ap (λ l. take bound (sort (order_cmp os) l)) f
+
+  -- the page of the first rows by ORDER BY
+  pub top_page : (os : List OrderTree) (limit offset : Option ℕ) (bound next end : ℕ) (rs : List NamedRow) (top : List Scope) → Suffices limit offset (Some bound) → top ≡ take bound (sort (order_cmp os) (kept_here (take next rs))) → end ≤ next → end ≡ length rs
+      → limited limit (offset_by offset top) ≡ limited limit (offset_by offset (sort (order_cmp os) (kept_here rs)))
+  top_page os limit offset bound next end rs top suffices t past all =
+      ap (λ l. limited limit (offset_by offset l)) (t ∙ ap (λ l. take bound (sort (order_cmp os) (kept_here l))) (take_all next rs (omega (arith, past, all)))) ∙ bound_page limit offset bound (sort (order_cmp os) (kept_here rs)) suffices
 
   -- the page of the places of enough positions, from the first one on
   pub page_front : (limit offset bound : Option ℕ) (rs : List NamedRow) (next end : ℕ) (found : List Scope) (count : ℕ) → Suffices limit offset bound → found ≡ kept_here (take next rs) → count ≡ length found → (is_enough bound count ≡ false → next ≡ end) → end ≡ length rs

@@ -1,5 +1,5 @@
 //! The rows of a select.
-ghost use Rattle.std.specs.Prelude.{◌≡◌, ◌+◌, ◌<◌, ◌≤◌, false, map, length, filter as kept_items, IfOk, IfSome};
+ghost use Rattle.std.specs.Prelude.{◌≡◌, ◌+◌, ◌<◌, ◌≤◌, [], Some, false, map, length, filter as kept_items, IfOk, IfSome};
 ghost use Rattle.hq_sql_closed.specs.Conjuncts.{lent_weight};
 ghost use Rattle.hq_sql_closed.specs.Weight.{filter_weight};
 ghost use Rattle.hq_sql_tree.specs.Meaning.{kept, joined, rows_of};
@@ -7,7 +7,7 @@ ghost use Rattle.hq_sql_tree.specs.Tree.{fold, no_join};
 ghost use Rattle.hq_sql_tree.specs.View.{expr_view, order_view, out_view, select_view, from_view, filter_view};
 ghost use Rattle.hq_sql_rows.specs.Keys.{with_cells, keyed_at, taken_at, outputs_of};
 ghost use Rattle.hq_sql_rows.specs.Known.{IsKnown, Tells};
-ghost use Rattle.hq_sql_rows.specs.Pages.{is_enough};
+ghost use Rattle.hq_sql_rows.specs.Pages.{Suffices, is_enough};
 ghost use Rattle.hq_sql_rows.specs.Positions.{positions_of, rows_at};
 ghost use Rattle.hq_sql_rows.specs.Sources.{made_rows, has_items};
 ghost use Rattle.hq_sql_rows.specs.View.{made_view, first_row, source_view, world_of, names_of};
@@ -21,15 +21,18 @@ use hq_base::{Memory, Txt};
 use hq_sql_cells::{Kept, paged};
 use hq_sql_rows::cells::arranged;
 use hq_sql_rows::ordered::{Looked, ordered_at};
-use hq_sql_rows::pages::{enough, has_enough};
+use hq_sql_rows::pages::{enough, enough_sorted, has_enough};
 use hq_sql_rows::pinned::{Known, Pinned};
-use hq_sql_rows::place::{Place, add_places};
+use hq_sql_rows::place::{Place, add_places, with_more};
 use hq_sql_rows::positions::{Positions, looked_at, number_of, position_at};
 use hq_sql_rows::row::{Made, first_row, one_row};
 use hq_sql_rows::scope::{Group, Scope, Source, alias_of, row_at, source_of};
 use hq_sql_rows::stages::{Parts, Stage, stages};
 use hq_sql_tree::{ExprList, From, Join, OrderList, Out, OutList, Pred, Select};
 use std::alloc::Global;
+
+// So many rows are found, beside those that a page needs, before they are sorted.
+const STRETCH: usize = 1024;
 
 /// The rows of a select in its scope.
 #[cycle(eval)]
@@ -168,23 +171,19 @@ pub fn page<'s, 'd>(
         &world.work.looked,
         &*scope,
     )?;
+    let filter = parts.filter;
     match looked {
         Looked::Arranged(at) => page_front(
-            alloc,
-            source,
-            alias,
-            joins,
-            stages,
-            parts.filter,
-            at,
-            limit,
-            offset,
-            world,
-            scope,
+            alloc, source, alias, joins, stages, filter, at, limit, offset, world, scope,
         ),
-        Looked::Unsorted(at) => page_sorted(
-            alloc, source, alias, joins, stages, parts, at, limit, offset, world, scope,
-        ),
+        Looked::Unsorted(at) => match enough_sorted(parts.distinct, limit, offset) {
+            Some(bound) => page_top(
+                alloc, source, alias, joins, stages, parts, at, bound, limit, offset, world, scope,
+            ),
+            None => page_sorted(
+                alloc, source, alias, joins, stages, parts, at, limit, offset, world, scope,
+            ),
+        },
     }
 }
 
@@ -213,7 +212,56 @@ fn page_front<'s, 'd>(
     Ok(page)
 }
 
-// The same, where it does not.
+// The same under LIMIT, where it is to be sorted: behind each stretch of the scan those rows are left out that the page does not
+// need.
+#[cycle(eval)]
+fn page_top<'s, 'd>(
+    alloc: Global,
+    source: Source<'s, 'd>,
+    alias: &'d Txt,
+    joins: &'d [Join],
+    stages: &[Stage],
+    parts: Parts<'d>,
+    positions: Positions<'d>,
+    bound: usize,
+    limit: Option<u64>,
+    offset: Option<u64>,
+    world: &Pinned<'d>,
+    scope: &'s Scope<'s, 'd>,
+) -> Result<Vec<Place<'d>>, Memory>
+    requires alone { parts.distinct.now.items ≡ [] }
+    requires suffices { Suffices limit offset (Some bound) }
+    ensures { IfOk result (λ places. Pages (rows_at source.entry positions.entry) source.entry alias.now joins.now parts.entry limit offset world.now scope.now places.items) }
+{
+    let end = number_of(positions);
+    let stretch = Some(bound.saturating_add(STRETCH));
+    let filter = parts.filter;
+    let mut top = Vec::new(alloc);
+    let mut next = 0;
+    while next < end {
+        let found = scan_from(
+            alloc, source, alias, joins, stages, filter, positions, next, stretch, world, scope,
+        )?;
+        next = found.next;
+        let all = with_more(top, found.places)?;
+        let sorted = in_order(
+            alloc,
+            source,
+            alias,
+            joins,
+            parts.distinct,
+            parts.order,
+            all,
+            world,
+            scope,
+        )?;
+        top = paged(sorted, None, Some(bound as u64));
+    }
+    let page = paged(top, offset, limit);
+    Ok(page)
+}
+
+// The same without LIMIT, or where DISTINCT ON groups the rows.
 #[cycle(eval)]
 fn page_sorted<'s, 'd>(
     alloc: Global,

@@ -2,14 +2,16 @@
 ghost use Rattle.std.specs.Prelude.{◌≡◌, map, IfOk};
 ghost use Rattle.hq_sql_tree.specs.Tree.{preds_of, compare, like, within};
 ghost use Rattle.hq_sql_tree.specs.View.{expr_view, select_view, pred_view, filter_view};
-ghost use Rattle.hq_sql_tree.specs.Meaning.{kept, truth_at, all_true, any_true, has_rows, rows_of};
+ghost use Rattle.hq_sql_tree.specs.Meaning.{kept, truth_at, any_true, has_rows, rows_of};
 ghost use Rattle.hq_sql_closed.specs.Conjuncts.{all_kept, lent_views};
+ghost use Rattle.hq_sql_rows.specs.Exists.{all_true_of};
 ghost use Rattle.hq_sql_rows.specs.View.{world_of, names_of};
 
 use crate::clauses::{any_row, made_of, rows};
 use crate::values::{value, values};
 use hq_base::Memory;
 use hq_sql_cells::{among, compared, matched};
+use hq_sql_rows::exists::is_tried;
 use hq_sql_rows::known::known_of;
 use hq_sql_rows::pinned::Pinned;
 use hq_sql_rows::scope::{Group, Scope, alias_of, source_of};
@@ -35,7 +37,7 @@ pub fn kept<'d>(
     }
 }
 
-/// The truth of a condition.
+/// The truth of a condition. Of an AND, what holds no EXISTS is tried first.
 #[cycle(eval)]
 pub fn truth<'d>(
     alloc: Global,
@@ -56,7 +58,14 @@ pub fn truth<'d>(
             Ok(Truth::of(cell.is_null()))
         }
         Pred::Not(inner) => Ok(truth(alloc, inner, world, scope)?.negated()),
-        Pred::And(preds) => all_true(alloc, preds, world, scope),
+        Pred::And(preds) => {
+            let plain = all_true(alloc, preds, false, world, scope)?;
+            if plain == Truth::No {
+                return Ok(Truth::No);
+            }
+            let others = all_true(alloc, preds, true, world, scope)?;
+            Ok(plain.and(others))
+        }
         Pred::Or(preds) => any_true(alloc, preds, world, scope),
         Pred::Exists(select) => Ok(Truth::of(exists(alloc, select, world, scope)?)),
     }
@@ -112,21 +121,24 @@ fn membership<'d>(
     Ok(among(&items, &item))
 }
 
-// AND of a list, which ends where one is false.
+// AND of those of a list that hold an EXISTS, or of the others, which ends where one is false.
 #[cycle(eval)]
 fn all_true<'d>(
     alloc: Global,
     preds: &'d PredList,
+    with_exists: bool,
     world: &Pinned<'d>,
     scope: &Scope<'_, 'd>,
 ) -> Result<Truth, Memory>
-    ensures { IfOk result (λ t. t ≡ all_true (preds_of (map pred_view preds.now.items)) (world_of world.now) (names_of scope.now world.now)) }
+    ensures { IfOk result (λ t. t ≡ all_true_of with_exists (preds_of (map pred_view preds.now.items)) (world_of world.now) (names_of scope.now world.now)) }
 {
     let mut all = Truth::Yes;
     for pred in preds {
-        all = all.and(truth(alloc, pred, world, scope)?);
-        if all == Truth::No {
-            return Ok(Truth::No);
+        if is_tried(pred, with_exists) {
+            all = all.and(truth(alloc, pred, world, scope)?);
+            if all == Truth::No {
+                return Ok(Truth::No);
+            }
         }
     }
     Ok(all)

@@ -14,9 +14,12 @@ use Rattle.hq_base.specs.declared.json.Json.{Arr, Obj, the_lemmas as json_lemmas
 use Rattle.hq_sql_tree.specs.declared.expr.Agg.{the_lemmas as agg_lemmas}
 use Rattle.hq_sql_tree.specs.declared.expr.Expr.{the_lemmas as expr_lemmas}
 use Rattle.hq_sql_tree.specs.declared.select.Select.{the_lemmas as select_lemmas}
-use Rattle.hq_sql_tree.specs.Tree.{pairs_of, orders_of, joins_of, rows}
-use Rattle.hq_sql_tree.specs.View.{agg_view, expr_view, pair_view, order_view, out_view, select_view, from_view, join_view, filter_view}
-use Rattle.hq_sql_tree.specs.Meaning.{with_alias, value, members, taken, orders_cmp, order_cmp, distinct_on, limited, offset_by, outputs, has_rows, kept, rows_of, joined}
+use Rattle.hq_sql_tree.specs.declared.select.Pred.{the_lemmas as pred_lemmas}
+use Rattle.hq_terms.specs.Logic.{and3}
+use Rattle.hq_terms.specs.declared.truth.Truth.TheVariants.{No}
+use Rattle.hq_sql_tree.specs.Tree.{pairs_of, orders_of, joins_of, preds_of, rows}
+use Rattle.hq_sql_tree.specs.View.{agg_view, expr_view, pair_view, order_view, out_view, pred_view, select_view, from_view, join_view, filter_view}
+use Rattle.hq_sql_tree.specs.Meaning.{with_alias, truth_at, all_true, value, members, taken, orders_cmp, order_cmp, distinct_on, limited, offset_by, outputs, has_rows, kept, rows_of, joined}
 use Rattle.hq_sql_rows.specs.View.{made_view, named_view, first_row, source_view, row_in, row_view, joined_view, world_of, names_of, names_at, group_of, beside}
 use Rattle.hq_sql_rows.specs.Joined.{join_in, first_joined}
 use Rattle.hq_sql_walk.proofs.JoinedRows.{beside_row}
@@ -30,7 +33,7 @@ use Rattle.hq_sql_closed.specs.Conjuncts.{all_kept, lent_views, lent_weight}
 use Rattle.hq_sql_closed.specs.Weight.{total, expr_weight, pair_weight, order_weight, out_weight, pred_weight, filter_weight}
 use Rattle.hq_sql_closed.proofs.Weights.{item_weight, pair_item, order_item, out_item, expr_item, pred_item}
 use Rattle.hq_sql_walk.proofs.Ordered.{elements_are, arranged_is}
-use Rattle.hq_sql_walk.proofs.Evaluated.{members_mapped, outputs_all, later_is, keys_is, spread_step, any_found, any_passed, scan_step, no_images, some_images, rows_are, exists_is, paged_map, scan_all, page_front}
+use Rattle.hq_sql_walk.proofs.Evaluated.{members_mapped, tried_first, tried_no, outputs_all, later_is, keys_is, spread_step, any_found, any_passed, scan_step, no_images, some_images, rows_are, exists_is, paged_map, scan_all, page_front, top_step, top_page}
 use Rattle.hq_sql_walk.proofs.Told.{none_in, tells_at, known_out, known_in, known_at}
 use Rattle.hq_sql_walk.proofs.+eval.Goals as goal
 
@@ -136,6 +139,25 @@ aggregates::taken-returns-in_ok-each_value-in-Max t c =
     subst (λ x. map cell_view c.in_ok-each_value-in-Max.field-0.items ≡ map (value (expr_view x) []) ns) lent c.in_ok-each_value-in-Max.ensures in
     let rhs : taken (agg_view c.args.agg.now) ns ≡ greatest (map (value (expr_view e) []) ns) = search (rules, agg_lemmas) in
     c.greatest.ensures ∙ ap greatest cells ∙ sym rhs
+
+-- ---- AND of a list
+
+pub truths::truth-returns-then-eq : goal.truths::truth-returns-then-eq
+truths::truth-returns-then-eq t c =
+    let w = world_of c.args.world.now in
+    let n = names_of c.args.scope.now c.args.world.now in
+    let ps = preds_of (map pred_view c.in-And.preds.items) in
+    let is : c.in_ok-plain-in-And.plain ≡ No = search rules in
+    let whole : truth_at (pred_view c.args.pred.now) w n ≡ all_true ps w n = search (rules, pred_lemmas) in
+    sym (whole ∙ tried_no ps w n (sym c.in_ok-plain-in-And.ensures ∙ is))
+
+pub truths::truth-returns-in_ok-others-in-And : goal.truths::truth-returns-in_ok-others-in-And
+truths::truth-returns-in_ok-others-in-And t c =
+    let w = world_of c.args.world.now in
+    let n = names_of c.args.scope.now c.args.world.now in
+    let ps = preds_of (map pred_view c.in-And.preds.items) in
+    let whole : truth_at (pred_view c.args.pred.now) w n ≡ all_true ps w n = search (rules, pred_lemmas) in
+    c.and.ensures ∙ ap₂ and3 c.in_ok-plain-in-And.ensures c.in_ok-others-in-And.ensures ∙ tried_first ps w n ∙ sym whole
 
 -- ---- joins
 
@@ -348,8 +370,16 @@ clauses::page-returns-in-Arranged t c =
     let finds : FindsArranged js c.args.scope.now c.args.alias.now (filter_view c.args.parts.filter.now) D K c.args.source (rows_at c.args.source c.in-Arranged.at) = rw c.in-Arranged.is at c.in_ok-looked.ensures in
     IfOk-weaker c.page_front.result _ _ (λ places h. h ∙ ap (λ l. limited c.args.limit (offset_by c.args.offset l)) (finds (world_of c.args.world.now))) c.page_front.ensures
 
-pub clauses::page-returns-in-Unsorted : goal.clauses::page-returns-in-Unsorted
-clauses::page-returns-in-Unsorted t c =
+pub clauses::page-returns-in-Some : goal.clauses::page-returns-in-Some
+clauses::page-returns-in-Some t c =
+    let js = joins_of (map join_view c.args.joins.now) in
+    let D = map expr_view c.args.parts.distinct.now.items in
+    let K = map order_view c.args.parts.order.now.items in
+    let finds : FindsAll js c.args.scope.now c.args.alias.now (filter_view c.args.parts.filter.now) c.args.source (rows_at c.args.source c.in-Unsorted.at) = rw c.in-Unsorted.is at c.in_ok-looked.ensures in
+    IfOk-weaker c.page_top.result _ _ (λ places h. h ∙ ap (λ l. limited c.args.limit (offset_by c.args.offset (distinct_on D (sort (order_cmp K) l)))) (finds (world_of c.args.world.now))) c.page_top.ensures
+
+pub clauses::page-returns-in-None : goal.clauses::page-returns-in-None
+clauses::page-returns-in-None t c =
     let js = joins_of (map join_view c.args.joins.now) in
     let D = map expr_view c.args.parts.distinct.now.items in
     let K = map order_view c.args.parts.order.now.items in
@@ -370,6 +400,46 @@ clauses::page_front-returns t c =
     let long : length ps ≡ length rs = sym (length-map ps (row_in c.args.source)) in
     ap (map P) c.paged-page.ensures ∙ paged_map P c.args.limit c.args.offset found
     ∙ page_front js w n a keeps c.args.limit c.args.offset c.enough-bound.result rs c.in_ok-found.found.next (length ps) (map P found) (length found) c.enough-bound.ensures c.in_ok-found.ensures.places (sym (length-map found P)) c.in_ok-found.ensures.whole long
+
+pub clauses::page_top-loop-next-preserved : goal.clauses::page_top-loop-next-preserved
+clauses::page_top-loop-next-preserved t c =
+    let js = joins_of (map join_view c.args.joins.now) in
+    let w = world_of c.args.world.now in
+    let n = names_of c.args.scope.now c.args.world.now in
+    let a = c.args.alias.now in
+    let keeps = kept (filter_view c.args.parts.filter.now) w in
+    let es = c.args.parts.distinct.now.items in
+    let K = map order_view c.args.parts.order.now.items in
+    let P = names_at c.args.source a js w n in
+    let ps = positions_of c.args.positions in
+    let rs = rows_at c.args.source c.args.positions in
+    let old = c.loop-next.top.items in
+    let found = c.in_ok-found.found.places.items in
+    let sorted : map P c.in_ok-sorted.sorted.items ≡ sort (order_cmp K) (map P old ++ map P found) =
+    c.in_ok-sorted.ensures ∙ ap (λ xs. distinct_on (map expr_view xs) (sort (order_cmp K) (map P c.in_ok-all.all.items))) c.requires.alone ∙ ap (sort (order_cmp K)) (ap (map P) c.in_ok-all.ensures ∙ map-append P old found) in
+    record {
+      within = c.in_ok-found.ensures.within;
+      top = ap (map P) c.paged-top.ensures ∙ paged_map P (Some c.args.bound) None c.in_ok-sorted.sorted.items
+          ∙ top_step js w n a keeps K c.args.bound c.loop-next.next c.in_ok-found.found.next rs (map P old) (map P found) (map P c.in_ok-sorted.sorted.items) c.loop-next.invariant.top c.in_ok-found.ensures.places sorted;
+    }
+
+pub clauses::page_top-returns : goal.clauses::page_top-returns
+clauses::page_top-returns t c =
+    let js = joins_of (map join_view c.args.joins.now) in
+    let w = world_of c.args.world.now in
+    let n = names_of c.args.scope.now c.args.world.now in
+    let a = c.args.alias.now in
+    let keeps = kept (filter_view c.args.parts.filter.now) w in
+    let es = c.args.parts.distinct.now.items in
+    let K = map order_view c.args.parts.order.now.items in
+    let P = names_at c.args.source a js w n in
+    let ps = positions_of c.args.positions in
+    let rs = rows_at c.args.source c.args.positions in
+    let long : length ps ≡ length rs = sym (length-map ps (row_in c.args.source)) in
+    let past : length ps ≤ c.loop-next.next = omega (arith, c.loop-next-test.false, c.number_of-end.ensures) in
+    ap (map P) c.paged-page.ensures ∙ paged_map P c.args.limit c.args.offset c.loop-next.top.items
+    ∙ top_page js w n a keeps K c.args.limit c.args.offset c.args.bound c.loop-next.next (length ps) rs (map P c.loop-next.top.items) c.requires.suffices c.loop-next.invariant.top past long
+    ∙ ap (λ xs. limited c.args.limit (offset_by c.args.offset (distinct_on (map expr_view xs) (sort (order_cmp K) (kept_of js w n a keeps rs))))) (sym c.requires.alone)
 
 pub clauses::page_sorted-returns : goal.clauses::page_sorted-returns
 clauses::page_sorted-returns t c =

@@ -1,15 +1,17 @@
-use Rattle.std.proofs.Common.{◌≡◌, ◌≤◌, ◌+◌, ◌++◌, [], map, filter, flat_map, take, drop}
+use Rattle.std.proofs.Common.{◌≡◌, ◌≤◌, ◌+◌, ◌-◌, ◌++◌, [], length, map, filter, flat_map, take, drop}
 use Rattle.std.specs.Vec.Iter.{into_iter_items}
 use Rattle.hq_base.specs.Json.{member_view}
+use Rattle.hq_base.specs.Lists.{sort}
 use Rattle.hq_terms.specs.Logic.{and3, or3}
 use Rattle.hq_sql_cells.specs.View.{cell_view}
 use Rattle.hq_sql_tree.specs.Tree.{joins_of, preds_of}
 use Rattle.hq_sql_tree.specs.View.{expr_view, pair_view, order_view, out_view, join_view, pred_view, filter_view}
-use Rattle.hq_sql_tree.specs.Meaning.{value, with_alias, joined, kept, all_true, any_true}
+use Rattle.hq_sql_tree.specs.Meaning.{value, with_alias, joined, kept, any_true, order_cmp}
 use Rattle.hq_sql_rows.specs.View.{made_view, named_view, joined_view, world_of, names_of, names_at, group_of, beside}
 use Rattle.hq_sql_rows.specs.Joined.{join_in}
 use Rattle.hq_sql_rows.specs.Keys.{expr_values, key_values, member_at, output_at, outputs_of, with_json, json_at, with_cells, taken_at}
-use Rattle.hq_sql_rows.specs.Positions.{rows_at, kept_of}
+use Rattle.hq_sql_rows.specs.Exists.{all_true_of}
+use Rattle.hq_sql_rows.specs.Positions.{positions_of, rows_at, kept_of}
 use Rattle.hq_sql_closed.specs.Conjuncts.{all_kept, lent_views, lent_weight}
 use Rattle.hq_sql_closed.specs.Weight.{total, agg_weight, expr_weight, pair_weight, order_weight, out_weight, from_weight, select_weight, join_weight, pred_weight, filter_weight}
 use Rattle.hq_sql_rows.specs.Weight.{scope_weight}
@@ -35,7 +37,8 @@ abbrev pub invariant-aggregates::each_json-loop-row : goal.invariant-aggregates:
 invariant-aggregates::each_json-loop-row l = map with_json l.kept.items ≡ map (json_at (expr_view l.expr) (map order_view l.order.items)) (map (with_alias (names_of l.scope l.world) l.alias) (map made_view (take l.row-index l.rows)))
 
 abbrev pub invariant-truths::all_true-loop-pred : goal.invariant-truths::all_true-loop-pred
-invariant-truths::all_true-loop-pred l = and3 l.all (all_true (preds_of (map pred_view (drop l.pred-index l.pred-items))) (world_of l.world) (names_of l.scope l.world)) ≡ all_true (preds_of (map pred_view l.pred-items)) (world_of l.world) (names_of l.scope l.world)
+invariant-truths::all_true-loop-pred l =
+    and3 l.all (all_true_of l.with_exists (preds_of (map pred_view (drop l.pred-index l.pred-items))) (world_of l.world) (names_of l.scope l.world)) ≡ all_true_of l.with_exists (preds_of (map pred_view l.pred-items)) (world_of l.world) (names_of l.scope l.world)
 
 abbrev pub invariant-truths::any_true-loop-pred : goal.invariant-truths::any_true-loop-pred
 invariant-truths::any_true-loop-pred l = or3 l.any (any_true (preds_of (map pred_view (drop l.pred-index l.pred-items))) (world_of l.world) (names_of l.scope l.world)) ≡ any_true (preds_of (map pred_view l.pred-items)) (world_of l.world) (names_of l.scope l.world)
@@ -59,6 +62,16 @@ invariant-clauses::scan_from-loop-turn l =
       places : kept_from (take l.from (rows_at l.source l.positions)) l.alias l.joins l.filter l.world l.scope ++ map (scope_at l.source l.alias l.joins l.world l.scope) l.places.items
           ≡ kept_from (take l.turn (rows_at l.source l.positions)) l.alias l.joins l.filter l.world l.scope;
     }
+
+abbrev pub invariant-clauses::page_top-loop-next : goal.invariant-clauses::page_top-loop-next
+invariant-clauses::page_top-loop-next l =
+    record {
+      within : l.next ≤ length (positions_of l.positions);
+      top : map (scope_at l.source l.alias l.joins l.world l.scope) l.top.items ≡ take l.bound (sort (order_cmp (map order_view l.parts.order.now.items)) (kept_from (take l.next (rows_at l.source l.positions)) l.alias l.joins l.parts.filter.now l.world l.scope));
+    }
+
+abbrev pub decreases-clauses::page_top-loop-next : goal.decreases-clauses::page_top-loop-next
+decreases-clauses::page_top-loop-next l = l.end - l.next
 
 abbrev pub invariant-clauses::any_row-loop-turn : goal.invariant-clauses::any_row-loop-turn
 invariant-clauses::any_row-loop-turn l =
@@ -181,9 +194,11 @@ decreases-clauses::page l =
 abbrev pub decreases-clauses::page_front : goal.decreases-clauses::page_front
 decreases-clauses::page_front l = 6 + (total (map join_weight l.joins.now) + (filter_weight l.filter.now + scope_weight l.scope.now))
 
+abbrev pub decreases-clauses::page_top : goal.decreases-clauses::page_top
+decreases-clauses::page_top l = 7 + (total (map join_weight l.joins.now) + (filter_weight l.parts.filter.now + (total (map order_weight l.parts.order.now.items) + (total (map expr_weight l.parts.distinct.now.items) + scope_weight l.scope.now))))
+
 abbrev pub decreases-clauses::page_sorted : goal.decreases-clauses::page_sorted
-decreases-clauses::page_sorted l =
-    7 + (total (map join_weight l.joins.now) + (filter_weight l.parts.filter.now + (total (map order_weight l.parts.order.now.items) + (total (map expr_weight l.parts.distinct.now.items) + scope_weight l.scope.now))))
+decreases-clauses::page_sorted l = 7 + (total (map join_weight l.joins.now) + (filter_weight l.parts.filter.now + (total (map order_weight l.parts.order.now.items) + (total (map expr_weight l.parts.distinct.now.items) + scope_weight l.scope.now))))
 
 abbrev pub decreases-clauses::scan_from : goal.decreases-clauses::scan_from
 decreases-clauses::scan_from l = 5 + (total (map join_weight l.joins.now) + (filter_weight l.filter.now + scope_weight l.scope.now))
