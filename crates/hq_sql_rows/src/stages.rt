@@ -41,12 +41,16 @@ fn in_later_joins(joins: &[Join], alias: &Txt) -> usize {
 }
 
 fn stage_of(parts: Parts<'_>, alias: &Txt, later: &[Join]) -> Stage {
-    let filter = in_later_joins(later, alias).saturating_add(in_filter(parts.filter, alias));
+    let filter = in_filter(parts.filter, alias);
+    let others = in_later_joins(later, alias);
     let keys = in_orders(parts.order, alias).saturating_add(in_exprs(parts.distinct, alias));
     let outs = in_outs(parts.outs, alias);
-    if filter.saturating_add(keys).saturating_add(outs) < 2 {
+    let behind = keys.saturating_add(outs);
+    if filter > 0 {
+        Stage::Filter
+    } else if others.saturating_add(behind) < 2 {
         Stage::Later
-    } else if filter > 0 {
+    } else if others > 0 {
         Stage::Filter
     } else if keys > 0 {
         Stage::Keys
