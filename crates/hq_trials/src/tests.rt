@@ -1,0 +1,4 @@
+mod deepest;
+mod memory;
+mod store;
+mod system;

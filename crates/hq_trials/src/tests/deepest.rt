@@ -1,0 +1,245 @@
+//! The deepest texts of SQL, on the usual stack: a statement opens at most 2,000 parentheses.
+use super::store::store;
+use hq_base::{Bytes, Memory};
+use hq_catalog_read::read_catalog;
+use hq_db::SqlDb;
+use hq_link::{Database, DbRefusal};
+use hq_sql_check::well_formed;
+use hq_sql_text::{ReadRefusal, print, read};
+use itoa::Buffer;
+use std::alloc::{AllocError, Global};
+use std::test::Fail;
+
+// A text that opens parentheses inside one another: the beginning, what opens one so often, the middle, what closes one so
+// often, and the end.
+#[derive(Drop)]
+struct Nested(
+    &'static str,
+    &'static str,
+    &'static str,
+    &'static str,
+    &'static str,
+);
+
+static KINDS: [Nested; 6] = [
+    Nested(
+        r#"SELECT TRUE AS "u" FROM "s"."t" AS "e" WHERE "#,
+        "(NOT ",
+        "TRUE",
+        ")",
+        " LIMIT 1",
+    ),
+    Nested(
+        r#"SELECT TRUE AS "u" FROM "s"."t" AS "e" WHERE "#,
+        "(FALSE OR ",
+        "TRUE",
+        ")",
+        "",
+    ),
+    Nested(
+        r#"SELECT TRUE AS "u" FROM "s"."t" AS "e""#,
+        r#" WHERE EXISTS (SELECT TRUE AS "u" FROM "s"."t" AS "e""#,
+        "",
+        ")",
+        "",
+    ),
+    Nested(
+        r#"SELECT TRUE AS "u" FROM "#,
+        r#"(SELECT TRUE AS "u" FROM "#,
+        r#""s"."t" AS "e""#,
+        r#") AS "e""#,
+        "",
+    ),
+    Nested(
+        r#"SELECT TRUE AS "u" FROM "s"."t" AS "e""#,
+        r#" LEFT JOIN LATERAL (SELECT TRUE AS "u" FROM "s"."t" AS "e""#,
+        "",
+        r#") AS "j" ON TRUE"#,
+        "",
+    ),
+    Nested(
+        "SELECT ",
+        "json_build_object('a'::text, ",
+        "TRUE",
+        ")",
+        r#" AS "v" FROM "s"."t" AS "e""#,
+    ),
+];
+
+fn push_often(out: &mut Vec<u8>, piece: &str, times: u32) -> Result<(), AllocError> {
+    for _ in 0..times {
+        out.extend_from_slice(piece.as_bytes())?;
+    }
+    Ok(())
+}
+
+fn text_of(alloc: Global, kind: &Nested, times: u32) -> Result<Vec<u8>, AllocError> {
+    let mut out = Vec::new(alloc);
+    push_often(&mut out, kind.0, 1)?;
+    push_often(&mut out, kind.1, times)?;
+    push_often(&mut out, kind.2, 1)?;
+    push_often(&mut out, kind.3, times)?;
+    push_often(&mut out, kind.4, 1)?;
+    Ok(out)
+}
+
+// What a text is printed as when it was read; empty where it is no SQL.
+fn printed(alloc: Global, text: &[u8]) -> Result<Bytes, Memory> {
+    match read(alloc, text) {
+        Ok(select) => print(alloc, &select),
+        Err(ReadRefusal::NotSql) => Ok(Bytes::new(alloc)),
+        Err(ReadRefusal::Memory) => Err(Memory),
+    }
+}
+
+fn is_read_back(alloc: Global, kind: &Nested) -> Result<bool, Fail> {
+    let text = text_of(alloc, kind, 2000)?;
+    Ok(printed(alloc, &text)?.as_slice() == text.as_slice())
+}
+
+#[test]
+fn two_thousand_parentheses_are_read(rt: HostRuntime) -> Result<(), Fail> {
+    for kind in &KINDS {
+        assert!(rt; is_read_back(rt.alloc(), kind)?);
+    }
+    Ok(())
+}
+
+fn is_refused(alloc: Global, kind: &Nested) -> Result<bool, Fail> {
+    let text = text_of(alloc, kind, 2001)?;
+    Ok(printed(alloc, &text)?.len() == 0)
+}
+
+#[test]
+fn one_more_is_refused(rt: HostRuntime) -> Result<(), Fail> {
+    for kind in &KINDS {
+        assert!(rt; is_refused(rt.alloc(), kind)?);
+    }
+    Ok(())
+}
+
+static NEGATED: Nested = Nested(
+    r#"SELECT json_build_object('u'::text, "j1"."v") AS "v" FROM (SELECT TRUE AS "u") AS "t0" LEFT JOIN LATERAL (SELECT "t1"."u" AS "v" FROM (SELECT TRUE AS "u") AS "t1" WHERE "#,
+    "(NOT ",
+    "TRUE",
+    ")",
+    r#") AS "j1" ON TRUE"#,
+);
+
+fn is_well(alloc: Global, text: &[u8]) -> Result<bool, Fail> {
+    let catalog = read_catalog(alloc, br#"{"tables":[]}"#)?;
+    let select = read(alloc, text)?;
+    Ok(well_formed(alloc, &select, &catalog)?)
+}
+
+#[test]
+fn the_deepest_statement_is_well_formed(rt: HostRuntime) -> Result<(), Fail> {
+    let text = text_of(rt.alloc(), &NEGATED, 1999)?;
+    assert!(rt; is_well(rt.alloc(), &text)?);
+    Ok(())
+}
+
+// Statements whose value is true at each depth, each select with an alias of its own: a join that is named in an output, in WHERE
+// once and twice, and in ORDER BY once and twice; EXISTS; and a select in FROM. The number of the depth stands for `#`.
+static EVALUATED: [(&str, &str); 7] = [
+    (
+        r#"SELECT "j#"."v" AS "v" FROM (SELECT TRUE AS "u") AS "t#" LEFT JOIN LATERAL ("#,
+        r#") AS "j#" ON TRUE"#,
+    ),
+    (
+        r#"SELECT TRUE AS "v" FROM (SELECT TRUE AS "u") AS "t#" LEFT JOIN LATERAL ("#,
+        r#") AS "j#" ON TRUE WHERE ("j#"."v" = TRUE)"#,
+    ),
+    (
+        r#"SELECT TRUE AS "v" FROM (SELECT TRUE AS "u") AS "t#" LEFT JOIN LATERAL ("#,
+        r#") AS "j#" ON TRUE WHERE ("j#"."v" = "j#"."v")"#,
+    ),
+    (
+        r#"SELECT TRUE AS "v" FROM (SELECT TRUE AS "u") AS "t#" LEFT JOIN LATERAL ("#,
+        r#") AS "j#" ON TRUE ORDER BY "j#"."v" ASC NULLS LAST"#,
+    ),
+    (
+        r#"SELECT "j#"."v" AS "v" FROM (SELECT TRUE AS "u") AS "t#" LEFT JOIN LATERAL ("#,
+        r#") AS "j#" ON TRUE ORDER BY "j#"."v" ASC NULLS LAST"#,
+    ),
+    (
+        r#"SELECT TRUE AS "v" FROM "public"."author" AS "t#" WHERE EXISTS ("#,
+        ")",
+    ),
+    (r#"SELECT "t#"."v" AS "v" FROM ("#, r#") AS "t#""#),
+];
+
+const START: &str =
+    r#"SELECT json_build_object('v'::text, "j"."v") AS "v" FROM (SELECT TRUE AS "u") AS "t" LEFT JOIN LATERAL (SELECT "s"."v" AS "v" FROM ("#;
+
+const MIDDLE: &str = r#"SELECT TRUE AS "v" FROM (SELECT TRUE AS "u") AS "i""#;
+
+const END: &str = r#") AS "s" LIMIT 1) AS "j" ON TRUE"#;
+
+// A statement that opens 2,000 parentheses, three of them in its beginning and its middle.
+const DEPTH: u32 = 1997;
+
+fn push_number(out: &mut Vec<u8>, number: u32) -> Result<(), AllocError> {
+    let mut buffer = Buffer::new();
+    out.extend_from_slice(buffer.format(number).as_bytes())
+}
+
+fn push_numbered(out: &mut Vec<u8>, piece: &str, number: u32) -> Result<(), AllocError> {
+    for byte in piece.as_bytes() {
+        if *byte == b'#' {
+            push_number(out, number)?;
+        } else {
+            out.push(*byte)?;
+        }
+    }
+    Ok(())
+}
+
+fn push_fronts(out: &mut Vec<u8>, front: &str) -> Result<(), AllocError> {
+    for number in 0..DEPTH {
+        push_numbered(out, front, number)?;
+    }
+    Ok(())
+}
+
+fn push_backs(out: &mut Vec<u8>, back: &str) -> Result<(), AllocError> {
+    for number in 0..DEPTH {
+        push_numbered(out, back, DEPTH - 1 - number)?;
+    }
+    Ok(())
+}
+
+fn statement(
+    alloc: Global,
+    front: &'static str,
+    back: &'static str,
+) -> Result<Vec<u8>, AllocError> {
+    let mut out = Vec::new(alloc);
+    push_often(&mut out, START, 1)?;
+    push_fronts(&mut out, front)?;
+    push_often(&mut out, MIDDLE, 1)?;
+    push_backs(&mut out, back)?;
+    push_often(&mut out, END, 1)?;
+    Ok(out)
+}
+
+fn answer(alloc: Global, text: &[u8]) -> Result<Bytes, Fail> {
+    let mut database = SqlDb::new(store(alloc)?);
+    let mut out = Bytes::new(alloc);
+    match database.run(alloc, text) {
+        Ok(answer) => answer.write_to(&mut out)?,
+        Err(DbRefusal::Memory) => return Err(Fail::from(Memory)),
+        Err(_) => out.append(b"refused")?,
+    }
+    Ok(out)
+}
+
+#[test]
+fn the_deepest_statements_are_evaluated(rt: HostRuntime) -> Result<(), Fail> {
+    for (front, back) in &EVALUATED {
+        let text = statement(rt.alloc(), front, back)?;
+        let out = answer(rt.alloc(), &text)?;
+        assert!(rt; out.as_slice() == br#"{"v":true}"#.as_slice());
+    }
+    Ok(())
+}
