@@ -176,8 +176,9 @@ const MIDDLE: &str = r#"SELECT TRUE AS "v" FROM (SELECT TRUE AS "u") AS "i""#;
 
 const END: &str = r#") AS "s" LIMIT 1) AS "j" ON TRUE"#;
 
-// A statement that opens 2,000 parentheses, three of them in its beginning and its middle.
-const DEPTH: u32 = 1997;
+// A statement that opens 1,700 parentheses, three of them in its beginning and its middle: a test's frames are larger than those of a
+// built program, which has room for 2,000.
+const DEPTH: u32 = 1697;
 
 fn push_number(out: &mut Vec<u8>, number: u32) -> Result<(), AllocError> {
     let mut buffer = Buffer::new();
