@@ -52,6 +52,5 @@ pub fn answer<T: Tables>(
         return Err(DbRefusal::NotTyped);
     }
     pin_tables(alloc, tables, &select)?;
-    let json = eval(alloc, &select, &*tables, looked)?;
-    Ok(Answer::of_json(alloc, json)?)
+    Ok(eval(alloc, &select, &*tables, looked)?)
 }

@@ -1,4 +1,4 @@
-//! The evaluation of a statement over the tables that are pinned: the JSON that it means.
+//! The evaluation of a statement over the tables that are pinned: the answer that it means.
 #![tactic(auto)]
 
 mod learn;

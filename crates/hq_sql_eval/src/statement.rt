@@ -1,48 +1,26 @@
-//! The value of a statement.
-ghost use Rattle.std.specs.Prelude.{◌≡◌, ◌<◌, ◌≤◌, ℕ, length, List as Items, [], true, cond, codes, map, IfOk, slice_index_or};
-ghost use Rattle.hq_base.specs.Json.{json_view};
+//! The answer that a statement means.
+ghost use Rattle.std.specs.Prelude.{◌≡◌, ◌<◌, ◌≤◌, ℕ, length, List as Items, [], true, cond, IfOk, slice_index_or};
+ghost use Rattle.hq_answer.specs.Answers.{IsAnswer};
 ghost use Rattle.hq_terms.specs.Database.{Row};
 ghost use Rattle.hq_sql_tree.specs.View.{select_view};
-ghost use Rattle.hq_sql_tree.specs.Meaning.{first_value, meaning};
+ghost use Rattle.hq_sql_tree.specs.Meaning.{meaning};
 ghost use Rattle.hq_sql_check.specs.Agree.{HasRows};
 ghost use Rattle.hq_sql_check.specs.Scans.{scans};
 ghost use Rattle.hq_sql_rows.specs.Lent.{rows_lent};
 ghost use Rattle.hq_sql_rows.specs.Pins.{world_in};
-ghost use Rattle.hq_sql_rows.specs.View.{made_view, world_of};
 
 use crate::remember::remember;
-use hq_base::{Json, Memory, Txt};
+use hq_answer::Answer;
+use hq_base::Memory;
 use hq_sql_check::{only_scanned_tables_matter, scanned};
 use hq_sql_rows::pinned::Pinned;
-use hq_sql_rows::row::{Made, cell_taken};
-use hq_sql_rows::scope::Scope;
 use hq_sql_rows::stored::Stored;
 use hq_sql_rows::work::Work;
 use hq_sql_tree::Select;
-use hq_sql_walk::rows;
+use hq_sql_write::answer;
 use hq_tables::{Rows, Tables};
 use hq_terms::TableId;
 use std::alloc::Global;
-
-// The name of a statement's output.
-fn value_name(alloc: Global) -> Result<Txt, Memory>
-    ensures { IfOk result (λ name. name ≡ codes "v") }
-{
-    let mut name = Txt::new(alloc);
-    name.push_str("v")?;
-    Ok(name)
-}
-
-// The JSON of the output `v` of the first row, null where there is none.
-fn first_value<'d>(alloc: Global, rows: Vec<Made<'d>>) -> Result<Json, Memory>
-    ensures { IfOk result (λ json. json_view json ≡ first_value (map made_view rows.entry.items)) }
-{
-    let name = value_name(alloc)?;
-    for row in rows {
-        return cell_taken(row, &name).into_json(alloc);
-    }
-    Ok(Json::Null)
-}
 
 // The rows of a table, none where the statement takes no rows from it.
 fn stored_rows<T: Tables>(tables: &T, is_scanned: bool, at: usize) -> Option<&Rows>
@@ -75,26 +53,17 @@ fn stored<'d, T: Tables>(
     Ok(world)
 }
 
-/// What a statement means over tables with these rows.
-fn eval_over<'d>(alloc: Global, select: &'d Select, world: &Pinned<'d>) -> Result<Json, Memory>
-    ensures { IfOk result (λ json. json_view json ≡ meaning (select_view select.now) (world_of world.now)) }
-{
-    let scope = Scope::Nothing;
-    let made = rows(alloc, select, world, &scope)?;
-    first_value(alloc, made)
-}
-
 // What a statement means, where nothing is known of its conditions. Memory comes also where EXISTS tried more rows than it may.
 fn eval_plainly<'d>(
     alloc: Global,
     select: &'d Select,
     tables: &'d [Stored<'d>],
     work: &'d Work,
-) -> Result<Json, Memory>
-    ensures { IfOk result (λ json. json_view json ≡ meaning (select_view select.now) (world_in tables.now)) }
+) -> Result<Answer, Memory>
+    ensures { IfOk result (λ answer. IsAnswer answer (meaning (select_view select.now) (world_in tables.now))) }
 {
     let world = Pinned::new(alloc, tables, work);
-    eval_over(alloc, select, &world)
+    answer(alloc, select, &world)
 }
 
 // The same, where first is learned what is worth knowing of its conditions.
@@ -103,12 +72,12 @@ fn eval_knowing<'d>(
     select: &'d Select,
     tables: &'d [Stored<'d>],
     work: &'d Work,
-) -> Result<Json, Memory>
-    ensures { IfOk result (λ json. json_view json ≡ meaning (select_view select.now) (world_in tables.now)) }
+) -> Result<Answer, Memory>
+    ensures { IfOk result (λ answer. IsAnswer answer (meaning (select_view select.now) (world_in tables.now))) }
 {
     let mut world = Pinned::new(alloc, tables, work);
     remember(alloc, select, &mut world)?;
-    eval_over(alloc, select, &world)
+    answer(alloc, select, &world)
 }
 
 // The same: what conditions are is learned only where EXISTS tries many rows, since it costs a look at all rows of their tables.
@@ -117,11 +86,11 @@ fn eval_stored<'d>(
     select: &'d Select,
     tables: &'d [Stored<'d>],
     work: &'d Work,
-) -> Result<Json, Memory>
-    ensures { IfOk result (λ json. json_view json ≡ meaning (select_view select.now) (world_in tables.now)) }
+) -> Result<Answer, Memory>
+    ensures { IfOk result (λ answer. IsAnswer answer (meaning (select_view select.now) (world_in tables.now))) }
 {
     match eval_plainly(alloc, select, tables, work) {
-        Ok(json) => Ok(json),
+        Ok(answer) => Ok(answer),
         Err(refusal) => {
             if !work.is_spent() {
                 return Err(refusal);
@@ -149,16 +118,16 @@ pub fn eval<T: Tables>(
     select: &Select,
     tables: &T,
     looked: &mut u64,
-) -> Result<Json, Memory>
+) -> Result<Answer, Memory>
     requires pinned { (t : ℕ) → t < length (T.tables tables.now) → scans (select_view select.now) (T.tables tables.now) t ≡ true → T.is_pinned tables.now t ≡ true }
-    ensures value { IfOk result (λ json. (d : Items (Items Row)) → HasRows (select_view select.now) (T.tables tables.now) (T.rows tables.now) d
-        → json_view json ≡ meaning (select_view select.now) (record { tables = T.tables tables.now; database = d })) }
+    ensures value { IfOk result (λ answer. (d : Items (Items Row)) → HasRows (select_view select.now) (T.tables tables.now) (T.rows tables.now) d
+        → IsAnswer answer (meaning (select_view select.now) (record { tables = T.tables tables.now; database = d }))) }
     ensures looked { looked.old ≤ looked.new }
 {
     only_scanned_tables_matter();
     let stored = stored(alloc, select, tables)?;
     let work = Work::new(rows_to_try(&stored));
-    let json = eval_stored(alloc, select, stored.as_slice(), &work);
+    let answer = eval_stored(alloc, select, stored.as_slice(), &work);
     *looked = looked.saturating_add(work.looked.get());
-    json
+    answer
 }

@@ -1,0 +1,4 @@
+pub mod Outputs
+pub mod Sorted
+pub mod Objects
+pub mod Pieces

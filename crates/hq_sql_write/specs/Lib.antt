@@ -1,0 +1,4 @@
+pub mod Placed
+pub mod Selected
+pub mod Texts
+pub mod Listed

@@ -1,0 +1,34 @@
+-- What is in scope at the places of a FROM with its joins.
+use Rattle.std.specs.Prelude.{ℕ, List, map, take, Option}
+use Rattle.hq_sql_tree.specs.Tree.{joins_of}
+use Rattle.hq_sql_tree.specs.View.{join_view, filter_view}
+use Rattle.hq_sql_tree.specs.Meaning.{NamedRow, Scope as Names, World, with_alias, kept}
+use Rattle.hq_sql_tree.specs.declared.select.Pred.{Pred}
+use Rattle.hq_sql_rows.specs.Positions.{rows_at, kept_of}
+use Rattle.hq_sql_rows.specs.View.{names_at, names_of, source_view, world_of}
+use Rattle.hq_sql_rows.specs.declared.pinned.Pinned.{Pinned}
+use Rattle.hq_sql_rows.specs.declared.positions.Positions.{Positions}
+use Rattle.hq_sql_rows.specs.declared.scope.Scope.{Scope}
+use Rattle.hq_sql_rows.specs.declared.place.Place.{Place}
+use Rattle.hq_sql_write.specs.declared.places.Placed.{Placed}
+
+-- at a place
+abbrev pub names_in : Placed → World → Names → Place → Names
+names_in placed world names place = names_at placed.source placed.alias.now (joins_of (map join_view placed.joins.now)) world names place
+
+-- at the rows of FROM
+abbrev pub from_in : Placed → Names → List Names
+from_in placed names = map (with_alias names placed.alias.now) (source_view placed.source)
+
+-- what WHERE keeps of these rows of FROM with the joins
+abbrev pub kept_in : Placed → Option Pred → Pinned → Scope → List NamedRow → List Names
+kept_in placed condition world scope rows =
+    kept_of (joins_of (map join_view placed.joins.now)) (world_of world) (names_of scope world) placed.alias.now (kept (filter_view condition) (world_of world)) rows
+
+-- what WHERE keeps at these positions
+abbrev pub found_in : Placed → Positions → Option Pred → Pinned → Scope → List Names
+found_in placed positions condition world scope = kept_in placed condition world scope (rows_at placed.source positions)
+
+-- and at the first so many of them
+abbrev pub found_before : ℕ → Placed → Positions → Option Pred → Pinned → Scope → List Names
+found_before n placed positions condition world scope = kept_in placed condition world scope (take n (rows_at placed.source positions))

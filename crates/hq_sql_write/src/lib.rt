@@ -1,0 +1,11 @@
+//! The JSON that a statement means, written as text at all levels: no rows are made, and no trees are built, of what can be
+//! written as it is read.
+#![tactic(auto)]
+
+mod listed;
+mod parts;
+mod places;
+mod statement;
+mod written;
+
+pub use statement::answer;

@@ -1,0 +1,413 @@
+//! The text of expressions, outputs and aggregates. Of a join that is put off no row is made: its output is written.
+ghost use Rattle.std.specs.Prelude.{◌≡◌, ◌++◌, map, OnOk, option_map};
+ghost use Rattle.hq_sql_tree.specs.Tree.{joins_of};
+ghost use Rattle.hq_sql_tree.specs.View.{expr_view, pair_view, join_view, select_view};
+ghost use Rattle.hq_sql_tree.specs.Meaning.{with_alias, rows_of};
+ghost use Rattle.hq_sql_rows.specs.View.{made_view, first_row, world_of, names_of, beside};
+ghost use Rattle.hq_sql_write.specs.Placed.{names_in, from_in, found_in};
+ghost use Rattle.hq_sql_write.specs.Selected.{page_in, scopes_in};
+ghost use Rattle.hq_sql_write.specs.Texts.{cell_text, text_of, pairs_text, texts_of, more_texts, first_text, wanted_text, folded_text};
+
+use crate::listed::{Listed, Rows, list_of, output_named};
+use crate::parts::{put_cell, put_separator};
+use crate::places::{
+    Placed, Wanted, arranged_at, has_begun, made_of, placed_rows, places_of, stretch,
+};
+use hq_answer::put_quoted;
+use hq_base::{Bytes, Memory, Txt};
+use hq_sql_rows::pinned::Pinned;
+use hq_sql_rows::place::{Place, first_joined, other_joined};
+use hq_sql_rows::positions::{Positions, number_of};
+use hq_sql_rows::row::{Made, Row, cell_at};
+use hq_sql_rows::scope::{Group, Scope, row_at};
+use hq_sql_rows::stages::{Parts, Stage, first_stage, stages};
+use hq_sql_tree::{Expr, ExprPairList, Join, Pred, Select};
+use hq_sql_walk::{first, rows, value};
+use std::alloc::Global;
+
+/// The JSON of an expression in its scope.
+#[cycle(write)]
+fn write_value<'d>(
+    alloc: Global,
+    expr: &'d Expr,
+    world: &Pinned<'d>,
+    scope: &Scope<'_, 'd>,
+    out: &mut Bytes,
+) -> Result<(), Memory>
+    ensures { OnOk result (out.new ≡ out.old ++ text_of (expr_view expr.now) (names_of scope.now world.now)) }
+{
+    match expr {
+        Expr::Column { alias, name, .. } => write_column(alloc, alias, name, world, scope, out),
+        Expr::Object(pairs) => {
+            out.push(b'{')?;
+            write_pairs(alloc, pairs, world, scope, out)?;
+            out.push(b'}')
+        }
+        _ => {
+            let cell = value(alloc, expr, world, Group::Alone, scope)?;
+            put_cell(alloc, out, &cell)
+        }
+    }
+}
+
+// The pairs of an object, between its braces.
+#[cycle(write)]
+fn write_pairs<'d>(
+    alloc: Global,
+    pairs: &'d ExprPairList,
+    world: &Pinned<'d>,
+    scope: &Scope<'_, 'd>,
+    out: &mut Bytes,
+) -> Result<(), Memory>
+    ensures { OnOk result (out.new ≡ out.old ++ pairs_text (map pair_view pairs.now.items) (names_of scope.now world.now)) }
+{
+    for (at, pair) in pairs.iter().enumerate() {
+        put_separator(out, false, at)?;
+        put_quoted(out, &pair.name)?;
+        out.push(b':')?;
+        write_value(alloc, &pair.value, world, scope, out)?;
+    }
+    Ok(())
+}
+
+// A column of an alias.
+#[cycle(write)]
+fn write_column<'d>(
+    alloc: Global,
+    alias: &Txt,
+    name: &Txt,
+    world: &Pinned<'d>,
+    scope: &Scope<'_, 'd>,
+    out: &mut Bytes,
+) -> Result<(), Memory>
+    ensures { OnOk result (out.new ≡ out.old ++ cell_text ((names_of scope.now world.now) alias.now) name.now) }
+{
+    match scope {
+        Scope::Nothing => out.append(b"null"),
+        Scope::Bound {
+            alias: bound,
+            row,
+            outer,
+        } => {
+            if **bound == *alias {
+                let cell = cell_at(alloc, *row, name)?;
+                put_cell(alloc, out, &cell)
+            } else {
+                write_column(alloc, alias, name, world, outer, out)
+            }
+        }
+        Scope::Later {
+            alias: bound,
+            select,
+            outer,
+        } => {
+            if **bound == *alias {
+                write_output(alloc, select, name, world, outer, out)
+            } else {
+                write_column(alloc, alias, name, world, outer, out)
+            }
+        }
+    }
+}
+
+// The output of this name in the first row of a select.
+#[cycle(write)]
+fn write_output<'d>(
+    alloc: Global,
+    select: &'d Select,
+    name: &Txt,
+    world: &Pinned<'d>,
+    scope: &Scope<'_, 'd>,
+    out: &mut Bytes,
+) -> Result<(), Memory>
+    ensures { OnOk result (out.new ≡ out.old ++ cell_text (first_row (rows_of (select_view select.now) (world_of world.now) (names_of scope.now world.now))) name.now) }
+{
+    match select {
+        Select::Fold {
+            out: folded,
+            rows,
+            alias,
+        } => {
+            if folded.name == *name {
+                write_folded(alloc, &folded.value, rows, alias, world, scope, out)
+            } else {
+                out.append(b"null")
+            }
+        }
+        Select::Rows {
+            distinct,
+            outs,
+            from,
+            joins,
+            filter,
+            order,
+            limit,
+            offset,
+        } => {
+            let Some(element) = output_named(outs.as_slice(), name) else {
+                return out.append(b"null");
+            };
+            let parts = Parts {
+                distinct,
+                outs,
+                filter,
+                order,
+            };
+            let rows = Rows {
+                parts,
+                from,
+                joins: joins.as_slice(),
+                limit: *limit,
+                offset: *offset,
+            };
+            let listed = Listed { rows, element };
+            write_rows(alloc, &listed, Wanted::First, world, scope, out)
+        }
+    }
+}
+
+// An expression whose aggregates are taken over the rows of a select.
+#[cycle(write)]
+fn write_folded<'d>(
+    alloc: Global,
+    expr: &'d Expr,
+    select: &'d Select,
+    alias: &'d Txt,
+    world: &Pinned<'d>,
+    scope: &Scope<'_, 'd>,
+    out: &mut Bytes,
+) -> Result<(), Memory>
+    ensures { OnOk result (out.new ≡ out.old ++ folded_text (expr_view expr.now) (select_view select.now) alias.now (world_of world.now) (names_of scope.now world.now)) }
+{
+    match list_of(expr, select, alias) {
+        Some(listed) => {
+            out.push(b'[')?;
+            write_rows(alloc, &listed, Wanted::All, world, scope, out)?;
+            out.push(b']')
+        }
+        None => write_grouped(alloc, expr, select, alias, world, scope, out),
+    }
+}
+
+// The same where the rows are made.
+fn write_grouped<'d>(
+    alloc: Global,
+    expr: &'d Expr,
+    select: &'d Select,
+    alias: &'d Txt,
+    world: &Pinned<'d>,
+    scope: &Scope<'_, 'd>,
+    out: &mut Bytes,
+) -> Result<(), Memory>
+    ensures { OnOk result (out.new ≡ out.old ++ folded_text (expr_view expr.now) (select_view select.now) alias.now (world_of world.now) (names_of scope.now world.now)) }
+{
+    let made = rows(alloc, select, world, scope)?;
+    let group = Group::Of { alias, rows: &made };
+    let cell = value(alloc, expr, world, group, scope)?;
+    put_cell(alloc, out, &cell)
+}
+
+// An expression at the rows of a select that are wanted.
+#[cycle(write)]
+fn write_rows<'d>(
+    alloc: Global,
+    listed: &Listed<'d>,
+    wanted: Wanted,
+    world: &Pinned<'d>,
+    scope: &Scope<'_, 'd>,
+    out: &mut Bytes,
+) -> Result<(), Memory>
+    ensures { OnOk result (out.new ≡ out.old ++ wanted_text wanted (expr_view listed.now.element.now) (scopes_in listed.now.rows (world_of world.now) (names_of scope.now world.now))) }
+{
+    let rows = &listed.rows;
+    let made = made_of(alloc, rows.from, world, scope)?;
+    let stages = stages(alloc, rows.parts, rows.joins)?;
+    let placed = placed_rows(rows, &made, &stages, world);
+    match wanted {
+        Wanted::First => write_first(alloc, listed.element, rows, &placed, world, scope, out),
+        Wanted::All => write_all(alloc, listed.element, rows, &placed, world, scope, out),
+    }
+}
+
+// An expression at the first of the rows, null where there is none.
+#[cycle(write)]
+fn write_first<'d>(
+    alloc: Global,
+    expr: &'d Expr,
+    rows: &Rows<'d>,
+    placed: &Placed<'_, 'd>,
+    world: &Pinned<'d>,
+    scope: &Scope<'_, 'd>,
+    out: &mut Bytes,
+) -> Result<(), Memory>
+    requires { placed.now.joins ≡ rows.now.joins }
+    ensures { OnOk result (out.new ≡ out.old ++ first_text (expr_view expr.now) (page_in rows.now (world_of world.now) (from_in placed.now (names_of scope.now world.now)))) }
+{
+    let places = places_of(alloc, rows, &*placed, world, &*scope)?;
+    match places.first() {
+        Some(place) => write_place(alloc, expr, placed, place, world, scope, out),
+        None => out.append(b"null"),
+    }
+}
+
+// An expression at all rows, with commas between: where they need no arranging they are written as they are found.
+#[cycle(write)]
+fn write_all<'d>(
+    alloc: Global,
+    expr: &'d Expr,
+    rows: &Rows<'d>,
+    placed: &Placed<'_, 'd>,
+    world: &Pinned<'d>,
+    scope: &Scope<'_, 'd>,
+    out: &mut Bytes,
+) -> Result<(), Memory>
+    requires { placed.now.joins ≡ rows.now.joins }
+    ensures { OnOk result (out.new ≡ out.old ++ texts_of (expr_view expr.now) (page_in rows.now (world_of world.now) (from_in placed.now (names_of scope.now world.now)))) }
+{
+    if let Some(positions) = arranged_at(alloc, rows, &*placed, world, &*scope)? {
+        let filter = rows.parts.filter;
+        return write_found(alloc, expr, filter, placed, positions, world, scope, out);
+    }
+    let places = places_of(alloc, rows, &*placed, world, &*scope)?;
+    write_each(alloc, expr, placed, &places, false, world, scope, out)
+}
+
+// An expression at what WHERE keeps at these positions, stretch by stretch.
+#[cycle(write)]
+fn write_found<'d>(
+    alloc: Global,
+    expr: &'d Expr,
+    filter: &'d Option<Pred>,
+    placed: &Placed<'_, 'd>,
+    positions: Positions<'d>,
+    world: &Pinned<'d>,
+    scope: &Scope<'_, 'd>,
+    out: &mut Bytes,
+) -> Result<(), Memory>
+    ensures { OnOk result (out.new ≡ out.old ++ texts_of (expr_view expr.now) (found_in placed.now positions.entry filter.now world.now scope.now)) }
+{
+    let end = number_of(positions);
+    let mut next = 0usize;
+    let mut begun = false;
+    while next < end {
+        let piece = stretch(alloc, filter, &*placed, positions, next, world, &*scope)?;
+        let places = piece.places.as_slice();
+        write_each(alloc, expr, placed, places, begun, world, scope, out)?;
+        begun = has_begun(begun, places);
+        next = piece.next;
+    }
+    Ok(())
+}
+
+// An expression at each of these places, with commas between, and one before them where something was written already.
+#[cycle(write)]
+fn write_each<'d>(
+    alloc: Global,
+    expr: &'d Expr,
+    placed: &Placed<'_, 'd>,
+    places: &[Place<'d>],
+    begun: bool,
+    world: &Pinned<'d>,
+    scope: &Scope<'_, 'd>,
+    out: &mut Bytes,
+) -> Result<(), Memory>
+    ensures { OnOk result (out.new ≡ out.old ++ more_texts begun (map (text_of (expr_view expr.now)) (map (names_in placed.now (world_of world.now) (names_of scope.now world.now)) places.now))) }
+{
+    for (at, place) in places.iter().enumerate() {
+        put_separator(out, begun, at)?;
+        write_place(alloc, expr, placed, place, world, scope, out)?;
+    }
+    Ok(())
+}
+
+/// The JSON of an expression at a place.
+#[cycle(write)]
+pub fn write_place<'d>(
+    alloc: Global,
+    expr: &'d Expr,
+    placed: &Placed<'_, 'd>,
+    place: &Place<'d>,
+    world: &Pinned<'d>,
+    scope: &Scope<'_, 'd>,
+    out: &mut Bytes,
+) -> Result<(), Memory>
+    ensures { OnOk result (out.new ≡ out.old ++ text_of (expr_view expr.now) (names_in placed.now (world_of world.now) (names_of scope.now world.now) place.now)) }
+{
+    let at = Scope::Bound {
+        alias: placed.alias,
+        row: row_at(placed.source, place.position),
+        outer: &*scope,
+    };
+    let stages = placed.stages;
+    let joined = place.joined.as_slice();
+    write_at(alloc, expr, placed.joins, stages, joined, world, &at, out)
+}
+
+// An expression at the row with these rows of the joins.
+#[cycle(write)]
+fn write_at<'d>(
+    alloc: Global,
+    expr: &'d Expr,
+    joins: &'d [Join],
+    stages: &[Stage],
+    joined: &[Option<Made<'d>>],
+    world: &Pinned<'d>,
+    scope: &Scope<'_, 'd>,
+    out: &mut Bytes,
+) -> Result<(), Memory>
+    ensures { OnOk result (out.new ≡ out.old ++ text_of (expr_view expr.now) (beside (joins_of (map join_view joins.now)) (world_of world.now) (names_of scope.now world.now) (map (option_map made_view) joined.now))) }
+{
+    match joins.split_first() {
+        None => write_value(alloc, expr, world, scope, out),
+        Some((join, rest)) => {
+            let (stage, stages) = first_stage(stages);
+            let others = other_joined(joined);
+            match first_joined(joined) {
+                Some(row) => {
+                    let at = Scope::Bound {
+                        alias: &join.alias,
+                        row: Row::Made { cells: &row.cells },
+                        outer: &*scope,
+                    };
+                    write_at(alloc, expr, rest, stages, others, world, &at, out)
+                }
+                None => write_put_off(
+                    alloc, expr, join, rest, stage, stages, others, world, scope, out,
+                ),
+            }
+        }
+    }
+}
+
+// The same where the first join is put off so far.
+#[cycle(write)]
+fn write_put_off<'d>(
+    alloc: Global,
+    expr: &'d Expr,
+    join: &'d Join,
+    rest: &'d [Join],
+    stage: Stage,
+    stages: &[Stage],
+    others: &[Option<Made<'d>>],
+    world: &Pinned<'d>,
+    scope: &Scope<'_, 'd>,
+    out: &mut Bytes,
+) -> Result<(), Memory>
+    ensures { OnOk result (out.new ≡ out.old ++ text_of (expr_view expr.now) (beside (joins_of (map join_view rest.now)) (world_of world.now) (with_alias (names_of scope.now world.now) (join_view join.now).alias (first_row (rows_of (join_view join.now).select (world_of world.now) (names_of scope.now world.now)))) (map (option_map made_view) others.now))) }
+{
+    if stage == Stage::Outputs {
+        let row = first(alloc, &join.select, world, scope)?;
+        let at = Scope::Bound {
+            alias: &join.alias,
+            row: Row::Made { cells: &row.cells },
+            outer: &*scope,
+        };
+        return write_at(alloc, expr, rest, stages, others, world, &at, out);
+    }
+    let at = Scope::Later {
+        alias: &join.alias,
+        select: &join.select,
+        outer: &*scope,
+    };
+    write_at(alloc, expr, rest, stages, others, world, &at, out)
+}
