@@ -1,5 +1,5 @@
 //! The text of expressions, outputs and aggregates. Of a join that is put off no row is made: its output is written.
-ghost use Rattle.std.specs.Prelude.{◌≡◌, ◌++◌, map, OnOk, option_map};
+ghost use Rattle.std.specs.Prelude.{◌≡◌, ◌++◌, [], map, OnOk, option_map};
 ghost use Rattle.hq_sql_tree.specs.Tree.{joins_of};
 ghost use Rattle.hq_sql_tree.specs.View.{expr_view, pair_view, join_view, select_view};
 ghost use Rattle.hq_sql_tree.specs.Meaning.{with_alias, rows_of};
@@ -8,6 +8,7 @@ ghost use Rattle.hq_sql_write.specs.Placed.{names_in, from_in, found_in};
 ghost use Rattle.hq_sql_write.specs.Selected.{page_in, scopes_in};
 ghost use Rattle.hq_sql_write.specs.Texts.{cell_text, text_of, pairs_text, texts_of, more_texts, first_text, wanted_text, folded_text};
 
+use crate::grouped::write_fold;
 use crate::listed::{Listed, Rows, list_of, output_named};
 use crate::parts::{put_cell, put_separator};
 use crate::places::{
@@ -22,7 +23,7 @@ use hq_sql_rows::row::{Made, Row, cell_at};
 use hq_sql_rows::scope::{Group, Scope, row_at};
 use hq_sql_rows::stages::{Parts, Stage, first_stage, stages};
 use hq_sql_tree::{Expr, ExprPairList, Join, Pred, Select};
-use hq_sql_walk::{first, rows, value};
+use hq_sql_walk::{first, value};
 use std::alloc::Global;
 
 /// The JSON of an expression in its scope.
@@ -59,7 +60,7 @@ fn write_pairs<'d>(
     scope: &Scope<'_, 'd>,
     out: &mut Bytes,
 ) -> Result<(), Memory>
-    ensures { OnOk result (out.new ≡ out.old ++ pairs_text (map pair_view pairs.now.items) (names_of scope.now world.now)) }
+    ensures { OnOk result (out.new ≡ out.old ++ pairs_text (map pair_view pairs.now.items) [] (names_of scope.now world.now)) }
 {
     for (at, pair) in pairs.iter().enumerate() {
         put_separator(out, false, at)?;
@@ -185,26 +186,8 @@ fn write_folded<'d>(
             write_rows(alloc, &listed, Wanted::All, world, scope, out)?;
             out.push(b']')
         }
-        None => write_grouped(alloc, expr, select, alias, world, scope, out),
+        None => write_fold(alloc, expr, select, alias, world, scope, out),
     }
-}
-
-// The same where the rows are made.
-fn write_grouped<'d>(
-    alloc: Global,
-    expr: &'d Expr,
-    select: &'d Select,
-    alias: &'d Txt,
-    world: &Pinned<'d>,
-    scope: &Scope<'_, 'd>,
-    out: &mut Bytes,
-) -> Result<(), Memory>
-    ensures { OnOk result (out.new ≡ out.old ++ folded_text (expr_view expr.now) (select_view select.now) alias.now (world_of world.now) (names_of scope.now world.now)) }
-{
-    let made = rows(alloc, select, world, scope)?;
-    let group = Group::Of { alias, rows: &made };
-    let cell = value(alloc, expr, world, group, scope)?;
-    put_cell(alloc, out, &cell)
 }
 
 // An expression at the rows of a select that are wanted.
