@@ -1,5 +1,5 @@
 //! Aggregates over columns of a FROM without joins: they are taken at the places of its rows, and no rows are made.
-ghost use Rattle.std.specs.Prelude.{◌≡◌, ◌++◌, map, IfOk, IfSome, OnOk};
+ghost use Rattle.std.specs.Prelude.{◌≡◌, ◌++◌, [], map, IfOk, IfSome, OnOk};
 ghost use Rattle.hq_sql_cells.specs.View.{cell_view};
 ghost use Rattle.hq_sql_tree.specs.Meaning.{cell_named, taken, value};
 ghost use Rattle.hq_sql_tree.specs.View.{agg_view, expr_view, pair_view, select_view};
@@ -55,14 +55,10 @@ fn column_of<'d>(expr: &'d Expr, alias: &Txt) -> Option<&'d Txt>
 {
     match expr {
         Expr::Column {
-            alias: of, name, ..
-        } => {
-            if *of == *alias {
-                Some(name)
-            } else {
-                None
-            }
-        }
+            alias: of,
+            name,
+            ..
+        } => { if *of == *alias { Some(name) } else { None } }
         _ => None,
     }
 }

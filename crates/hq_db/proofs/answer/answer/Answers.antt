@@ -1,6 +1,6 @@
-use Rattle.std.proofs.Common.{◌≡◌, List, [], true, sym, subst, ap, ◌∙◌}
+use Rattle.std.proofs.Common.{◌≡◌, List, [], true, sym, subst, ◌∙◌}
 use Rattle.std.specs.Prelude.{IfSome, slice_index_or}
-use Rattle.hq_answer.specs.Answers.{IsAnswer, answer_of}
+use Rattle.hq_answer.specs.Answers.{IsAnswer}
 use Rattle.hq_terms.specs.Database.{Row}
 use Rattle.hq_sql_check.specs.Agree.{HasRows}
 use Rattle.hq_sql_tree.specs.Meaning.{meaning}
@@ -15,10 +15,10 @@ returns-clause-answered g c =
     let tables = g.T.Tables.tables c.args.tables.now in
     let pinned = c.pin_tables.new.tables in
     let same = c.in_ok-pin_tables.ensures.tables in
-    answers tables (g.T.Tables.database c.args.tables.now) (g.T.Tables.rows pinned) c.args.text.now s c.in_ok-of_json.field-0 c.in_ok-select.ensures.found
+    answers tables (g.T.Tables.database c.args.tables.now) (g.T.Tables.rows pinned) c.args.text.now s c.in_ok-eval.field-0 c.in_ok-select.ensures.found
     (subst (λ ts. is_statement s ts ≡ true) c.catalog.ensures (sym c.in_ok-well_formed.ensures ∙ c.if-not-branch.false))
     c.in_ok-pin_tables.ensures.within
     (λ t scanned. subst (λ d. IfSome d (λ all. g.T.Tables.rows pinned t ≡ slice_index_or all t [])) c.in_ok-pin_tables.ensures.database (g.met.T.Tables.pinned_told pinned t (c.in_ok-pin_tables.ensures.pinned t scanned)))
     (c.only_scanned_tables_matter.ensures s tables)
-    (subst (λ ts. (d : List (List Row)) → HasRows s ts (g.T.Tables.rows pinned) d → IsAnswer c.in_ok-of_json.field-0 (meaning s (record { tables = ts; database = d }))) same
-    (λ d has. c.in_ok-of_json.ensures ∙ ap answer_of (c.in_ok-json.ensures.value d has)))
+    (subst (λ ts. (d : List (List Row)) → HasRows s ts (g.T.Tables.rows pinned) d → IsAnswer c.in_ok-eval.field-0 (meaning s (record { tables = ts; database = d }))) same
+    c.in_ok-eval.ensures.value)

@@ -1,6 +1,8 @@
-use Rattle.std.proofs.Common.{rules, ◌≡◌, ◌+◌, ◌∷◌, ◌++◌, [], OnOk, false, map, take, subst, ap, ◌∙◌, sym}
+use Rattle.std.proofs.Common.{rules, ◌≡◌, ◌≤◌, ◌+◌, ◌∷◌, ◌++◌, [], OnOk, false, map, take, subst, ap, ◌∙◌, sym, arith}
 use Rattle.hq_base.proofs.Lists.{map_map}
 use Rattle.hq_base.specs.Compact.{quoted}
+use Rattle.hq_sql_closed.specs.Weight.{total, expr_weight, pair_weight}
+use Rattle.hq_sql_closed.proofs.Weights.{pair_item}
 use Rattle.hq_sql_tree.specs.declared.expr.Expr.{the_lemmas as expr_lemmas}
 use Rattle.hq_sql_tree.specs.Tree.{object, pairs_of}
 use Rattle.hq_sql_tree.specs.View.{expr_view, pair_view}
@@ -21,6 +23,15 @@ write_grouped-returns-in_ok-write_pairs-in-Object t c =
     c.in_ok-write_pairs-in-Object.ensures ∙ ap (λ x. x ++ pairs_text ps g n) c.in_ok-push-in-Object.ensures.ok in
     subst (λ x. OnOk c.push-in-Object.result (c.push-in-Object.new.self ≡ x))
     (ap (λ x. x ++ 125 ∷ []) inside ∙ braced c.args.out.now (pairs_text ps g n) ∙ ap (λ x. c.args.out.now ++ x) (sym (object_text (expr_view c.args.expr.now) ps g n is))) c.push-in-Object.ensures.ok
+
+pub write_pairs-write_grouped-requires : goal.write_pairs-write_grouped-requires
+write_pairs-write_grouped-requires t c =
+    let inside = rw c.deref-pair-items.ensures.value at c.loop-at-test.true in
+    let is = rw c.deref-pair-items.ensures.value at c.pair-item.is in
+    let ps = c.args.pairs.now.items in
+    let e : expr_weight c.pair-item.result.value ≤ total (map pair_weight ps) =
+    subst (λ p. expr_weight p.value ≤ total (map pair_weight ps)) (sym is) (pair_item ps c.loop-at.at c.pair-item.result inside) in
+    (omega arith, c.requires)
 
 pub write_pairs-loop-at-preserved : goal.write_pairs-loop-at-preserved
 write_pairs-loop-at-preserved t c =
