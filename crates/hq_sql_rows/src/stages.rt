@@ -41,14 +41,12 @@ fn in_later_joins(joins: &[Join], alias: &Txt) -> usize {
 }
 
 fn stage_of(parts: Parts<'_>, alias: &Txt, later: &[Join]) -> Stage {
-    let filter = in_filter(parts.filter, alias);
     let others = in_later_joins(later, alias);
     let keys = in_orders(parts.order, alias).saturating_add(in_exprs(parts.distinct, alias));
     let outs = in_outs(parts.outs, alias);
-    let behind = keys.saturating_add(outs);
-    if filter > 0 {
+    if in_filter(parts.filter, alias) > 0 {
         Stage::Filter
-    } else if others.saturating_add(behind) < 2 {
+    } else if keys == 0 && others.saturating_add(outs) < 2 {
         Stage::Later
     } else if others > 0 {
         Stage::Filter
