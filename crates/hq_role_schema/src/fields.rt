@@ -109,12 +109,12 @@ fn push_links(alloc: Global, fields: &mut Vec<FieldDef>, links: &LinkList) -> Re
 fn beside_rows(alloc: Global, first: u32) -> Result<Vec<FieldDef>, Memory>
     ensures { IfOk result (λ fields. map field_view fields.items ≡ beside_rows first) }
 {
+    let mut fields = Vec::new(alloc);
     let aggregates = part(first, Part::AggregateFields);
+    fields.push(plain_field(alloc, "aggregate", aggregates, FieldOrigin::Aggregates)?)?;
     let rows = all_items(alloc, part(first, Part::Rows))?;
-    Ok(vec![in alloc;
-        plain_field(alloc, "aggregate", aggregates, FieldOrigin::Aggregates)?,
-        plain_field(alloc, "nodes", rows, FieldOrigin::Nodes)?,
-    ]?)
+    fields.push(plain_field(alloc, "nodes", rows, FieldOrigin::Nodes)?)?;
+    Ok(fields)
 }
 
 fn count_field(alloc: Global, first: u32) -> Result<FieldDef, Memory>

@@ -3,7 +3,7 @@ ghost use Rattle.std.specs.List.{filter_map};
 ghost use Rattle.hq_schema.specs.Schema.{arg_view};
 ghost use Rattle.hq_role_schema.specs.Inputs.{connectives, input_type, column_input, is_filter, link_input, inputs_of, part_inputs, part_values, part_columns};
 
-use crate::member::{arg, arg_of};
+use crate::member::{arg_of, push_arg};
 use crate::reference::{fixed, items, part};
 use crate::shown::{Link, LinkList, ShownColumn, ShownColumnList};
 use hq_base::{List, Memory, Txt, Ty};
@@ -14,14 +14,19 @@ use std::alloc::Global;
 fn connectives(alloc: Global, first: u32) -> Result<Vec<ArgDef>, Memory>
     ensures { IfOk result (λ inputs. map arg_view inputs.items ≡ connectives first) }
 {
+    let mut inputs = Vec::new(alloc);
     let all = items(alloc, part(first, Part::Filter))?;
-    let one = part(first, Part::Filter);
+    push_arg(alloc, &mut inputs, "_and", all, ArgOrigin::And)?;
+    push_arg(
+        alloc,
+        &mut inputs,
+        "_not",
+        part(first, Part::Filter),
+        ArgOrigin::Not,
+    )?;
     let any = items(alloc, part(first, Part::Filter))?;
-    Ok(vec![in alloc;
-        arg(alloc, "_and", all, ArgOrigin::And)?,
-        arg(alloc, "_not", one, ArgOrigin::Not)?,
-        arg(alloc, "_or", any, ArgOrigin::Or)?,
-    ]?)
+    push_arg(alloc, &mut inputs, "_or", any, ArgOrigin::Or)?;
+    Ok(inputs)
 }
 
 fn input_type(p: Part, ty: Ty) -> Fixed
