@@ -9,7 +9,7 @@ use crate::reference::{all_items, fixed, non_null, part};
 use crate::shown::{Link, LinkList, ShownColumn, ShownColumnList};
 use crate::text::{suffixed, text};
 use hq_base::Memory;
-use hq_schema::{FieldDef, FieldOrigin, Fixed, Part, TypeRef};
+use hq_schema::{FieldDef, FieldDefList, FieldOrigin, Fixed, NamedList, Part, TypeRef};
 use std::alloc::Global;
 
 fn row_type(alloc: Global, column: &ShownColumn) -> Result<TypeRef, Memory>
@@ -192,13 +192,14 @@ pub fn part_fields(
     columns: &ShownColumnList,
     links: &LinkList,
     p: Part,
-) -> Result<Vec<FieldDef>, Memory>
-    ensures { IfOk result (λ fields. map field_view fields.items ≡ part_fields first columns.now links.now p) }
+) -> Result<FieldDefList, Memory>
+    ensures { IfOk result (λ fields. map field_view fields ≡ part_fields first columns.now links.now p) }
 {
-    match p {
+    let fields = match p {
         Part::Rows => row_fields(alloc, columns, links),
         Part::Aggregate => beside_rows(alloc, first),
         Part::AggregateFields => over_rows(alloc, first, columns),
         _ => column_fields(alloc, p, columns),
-    }
+    }?;
+    NamedList::new(alloc, fields)
 }

@@ -7,7 +7,7 @@ use crate::member::{arg_of, push_arg};
 use crate::reference::{fixed, items, part};
 use crate::shown::{Link, LinkList, ShownColumn, ShownColumnList};
 use hq_base::{List, Memory, Txt, Ty};
-use hq_schema::{ArgDef, ArgOrigin, Fixed, Part};
+use hq_schema::{ArgDef, ArgDefList, ArgOrigin, Fixed, NamedList, Part, TxtList};
 use hq_terms::ColList;
 use std::alloc::Global;
 
@@ -116,16 +116,16 @@ pub fn part_inputs(
     columns: &ShownColumnList,
     links: &LinkList,
     p: Part,
-) -> Result<Vec<ArgDef>, Memory>
-    ensures { IfOk result (λ inputs. map arg_view inputs.items ≡ part_inputs first columns.now links.now p) }
+) -> Result<ArgDefList, Memory>
+    ensures { IfOk result (λ inputs. map arg_view inputs ≡ part_inputs first columns.now links.now p) }
 {
     let mut inputs = match p {
         Part::Filter => connectives(alloc, first)?,
         Part::Sort => Vec::new(alloc),
-        _ => return Ok(Vec::new(alloc)),
+        _ => return Ok(NamedList::empty(alloc)),
     };
     push_inputs(alloc, &mut inputs, p, columns, links)?;
-    Ok(inputs)
+    NamedList::new(alloc, inputs)
 }
 
 fn column_names(alloc: Global, columns: &ShownColumnList) -> Result<Vec<Txt>, Memory>
@@ -139,12 +139,12 @@ fn column_names(alloc: Global, columns: &ShownColumnList) -> Result<Vec<Txt>, Me
 }
 
 /// The names of a table's columns, where the type is the enum of them.
-pub fn part_values(alloc: Global, columns: &ShownColumnList, p: Part) -> Result<Vec<Txt>, Memory>
-    ensures { IfOk result (λ names. names.items ≡ part_values columns.now p) }
+pub fn part_values(alloc: Global, columns: &ShownColumnList, p: Part) -> Result<TxtList, Memory>
+    ensures { IfOk result (λ names. names ≡ part_values columns.now p) }
 {
     match p {
-        Part::Columns => column_names(alloc, columns),
-        _ => Ok(Vec::new(alloc)),
+        Part::Columns => NamedList::new(alloc, column_names(alloc, columns)?),
+        _ => Ok(NamedList::empty(alloc)),
     }
 }
 

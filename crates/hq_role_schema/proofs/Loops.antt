@@ -1,0 +1,12 @@
+-- One step of a loop that makes a list of what each item gives.
+use Rattle.std.proofs.Common.{◌≡◌, ◌∙◌, ℕ, ◌+◌, ◌<◌, List, ◌++◌, length, drop, get_or, sym, ap, append_assoc}
+use Rattle.std.specs.Prelude.{flat_map}
+use Rattle.std.proofs.lemmas.List.{drop_more}
+
+-- the values of the items so far, those of the next, and those of the rest
+pub flat_map_drop-more : {A V : Type 0} (f : A → List V) (xs : List A) (i : ℕ) (x : A) (done more whole : List V) → done ++ flat_map f (drop i xs) ≡ whole → i < length xs → x ≡ get_or xs i x → more ≡ done ++ f x → more ++ flat_map f (drop (i + 1) xs) ≡ whole
+flat_map_drop-more f xs i x done more whole so_far below is grows =
+    ap (λ vs. vs ++ flat_map f (drop (i + 1) xs)) (grows ∙ ap (λ z. done ++ f z) is)
+    ∙ append_assoc done (f (get_or xs i x)) (flat_map f (drop (i + 1) xs))
+    ∙ ap (λ zs. done ++ flat_map f zs) (sym (drop_more xs i x below))
+    ∙ so_far
