@@ -5,6 +5,7 @@ ghost use Rattle.hq_sql_tree.specs.View.{expr_view, order_view, out_view, from_v
 ghost use Rattle.hq_sql_expr.specs.Reading.{Reads, all_many, expr_at, order_with, out_with};
 ghost use Rattle.hq_sql_text.specs.Reading.{clause_with, count_at, distinct_at, one_at, table_at};
 
+use crate::parts::boxed_from;
 use hq_sql_expr::{
     ReadRefusal, read_closed_exprs, read_keys, read_name, read_number, read_outs, skip, starts,
 };
@@ -41,35 +42,37 @@ pub(crate) fn out_list(
 /// A table and its alias.
 #[inline(never)]
 #[tactic(auto, unfolding(crate::specs::Reading::table_at))]
-pub(crate) fn table_of(alloc: Global, bytes: &[u8]) -> Result<(From, &[u8]), ReadRefusal>
-    ensures { Reads (λ x. (from_view x.0, x.1.now)) result (table_at bytes.now) }
+pub(crate) fn table_of(alloc: Global, bytes: &[u8]) -> Result<(Box<From>, &[u8]), ReadRefusal>
+    ensures { Reads (λ x. (from_view x.0.value, x.1.now)) result (table_at bytes.now) }
 {
     let (schema, rest) = read_name(alloc, bytes)?;
     let rest = skip(rest, Word::Dot)?;
     let (table, rest) = read_name(alloc, rest)?;
     let rest = skip(rest, Word::As)?;
     let (alias, rest) = read_name(alloc, rest)?;
-    Ok((
-        From::Table {
-            schema,
-            table,
-            alias,
-        },
-        rest,
-    ))
+    let from = From::Table {
+        schema,
+        table,
+        alias,
+    };
+    boxed_from(alloc, from, rest)
 }
 
 /// One under an alias, where its parenthesis may open.
 #[inline(never)]
 #[tactic(auto, unfolding(crate::specs::Reading::one_at))]
-pub(crate) fn one_of(alloc: Global, depth: u32, bytes: &[u8]) -> Result<(From, &[u8]), ReadRefusal>
-    ensures { Reads (λ x. (from_view x.0, x.1.now)) result (one_at depth bytes.now) }
+pub(crate) fn one_of(
+    alloc: Global,
+    depth: u32,
+    bytes: &[u8],
+) -> Result<(Box<From>, &[u8]), ReadRefusal>
+    ensures { Reads (λ x. (from_view x.0.value, x.1.now)) result (one_at depth bytes.now) }
 {
     if depth == 0 {
         return Err(ReadRefusal::NotSql);
     }
     let (alias, rest) = read_name(alloc, bytes)?;
-    Ok((From::One { alias }, rest))
+    boxed_from(alloc, From::One { alias }, rest)
 }
 
 /// The sort keys of ORDER BY, where it stands.

@@ -5,7 +5,7 @@
 //! parentheses are read on 8 MiB of stack.
 ghost use Rattle.std.specs.Prelude.{◌≡◌, ◌++◌, ◌∷◌, [], List, ℕ, map, Some, OnOk, option_map};
 ghost use Rattle.hq_sql_tree.specs.Tree as tree;
-ghost use Rattle.hq_sql_tree.specs.Tree.{SelectTree, PredTree, joins_of};
+ghost use Rattle.hq_sql_tree.specs.Tree.{SelectTree, FromTree, PredTree, joins_of};
 ghost use Rattle.hq_sql_tree.specs.View.{expr_view, out_view, order_view, select_view, from_view, join_view, pred_view, filter_view, filter_of};
 ghost use Rattle.hq_sql_expr.specs.Reading.{Reads};
 ghost use Rattle.hq_sql_text.specs.Reading.{counts_with, shaped};
@@ -35,6 +35,18 @@ pub(crate) fn boxed<'a>(
     ensures { Reads {Y = PredTree × List ℕ} (λ x. (pred_view x.0.value, x.1.now)) result (Some (pred_view pred, rest.now)) }
 {
     Ok((Box::new(alloc, pred)?, rest))
+}
+
+/// What a select takes its rows from, and the bytes behind it.
+#[inline(never)]
+pub(crate) fn boxed_from<'a>(
+    alloc: Global,
+    from: From,
+    rest: &'a [u8],
+) -> Result<(Box<From>, &'a [u8]), ReadRefusal>
+    ensures { Reads {Y = FromTree × List ℕ} (λ x. (from_view x.0.value, x.1.now)) result (Some (from_view from, rest.now)) }
+{
+    Ok((Box::new(alloc, from)?, rest))
 }
 
 /// Adds the condition behind the others.
@@ -92,12 +104,12 @@ pub(crate) fn rows_of<'a>(
     alloc: Global,
     distinct: ExprList,
     outs: OutList,
-    from: From,
+    from: Box<From>,
     joins: JoinList,
     end: Box<End>,
     rest: &'a [u8],
 ) -> Result<(Box<Select>, &'a [u8]), ReadRefusal>
-    ensures { Reads {Y = SelectTree × List ℕ} (λ x. (select_view x.0.value, x.1.now)) result (Some (shaped (tree.rows (map expr_view distinct.items) (map out_view outs.items) (from_view from) (joins_of (map join_view joins.items)) (filter_of (option_map (λ p. pred_view p.value) end.value.filter)) (map order_view end.value.order.items) end.value.limit end.value.offset), rest.now)) }
+    ensures { Reads {Y = SelectTree × List ℕ} (λ x. (select_view x.0.value, x.1.now)) result (Some (shaped (tree.rows (map expr_view distinct.items) (map out_view outs.items) (from_view from.value) (joins_of (map join_view joins.items)) (filter_of (option_map (λ p. pred_view p.value) end.value.filter)) (map order_view end.value.order.items) end.value.limit end.value.offset), rest.now)) }
 {
     let End {
         filter,
@@ -108,7 +120,7 @@ pub(crate) fn rows_of<'a>(
     let rows = Select::Rows {
         distinct,
         outs,
-        from,
+        from: Box::into_inner(from),
         joins,
         filter: unboxed(filter),
         order,

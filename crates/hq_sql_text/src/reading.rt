@@ -7,7 +7,7 @@ ghost use Rattle.hq_sql_expr.specs.Reading.{Reads, below, all_many};
 ghost use Rattle.hq_sql_text.specs.Reading.{clause_with, aliased_with, from_with, join_with, select_with, select_at, whole, pred_with, inside_with, inside_at, negated_with, joined_with, others_with, exists_with, filter_with, end_with, EndTree};
 
 use crate::clauses::{distinct_clause, one_of, order_clause, out_list, table_of};
-use crate::parts::{End, add_first, add_last, boxed, counts_of, rows_of};
+use crate::parts::{End, add_first, add_last, boxed, boxed_from, counts_of, rows_of};
 use crate::tested::{is_member_next, tested_of};
 use hq_sql_expr::{ReadRefusal, read_name, skip, starts};
 use hq_sql_tree::{From, Join, JoinList, Pred, PredList, Select, Word};
@@ -189,8 +189,8 @@ fn aliased_of(alloc: Global, depth: u32, bytes: &[u8]) -> Result<(Join, &[u8]), 
 #[inline(never)]
 #[cycle(read_select)]
 #[tactic(auto, unfolding(crate::specs::Reading::from_with))]
-fn from_of(alloc: Global, depth: u32, bytes: &[u8]) -> Result<(From, &[u8]), ReadRefusal>
-    ensures { Reads (λ x. (from_view x.0, x.1.now)) result (from_with depth (below select_at depth) bytes.now) }
+fn from_of(alloc: Global, depth: u32, bytes: &[u8]) -> Result<(Box<From>, &[u8]), ReadRefusal>
+    ensures { Reads (λ x. (from_view x.0.value, x.1.now)) result (from_with depth (below select_at depth) bytes.now) }
 {
     let Some(rest) = starts(bytes, Word::Open) else {
         return table_of(alloc, bytes);
@@ -199,7 +199,7 @@ fn from_of(alloc: Global, depth: u32, bytes: &[u8]) -> Result<(From, &[u8]), Rea
         return one_of(alloc, depth, rest);
     }
     let (Join { select, alias }, rest) = aliased_of(alloc, depth, rest)?;
-    Ok((From::Sub { select, alias }, rest))
+    boxed_from(alloc, From::Sub { select, alias }, rest)
 }
 
 #[cycle(read_select)]

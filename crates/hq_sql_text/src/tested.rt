@@ -34,28 +34,29 @@ fn op_of(bytes: &[u8]) -> Result<(Op, &[u8]), ReadRefusal>
     Ok((Op::Ge, rest))
 }
 
-// What is asked of the expression, up to the closing parenthesis.
+// What is asked of the expression, up to the closing parenthesis. It lies in a box, so that it is let go in one step.
 #[tactic(auto, unfolding(crate::specs::Reading::test_with))]
 fn test_of(
     alloc: Global,
     depth: u32,
-    left: Expr,
+    left: Box<Expr>,
     bytes: &[u8],
 ) -> Result<(Pred, &[u8]), ReadRefusal>
-    ensures { Reads (λ x. (pred_view x.0, x.1.now)) result (test_with depth (expr_view left) bytes.now) }
+    ensures { Reads (λ x. (pred_view x.0, x.1.now)) result (test_with depth (expr_view left.value) bytes.now) }
 {
     if let Some(rest) = starts(bytes, Word::IsNull) {
-        return Ok((Pred::IsNull(left), rest));
+        return Ok((Pred::IsNull(Box::into_inner(left)), rest));
     }
     if let Some(rest) = starts(bytes, Word::In) {
         let (list, rest) = read_closed_exprs(alloc, depth, Word::CloseIn, rest)?;
-        return Ok((Pred::Within { value: left, list }, rest));
+        let value = Box::into_inner(left);
+        return Ok((Pred::Within { value, list }, rest));
     }
     if let Some(rest) = starts(bytes, Word::Like) {
         let (right, rest) = read_closed_expr(alloc, depth, rest)?;
         return Ok((
             Pred::Like {
-                left,
+                left: Box::into_inner(left),
                 right,
                 fold: false,
             },
@@ -66,7 +67,7 @@ fn test_of(
         let (right, rest) = read_closed_expr(alloc, depth, rest)?;
         return Ok((
             Pred::Like {
-                left,
+                left: Box::into_inner(left),
                 right,
                 fold: true,
             },
@@ -75,6 +76,7 @@ fn test_of(
     }
     let (op, rest) = op_of(bytes)?;
     let (right, rest) = read_closed_expr(alloc, depth, rest)?;
+    let left = Box::into_inner(left);
     Ok((Pred::Cmp { left, op, right }, rest))
 }
 
@@ -89,6 +91,7 @@ pub(crate) fn tested_of(
     ensures { Reads (λ x. (pred_view x.0.value, x.1.now)) result (tested_at depth bytes.now) }
 {
     let (left, rest) = read_expr(alloc, depth, bytes)?;
+    let left = Box::new(alloc, left)?;
     let (pred, rest) = test_of(alloc, depth, left, rest)?;
     boxed(alloc, pred, rest)
 }
