@@ -2,3 +2,4 @@ pub mod Outputs
 pub mod Sorted
 pub mod Objects
 pub mod Pieces
+pub mod Groups

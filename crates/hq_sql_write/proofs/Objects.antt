@@ -4,19 +4,20 @@ use Rattle.hq_answer.specs.Answers.{named_texts}
 use Rattle.hq_base.specs.Cells.{json_of}
 use Rattle.hq_base.specs.Compact.{member_texts}
 use Rattle.hq_base.specs.Json.{obj}
-use Rattle.hq_sql_tree.specs.Tree.{PairTree, OutTree, object, pairs_of}
+use Rattle.std.specs.List.{join_with_byte}
+use Rattle.hq_sql_tree.specs.Tree.{ExprTree, PairTree, OutTree, object, pairs_of}
 use Rattle.hq_sql_tree.specs.declared.expr.ExprPair.{ExprPair, the_lemmas as pair_lemmas}
 use Rattle.hq_sql_tree.specs.View.{expr_view, pair_view}
 use Rattle.hq_sql_tree.specs.Meaning.{Scope as Names, NamedRow, members, cell_named, outputs, first_value}
 use Rattle.hq_sql_rows.specs.View.{first_row}
 use Rattle.hq_sql_write.specs.Listed.{output_in, value_in}
-use Rattle.hq_sql_write.specs.Texts.{pair_text, named_pair, first_object}
+use Rattle.hq_sql_write.specs.Texts.{grouped_text, pair_text, pairs_text, named_pair, first_object}
 use Rattle.hq_sql_write.proofs.Outputs.{output_is}
 
 -- the texts of an object's members are those of its pairs
-pub pairs_are : (ps : List PairTree) (names : Names) → member_texts (members (pairs_of ps) [] names) ≡ map (pair_text names) ps
-pairs_are [] names = refl
-pairs_are (p ∷ ps) names = ap (λ ts. pair_text names p ∷ ts) (pairs_are ps names)
+pub pairs_are : (ps : List PairTree) (group : List Names) (names : Names) → member_texts (members (pairs_of ps) group names) ≡ map (pair_text group names) ps
+pairs_are [] group names = refl
+pairs_are (p ∷ ps) group names = ap (λ ts. pair_text group names p ∷ ts) (pairs_are ps group names)
 
 pub named_are : (ps : List PairTree) (names : Names) → named_texts (members (pairs_of ps) [] names) ≡ map (named_pair names) ps
 named_are [] names = refl
@@ -45,6 +46,10 @@ braced before text = simp append_assoc
 -- a name in quotes, a colon and a text, each behind what was there
 pub named_part : (comma name text named colon after : List ℕ) → named ≡ comma ++ name → colon ≡ named ++ 58 ∷ [] → after ≡ colon ++ text → after ≡ comma ++ (name ++ 58 ∷ text)
 named_part comma name text named colon after a b e = rw (e, b, a) (simp append_assoc)
+
+-- the text of an object is that of its pairs between braces
+pub object_text : (e : ExprTree) (ps : List PairTree) (group : List Names) (names : Names) → e ≡ object (pairs_of ps) → grouped_text e group names ≡ 123 ∷ (pairs_text ps group names ++ 125 ∷ [])
+object_text e ps group names h = ap (λ x. grouped_text x group names) h ∙ ap (λ ts. 123 ∷ (join_with_byte 44 ts ++ 125 ∷ [])) (pairs_are ps group names)
 
 -- ---- the views of a tree's parts
 

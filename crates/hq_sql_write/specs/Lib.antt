@@ -1,3 +1,4 @@
+pub mod Grouped
 pub mod Placed
 pub mod Selected
 pub mod Texts

@@ -1,5 +1,5 @@
 -- What is in scope at the places of a FROM with its joins.
-use Rattle.std.specs.Prelude.{ℕ, List, map, take, Option}
+use Rattle.std.specs.Prelude.{◌≡◌, ◌++◌, ℕ, List, map, take, Option}
 use Rattle.hq_sql_tree.specs.Tree.{joins_of}
 use Rattle.hq_sql_tree.specs.View.{join_view, filter_view}
 use Rattle.hq_sql_tree.specs.Meaning.{NamedRow, Scope as Names, World, with_alias, kept}
@@ -10,11 +10,16 @@ use Rattle.hq_sql_rows.specs.declared.pinned.Pinned.{Pinned}
 use Rattle.hq_sql_rows.specs.declared.positions.Positions.{Positions}
 use Rattle.hq_sql_rows.specs.declared.scope.Scope.{Scope}
 use Rattle.hq_sql_rows.specs.declared.place.Place.{Place}
+use Rattle.hq_sql_walk.specs.declared.clauses.Piece.{Piece}
 use Rattle.hq_sql_write.specs.declared.places.Placed.{Placed}
 
 -- at a place
 abbrev pub names_in : Placed → World → Names → Place → Names
 names_in placed world names place = names_at placed.source placed.alias.now (joins_of (map join_view placed.joins.now)) world names place
+
+-- the same among what is lent
+abbrev pub names_there : Placed → Pinned → Scope → Place → Names
+names_there placed world scope place = names_in placed (world_of world) (names_of scope world) place
 
 -- at the rows of FROM
 abbrev pub from_in : Placed → Names → List Names
@@ -32,3 +37,9 @@ found_in placed positions condition world scope = kept_in placed condition world
 -- and at the first so many of them
 abbrev pub found_before : ℕ → Placed → Positions → Option Pred → Pinned → Scope → List Names
 found_before n placed positions condition world scope = kept_in placed condition world scope (take n (rows_at placed.source positions))
+
+-- what WHERE keeps before a position, and then these places, is what it keeps before the next one
+abbrev pub Continues : (from : ℕ) → Placed → Positions → Option Pred → Pinned → Scope → Piece → Type 0
+Continues from placed positions condition world scope piece =
+    found_before from placed positions condition world scope ++ map (names_there placed world scope) piece.places.items
+    ≡ found_before piece.next placed positions condition world scope

@@ -7,6 +7,12 @@ use Rattle.hq_answer.specs.Answers.{IsAnswer}
 use Rattle.hq_answer.specs.declared.answer.Answer.{Answer}
 use Rattle.hq_base.specs.Json.{JsonTree, null, obj}
 use Rattle.hq_sql_tree.specs.Tree.{ExprTree, PairTree, SelectTree, pairs_of}
+use Rattle.hq_sql_tree.specs.View.{expr_view, select_view}
+use Rattle.hq_sql_tree.specs.declared.expr.Expr.{Expr}
+use Rattle.hq_sql_tree.specs.declared.select.Select.{Select}
+use Rattle.hq_sql_rows.specs.View.{names_of, world_of}
+use Rattle.hq_sql_rows.specs.declared.pinned.Pinned.{Pinned}
+use Rattle.hq_sql_rows.specs.declared.scope.Scope.{Scope}
 use Rattle.hq_sql_write.specs.declared.places.Wanted.{Wanted}
 use Rattle.hq_sql_write.specs.declared.places.Wanted.TheVariants.{First, All}
 use Rattle.hq_sql_tree.specs.Meaning.{NamedRow, Scope as Names, World, cell_named, value, members, with_alias, rows_of}
@@ -15,17 +21,21 @@ use Rattle.hq_sql_tree.specs.Meaning.{NamedRow, Scope as Names, World, cell_name
 abbrev pub cell_text : NamedRow → (name : List ℕ) → List ℕ
 cell_text row name = compact (json_of (cell_named row name))
 
--- of an expression in its scope
+-- of an expression in its scope, whose aggregates are taken over a group
+abbrev pub grouped_text : ExprTree → List Names → Names → List ℕ
+grouped_text e group names = compact (json_of (value e group names))
+
+-- over none
 abbrev pub text_of : ExprTree → Names → List ℕ
-text_of e names = compact (json_of (value e [] names))
+text_of e names = grouped_text e [] names
 
 -- of a pair of an object: its name, a colon and its value
-abbrev pub pair_text : Names → PairTree → List ℕ
-pair_text names p = quoted p.name ++ 58 ∷ text_of p.value names
+abbrev pub pair_text : List Names → Names → PairTree → List ℕ
+pair_text group names p = quoted p.name ++ 58 ∷ grouped_text p.value group names
 
 -- of the pairs of an object, with commas between
-abbrev pub pairs_text : List PairTree → Names → List ℕ
-pairs_text ps names = join_with_byte 44 (map (pair_text names) ps)
+abbrev pub pairs_text : List PairTree → List Names → Names → List ℕ
+pairs_text ps group names = join_with_byte 44 (map (pair_text group names) ps)
 
 -- of an expression in each of these scopes, with commas between
 abbrev pub texts_of : ExprTree → List Names → List ℕ
@@ -52,7 +62,11 @@ wanted_text All e scopes = texts_of e scopes
 
 -- of an expression whose aggregates are taken over the rows of a select
 abbrev pub folded_text : ExprTree → SelectTree → (alias : List ℕ) → World → Names → List ℕ
-folded_text e select alias world names = compact (json_of (value e (map (with_alias names alias) (rows_of select world names)) names))
+folded_text e select alias world names = grouped_text e (map (with_alias names alias) (rows_of select world names)) names
+
+-- the same of what is lent
+abbrev pub lent_fold : Expr → Select → (alias : List ℕ) → Pinned → Scope → List ℕ
+lent_fold e select alias world scope = folded_text (expr_view e) (select_view select) alias (world_of world) (names_of scope world)
 
 -- a pair of an object: its name, and the text of its value
 abbrev pub named_pair : Names → PairTree → List ℕ × List ℕ

@@ -2,6 +2,7 @@
 //! written as it is read.
 #![tactic(auto)]
 
+mod grouped;
 mod listed;
 mod parts;
 mod places;

@@ -1,7 +1,9 @@
 //! Aggregates that list one output of rows that stand in order already.
-ghost use Rattle.std.specs.Prelude.{◌≡◌, ◌+◌, ◌≤◌, true, map, Some, IfSome, option_map};
+ghost use Rattle.std.specs.Prelude.{◌≡◌, [], ◌+◌, ◌≤◌, true, map, Some, IfSome, option_map};
 ghost use Rattle.hq_sql_closed.specs.Weight.{total, expr_weight, out_weight, select_weight};
+ghost use Rattle.hq_sql_tree.specs.Meaning.{Scope as Names, World, outputs, rows_of};
 ghost use Rattle.hq_sql_tree.specs.Tree.{object, pairs_of};
+ghost use Rattle.hq_sql_write.specs.Selected.{scopes_in};
 ghost use Rattle.hq_sql_tree.specs.View.{expr_view, pair_view, out_view, order_view, select_view};
 ghost use Rattle.hq_sql_write.specs.Listed.{output_in, SameValue, IsOutput, IsKey, AreKeys, IsListed, listed_weight};
 
@@ -58,8 +60,41 @@ pub fn object_named<'d>(outs: &'d [Out], name: &Txt) -> Option<&'d ExprPairList>
     pairs_in(element)
 }
 
-// The output that an expression over the rows of an alias names.
-fn output_of<'d>(value: &Expr, alias: &Txt, outs: &'d [Out]) -> Option<&'d Expr>
+/// The rows of a select; None of a fold.
+pub fn rows_in<'d>(select: &'d Select) -> Option<Rows<'d>>
+    ensures { IfSome result (λ r. (w : World) (n : Names) → rows_of (select_view select.now) w n ≡ map (outputs (map out_view r.parts.outs.now.items) []) (scopes_in r w n)) }
+{
+    match select {
+        Select::Fold { .. } => None,
+        Select::Rows {
+            distinct,
+            outs,
+            from,
+            joins,
+            filter,
+            order,
+            limit,
+            offset,
+        } => {
+            let parts = Parts {
+                distinct,
+                outs,
+                filter,
+                order,
+            };
+            Some(Rows {
+                parts,
+                from,
+                joins: joins.as_slice(),
+                limit: *limit,
+                offset: *offset,
+            })
+        }
+    }
+}
+
+/// The output that an expression over the rows of an alias names.
+pub fn output_of<'d>(value: &Expr, alias: &Txt, outs: &'d [Out]) -> Option<&'d Expr>
     ensures value { IfSome result (λ e. IsOutput alias.now (map out_view outs.now) (expr_view value.now) (expr_view e.now)) }
     ensures weight { IfSome result (λ e. expr_weight e.now ≤ total (map out_weight outs.now)) }
 {

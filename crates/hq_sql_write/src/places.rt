@@ -1,12 +1,12 @@
 //! Where the rows of a select stand.
-ghost use Rattle.std.specs.Prelude.{◌≡◌, ◌++◌, ◌<◌, ◌≤◌, ◌||◌, length, map, IfOk, IfSome};
+ghost use Rattle.std.specs.Prelude.{◌≡◌, ◌<◌, ◌≤◌, ◌||◌, length, map, IfOk, IfSome};
 ghost use Rattle.hq_sql_tree.specs.Meaning.{Scope as Names, scopes_of};
 ghost use Rattle.hq_sql_tree.specs.View.{from_view};
 ghost use Rattle.hq_sql_rows.specs.Positions.{positions_of};
 ghost use Rattle.hq_sql_rows.specs.Sources.{made_rows, has_items};
 ghost use Rattle.hq_sql_rows.specs.View.{made_view, names_of, world_of};
-ghost use Rattle.hq_sql_write.specs.Placed.{names_in, from_in, found_in, found_before};
-ghost use Rattle.hq_sql_write.specs.Selected.{page_in};
+ghost use Rattle.hq_sql_write.specs.Placed.{Continues, names_there, from_in, found_in};
+ghost use Rattle.hq_sql_write.specs.Selected.{page_at};
 
 use crate::listed::Rows;
 use hq_base::{Memory, Txt};
@@ -81,7 +81,7 @@ pub fn places_of<'s, 'd>(
     scope: &'s Scope<'s, 'd>,
 ) -> Result<Vec<Place<'d>>, Memory>
     requires { placed.now.joins ≡ rows.now.joins }
-    ensures { IfOk result (λ places. map (names_in placed.now (world_of world.now) (names_of scope.now world.now)) places.items ≡ page_in rows.now (world_of world.now) (from_in placed.now (names_of scope.now world.now))) }
+    ensures { IfOk result (λ places. map (names_there placed.now world.now scope.now) places.items ≡ page_at rows.now placed.now world.now scope.now) }
 {
     page(
         alloc,
@@ -106,7 +106,7 @@ pub fn arranged_at<'s, 'd>(
     scope: &'s Scope<'s, 'd>,
 ) -> Result<Option<Positions<'d>>, Memory>
     requires { placed.now.joins ≡ rows.now.joins }
-    ensures { IfOk result (λ found. IfSome found (λ p. found_in placed.now p rows.now.parts.filter.now world.now scope.now ≡ page_in rows.now (world_of world.now) (from_in placed.now (names_of scope.now world.now)))) }
+    ensures { IfOk result (λ found. IfSome found (λ p. found_in placed.now p rows.now.parts.filter.now world.now scope.now ≡ page_at rows.now placed.now world.now scope.now)) }
 {
     if rows.limit.is_some() || rows.offset.is_some() {
         return Ok(None);
@@ -140,7 +140,7 @@ pub fn stretch<'s, 'd>(
     scope: &'s Scope<'s, 'd>,
 ) -> Result<Piece<'d>, Memory>
     requires { from < length (positions_of positions) }
-    ensures places { IfOk result (λ piece. found_before from placed.now positions.entry filter.now world.now scope.now ++ map (names_in placed.now (world_of world.now) (names_of scope.now world.now)) piece.places.items ≡ found_before piece.next placed.now positions.entry filter.now world.now scope.now) }
+    ensures places { IfOk result (λ piece. Continues from placed.now positions.entry filter.now world.now scope.now piece) }
     ensures forward { IfOk result (λ piece. from < piece.next) }
     ensures within { IfOk result (λ piece. piece.next ≤ length (positions_of positions.entry)) }
 {

@@ -3,8 +3,8 @@ ghost use Rattle.std.specs.Prelude.{◌≡◌, codes, map, IfOk};
 ghost use Rattle.hq_answer.specs.Answers.{IsAnswer, named_text};
 ghost use Rattle.hq_sql_tree.specs.View.{pair_view, select_view};
 ghost use Rattle.hq_sql_tree.specs.Meaning.{meaning, nothing};
-ghost use Rattle.hq_sql_rows.specs.View.{names_of, world_of};
-ghost use Rattle.hq_sql_write.specs.Placed.{names_in};
+ghost use Rattle.hq_sql_rows.specs.View.{world_of};
+ghost use Rattle.hq_sql_write.specs.Placed.{names_there};
 ghost use Rattle.hq_sql_write.specs.Selected.{scopes_in};
 ghost use Rattle.hq_sql_write.specs.Texts.{IsFirstObject, named_pair};
 
@@ -40,7 +40,7 @@ fn members_at<'d>(
     world: &Pinned<'d>,
     scope: &Scope<'_, 'd>,
 ) -> Result<Vec<AnswerMember>, Memory>
-    ensures { IfOk result (λ members. map named_text members.items ≡ map (named_pair (names_in placed.now (world_of world.now) (names_of scope.now world.now) place.now)) (map pair_view pairs.now.items)) }
+    ensures { IfOk result (λ members. map named_text members.items ≡ map (named_pair (names_there placed.now world.now scope.now place.now)) (map pair_view pairs.now.items)) }
 {
     let mut members = Vec::with_capacity(alloc, pairs.len())?;
     for pair in pairs {

@@ -1,13 +1,14 @@
 //! The text of expressions, outputs and aggregates. Of a join that is put off no row is made: its output is written.
-ghost use Rattle.std.specs.Prelude.{◌≡◌, ◌++◌, map, OnOk, option_map};
-ghost use Rattle.hq_sql_tree.specs.Tree.{joins_of};
-ghost use Rattle.hq_sql_tree.specs.View.{expr_view, pair_view, join_view, select_view};
-ghost use Rattle.hq_sql_tree.specs.Meaning.{with_alias, rows_of};
-ghost use Rattle.hq_sql_rows.specs.View.{made_view, first_row, world_of, names_of, beside};
-ghost use Rattle.hq_sql_write.specs.Placed.{names_in, from_in, found_in};
-ghost use Rattle.hq_sql_write.specs.Selected.{page_in, scopes_in};
-ghost use Rattle.hq_sql_write.specs.Texts.{cell_text, text_of, pairs_text, texts_of, more_texts, first_text, wanted_text, folded_text};
+ghost use Rattle.std.specs.Prelude.{◌≡◌, ◌++◌, [], map, OnOk};
+ghost use Rattle.hq_sql_tree.specs.View.{expr_view, pair_view, select_view};
+ghost use Rattle.hq_sql_tree.specs.Meaning.{rows_of};
+ghost use Rattle.hq_sql_rows.specs.View.{first_row, world_of, names_of};
+ghost use Rattle.hq_sql_walk.specs.Gathered.{names_behind, names_joined};
+ghost use Rattle.hq_sql_write.specs.Placed.{names_there, found_in};
+ghost use Rattle.hq_sql_write.specs.Selected.{page_at, scopes_in};
+ghost use Rattle.hq_sql_write.specs.Texts.{cell_text, text_of, pairs_text, texts_of, more_texts, first_text, wanted_text, lent_fold};
 
+use crate::grouped::write_fold;
 use crate::listed::{Listed, Rows, list_of, output_named};
 use crate::parts::{put_cell, put_separator};
 use crate::places::{
@@ -22,7 +23,7 @@ use hq_sql_rows::row::{Made, Row, cell_at};
 use hq_sql_rows::scope::{Group, Scope, row_at};
 use hq_sql_rows::stages::{Parts, Stage, first_stage, stages};
 use hq_sql_tree::{Expr, ExprPairList, Join, Pred, Select};
-use hq_sql_walk::{first, rows, value};
+use hq_sql_walk::{first, value};
 use std::alloc::Global;
 
 /// The JSON of an expression in its scope.
@@ -59,7 +60,7 @@ fn write_pairs<'d>(
     scope: &Scope<'_, 'd>,
     out: &mut Bytes,
 ) -> Result<(), Memory>
-    ensures { OnOk result (out.new ≡ out.old ++ pairs_text (map pair_view pairs.now.items) (names_of scope.now world.now)) }
+    ensures { OnOk result (out.new ≡ out.old ++ pairs_text (map pair_view pairs.now.items) [] (names_of scope.now world.now)) }
 {
     for (at, pair) in pairs.iter().enumerate() {
         put_separator(out, false, at)?;
@@ -177,7 +178,7 @@ fn write_folded<'d>(
     scope: &Scope<'_, 'd>,
     out: &mut Bytes,
 ) -> Result<(), Memory>
-    ensures { OnOk result (out.new ≡ out.old ++ folded_text (expr_view expr.now) (select_view select.now) alias.now (world_of world.now) (names_of scope.now world.now)) }
+    ensures { OnOk result (out.new ≡ out.old ++ lent_fold expr.now select.now alias.now world.now scope.now) }
 {
     match list_of(expr, select, alias) {
         Some(listed) => {
@@ -185,26 +186,8 @@ fn write_folded<'d>(
             write_rows(alloc, &listed, Wanted::All, world, scope, out)?;
             out.push(b']')
         }
-        None => write_grouped(alloc, expr, select, alias, world, scope, out),
+        None => write_fold(alloc, expr, select, alias, world, scope, out),
     }
-}
-
-// The same where the rows are made.
-fn write_grouped<'d>(
-    alloc: Global,
-    expr: &'d Expr,
-    select: &'d Select,
-    alias: &'d Txt,
-    world: &Pinned<'d>,
-    scope: &Scope<'_, 'd>,
-    out: &mut Bytes,
-) -> Result<(), Memory>
-    ensures { OnOk result (out.new ≡ out.old ++ folded_text (expr_view expr.now) (select_view select.now) alias.now (world_of world.now) (names_of scope.now world.now)) }
-{
-    let made = rows(alloc, select, world, scope)?;
-    let group = Group::Of { alias, rows: &made };
-    let cell = value(alloc, expr, world, group, scope)?;
-    put_cell(alloc, out, &cell)
 }
 
 // An expression at the rows of a select that are wanted.
@@ -241,7 +224,7 @@ fn write_first<'d>(
     out: &mut Bytes,
 ) -> Result<(), Memory>
     requires { placed.now.joins ≡ rows.now.joins }
-    ensures { OnOk result (out.new ≡ out.old ++ first_text (expr_view expr.now) (page_in rows.now (world_of world.now) (from_in placed.now (names_of scope.now world.now)))) }
+    ensures { OnOk result (out.new ≡ out.old ++ first_text (expr_view expr.now) (page_at rows.now placed.now world.now scope.now)) }
 {
     let places = places_of(alloc, rows, &*placed, world, &*scope)?;
     match places.first() {
@@ -262,7 +245,7 @@ fn write_all<'d>(
     out: &mut Bytes,
 ) -> Result<(), Memory>
     requires { placed.now.joins ≡ rows.now.joins }
-    ensures { OnOk result (out.new ≡ out.old ++ texts_of (expr_view expr.now) (page_in rows.now (world_of world.now) (from_in placed.now (names_of scope.now world.now)))) }
+    ensures { OnOk result (out.new ≡ out.old ++ texts_of (expr_view expr.now) (page_at rows.now placed.now world.now scope.now)) }
 {
     if let Some(positions) = arranged_at(alloc, rows, &*placed, world, &*scope)? {
         let filter = rows.parts.filter;
@@ -311,7 +294,7 @@ fn write_each<'d>(
     scope: &Scope<'_, 'd>,
     out: &mut Bytes,
 ) -> Result<(), Memory>
-    ensures { OnOk result (out.new ≡ out.old ++ more_texts begun (map (text_of (expr_view expr.now)) (map (names_in placed.now (world_of world.now) (names_of scope.now world.now)) places.now))) }
+    ensures { OnOk result (out.new ≡ out.old ++ more_texts begun (map (text_of (expr_view expr.now)) (map (names_there placed.now world.now scope.now) places.now))) }
 {
     for (at, place) in places.iter().enumerate() {
         put_separator(out, begun, at)?;
@@ -331,7 +314,7 @@ pub fn write_place<'d>(
     scope: &Scope<'_, 'd>,
     out: &mut Bytes,
 ) -> Result<(), Memory>
-    ensures { OnOk result (out.new ≡ out.old ++ text_of (expr_view expr.now) (names_in placed.now (world_of world.now) (names_of scope.now world.now) place.now)) }
+    ensures { OnOk result (out.new ≡ out.old ++ text_of (expr_view expr.now) (names_there placed.now world.now scope.now place.now)) }
 {
     let at = Scope::Bound {
         alias: placed.alias,
@@ -355,7 +338,7 @@ fn write_at<'d>(
     scope: &Scope<'_, 'd>,
     out: &mut Bytes,
 ) -> Result<(), Memory>
-    ensures { OnOk result (out.new ≡ out.old ++ text_of (expr_view expr.now) (beside (joins_of (map join_view joins.now)) (world_of world.now) (names_of scope.now world.now) (map (option_map made_view) joined.now))) }
+    ensures { OnOk result (out.new ≡ out.old ++ text_of (expr_view expr.now) (names_joined joins.now joined.now world.now (names_of scope.now world.now))) }
 {
     match joins.split_first() {
         None => write_value(alloc, expr, world, scope, out),
@@ -393,7 +376,7 @@ fn write_put_off<'d>(
     scope: &Scope<'_, 'd>,
     out: &mut Bytes,
 ) -> Result<(), Memory>
-    ensures { OnOk result (out.new ≡ out.old ++ text_of (expr_view expr.now) (beside (joins_of (map join_view rest.now)) (world_of world.now) (with_alias (names_of scope.now world.now) (join_view join.now).alias (first_row (rows_of (join_view join.now).select (world_of world.now) (names_of scope.now world.now)))) (map (option_map made_view) others.now))) }
+    ensures { OnOk result (out.new ≡ out.old ++ text_of (expr_view expr.now) (names_joined rest.now others.now world.now (names_behind join.now world.now scope.now))) }
 {
     if stage == Stage::Outputs {
         let row = first(alloc, &join.select, world, scope)?;

@@ -26,12 +26,12 @@ write_value-returns-in_ok-write_pairs-in-Object t c =
     let n = names_of c.args.scope.now c.args.world.now in
     let ps = map pair_view c.in-Object.pairs.items in
     let is : expr_view c.args.expr.now ≡ object (pairs_of ps) = search (rules, expr_lemmas) in
-    let text : text_of (expr_view c.args.expr.now) n ≡ 123 ∷ (pairs_text ps n ++ 125 ∷ []) =
-    ap (λ x. text_of x n) is ∙ ap (λ ts. 123 ∷ (join_with_byte 44 ts ++ 125 ∷ [])) (pairs_are ps n) in
-    let inside : c.write_pairs.new.out ≡ (c.args.out.now ++ 123 ∷ []) ++ pairs_text ps n =
-    c.in_ok-write_pairs-in-Object.ensures ∙ ap (λ x. x ++ pairs_text ps n) c.in_ok-push-in-Object.ensures.ok in
+    let text : text_of (expr_view c.args.expr.now) n ≡ 123 ∷ (pairs_text ps [] n ++ 125 ∷ []) =
+    ap (λ x. text_of x n) is ∙ ap (λ ts. 123 ∷ (join_with_byte 44 ts ++ 125 ∷ [])) (pairs_are ps [] n) in
+    let inside : c.write_pairs.new.out ≡ (c.args.out.now ++ 123 ∷ []) ++ pairs_text ps [] n =
+    c.in_ok-write_pairs-in-Object.ensures ∙ ap (λ x. x ++ pairs_text ps [] n) c.in_ok-push-in-Object.ensures.ok in
     subst (λ x. OnOk c.push-in-Object.result (c.push-in-Object.new.self ≡ x))
-    (ap (λ x. x ++ 125 ∷ []) inside ∙ braced c.args.out.now (pairs_text ps n) ∙ ap (λ x. c.args.out.now ++ x) (sym text)) c.push-in-Object.ensures.ok
+    (ap (λ x. x ++ 125 ∷ []) inside ∙ braced c.args.out.now (pairs_text ps [] n) ∙ ap (λ x. c.args.out.now ++ x) (sym text)) c.push-in-Object.ensures.ok
 
 pub write_pairs-write_value-requires : goal.write_pairs-write_value-requires
 write_pairs-write_value-requires t c =
@@ -49,12 +49,12 @@ write_pairs-loop-at-preserved t c =
     let n = names_of c.args.scope.now c.args.world.now in
     let ps = c.args.pairs.now.items in
     let p = c.pair-item.result in
-    let text : c.write_value.new.out ≡ c.put_separator.new.out ++ pair_text n (pair_view p) =
+    let text : c.write_value.new.out ≡ c.put_separator.new.out ++ pair_text [] n (pair_view p) =
     named_part c.put_separator.new.out (quoted p.name) (text_of (expr_view p.value) n) c.put_quoted.new.out c.push.new.self c.write_value.new.out c.in_ok-put_quoted.ensures c.in_ok-push.ensures.ok c.in_ok-write_value.ensures
-    ∙ ap (λ q. c.put_separator.new.out ++ pair_text n q) (sym (pair_is p)) in
-    rw (map_map (pair_text n) pair_view (take (c.loop-at.at + 1) ps))
-    (one_more (λ q. pair_text n (pair_view q)) false ps c.loop-at.at p c.args.out.now c.loop-at.out c.put_separator.new.out c.write_value.new.out inside is
-    (rw (← (map_map (pair_text n) pair_view (take c.loop-at.at ps))) c.loop-at.invariant) c.in_ok-put_separator.ensures text)
+    ∙ ap (λ q. c.put_separator.new.out ++ pair_text [] n q) (sym (pair_is p)) in
+    rw (map_map (pair_text [] n) pair_view (take (c.loop-at.at + 1) ps))
+    (one_more (λ q. pair_text [] n (pair_view q)) false ps c.loop-at.at p c.args.out.now c.loop-at.out c.put_separator.new.out c.write_value.new.out inside is
+    (rw (← (map_map (pair_text [] n) pair_view (take c.loop-at.at ps))) c.loop-at.invariant) c.in_ok-put_separator.ensures text)
 
 -- ---- rows
 

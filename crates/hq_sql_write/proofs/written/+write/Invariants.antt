@@ -1,4 +1,4 @@
-use Rattle.std.proofs.Common.{◌≡◌, ◌≤◌, ◌+◌, ◌-◌, ◌++◌, map, length, take}
+use Rattle.std.proofs.Common.{◌≡◌, ◌≤◌, ◌+◌, ◌-◌, ◌++◌, [], map, length, take}
 use Rattle.hq_sql_tree.specs.View.{expr_view, pair_view}
 use Rattle.hq_sql_closed.specs.Weight.{total, expr_weight, pair_weight, select_weight, join_weight}
 use Rattle.hq_sql_rows.specs.Positions.{positions_of}
@@ -13,7 +13,7 @@ use Rattle.hq_sql_write.proofs.written.+write.Given as goal
 -- ---- loops: what is written so far
 
 abbrev pub invariant-write_pairs-loop-at : goal.invariant-write_pairs-loop-at
-invariant-write_pairs-loop-at l = l.out ≡ l.initial.out ++ pairs_text (map pair_view (take l.at l.pairs.items)) (names_of l.scope l.world)
+invariant-write_pairs-loop-at l = l.out ≡ l.initial.out ++ pairs_text (map pair_view (take l.at l.pairs.items)) [] (names_of l.scope l.world)
 
 abbrev pub invariant-write_each-loop-at : goal.invariant-write_each-loop-at
 invariant-write_each-loop-at l = l.out ≡ l.initial.out ++ more_texts l.begun (map (text_of (expr_view l.expr)) (map (names_in l.placed (world_of l.world) (names_of l.scope l.world)) (take l.at l.places)))
