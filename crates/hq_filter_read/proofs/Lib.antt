@@ -6,3 +6,4 @@ mod Members
 mod NamedParts
 mod Operands
 mod Sound
+mod Elements

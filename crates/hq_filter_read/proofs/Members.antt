@@ -30,7 +30,7 @@ at_place s t path ms i m below is =
     ap (from s t path) (drop_more ms i m below ∙ ap (λ x. x ∷ drop (i + 1) ms) (sym is)) ∙ first s t path m (drop (i + 1) ms)
 
 -- the value before the rest, and both behind what is done
-grown : {B E : Type 0} (done : List B) (y : B) (rest : Result (List B) E) → mapped (λ ys. done ++ ys) (mapped (λ ys. y ∷ ys) rest) ≡ mapped (λ ys. (done ++ y ∷ []) ++ ys) rest
+pub grown : {B E : Type 0} (done : List B) (y : B) (rest : Result (List B) E) → mapped (λ ys. done ++ ys) (mapped (λ ys. y ∷ ys) rest) ≡ mapped (λ ys. (done ++ y ∷ []) ++ ys) rest
 grown done y (Ok ys) = ap Ok (sym (append_assoc done (y ∷ []) ys))
 grown done y (Err e) = refl
 

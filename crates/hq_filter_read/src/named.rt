@@ -9,7 +9,7 @@ use hq_base::Txt;
 use hq_terms::{ColId, Column, Meta, Rel, RelId, Scope, Table, TableId};
 
 /// What a member of a filter names.
-#[derive(Clone, Copy, Debug, PartialEq, Eq)]
+#[derive(Clone, Copy)]
 pub enum Named {
     And,
     Or,

@@ -4,7 +4,7 @@ ghost use Rattle.hq_filter_read.specs.Operator.{comparison_named, like_named, te
 use hq_terms::Op;
 
 /// An operator of a column.
-#[derive(Clone, Copy, Debug, PartialEq, Eq)]
+#[derive(Clone, Copy)]
 pub enum Operator {
     Compare(Op),
     /// `_in`, or `_nin` where negated.
