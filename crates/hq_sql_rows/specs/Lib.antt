@@ -11,4 +11,3 @@ pub mod Positions
 pub mod Ordered
 pub mod Known
 pub mod Pages
-pub mod Exists

@@ -4,7 +4,6 @@
 
 pub mod cells;
 mod equations;
-pub mod exists;
 pub mod known;
 mod mentions;
 pub mod ordered;

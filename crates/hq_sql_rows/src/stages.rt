@@ -10,7 +10,7 @@ use hq_sql_tree::{ExprList, Join, OrderList, OutList, Pred, Select};
 use std::alloc::Global;
 
 /// When a join that gives one row at most is evaluated.
-#[derive(Clone, Copy, Debug, PartialEq, Eq)]
+#[derive(Clone, Copy, PartialEq)]
 pub enum Stage {
     /// Before WHERE, once a row.
     Filter,

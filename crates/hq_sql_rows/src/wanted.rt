@@ -4,7 +4,7 @@ use crate::scope::is_named;
 use hq_base::{Memory, Txt};
 use hq_sql_tree::{From, Join, JoinList, Pred, PredList, Select};
 use hq_tables::Rows;
-use hq_terms::{ColId, Table};
+use hq_terms::{ColId, Table, has_column};
 use std::alloc::Global;
 
 // The most indexes that are built over one table.
@@ -18,14 +18,10 @@ struct Wanted<'d> {
     columns: Vec<Vec<ColId>>,
 }
 
-fn is_among(columns: &[ColId], column: ColId) -> bool {
-    columns.iter().any(|other| other.at() == column.at())
-}
-
 // Whether all of these columns are among others.
 fn are_among(columns: &[ColId], others: &[ColId]) -> bool {
     for column in columns {
-        if !is_among(others, *column) {
+        if !has_column(others, *column) {
             return false;
         }
     }

@@ -10,16 +10,11 @@ use Rattle.hq_base.specs.Json.{MemberTrees, member, members_of, JsonTree}
 use Rattle.hq_base.specs.Cells.{json_of}
 use Rattle.hq_base.specs.Lists.{sort, firsts, put}
 use Rattle.hq_base.proofs.Lists.{map_map}
-use Rattle.hq_terms.specs.declared.truth.Truth.{Truth}
-use Rattle.hq_terms.specs.declared.truth.Truth.TheVariants.{Yes, No, Unknown}
-use Rattle.hq_terms.specs.Logic.{and3, or3}
 use Rattle.hq_sql_tree.specs.Tree.{ExprTree, PairTree, pairs_of, OutTree, OrderTree, SelectTree, rows, FromTree, table, sub, one, JoinTrees, no_join, join, FilterTree}
 use Rattle.hq_sql_tree.specs.declared.expr.Expr.{Expr}
 use Rattle.hq_sql_tree.specs.declared.expr.Order.{Order}
 use Rattle.hq_sql_tree.specs.View.{expr_view, order_view}
-use Rattle.hq_sql_tree.specs.Tree.{PredTrees, no_pred, pred}
-use Rattle.hq_sql_rows.specs.Exists.{holds_exists, all_true_of}
-use Rattle.hq_sql_tree.specs.Meaning.{truth_at, all_true, NamedRow, Scope, with_alias, World, rows_of, value, members, outputs, joined, order_cmp, distinct_on, limited, offset_by, kept, scopes_of, has_rows}
+use Rattle.hq_sql_tree.specs.Meaning.{NamedRow, Scope, with_alias, World, rows_of, value, members, outputs, joined, order_cmp, distinct_on, limited, offset_by, kept, scopes_of, has_rows}
 use Rattle.hq_sql_rows.specs.declared.scope.Source.{Source}
 use Rattle.hq_sql_rows.specs.declared.scope.Source.TheVariants as source
 use Rattle.hq_sql_rows.specs.View.{first_row, beside, source_view, row_in, joined_view, place_of, names_at}
@@ -48,66 +43,6 @@ outputs_mapped (o ∷ os) n = ap (λ cs. output_at n o ∷ cs) (outputs_mapped o
 pub outputs_all : (os : List OutTree) (ns : List Scope) → map (outputs_of os) ns ≡ map (outputs os []) ns
 outputs_all os [] = refl
 outputs_all os (n ∷ ns) = ap₂ (λ x xs. x ∷ xs) (outputs_mapped os n) (outputs_all os ns)
-
--- ---- AND and OR of a list
-
-pub and3_yes : (t : Truth) → and3 t Yes ≡ t
-and3_yes Yes = refl
-and3_yes No = refl
-and3_yes Unknown = refl
-
-pub and3_assoc : (a b c : Truth) → and3 (and3 a b) c ≡ and3 a (and3 b c)
-and3_assoc Yes b c = refl
-and3_assoc No b c = refl
-and3_assoc Unknown Yes c = refl
-and3_assoc Unknown No c = refl
-and3_assoc Unknown Unknown Yes = refl
-and3_assoc Unknown Unknown No = refl
-and3_assoc Unknown Unknown Unknown = refl
-
-and3_comm : (a b : Truth) → and3 a b ≡ and3 b a
-and3_comm Yes Yes = refl
-and3_comm Yes No = refl
-and3_comm Yes Unknown = refl
-and3_comm No Yes = refl
-and3_comm No No = refl
-and3_comm No Unknown = refl
-and3_comm Unknown Yes = refl
-and3_comm Unknown No = refl
-and3_comm Unknown Unknown = refl
-
--- the others first, and then those that hold an EXISTS
-pub tried_first : (ps : PredTrees) (w : World) (n : Scope) → and3 (all_true_of false ps w n) (all_true_of true ps w n) ≡ all_true ps w n
-tried_first no_pred w n = refl
-tried_first (pred p ps) w n =
-    let t = truth_at p w n in
-    let plain = all_true_of false ps w n in
-    let others = all_true_of true ps w n in
-    let rest = tried_first ps w n in
-    let go : (b : Bool) → and3 (cond (not b) (and3 t plain) plain) (cond b (and3 t others) others) ≡ and3 t (all_true ps w n) =
-    elim [
-      | true ↦ sym (and3_assoc plain t others) ∙ ap (λ x. and3 x others) (and3_comm plain t) ∙ and3_assoc t plain others ∙ ap (and3 t) rest
-      | false ↦ and3_assoc t plain others ∙ ap (and3 t) rest
-    ] in
-    go (holds_exists p)
-
--- where one of the others is false, the rest tells nothing
-pub tried_no : (ps : PredTrees) (w : World) (n : Scope) → all_true_of false ps w n ≡ No → all_true ps w n ≡ No
-tried_no ps w n e = sym (tried_first ps w n) ∙ ap (λ t. and3 t (all_true_of true ps w n)) e
-
-pub or3_no : (t : Truth) → or3 t No ≡ t
-or3_no Yes = refl
-or3_no No = refl
-or3_no Unknown = refl
-
-pub or3_assoc : (a b c : Truth) → or3 (or3 a b) c ≡ or3 a (or3 b c)
-or3_assoc Yes b c = refl
-or3_assoc No b c = refl
-or3_assoc Unknown Yes c = refl
-or3_assoc Unknown No c = refl
-or3_assoc Unknown Unknown Yes = refl
-or3_assoc Unknown Unknown No = refl
-or3_assoc Unknown Unknown Unknown = refl
 
 -- ---- joins
 

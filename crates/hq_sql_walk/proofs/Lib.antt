@@ -2,3 +2,4 @@ pub mod JoinedRows
 pub mod Ordered
 pub mod Evaluated
 pub mod Told
+pub mod Conjunctions

@@ -33,10 +33,14 @@ names_behind j world scope =
 abbrev pub names_joined : List Join → List (Option Made) → Pinned → Names → Names
 names_joined js rows world names = beside (joins_view js) (world_of world) names (map (option_map made_view) rows)
 
+-- the rows of joins that WHERE keeps
+abbrev pub kept_joins : JoinTrees → Option Pred → Pinned → Names → List Names
+kept_joins js f world names = filter (kept (filter_view f) (world_of world)) (joined js (world_of world) names)
+
 -- these rows of joins are those that WHERE keeps
 abbrev pub Gathers : JoinTrees → Option Pred → Pinned → Names → List (Vec (Option Made)) → Type 0
 Gathers js f world names lists =
-    map (beside js (world_of world) names) (map joined_view lists) ≡ filter (kept (filter_view f) (world_of world)) (joined js (world_of world) names)
+    map (beside js (world_of world) names) (map joined_view lists) ≡ kept_joins js f world names
 
 -- the same beside each of these rows of the first join
 abbrev pub Spreads : Join → List Join → List Made → Option Pred → Pinned → Names → List (Vec (Option Made)) → Type 0

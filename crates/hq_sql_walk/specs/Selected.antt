@@ -1,12 +1,14 @@
 -- What the clauses of a select give, one behind the other (PostgreSQL, SELECT), of values as they lie in memory.
 use Rattle.std.specs.Prelude.{◌≡◌, ◌++◌, ℕ, List, [], map, take, Option}
+use Rattle.hq_base.specs.Cells.{CellTree}
 use Rattle.hq_sql_tree.specs.declared.expr.Expr.{Expr}
 use Rattle.hq_sql_tree.specs.declared.expr.Order.{Order}
 use Rattle.hq_sql_tree.specs.declared.select.From.{From}
 use Rattle.hq_sql_tree.specs.declared.select.Join.{Join}
 use Rattle.hq_sql_tree.specs.declared.select.Pred.{Pred}
-use Rattle.hq_sql_tree.specs.Meaning.{NamedRow, Scope as Names, kept, offset_by, limited, outputs}
+use Rattle.hq_sql_tree.specs.Meaning.{NamedRow, Scope as Names, with_alias, kept, offset_by, limited, outputs}
 use Rattle.hq_sql_tree.specs.View.{expr_view, filter_view, from_view, order_view, out_view}
+use Rattle.hq_sql_rows.specs.Keys.{keyed_at}
 use Rattle.hq_sql_rows.specs.Positions.{rows_at, kept_of, arranged}
 use Rattle.hq_sql_rows.specs.Sources.{alias_in, rows_given}
 use Rattle.hq_sql_rows.specs.View.{made_view, names_at, names_of, world_of}
@@ -18,7 +20,7 @@ use Rattle.hq_sql_rows.specs.declared.scope.Scope.{Scope}
 use Rattle.hq_sql_rows.specs.declared.scope.Source.{Source}
 use Rattle.hq_sql_rows.specs.declared.stages.Parts.{Parts}
 use Rattle.hq_sql_walk.specs.Gathered.{joins_view}
-use Rattle.hq_sql_walk.specs.declared.clauses.Piece.{Piece}
+use Rattle.hq_sql_walk.specs.declared.scans.Piece.{Piece}
 
 -- what WHERE keeps of these rows of an alias with its joins
 abbrev pub kept_from : List NamedRow → (alias : List ℕ) → List Join → Option Pred → Pinned → Scope → List Names
@@ -37,6 +39,18 @@ Continues source positions from alias js f world scope piece =
 -- ORDER BY, and DISTINCT ON
 abbrev pub arranged_by : List Expr → List Order → List Names → List Names
 arranged_by es os names = arranged (map expr_view es) (map order_view os) names
+
+-- the second places are the first ones by ORDER BY, of which DISTINCT ON leaves some
+abbrev pub Arranges : (Place → Names) → List Expr → List Order → (places sorted : List Place) → Type 0
+Arranges at es os places sorted = map at sorted ≡ arranged_by es os (map at places)
+
+-- a place with its sort keys and its values of DISTINCT ON, in this scope
+abbrev pub keyed_in : List Order → List Expr → Names → Place → (List CellTree × List CellTree) × Place
+keyed_in os es names place = keyed_at names (map order_view os) (map expr_view es) place
+
+-- what is in scope at each of these rows of an alias
+abbrev pub names_each : (alias : List ℕ) → List Made → Pinned → Scope → List Names
+names_each alias rows world scope = map (with_alias (names_of scope world) alias) (map made_view rows)
 
 -- the rows of a select over these rows of its alias, before its outputs: from WHERE to LIMIT
 abbrev pub paged_from : List NamedRow → (alias : List ℕ) → List Join → Parts → (limit offset : Option ℕ) → Pinned → Scope → List Names

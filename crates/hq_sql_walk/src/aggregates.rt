@@ -2,9 +2,9 @@
 ghost use Rattle.std.specs.Prelude.{◌≡◌, [], map, IfOk};
 ghost use Rattle.hq_sql_cells.specs.View.{cell_view};
 ghost use Rattle.hq_sql_tree.specs.View.{agg_view, expr_view, order_view};
-ghost use Rattle.hq_sql_tree.specs.Meaning.{with_alias, value, taken};
-ghost use Rattle.hq_sql_rows.specs.View.{made_view, names_of};
+ghost use Rattle.hq_sql_tree.specs.Meaning.{value, taken};
 ghost use Rattle.hq_sql_rows.specs.Keys.{with_json, json_at};
+ghost use Rattle.hq_sql_walk.specs.Selected.{names_each};
 
 use crate::values::{keys, value};
 use hq_base::{Json, Memory, Txt};
@@ -26,7 +26,7 @@ pub fn taken<'d>(
     rows: &[Made<'d>],
     scope: &Scope<'_, 'd>,
 ) -> Result<Cell<'d>, Memory>
-    ensures { IfOk result (λ cell. cell_view cell ≡ taken (agg_view agg.now) (map (with_alias (names_of scope.now world.now) alias.now) (map made_view rows.now))) }
+    ensures { IfOk result (λ cell. cell_view cell ≡ taken (agg_view agg.now) (names_each alias.now rows.now world.now scope.now)) }
 {
     match agg {
         Agg::CountAll => Ok(Cell::Int(rows.len() as i128)),
@@ -57,7 +57,7 @@ fn each_value<'d>(
     rows: &[Made<'d>],
     scope: &Scope<'_, 'd>,
 ) -> Result<Vec<Cell<'d>>, Memory>
-    ensures { IfOk result (λ cells. map cell_view cells.items ≡ map (value (expr_view expr.now) []) (map (with_alias (names_of scope.now world.now) alias.now) (map made_view rows.now))) }
+    ensures { IfOk result (λ cells. map cell_view cells.items ≡ map (value (expr_view expr.now) []) (names_each alias.now rows.now world.now scope.now)) }
 {
     let mut cells = Vec::with_capacity(alloc, rows.len())?;
     for row in rows {
@@ -82,7 +82,7 @@ fn each_json<'d>(
     rows: &[Made<'d>],
     scope: &Scope<'_, 'd>,
 ) -> Result<Vec<Kept<'d, Json>>, Memory>
-    ensures { IfOk result (λ kept. map with_json kept.items ≡ map (json_at (expr_view expr.now) (map order_view order.now.items)) (map (with_alias (names_of scope.now world.now) alias.now) (map made_view rows.now))) }
+    ensures { IfOk result (λ kept. map with_json kept.items ≡ map (json_at (expr_view expr.now) (map order_view order.now.items)) (names_each alias.now rows.now world.now scope.now)) }
 {
     let mut kept = Vec::with_capacity(alloc, rows.len())?;
     for row in rows {

@@ -3,10 +3,15 @@
 
 mod aggregates;
 mod clauses;
+mod costs;
 mod joins;
+mod pages;
+mod scans;
 mod truths;
 mod values;
 
-pub use clauses::{Piece, any_row, first, page, rows, scan_from};
+pub use clauses::{first, rows};
+pub use pages::{page, page_sorted};
+pub use scans::{Piece, any_row, scan_from};
 pub use truths::truth;
 pub use values::value;

@@ -1,17 +1,19 @@
 //! Truths of conditions.
 ghost use Rattle.std.specs.Prelude.{◌≡◌, map, IfOk};
+ghost use Rattle.hq_terms.specs.Logic.{and3};
 ghost use Rattle.hq_sql_tree.specs.Tree.{preds_of, compare, like, within};
 ghost use Rattle.hq_sql_tree.specs.View.{expr_view, select_view, pred_view, filter_view};
 ghost use Rattle.hq_sql_tree.specs.Meaning.{kept, truth_at, any_true, has_rows, rows_of};
 ghost use Rattle.hq_sql_closed.specs.Conjuncts.{all_kept, lent_views};
-ghost use Rattle.hq_sql_rows.specs.Exists.{all_true_of};
+ghost use Rattle.hq_sql_walk.specs.Costs.{all_at};
 ghost use Rattle.hq_sql_rows.specs.View.{world_of, names_of};
 
-use crate::clauses::{any_row, made_of, rows};
+use crate::clauses::{made_of, rows};
+use crate::costs::{Conjunct, Cost, conjunct_at};
+use crate::scans::any_row;
 use crate::values::{value, values};
 use hq_base::Memory;
 use hq_sql_cells::{among, compared, matched};
-use hq_sql_rows::exists::is_tried;
 use hq_sql_rows::known::known_of;
 use hq_sql_rows::pinned::Pinned;
 use hq_sql_rows::scope::{Group, Scope, alias_of, source_of};
@@ -37,7 +39,7 @@ pub fn kept<'d>(
     }
 }
 
-/// The truth of a condition. Of an AND, what holds no EXISTS is tried first.
+/// The truth of a condition. Of an AND what costs little is tried first.
 #[cycle(eval)]
 pub fn truth<'d>(
     alloc: Global,
@@ -59,12 +61,9 @@ pub fn truth<'d>(
         }
         Pred::Not(inner) => Ok(truth(alloc, inner, world, scope)?.negated()),
         Pred::And(preds) => {
-            let plain = all_true(alloc, preds, false, world, scope)?;
-            if plain == Truth::No {
-                return Ok(Truth::No);
-            }
-            let others = all_true(alloc, preds, true, world, scope)?;
-            Ok(plain.and(others))
+            let plain = all_true(alloc, preds, Cost::Plain, Truth::Yes, world, scope)?;
+            let nested = all_true(alloc, preds, Cost::Nested, plain, world, scope)?;
+            all_true(alloc, preds, Cost::Rows, nested, world, scope)
         }
         Pred::Or(preds) => any_true(alloc, preds, world, scope),
         Pred::Exists(select) => Ok(Truth::of(exists(alloc, select, world, scope)?)),
@@ -121,25 +120,28 @@ fn membership<'d>(
     Ok(among(&items, &item))
 }
 
-// AND of those of a list that hold an EXISTS, or of the others, which ends where one is false.
+// AND of this truth and of those of a list that have a cost, which ends where it is false.
 #[cycle(eval)]
 fn all_true<'d>(
     alloc: Global,
     preds: &'d PredList,
-    with_exists: bool,
+    cost: Cost,
+    before: Truth,
     world: &Pinned<'d>,
     scope: &Scope<'_, 'd>,
 ) -> Result<Truth, Memory>
-    ensures { IfOk result (λ t. t ≡ all_true_of with_exists (preds_of (map pred_view preds.now.items)) (world_of world.now) (names_of scope.now world.now)) }
+    ensures { IfOk result (λ t. t ≡ and3 before (all_at cost (preds_of (map pred_view preds.now.items)) (world_of world.now) (names_of scope.now world.now))) }
 {
-    let mut all = Truth::Yes;
+    let mut all = before;
     for pred in preds {
-        if is_tried(pred, with_exists) {
-            all = all.and(truth(alloc, pred, world, scope)?);
-            if all == Truth::No {
-                return Ok(Truth::No);
-            }
+        if all == Truth::No {
+            return Ok(Truth::No);
         }
+        all = match conjunct_at(pred, cost) {
+            Conjunct::Opened(inner) => all_true(alloc, inner, cost, all, world, scope)?,
+            Conjunct::Tried(pred) => all.and(truth(alloc, pred, world, scope)?),
+            Conjunct::Other => all,
+        };
     }
     Ok(all)
 }

@@ -1,5 +1,5 @@
 -- What is in scope at the places of a FROM with its joins.
-use Rattle.std.specs.Prelude.{◌≡◌, ◌++◌, ℕ, List, map, take, Option}
+use Rattle.std.specs.Prelude.{◌≡◌, ◌++◌, ℕ, List, map, take, Option, None}
 use Rattle.hq_sql_tree.specs.Tree.{joins_of}
 use Rattle.hq_sql_tree.specs.View.{join_view, filter_view}
 use Rattle.hq_sql_tree.specs.Meaning.{NamedRow, Scope as Names, World, with_alias, kept}
@@ -10,7 +10,11 @@ use Rattle.hq_sql_rows.specs.declared.pinned.Pinned.{Pinned}
 use Rattle.hq_sql_rows.specs.declared.positions.Positions.{Positions}
 use Rattle.hq_sql_rows.specs.declared.scope.Scope.{Scope}
 use Rattle.hq_sql_rows.specs.declared.place.Place.{Place}
-use Rattle.hq_sql_walk.specs.declared.clauses.Piece.{Piece}
+use Rattle.hq_sql_rows.specs.declared.stages.Parts.{Parts}
+use Rattle.hq_sql_walk.specs.Selected.{Pages}
+use Rattle.hq_sql_walk.specs.declared.scans.Piece.{Piece}
+use Rattle.hq_sql_write.specs.declared.places.Found.{Found}
+use Rattle.hq_sql_write.specs.declared.places.Found.TheVariants.{Arranged, Places}
 use Rattle.hq_sql_write.specs.declared.places.Placed.{Placed}
 
 -- at a place
@@ -43,3 +47,13 @@ abbrev pub Continues : (from : ℕ) → Placed → Positions → Option Pred →
 Continues from placed positions condition world scope piece =
     found_before from placed positions condition world scope ++ map (names_there placed world scope) piece.places.items
     ≡ found_before piece.next placed positions condition world scope
+
+-- what is in scope where rows were found
+abbrev pub found_at : Found → Placed → Option Pred → Pinned → Scope → List Names
+found_at (Arranged positions) placed condition world scope = found_in placed positions condition world scope
+found_at (Places places) placed condition world scope = map (names_there placed world scope) places.items
+
+-- these places are what WHERE keeps at these positions, by ORDER BY and DISTINCT ON
+abbrev pub AreSorted : Positions → Placed → Parts → Pinned → Scope → List Place → Type 0
+AreSorted positions placed parts world scope places =
+    Pages (rows_at placed.source positions) placed.source placed.alias.now placed.joins.now parts None None world scope places

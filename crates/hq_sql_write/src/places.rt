@@ -1,11 +1,11 @@
 //! Where the rows of a select stand.
-ghost use Rattle.std.specs.Prelude.{◌≡◌, ◌<◌, ◌≤◌, ◌||◌, length, map, IfOk, IfSome};
+ghost use Rattle.std.specs.Prelude.{◌≡◌, ◌<◌, ◌≤◌, ◌||◌, length, map, IfOk};
 ghost use Rattle.hq_sql_tree.specs.Meaning.{Scope as Names, scopes_of};
 ghost use Rattle.hq_sql_tree.specs.View.{from_view};
 ghost use Rattle.hq_sql_rows.specs.Positions.{positions_of};
 ghost use Rattle.hq_sql_rows.specs.Sources.{made_rows, has_items};
 ghost use Rattle.hq_sql_rows.specs.View.{made_view, names_of, world_of};
-ghost use Rattle.hq_sql_write.specs.Placed.{Continues, names_there, from_in, found_in};
+ghost use Rattle.hq_sql_write.specs.Placed.{AreSorted, Continues, names_there, from_in, found_at};
 ghost use Rattle.hq_sql_write.specs.Selected.{page_at};
 
 use crate::listed::Rows;
@@ -18,7 +18,7 @@ use hq_sql_rows::row::Made;
 use hq_sql_rows::scope::{Scope, Source, alias_of, source_of};
 use hq_sql_rows::stages::Stage;
 use hq_sql_tree::{From, Join, Pred};
-use hq_sql_walk::{Piece, page, rows, scan_from};
+use hq_sql_walk::{Piece, page, page_sorted, rows, scan_from};
 use std::alloc::Global;
 
 /// The rows of a FROM under its alias, with the joins beside them and when each is evaluated.
@@ -97,19 +97,29 @@ pub fn places_of<'s, 'd>(
     )
 }
 
-/// The positions at which the rows of a select stand as they are asked for, where there are such and it has no OFFSET and LIMIT.
-pub fn arranged_at<'s, 'd>(
+/// Where rows were found.
+#[derive(Drop)]
+pub enum Found<'d> {
+    /// At what WHERE keeps of these positions, as they stand.
+    Arranged(Positions<'d>),
+    /// At these places.
+    Places(Vec<Place<'d>>),
+}
+
+/// Where the rows of a select are. Those that stand in order, and have no OFFSET and LIMIT, are left where they stand.
+pub fn found_rows<'s, 'd>(
     alloc: Global,
     rows: &Rows<'d>,
     placed: &Placed<'s, 'd>,
     world: &Pinned<'d>,
     scope: &'s Scope<'s, 'd>,
-) -> Result<Option<Positions<'d>>, Memory>
+) -> Result<Found<'d>, Memory>
     requires { placed.now.joins ≡ rows.now.joins }
-    ensures { IfOk result (λ found. IfSome found (λ p. found_in placed.now p rows.now.parts.filter.now world.now scope.now ≡ page_at rows.now placed.now world.now scope.now)) }
+    ensures { IfOk result (λ found. found_at found placed.now rows.now.parts.filter.now world.now scope.now ≡ page_at rows.now placed.now world.now scope.now) }
 {
     if rows.limit.is_some() || rows.offset.is_some() {
-        return Ok(None);
+        let places = places_of(alloc, rows, placed, world, scope)?;
+        return Ok(Found::Places(places));
     }
     let looked = ordered_at(
         alloc,
@@ -121,9 +131,38 @@ pub fn arranged_at<'s, 'd>(
         scope,
     )?;
     match looked {
-        Looked::Arranged(positions) => Ok(Some(positions)),
-        Looked::Unsorted(_) => Ok(None),
+        Looked::Arranged(positions) => Ok(Found::Arranged(positions)),
+        Looked::Unsorted(positions) => {
+            let places = sorted_at(alloc, rows, placed, positions, world, scope)?;
+            Ok(Found::Places(places))
+        }
     }
+}
+
+// The places of a select's rows, which are found at these positions and have no OFFSET and LIMIT.
+fn sorted_at<'s, 'd>(
+    alloc: Global,
+    rows: &Rows<'d>,
+    placed: &Placed<'s, 'd>,
+    positions: Positions<'d>,
+    world: &Pinned<'d>,
+    scope: &'s Scope<'s, 'd>,
+) -> Result<Vec<Place<'d>>, Memory>
+    ensures { IfOk result (λ places. AreSorted positions.entry placed.now rows.now.parts world.now scope.now places.items) }
+{
+    page_sorted(
+        alloc,
+        placed.source,
+        placed.alias,
+        placed.joins,
+        placed.stages,
+        rows.parts,
+        positions,
+        None,
+        None,
+        world,
+        scope,
+    )
 }
 
 // How many rows are found before they are written.

@@ -12,7 +12,7 @@ use crate::grouped::write_fold;
 use crate::listed::{Listed, Rows, list_of, output_named};
 use crate::parts::{put_cell, put_separator};
 use crate::places::{
-    Placed, Wanted, arranged_at, has_begun, made_of, placed_rows, places_of, stretch,
+    Found, Placed, Wanted, found_rows, has_begun, made_of, placed_rows, places_of, stretch,
 };
 use hq_answer::put_quoted;
 use hq_base::{Bytes, Memory, Txt};
@@ -247,12 +247,13 @@ fn write_all<'d>(
     requires { placed.now.joins ≡ rows.now.joins }
     ensures { OnOk result (out.new ≡ out.old ++ texts_of (expr_view expr.now) (page_at rows.now placed.now world.now scope.now)) }
 {
-    if let Some(positions) = arranged_at(alloc, rows, &*placed, world, &*scope)? {
-        let filter = rows.parts.filter;
-        return write_found(alloc, expr, filter, placed, positions, world, scope, out);
+    match found_rows(alloc, rows, &*placed, world, &*scope)? {
+        Found::Arranged(positions) => {
+            let filter = rows.parts.filter;
+            write_found(alloc, expr, filter, placed, positions, world, scope, out)
+        }
+        Found::Places(places) => write_each(alloc, expr, placed, &places, false, world, scope, out),
     }
-    let places = places_of(alloc, rows, &*placed, world, &*scope)?;
-    write_each(alloc, expr, placed, &places, false, world, scope, out)
 }
 
 // An expression at what WHERE keeps at these positions, stretch by stretch.

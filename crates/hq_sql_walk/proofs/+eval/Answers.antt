@@ -16,7 +16,6 @@ use Rattle.hq_sql_tree.specs.declared.expr.Expr.{the_lemmas as expr_lemmas}
 use Rattle.hq_sql_tree.specs.declared.select.Select.{the_lemmas as select_lemmas}
 use Rattle.hq_sql_tree.specs.declared.select.Pred.{the_lemmas as pred_lemmas}
 use Rattle.hq_terms.specs.Logic.{and3}
-use Rattle.hq_terms.specs.declared.truth.Truth.TheVariants.{No}
 use Rattle.hq_sql_tree.specs.Tree.{pairs_of, orders_of, joins_of, preds_of, rows}
 use Rattle.hq_sql_tree.specs.View.{agg_view, expr_view, pair_view, order_view, out_view, pred_view, select_view, from_view, join_view, filter_view}
 use Rattle.hq_sql_tree.specs.Meaning.{with_alias, truth_at, all_true, value, members, taken, orders_cmp, order_cmp, distinct_on, limited, offset_by, outputs, has_rows, kept, rows_of, joined}
@@ -32,9 +31,14 @@ use Rattle.hq_sql_rows.proofs.Looked.{at_place}
 use Rattle.hq_sql_closed.specs.Conjuncts.{all_kept, lent_views, lent_weight}
 use Rattle.hq_sql_closed.specs.Weight.{total, expr_weight, pair_weight, order_weight, out_weight, pred_weight, filter_weight}
 use Rattle.hq_sql_closed.proofs.Weights.{item_weight, pair_item, order_item, out_item, expr_item, pred_item}
+use Rattle.hq_sql_walk.specs.Costs.{all_at, part_at}
+use Rattle.hq_sql_walk.specs.declared.costs.Cost.TheVariants.{Nested, Rows}
+use Rattle.hq_sql_walk.proofs.Conjunctions.{and3_yes, all_is, all_more}
 use Rattle.hq_sql_walk.proofs.Ordered.{elements_are, arranged_is}
-use Rattle.hq_sql_walk.proofs.Evaluated.{members_mapped, tried_first, tried_no, outputs_all, later_is, keys_is, spread_step, any_found, any_passed, scan_step, no_images, some_images, rows_are, exists_is, paged_map, scan_all, page_front, top_step, top_page}
+use Rattle.hq_sql_walk.proofs.Evaluated.{members_mapped, outputs_all, later_is, keys_is, spread_step, any_found, any_passed, scan_step, no_images, some_images, rows_are, exists_is, paged_map, scan_all, page_front, top_step, top_page}
 use Rattle.hq_sql_walk.proofs.Told.{none_in, tells_at, known_out, known_in, known_at}
+use Rattle.hq_terms.specs.declared.truth.Truth.TheVariants.{Yes}
+use Rattle.hq_sql_walk.proofs.+eval.Goals.{truths::all_true-in-Opened+in_ok-all-in-Opened, truths::all_true-in-Tried+in_ok-truth-in-Tried, truths::all_true-in-Other}
 use Rattle.hq_sql_walk.proofs.+eval.Goals as goal
 
 -- ---- an item weighs at most its list
@@ -54,9 +58,16 @@ values::values-value-requires t c =
     let e : expr_weight c.expr-item.result ≤ total (map expr_weight c.args.exprs.now.items) = search (rules, expr_item) in
     omega arith
 
+pub truths::all_true-all_true-requires : goal.truths::all_true-all_true-requires
+truths::all_true-all_true-requires t c =
+    let e : pred_weight c.pred-item.result ≤ total (map pred_weight c.args.preds.now.items) = search (rules, pred_item) in
+    let part : 2 + total (map pred_weight c.in-Opened.inner.now.items) ≤ pred_weight c.pred-item.result = rw c.in-Opened.is at c.conjunct_at.ensures.weight in
+    omega arith
+
 pub truths::all_true-truth-requires : goal.truths::all_true-truth-requires
 truths::all_true-truth-requires t c =
     let e : pred_weight c.pred-item.result ≤ total (map pred_weight c.args.preds.now.items) = search (rules, pred_item) in
+    let part : pred_weight c.in-Tried.pred.now ≤ pred_weight c.pred-item.result = rw c.in-Tried.is at c.conjunct_at.ensures.weight in
     omega arith
 
 pub truths::any_true-truth-requires : goal.truths::any_true-truth-requires
@@ -142,22 +153,35 @@ aggregates::taken-returns-in_ok-each_value-in-Max t c =
 
 -- ---- AND of a list
 
-pub truths::truth-returns-then-eq : goal.truths::truth-returns-then-eq
-truths::truth-returns-then-eq t c =
+pub truths::all_true-loop-pred-preserved : goal.truths::all_true-loop-pred-preserved
+truths::all_true-loop-pred-preserved t c =
     let w = world_of c.args.world.now in
     let n = names_of c.args.scope.now c.args.world.now in
-    let ps = preds_of (map pred_view c.in-And.preds.items) in
-    let is : c.in_ok-plain-in-And.plain ≡ No = search rules in
-    let whole : truth_at (pred_view c.args.pred.now) w n ≡ all_true ps w n = search (rules, pred_lemmas) in
-    sym (whole ∙ tried_no ps w n (sym c.in_ok-plain-in-And.ensures ∙ is))
+    let all = c.loop-pred.all in
+    let cost = c.args.cost in
+    let p = c.pred-item.result in
+    let now : c.match-conjunct_at.all ≡ and3 all (part_at cost (pred_view p) w n) =
+    elim c.match-conjunct_at.branch [
+      | truths::all_true-in-Opened+in_ok-all-in-Opened v ↦
+          let part : all_at cost (preds_of (map pred_view v.in-Opened.inner.now.items)) w n ≡ part_at cost (pred_view p) w n = rw v.in-Opened.is at (c.conjunct_at.ensures.truth w n) in
+          v.all-is ∙ v.in_ok-all-in-Opened.ensures ∙ ap (and3 all) part
+      | truths::all_true-in-Tried+in_ok-truth-in-Tried v ↦
+          let part : truth_at (pred_view v.in-Tried.pred.now) w n ≡ part_at cost (pred_view p) w n = rw v.in-Tried.is at (c.conjunct_at.ensures.truth w n) in
+          v.all-is ∙ v.and-all.ensures ∙ ap (and3 all) (v.in_ok-truth-in-Tried.ensures ∙ part)
+      | truths::all_true-in-Other v ↦
+          let part : Yes ≡ part_at cost (pred_view p) w n = rw v.in-Other.is at (c.conjunct_at.ensures.truth w n) in
+          v.all-is ∙ sym (and3_yes all) ∙ ap (and3 all) part
+    ] in
+    all_more w n cost c.deref-pred-items.result.now c.loop-pred.pred-index p all c.match-conjunct_at.all _ c.loop-pred-test.true c.pred-item.is c.loop-pred.invariant now
 
-pub truths::truth-returns-in_ok-others-in-And : goal.truths::truth-returns-in_ok-others-in-And
-truths::truth-returns-in_ok-others-in-And t c =
+pub truths::truth-returns-in_ok-nested-in-And : goal.truths::truth-returns-in_ok-nested-in-And
+truths::truth-returns-in_ok-nested-in-And t c =
     let w = world_of c.args.world.now in
     let n = names_of c.args.scope.now c.args.world.now in
     let ps = preds_of (map pred_view c.in-And.preds.items) in
     let whole : truth_at (pred_view c.args.pred.now) w n ≡ all_true ps w n = search (rules, pred_lemmas) in
-    c.and.ensures ∙ ap₂ and3 c.in_ok-plain-in-And.ensures c.in_ok-others-in-And.ensures ∙ tried_first ps w n ∙ sym whole
+    let before = c.in_ok-nested-in-And.ensures ∙ ap (λ x. and3 x (all_at Nested ps w n)) c.in_ok-plain-in-And.ensures in
+    IfOk-weaker c.all_true-in-And-2.result _ _ (λ truth h. h ∙ ap (λ x. and3 x (all_at Rows ps w n)) before ∙ all_is w n ps ∙ sym whole) c.all_true-in-And-2.ensures
 
 -- ---- joins
 
@@ -248,8 +272,8 @@ joins::outputs_put_off-returns-then-eq t c =
 
 -- ---- rows of FROM
 
-pub clauses::any_row-returns-then-keeps : goal.clauses::any_row-returns-then-keeps
-clauses::any_row-returns-then-keeps t c =
+pub scans::any_row-returns-then-keeps : goal.scans::any_row-returns-then-keeps
+scans::any_row-returns-then-keeps t c =
     let js = joins_of (map join_view c.args.joins.now) in
     let w = world_of c.args.world.now in
     let n = names_of c.args.scope.now c.args.world.now in
@@ -265,8 +289,8 @@ clauses::any_row-returns-then-keeps t c =
     let is : row ≡ get_or rs i [] = c.row_at.ensures ∙ ap (row_in c.args.source) c.position_at-position.ensures ∙ sym (at_place c.args.source ps i within) in
     any_found js w n c.args.alias.now keeps rs i row here lt is refl (sym c.in_ok-keeps.ensures ∙ c.if-keeps.true) c.loop-turn.invariant ∙ ap has_items (c.in_ok-looked.ensures w)
 
-pub clauses::any_row-loop-turn-preserved : goal.clauses::any_row-loop-turn-preserved
-clauses::any_row-loop-turn-preserved t c =
+pub scans::any_row-loop-turn-preserved : goal.scans::any_row-loop-turn-preserved
+scans::any_row-loop-turn-preserved t c =
     let js = joins_of (map join_view c.args.joins.now) in
     let w = world_of c.args.world.now in
     let n = names_of c.args.scope.now c.args.world.now in
@@ -282,8 +306,8 @@ clauses::any_row-loop-turn-preserved t c =
     let is : row ≡ get_or rs i [] = c.row_at.ensures ∙ ap (row_in c.args.source) c.position_at-position.ensures ∙ sym (at_place c.args.source ps i within) in
     any_passed js w n c.args.alias.now keeps rs i row here lt is refl (none_in here (sym c.in_ok-keeps.ensures ∙ c.if-keeps.false)) c.loop-turn.invariant
 
-pub clauses::any_row-returns : goal.clauses::any_row-returns
-clauses::any_row-returns t c =
+pub scans::any_row-returns : goal.scans::any_row-returns
+scans::any_row-returns t c =
     let w = world_of c.args.world.now in
     let ps = positions_of c.in_ok-looked.looked in
     let rs = rows_at c.args.source c.in_ok-looked.looked in
@@ -292,8 +316,8 @@ clauses::any_row-returns t c =
     let none = subst (λ l. kept_of (joins_of (map join_view c.args.joins.now)) w (names_of c.args.scope.now c.args.world.now) c.args.alias.now (kept (filter_view c.args.filter.now) w) l ≡ []) (take_all c.loop-turn.turn rs all) c.loop-turn.invariant in
     ap has_items (sym none ∙ c.in_ok-looked.ensures w)
 
-pub clauses::scan_from-loop-turn-preserved : goal.clauses::scan_from-loop-turn-preserved
-clauses::scan_from-loop-turn-preserved t c =
+pub scans::scan_from-loop-turn-preserved : goal.scans::scan_from-loop-turn-preserved
+scans::scan_from-loop-turn-preserved t c =
     let js = joins_of (map join_view c.args.joins.now) in
     let w = world_of c.args.world.now in
     let n = names_of c.args.scope.now c.args.world.now in
@@ -313,8 +337,8 @@ clauses::scan_from-loop-turn-preserved t c =
           ∙ scan_step js w n a keeps before c.args.source rs i c.position_at-position.result (row_view c.row_at.result) c.loop-turn.places.items c.in_ok-lists.lists.items lt at c.row_at.ensures c.in_ok-lists.ensures c.loop-turn.invariant.places;
     }
 
-pub clauses::scan_from-returns-then-has_enough-clause-places : goal.clauses::scan_from-returns-then-has_enough-clause-places
-clauses::scan_from-returns-then-has_enough-clause-places t c =
+pub scans::scan_from-returns-then-has_enough-clause-places : goal.scans::scan_from-returns-then-has_enough-clause-places
+scans::scan_from-returns-then-has_enough-clause-places t c =
     let js = joins_of (map join_view c.args.joins.now) in
     let w = world_of c.args.world.now in
     let n = names_of c.args.scope.now c.args.world.now in
@@ -331,8 +355,8 @@ clauses::scan_from-returns-then-has_enough-clause-places t c =
     ap (λ l. before ++ map (names_at c.args.source a js w n) l) c.in_ok-add_places.ensures
     ∙ scan_step js w n a keeps before c.args.source rs i c.position_at-position.result (row_view c.row_at.result) c.loop-turn.places.items c.in_ok-lists.lists.items lt at c.row_at.ensures c.in_ok-lists.ensures c.loop-turn.invariant.places
 
-pub clauses::scan_from-returns-clause-places : goal.clauses::scan_from-returns-clause-places
-clauses::scan_from-returns-clause-places t c =
+pub scans::scan_from-returns-clause-places : goal.scans::scan_from-returns-clause-places
+scans::scan_from-returns-clause-places t c =
     let js = joins_of (map join_view c.args.joins.now) in
     let w = world_of c.args.world.now in
     let n = names_of c.args.scope.now c.args.world.now in
@@ -349,45 +373,45 @@ clauses::scan_from-returns-clause-places t c =
 
 -- ---- whole selects
 
-pub clauses::in_order-returns-then-is_empty-2 : goal.clauses::in_order-returns-then-is_empty-2
-clauses::in_order-returns-then-is_empty-2 t c =
+pub pages::in_order-returns-then-is_empty-2 : goal.pages::in_order-returns-then-is_empty-2
+pages::in_order-returns-then-is_empty-2 t c =
     let first : c.args.order.now.len ≡ length c.args.order.now.items = omega (arith, c.args.order.now.ok.0) in
     let second : c.args.distinct.now.len ≡ length c.args.distinct.now.items = omega (arith, c.args.distinct.now.ok.0) in
     none_arranged c.args.order.now.items c.args.distinct.now.items _ (subst (λ k. (k == 0) ≡ true) first (sym c.is_empty.ensures ∙ c.if-is_empty.true)) (subst (λ k. (k == 0) ≡ true) second (sym c.is_empty-then-is_empty.ensures ∙ c.if-is_empty-2.true))
 
-pub clauses::in_order-returns : goal.clauses::in_order-returns
-clauses::in_order-returns t c =
+pub pages::in_order-returns : goal.pages::in_order-returns
+pages::in_order-returns t c =
     let P = names_at c.args.source c.args.alias.now (joins_of (map join_view c.args.joins.now)) (world_of c.args.world.now) (names_of c.args.scope.now c.args.world.now) in
     let K = map order_view c.args.order.now.items in
     let D = map expr_view c.args.distinct.now.items in
     IfOk-weaker c.arranged.result _ _ (λ sorted h. ap (map P) h ∙ arranged_is P K D c.in_ok-kept.kept.items c.args.places.items c.in_ok-kept.ensures) c.arranged.ensures
 
-pub clauses::page-returns-in-Arranged : goal.clauses::page-returns-in-Arranged
-clauses::page-returns-in-Arranged t c =
+pub pages::page-returns-in-Arranged : goal.pages::page-returns-in-Arranged
+pages::page-returns-in-Arranged t c =
     let js = joins_of (map join_view c.args.joins.now) in
     let D = map expr_view c.args.parts.distinct.now.items in
     let K = map order_view c.args.parts.order.now.items in
     let finds : FindsArranged js c.args.scope.now c.args.alias.now (filter_view c.args.parts.filter.now) D K c.args.source (rows_at c.args.source c.in-Arranged.at) = rw c.in-Arranged.is at c.in_ok-looked.ensures in
     IfOk-weaker c.page_front.result _ _ (λ places h. h ∙ ap (λ l. limited c.args.limit (offset_by c.args.offset l)) (finds (world_of c.args.world.now))) c.page_front.ensures
 
-pub clauses::page-returns-in-Some : goal.clauses::page-returns-in-Some
-clauses::page-returns-in-Some t c =
+pub pages::page-returns-in-Some : goal.pages::page-returns-in-Some
+pages::page-returns-in-Some t c =
     let js = joins_of (map join_view c.args.joins.now) in
     let D = map expr_view c.args.parts.distinct.now.items in
     let K = map order_view c.args.parts.order.now.items in
     let finds : FindsAll js c.args.scope.now c.args.alias.now (filter_view c.args.parts.filter.now) c.args.source (rows_at c.args.source c.in-Unsorted.at) = rw c.in-Unsorted.is at c.in_ok-looked.ensures in
     IfOk-weaker c.page_top.result _ _ (λ places h. h ∙ ap (λ l. limited c.args.limit (offset_by c.args.offset (distinct_on D (sort (order_cmp K) l)))) (finds (world_of c.args.world.now))) c.page_top.ensures
 
-pub clauses::page-returns-in-None : goal.clauses::page-returns-in-None
-clauses::page-returns-in-None t c =
+pub pages::page-returns-in-None : goal.pages::page-returns-in-None
+pages::page-returns-in-None t c =
     let js = joins_of (map join_view c.args.joins.now) in
     let D = map expr_view c.args.parts.distinct.now.items in
     let K = map order_view c.args.parts.order.now.items in
     let finds : FindsAll js c.args.scope.now c.args.alias.now (filter_view c.args.parts.filter.now) c.args.source (rows_at c.args.source c.in-Unsorted.at) = rw c.in-Unsorted.is at c.in_ok-looked.ensures in
     IfOk-weaker c.page_sorted.result _ _ (λ places h. h ∙ ap (λ l. limited c.args.limit (offset_by c.args.offset (distinct_on D (sort (order_cmp K) l)))) (finds (world_of c.args.world.now))) c.page_sorted.ensures
 
-pub clauses::page_front-returns : goal.clauses::page_front-returns
-clauses::page_front-returns t c =
+pub pages::page_front-returns : goal.pages::page_front-returns
+pages::page_front-returns t c =
     let js = joins_of (map join_view c.args.joins.now) in
     let w = world_of c.args.world.now in
     let n = names_of c.args.scope.now c.args.world.now in
@@ -401,8 +425,8 @@ clauses::page_front-returns t c =
     ap (map P) c.paged-page.ensures ∙ paged_map P c.args.limit c.args.offset found
     ∙ page_front js w n a keeps c.args.limit c.args.offset c.enough-bound.result rs c.in_ok-found.found.next (length ps) (map P found) (length found) c.enough-bound.ensures c.in_ok-found.ensures.places (sym (length-map found P)) c.in_ok-found.ensures.whole long
 
-pub clauses::page_top-loop-next-preserved : goal.clauses::page_top-loop-next-preserved
-clauses::page_top-loop-next-preserved t c =
+pub pages::page_top-loop-next-preserved : goal.pages::page_top-loop-next-preserved
+pages::page_top-loop-next-preserved t c =
     let js = joins_of (map join_view c.args.joins.now) in
     let w = world_of c.args.world.now in
     let n = names_of c.args.scope.now c.args.world.now in
@@ -423,8 +447,8 @@ clauses::page_top-loop-next-preserved t c =
           ∙ top_step js w n a keeps K c.args.bound c.loop-next.next c.in_ok-found.found.next rs (map P old) (map P found) (map P c.in_ok-sorted.sorted.items) c.loop-next.invariant.top c.in_ok-found.ensures.places sorted;
     }
 
-pub clauses::page_top-returns : goal.clauses::page_top-returns
-clauses::page_top-returns t c =
+pub pages::page_top-returns : goal.pages::page_top-returns
+pages::page_top-returns t c =
     let js = joins_of (map join_view c.args.joins.now) in
     let w = world_of c.args.world.now in
     let n = names_of c.args.scope.now c.args.world.now in
@@ -441,8 +465,8 @@ clauses::page_top-returns t c =
     ∙ top_page js w n a keeps K c.args.limit c.args.offset c.args.bound c.loop-next.next (length ps) rs (map P c.loop-next.top.items) c.requires.suffices c.loop-next.invariant.top past long
     ∙ ap (λ xs. limited c.args.limit (offset_by c.args.offset (distinct_on (map expr_view xs) (sort (order_cmp K) (kept_of js w n a keeps rs))))) (sym c.requires.alone)
 
-pub clauses::page_sorted-returns : goal.clauses::page_sorted-returns
-clauses::page_sorted-returns t c =
+pub pages::page_sorted-returns : goal.pages::page_sorted-returns
+pages::page_sorted-returns t c =
     let js = joins_of (map join_view c.args.joins.now) in
     let w = world_of c.args.world.now in
     let n = names_of c.args.scope.now c.args.world.now in

@@ -10,7 +10,7 @@ use Rattle.hq_sql_tree.specs.Meaning.{value, with_alias, joined, kept, any_true,
 use Rattle.hq_sql_rows.specs.View.{made_view, named_view, joined_view, world_of, names_of, names_at, group_of, beside}
 use Rattle.hq_sql_rows.specs.Joined.{join_in}
 use Rattle.hq_sql_rows.specs.Keys.{expr_values, key_values, member_at, output_at, outputs_of, with_json, json_at, with_cells, taken_at}
-use Rattle.hq_sql_rows.specs.Exists.{all_true_of}
+use Rattle.hq_sql_walk.specs.Costs.{all_at}
 use Rattle.hq_sql_rows.specs.Positions.{positions_of, rows_at, kept_of}
 use Rattle.hq_sql_closed.specs.Conjuncts.{all_kept, lent_views, lent_weight}
 use Rattle.hq_sql_closed.specs.Weight.{total, agg_weight, expr_weight, pair_weight, order_weight, out_weight, from_weight, select_weight, join_weight, pred_weight, filter_weight}
@@ -38,7 +38,8 @@ invariant-aggregates::each_json-loop-row l = map with_json l.kept.items ≡ map 
 
 abbrev pub invariant-truths::all_true-loop-pred : goal.invariant-truths::all_true-loop-pred
 invariant-truths::all_true-loop-pred l =
-    and3 l.all (all_true_of l.with_exists (preds_of (map pred_view (drop l.pred-index l.pred-items))) (world_of l.world) (names_of l.scope l.world)) ≡ all_true_of l.with_exists (preds_of (map pred_view l.pred-items)) (world_of l.world) (names_of l.scope l.world)
+    and3 l.all (all_at l.cost (preds_of (map pred_view (drop l.pred-index l.pred-items))) (world_of l.world) (names_of l.scope l.world))
+    ≡ and3 l.fn.before (all_at l.cost (preds_of (map pred_view l.pred-items)) (world_of l.world) (names_of l.scope l.world))
 
 abbrev pub invariant-truths::any_true-loop-pred : goal.invariant-truths::any_true-loop-pred
 invariant-truths::any_true-loop-pred l = or3 l.any (any_true (preds_of (map pred_view (drop l.pred-index l.pred-items))) (world_of l.world) (names_of l.scope l.world)) ≡ any_true (preds_of (map pred_view l.pred-items)) (world_of l.world) (names_of l.scope l.world)
@@ -55,30 +56,30 @@ invariant-joins::spread-loop-row l =
 abbrev pub invariant-joins::outputs-loop-out : goal.invariant-joins::outputs-loop-out
 invariant-joins::outputs-loop-out l = map named_view l.cells.items ≡ map (output_at (names_of l.scope l.world)) (map out_view (take l.out-index l.out-items))
 
-abbrev pub invariant-clauses::scan_from-loop-turn : goal.invariant-clauses::scan_from-loop-turn
-invariant-clauses::scan_from-loop-turn l =
+abbrev pub invariant-scans::scan_from-loop-turn : goal.invariant-scans::scan_from-loop-turn
+invariant-scans::scan_from-loop-turn l =
     record {
       from : l.from ≤ l.turn;
       places : kept_from (take l.from (rows_at l.source l.positions)) l.alias l.joins l.filter l.world l.scope ++ map (scope_at l.source l.alias l.joins l.world l.scope) l.places.items
           ≡ kept_from (take l.turn (rows_at l.source l.positions)) l.alias l.joins l.filter l.world l.scope;
     }
 
-abbrev pub invariant-clauses::page_top-loop-next : goal.invariant-clauses::page_top-loop-next
-invariant-clauses::page_top-loop-next l =
+abbrev pub invariant-pages::page_top-loop-next : goal.invariant-pages::page_top-loop-next
+invariant-pages::page_top-loop-next l =
     record {
       within : l.next ≤ length (positions_of l.positions);
       top : map (scope_at l.source l.alias l.joins l.world l.scope) l.top.items ≡ take l.bound (sort (order_cmp (map order_view l.parts.order.now.items)) (kept_from (take l.next (rows_at l.source l.positions)) l.alias l.joins l.parts.filter.now l.world l.scope));
     }
 
-abbrev pub decreases-clauses::page_top-loop-next : goal.decreases-clauses::page_top-loop-next
-decreases-clauses::page_top-loop-next l = l.end - l.next
+abbrev pub decreases-pages::page_top-loop-next : goal.decreases-pages::page_top-loop-next
+decreases-pages::page_top-loop-next l = l.end - l.next
 
-abbrev pub invariant-clauses::any_row-loop-turn : goal.invariant-clauses::any_row-loop-turn
-invariant-clauses::any_row-loop-turn l =
+abbrev pub invariant-scans::any_row-loop-turn : goal.invariant-scans::any_row-loop-turn
+invariant-scans::any_row-loop-turn l =
     kept_of (joins_of (map join_view l.joins)) (world_of l.world) (names_of l.scope l.world) l.alias (kept (filter_view l.filter) (world_of l.world)) (take l.turn (rows_at l.source l.looked)) ≡ []
 
-abbrev pub invariant-clauses::keyed-loop-place : goal.invariant-clauses::keyed-loop-place
-invariant-clauses::keyed-loop-place l =
+abbrev pub invariant-pages::keyed-loop-place : goal.invariant-pages::keyed-loop-place
+invariant-pages::keyed-loop-place l =
     map with_cells l.kept.items
     ++ map (taken_at (names_at l.source l.alias (joins_of (map join_view l.joins)) (world_of l.world) (names_of l.scope l.world)) (map order_view l.order.items) (map expr_view l.distinct.items)) (into_iter_items l.place-iterator)
     ≡ map (taken_at (names_at l.source l.alias (joins_of (map join_view l.joins)) (world_of l.world) (names_of l.scope l.world)) (map order_view l.order.items) (map expr_view l.distinct.items)) l.fn.places.items
@@ -187,36 +188,36 @@ abbrev pub decreases-clauses::rows_over : goal.decreases-clauses::rows_over
 decreases-clauses::rows_over l =
     9 + (total (map out_weight l.parts.outs.now.items) + (total (map join_weight l.joins.now) + (filter_weight l.parts.filter.now + (total (map order_weight l.parts.order.now.items) + (total (map expr_weight l.parts.distinct.now.items) + scope_weight l.scope.now)))))
 
-abbrev pub decreases-clauses::page : goal.decreases-clauses::page
-decreases-clauses::page l =
+abbrev pub decreases-pages::page : goal.decreases-pages::page
+decreases-pages::page l =
     8 + (total (map join_weight l.joins.now) + (filter_weight l.parts.filter.now + (total (map order_weight l.parts.order.now.items) + (total (map expr_weight l.parts.distinct.now.items) + scope_weight l.scope.now))))
 
-abbrev pub decreases-clauses::page_front : goal.decreases-clauses::page_front
-decreases-clauses::page_front l = 6 + (total (map join_weight l.joins.now) + (filter_weight l.filter.now + scope_weight l.scope.now))
+abbrev pub decreases-pages::page_front : goal.decreases-pages::page_front
+decreases-pages::page_front l = 6 + (total (map join_weight l.joins.now) + (filter_weight l.filter.now + scope_weight l.scope.now))
 
-abbrev pub decreases-clauses::page_top : goal.decreases-clauses::page_top
-decreases-clauses::page_top l = 7 + (total (map join_weight l.joins.now) + (filter_weight l.parts.filter.now + (total (map order_weight l.parts.order.now.items) + (total (map expr_weight l.parts.distinct.now.items) + scope_weight l.scope.now))))
+abbrev pub decreases-pages::page_top : goal.decreases-pages::page_top
+decreases-pages::page_top l = 7 + (total (map join_weight l.joins.now) + (filter_weight l.parts.filter.now + (total (map order_weight l.parts.order.now.items) + (total (map expr_weight l.parts.distinct.now.items) + scope_weight l.scope.now))))
 
-abbrev pub decreases-clauses::page_sorted : goal.decreases-clauses::page_sorted
-decreases-clauses::page_sorted l = 7 + (total (map join_weight l.joins.now) + (filter_weight l.parts.filter.now + (total (map order_weight l.parts.order.now.items) + (total (map expr_weight l.parts.distinct.now.items) + scope_weight l.scope.now))))
+abbrev pub decreases-pages::page_sorted : goal.decreases-pages::page_sorted
+decreases-pages::page_sorted l = 7 + (total (map join_weight l.joins.now) + (filter_weight l.parts.filter.now + (total (map order_weight l.parts.order.now.items) + (total (map expr_weight l.parts.distinct.now.items) + scope_weight l.scope.now))))
 
-abbrev pub decreases-clauses::scan_from : goal.decreases-clauses::scan_from
-decreases-clauses::scan_from l = 5 + (total (map join_weight l.joins.now) + (filter_weight l.filter.now + scope_weight l.scope.now))
+abbrev pub decreases-scans::scan_from : goal.decreases-scans::scan_from
+decreases-scans::scan_from l = 5 + (total (map join_weight l.joins.now) + (filter_weight l.filter.now + scope_weight l.scope.now))
 
-abbrev pub decreases-clauses::keeps_some : goal.decreases-clauses::keeps_some
-decreases-clauses::keeps_some l = 4 + (total (map join_weight l.joins.now) + (filter_weight l.filter.now + scope_weight l.scope.now))
+abbrev pub decreases-scans::keeps_some : goal.decreases-scans::keeps_some
+decreases-scans::keeps_some l = 4 + (total (map join_weight l.joins.now) + (filter_weight l.filter.now + scope_weight l.scope.now))
 
-abbrev pub decreases-clauses::any_row : goal.decreases-clauses::any_row
-decreases-clauses::any_row l = 6 + (total (map join_weight l.joins.now) + (filter_weight l.filter.now + scope_weight l.scope.now))
+abbrev pub decreases-scans::any_row : goal.decreases-scans::any_row
+decreases-scans::any_row l = 6 + (total (map join_weight l.joins.now) + (filter_weight l.filter.now + scope_weight l.scope.now))
 
-abbrev pub decreases-clauses::in_order : goal.decreases-clauses::in_order
-decreases-clauses::in_order l = 6 + (total (map order_weight l.order.now.items) + (total (map expr_weight l.distinct.now.items) + (total (map join_weight l.joins.now) + scope_weight l.scope.now)))
+abbrev pub decreases-pages::in_order : goal.decreases-pages::in_order
+decreases-pages::in_order l = 6 + (total (map order_weight l.order.now.items) + (total (map expr_weight l.distinct.now.items) + (total (map join_weight l.joins.now) + scope_weight l.scope.now)))
 
-abbrev pub decreases-clauses::keyed : goal.decreases-clauses::keyed
-decreases-clauses::keyed l = 5 + (total (map order_weight l.order.now.items) + (total (map expr_weight l.distinct.now.items) + (total (map join_weight l.joins.now) + scope_weight l.scope.now)))
+abbrev pub decreases-pages::keyed : goal.decreases-pages::keyed
+decreases-pages::keyed l = 5 + (total (map order_weight l.order.now.items) + (total (map expr_weight l.distinct.now.items) + (total (map join_weight l.joins.now) + scope_weight l.scope.now)))
 
-abbrev pub decreases-clauses::with_keys : goal.decreases-clauses::with_keys
-decreases-clauses::with_keys l = 3 + (total (map order_weight l.order.now.items) + (total (map expr_weight l.distinct.now.items) + (total (map join_weight l.joins.now) + scope_weight l.scope.now)))
+abbrev pub decreases-pages::with_keys : goal.decreases-pages::with_keys
+decreases-pages::with_keys l = 3 + (total (map order_weight l.order.now.items) + (total (map expr_weight l.distinct.now.items) + (total (map join_weight l.joins.now) + scope_weight l.scope.now)))
 
 abbrev pub decreases-clauses::all_outputs : goal.decreases-clauses::all_outputs
 decreases-clauses::all_outputs l = 5 + (total (map out_weight l.outs.now.items) + (total (map join_weight l.joins.now) + scope_weight l.scope.now))
