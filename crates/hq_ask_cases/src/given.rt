@@ -10,7 +10,7 @@ use hq_meta_read::read_meta;
 use hq_role_schema::derive;
 use hq_schema::Schema;
 use hq_terms::{Catalog, Meta, Role, Session};
-use std::alloc::Global;
+use std::alloc::{AllocError, Global};
 
 /// The metadata over a catalog that the value of the member `metadata` writes.
 pub fn given_meta(alloc: Global, case: &Case, catalog: &Catalog) -> Result<Meta, Stop> {
@@ -75,7 +75,7 @@ pub fn given_variables(alloc: Global, case: &Case) -> Result<Option<Json>, Stop>
 }
 
 /// Adds a fault: its rule, its place, and for a session variable its name and what it should be.
-pub fn push_fault(fault: &Fault, out: &mut String) -> Result<(), Stop> {
+pub fn push_fault(fault: &Fault, out: &mut String) -> Result<(), AllocError> {
     out.push_str(fault.rule.text())?;
     if let Some(at) = fault.at {
         write!(out, " at {at}")?;
@@ -84,15 +84,15 @@ pub fn push_fault(fault: &Fault, out: &mut String) -> Result<(), Stop> {
         write!(out, " {}", name.as_str())?;
     }
     match fault.want {
-        Some(want) => Ok(write!(out, " {want:?}")?),
+        Some(want) => write!(out, " {want:?}"),
         None => Ok(()),
     }
 }
 
 /// Adds a refusal.
-pub fn push_refusal(refusal: &CoerceRefusal, out: &mut String) -> Result<(), Stop> {
+pub fn push_refusal(refusal: &CoerceRefusal, out: &mut String) -> Result<(), AllocError> {
     match refusal {
         CoerceRefusal::Fault(fault) => push_fault(fault, out),
-        CoerceRefusal::Memory => Ok(out.push_str("Memory")?),
+        CoerceRefusal::Memory => out.push_str("Memory"),
     }
 }

@@ -11,7 +11,7 @@ use hq_coerce::{CoerceRefusal, OpRef, VarValues, coerce_variables};
 use hq_gql_tree::Document;
 use hq_schema::Schema;
 use hq_terms::{Catalog, Meta, Session};
-use std::alloc::Global;
+use std::alloc::{AllocError, Global};
 
 // The values of the variables, or the fault.
 fn coerced(
@@ -42,6 +42,13 @@ fn asked(
     }
 }
 
+fn push_answer(asked: Result<Ask, CoerceRefusal>, out: &mut String) -> Result<(), AllocError> {
+    match asked {
+        Ok(ask) => push_ask(&ask, out),
+        Err(refusal) => push_refusal(&refusal, out),
+    }
+}
+
 // Adds the typed request over a database, or its first fault.
 fn push_asked(
     alloc: Global,
@@ -52,17 +59,13 @@ fn push_asked(
 ) -> Result<(), Stop> {
     let session = given_session(alloc, case)?;
     let document = given_document(alloc, case)?;
-    match asked(alloc, case, catalog, meta, &session, &document)? {
-        Ok(ask) => push_ask(&ask, out),
-        Err(refusal) => push_refusal(&refusal, out),
-    }
+    let asked = asked(alloc, case, catalog, meta, &session, &document)?;
+    Ok(push_answer(asked, out)?)
 }
 
 /// The typed request, or its first fault.
-pub fn request(alloc: Global, case: &Case) -> Result<String, Stop> {
+pub fn tell_request(alloc: Global, case: &Case, out: &mut String) -> Result<(), Stop> {
     let catalog = given_catalog(alloc, case)?;
     let meta = given_meta(alloc, case, &catalog)?;
-    let mut out = String::new(alloc);
-    push_asked(alloc, case, &catalog, &meta, &mut out)?;
-    Ok(out)
+    push_asked(alloc, case, &catalog, &meta, out)
 }

@@ -1,13 +1,13 @@
 use crate::{operations, requests, variables};
 use hq_case::{Case, Stop, Subject};
 
-/// What cases are about: a file of `data/`, and the public calls that its cases go through.
+/// What cases are about: a file of cases, and the public calls that these go through.
 #[derive(Clone, Copy)]
 pub enum About {
     Operations,
     Variables,
     Arguments,
-    Requests,
+    TypedRequests,
 }
 
 impl About {
@@ -16,7 +16,7 @@ impl About {
         About::Operations,
         About::Variables,
         About::Arguments,
-        About::Requests,
+        About::TypedRequests,
     ];
 }
 
@@ -26,16 +26,16 @@ impl Subject for About {
             About::Operations => "operations",
             About::Variables => "variables",
             About::Arguments => "arguments",
-            About::Requests => "requests",
+            About::TypedRequests => "typed_requests",
         }
     }
 
-    fn told(self, rt: &HostRuntime, case: &Case) -> Result<String, Stop> {
+    fn tell(self, rt: &HostRuntime, case: &Case, out: &mut String) -> Result<(), Stop> {
+        let alloc = rt.alloc();
         match self {
-            About::Operations => operations::operation(rt.alloc(), case),
-            About::Variables => variables::values(rt.alloc(), case),
-            About::Arguments => requests::request(rt.alloc(), case),
-            About::Requests => requests::request(rt.alloc(), case),
+            About::Operations => operations::tell_operation(alloc, case, out),
+            About::Variables => variables::tell_values(alloc, case, out),
+            About::Arguments | About::TypedRequests => requests::tell_request(alloc, case, out),
         }
     }
 }

@@ -38,15 +38,13 @@ fn push_coerced(
     let given = given_variables(alloc, case)?;
     match coerce_variables(alloc, document, op, schema, given.as_ref()) {
         Ok(values) => push_values(alloc, values.as_slice(), out),
-        Err(refusal) => push_refusal(&refusal, out),
+        Err(refusal) => Ok(push_refusal(&refusal, out)?),
     }
 }
 
 /// The variables that have values, or the fault.
-pub fn values(alloc: Global, case: &Case) -> Result<String, Stop> {
+pub fn tell_values(alloc: Global, case: &Case, out: &mut String) -> Result<(), Stop> {
     let schema = given_schema(alloc, case)?;
     let document = given_document(alloc, case)?;
-    let mut out = String::new(alloc);
-    push_coerced(alloc, case, &document, &schema, &mut out)?;
-    Ok(out)
+    push_coerced(alloc, case, &document, &schema, out)
 }

@@ -7,12 +7,19 @@ use hq_session::{Header, Headers, HeadersRefusal};
 use hq_terms::{Catalog, Session};
 use std::alloc::Global;
 
+fn stop_of(refusal: &CatalogRefusal) -> Stop {
+    match refusal {
+        CatalogRefusal::Memory => Stop::Memory,
+        _ => Stop::Shape,
+    }
+}
+
 /// The catalog that the value of the member `catalog` writes.
 pub fn given_catalog(alloc: Global, case: &Case) -> Result<Catalog, Stop> {
-    match read_catalog(alloc, case.json_text(alloc, "catalog")?.as_slice()) {
+    let text = case.json_text(alloc, "catalog")?;
+    match read_catalog(alloc, text.as_slice()) {
         Ok(catalog) => Ok(catalog),
-        Err(CatalogRefusal::Memory) => Err(Stop::Memory),
-        Err(_) => Err(Stop::Shape),
+        Err(refusal) => Err(stop_of(&refusal)),
     }
 }
 

@@ -2,16 +2,16 @@
 
 use crate::{Case, Stop};
 use hq_base::Json;
+use std::alloc::Global;
 use std::fs;
-use std::process::ExitCode;
 
 /// What the cases of a file are about.
 pub trait Subject: Copy {
     /// Its name, which is that of its file without `.json`.
     fn name(self) -> &'static str;
 
-    /// What comes of a case through the public calls of its layer, in words.
-    fn told(self, rt: &HostRuntime, case: &Case) -> Result<String, Stop>;
+    /// Adds what comes of a case through the public calls of its layer, in words.
+    fn tell(self, rt: &HostRuntime, case: &Case, out: &mut String) -> Result<(), Stop>;
 }
 
 // The file of a subject.
@@ -24,25 +24,43 @@ fn file_of<S: Subject>(rt: &HostRuntime, subject: S) -> Result<Json, Stop> {
     Ok(Json::from_body(rt.alloc(), bytes.as_slice())?)
 }
 
-// Runs a case, and returns whether it came out as it should. If not, its name, what was due and what came are told.
+// What comes of a case.
+fn told<S: Subject>(rt: &HostRuntime, subject: S, case: &Case) -> Result<String, Stop> {
+    let mut out = String::new(rt.alloc());
+    subject.tell(rt, case, &mut out)?;
+    Ok(out)
+}
+
+// Adds the name of a case that differs, what was due and what came.
+fn push_differing(
+    alloc: Global,
+    case: &Case,
+    due: &str,
+    came: &str,
+    out: &mut String,
+) -> Result<(), Stop> {
+    let name = case.text(alloc, "name")?;
+    let name = name.as_str();
+    Ok(writeln!(out, "  {name}\n    due:  {due}\n    came: {came}")?)
+}
+
+// Runs a case, and returns whether it came out as it should. If not, it is told.
 fn agrees<S: Subject>(
     rt: &HostRuntime,
     subject: S,
     case: &Case,
     out: &mut String,
 ) -> Result<bool, Stop> {
-    let told = subject.told(rt, case)?;
     let due = case.text(rt.alloc(), "due")?;
+    let told = told(rt, subject, case)?;
     if told.as_str() == due.as_str() {
         return Ok(true);
     }
-    let name = case.text(rt.alloc(), "name")?;
-    let (name, due, came) = (name.as_str(), due.as_str(), told.as_str());
-    writeln!(out, "  {name}\n    due:  {due}\n    came: {came}")?;
+    push_differing(rt.alloc(), case, due.as_str(), told.as_str(), out)?;
     Ok(false)
 }
 
-// How many of the cases differ.
+// How many of the cases differ. These are told.
 fn differing<S: Subject>(
     rt: &HostRuntime,
     subject: S,
@@ -59,22 +77,29 @@ fn differing<S: Subject>(
     Ok(differ)
 }
 
-// Runs the cases of a subject's file, adds its line and the lines of the cases that differ, and returns whether none does.
-fn passes<S: Subject>(rt: &HostRuntime, subject: S, out: &mut String) -> Result<bool, Stop> {
-    let file = file_of(rt, subject)?;
-    let Some(Json::Arr(cases)) = file.member("cases") else {
-        return Err(Stop::Shape);
-    };
+// Runs the cases of a file, adds its line and the lines of the cases that differ, and returns whether none does.
+fn runs<S: Subject>(
+    rt: &HostRuntime,
+    subject: S,
+    file: &Json,
+    cases: &[Json],
+    out: &mut String,
+) -> Result<bool, Stop> {
     let mut lines = String::new(rt.alloc());
-    let differ = differing(rt, subject, &file, cases, &mut lines)?;
-    writeln!(
-        out,
-        "{}: {} cases, {differ} differ",
-        subject.name(),
-        cases.len()
-    )?;
+    let differ = differing(rt, subject, file, cases, &mut lines)?;
+    let (name, count) = (subject.name(), cases.len());
+    writeln!(out, "{name}: {count} cases, {differ} differ")?;
     out.push_str(lines.as_str())?;
     Ok(differ == 0)
+}
+
+// Runs the cases of a subject's file, as above.
+fn passes<S: Subject>(rt: &HostRuntime, subject: S, out: &mut String) -> Result<bool, Stop> {
+    let file = file_of(rt, subject)?;
+    match file.member("cases") {
+        Some(Json::Arr(cases)) => runs(rt, subject, &file, cases, out),
+        _ => Err(Stop::Shape),
+    }
 }
 
 // Runs a subject's file and prints what came of it.
@@ -89,11 +114,11 @@ fn prints<S: Subject>(rt: &HostRuntime, subject: S) -> bool {
     }
 }
 
-/// Runs each subject's file in `data/`: a line a file, and the lines of the cases that differ. Status 1 where one differs.
-pub fn run_all<S: Subject>(rt: &HostRuntime, subjects: &[S]) -> ExitCode {
+/// Runs each subject's file in `data/`: a line a file, and the lines of the cases that differ. Returns whether none does.
+pub fn run_all<S: Subject>(rt: &HostRuntime, subjects: &[S]) -> bool {
     let mut well = true;
     for subject in subjects {
         well = prints(rt, *subject) && well;
     }
-    ExitCode::from(if well { 0 } else { 1 })
+    well
 }

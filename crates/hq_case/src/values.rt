@@ -1,8 +1,9 @@
-//! Values and JSON in words.
+//! Values, JSON and sessions in words.
 
 use crate::Stop;
 use hq_base::{Bytes, Json, Txt, Val};
-use std::alloc::Global;
+use hq_terms::Session;
+use std::alloc::{AllocError, Global};
 
 /// The value of a table that a JSON value writes.
 pub fn value(alloc: Global, json: &Json) -> Result<Val, Stop> {
@@ -19,12 +20,12 @@ pub fn value(alloc: Global, json: &Json) -> Result<Val, Stop> {
 }
 
 /// Adds a value: texts stand in quotes.
-pub fn push_value(value: &Val, out: &mut String) -> Result<(), Stop> {
+pub fn push_value(value: &Val, out: &mut String) -> Result<(), AllocError> {
     match value {
-        Val::Null => Ok(out.push_str("NULL")?),
-        Val::Int(n) => Ok(write!(out, "{n}")?),
-        Val::Text(text) => Ok(write!(out, "'{}'", text.as_str())?),
-        Val::Bool(b) => Ok(write!(out, "{b}")?),
+        Val::Null => out.push_str("NULL"),
+        Val::Int(n) => write!(out, "{n}"),
+        Val::Text(text) => write!(out, "'{}'", text.as_str()),
+        Val::Bool(b) => write!(out, "{b}"),
     }
 }
 
@@ -38,4 +39,13 @@ pub fn push_json(alloc: Global, json: &Json, out: &mut String) -> Result<(), Sto
     let mut bytes = Bytes::new(alloc);
     json.write_to(alloc, &mut bytes)?;
     push_bytes(alloc, bytes.as_slice(), out)
+}
+
+/// Adds the role and the variables of a session.
+pub fn push_session(session: &Session, out: &mut String) -> Result<(), AllocError> {
+    write!(out, "{}:", session.role.as_str())?;
+    for var in session.vars.as_slice() {
+        write!(out, " {}={}", var.name.as_str(), var.value.as_str())?;
+    }
+    Ok(())
 }

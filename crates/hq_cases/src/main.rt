@@ -1,17 +1,16 @@
-//! Runs the cases of `data/` about texts, values, headers, tokens and documents.
+//! Runs the cases of `data/`, a file a subject, in the order of a request's path. The status is 1 where a case differs.
 #![tactic(auto)]
-
-mod documents;
-mod headers;
-mod printer;
-mod subject;
-mod texts;
-mod words;
 
 use hq_case::run_all;
 use std::process::ExitCode;
-use subject::About;
 
 fn main(rt: HostRuntime) -> ExitCode {
-    run_all(&rt, &About::ALL)
+    let mut well = run_all(&rt, &hq_text_cases::About::ALL);
+    well &= run_all(&rt, &hq_data_cases::About::ALL);
+    well &= run_all(&rt, &hq_server_cases::About::ALL);
+    well &= run_all(&rt, &hq_rule_cases::About::ALL);
+    well &= run_all(&rt, &hq_ask_cases::About::ALL);
+    well &= run_all(&rt, &hq_sql_cases::About::ALL);
+    well &= run_all(&rt, &hq_request_cases::About::ALL);
+    ExitCode::from(if well { 0 } else { 1 })
 }

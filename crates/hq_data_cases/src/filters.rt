@@ -1,23 +1,18 @@
 //! Filters of permissions, read and bound.
 
 use crate::given::{given_meta, given_table};
-use crate::printer::push_bexp;
 use hq_base::{Json, top_path};
-use hq_case::{Case, Stop, given_catalog, given_session};
+use hq_case::{Case, Stop, given_catalog, given_session, push_bexp};
 use hq_filter_read::{FilterRefusal, read_filter};
 use hq_terms::{Bexp, BindRefusal, Catalog, Meta};
-use std::alloc::Global;
+use std::alloc::{AllocError, Global};
 
-fn push_refusal(refusal: &FilterRefusal, out: &mut String) -> Result<(), Stop> {
+fn push_refusal(refusal: &FilterRefusal, out: &mut String) -> Result<(), AllocError> {
     match refusal {
-        FilterRefusal::Shape { path } => Ok(write!(out, "Shape {}", path.as_str())?),
-        FilterRefusal::UnknownColumn { path } => Ok(write!(
-            out,
-            "UnknownColumn {}",
-            path.as_str()
-        )?),
-        FilterRefusal::BadOperand { path } => Ok(write!(out, "BadOperand {}", path.as_str())?),
-        FilterRefusal::Memory => Err(Stop::Memory),
+        FilterRefusal::Shape { path } => write!(out, "Shape {}", path.as_str()),
+        FilterRefusal::UnknownColumn { path } => write!(out, "UnknownColumn {}", path.as_str()),
+        FilterRefusal::BadOperand { path } => write!(out, "BadOperand {}", path.as_str()),
+        FilterRefusal::Memory => out.push_str("Memory"),
     }
 }
 
@@ -29,8 +24,8 @@ fn filter_of(
     meta: &Meta,
     json: &Json,
 ) -> Result<Result<Bexp, FilterRefusal>, Stop> {
-    let top = top_path(alloc)?;
     let table = given_table(case)?;
+    let top = top_path(alloc)?;
     Ok(read_filter(alloc, json, &top, catalog, meta, table))
 }
 
@@ -45,6 +40,13 @@ fn read(
     filter_of(alloc, case, catalog, meta, &json)
 }
 
+fn push_read(read: Result<Bexp, FilterRefusal>, out: &mut String) -> Result<(), AllocError> {
+    match read {
+        Ok(bexp) => push_bexp(&bexp, out),
+        Err(refusal) => push_refusal(&refusal, out),
+    }
+}
+
 fn push_filter(
     alloc: Global,
     case: &Case,
@@ -52,28 +54,28 @@ fn push_filter(
     meta: &Meta,
     out: &mut String,
 ) -> Result<(), Stop> {
-    match read(alloc, case, catalog, meta)? {
-        Ok(bexp) => push_bexp(&bexp, out),
-        Err(refusal) => push_refusal(&refusal, out),
-    }
+    Ok(push_read(read(alloc, case, catalog, meta)?, out)?)
 }
 
 /// The expression of a filter over a table, or its refusal.
-pub fn filter(alloc: Global, case: &Case) -> Result<String, Stop> {
+pub fn tell_filter(alloc: Global, case: &Case, out: &mut String) -> Result<(), Stop> {
     let catalog = given_catalog(alloc, case)?;
     let meta = given_meta(alloc, case, &catalog)?;
-    let mut out = String::new(alloc);
-    push_filter(alloc, case, &catalog, &meta, &mut out)?;
-    Ok(out)
+    push_filter(alloc, case, &catalog, &meta, out)
 }
 
-fn push_fault(refusal: &BindRefusal, out: &mut String) -> Result<(), Stop> {
+fn push_fault(refusal: &BindRefusal, out: &mut String) -> Result<(), AllocError> {
     match refusal {
-        BindRefusal::NoVariable { name } => Ok(write!(out, "no {}", name.as_str())?),
-        BindRefusal::BadVariable { name, want } => {
-            Ok(write!(out, "{} is not {want:?}", name.as_str())?)
-        }
-        BindRefusal::Memory => Err(Stop::Memory),
+        BindRefusal::NoVariable { name } => write!(out, "no {}", name.as_str()),
+        BindRefusal::BadVariable { name, want } => write!(out, "{} is not {want:?}", name.as_str()),
+        BindRefusal::Memory => out.push_str("Memory"),
+    }
+}
+
+fn push_bind(bound: Result<Bexp, BindRefusal>, out: &mut String) -> Result<(), AllocError> {
+    match bound {
+        Ok(bexp) => push_bexp(&bexp, out),
+        Err(refusal) => push_fault(&refusal, out),
     }
 }
 
@@ -86,12 +88,9 @@ fn push_bound(
     bexp: &Bexp,
     out: &mut String,
 ) -> Result<(), Stop> {
-    let session = given_session(alloc, case)?;
     let table = given_table(case)?;
-    match bexp.bind(alloc, &session, catalog, meta, table) {
-        Ok(bound) => push_bexp(&bound, out),
-        Err(refusal) => push_fault(&refusal, out),
-    }
+    let session = given_session(alloc, case)?;
+    Ok(push_bind(bexp.bind(alloc, &session, catalog, meta, table), out)?)
 }
 
 fn push_binding(
@@ -108,10 +107,8 @@ fn push_binding(
 }
 
 /// The expression of a filter with the values of a session in place of its variables, or the first fault.
-pub fn binding(alloc: Global, case: &Case) -> Result<String, Stop> {
+pub fn tell_binding(alloc: Global, case: &Case, out: &mut String) -> Result<(), Stop> {
     let catalog = given_catalog(alloc, case)?;
     let meta = given_meta(alloc, case, &catalog)?;
-    let mut out = String::new(alloc);
-    push_binding(alloc, case, &catalog, &meta, &mut out)?;
-    Ok(out)
+    push_binding(alloc, case, &catalog, &meta, out)
 }

@@ -5,16 +5,19 @@ use hq_meta_read::{MetaRefusal, read_meta};
 use hq_terms::{Catalog, Meta, Role, Session, TableId, VarList};
 use std::alloc::Global;
 
+fn stop_of(refusal: &MetaRefusal) -> Stop {
+    match refusal {
+        MetaRefusal::Memory => Stop::Memory,
+        _ => Stop::Shape,
+    }
+}
+
 /// The metadata over a catalog that the value of the member `metadata` writes.
 pub fn given_meta(alloc: Global, case: &Case, catalog: &Catalog) -> Result<Meta, Stop> {
-    match read_meta(
-        alloc,
-        case.json_text(alloc, "metadata")?.as_slice(),
-        catalog,
-    ) {
+    let text = case.json_text(alloc, "metadata")?;
+    match read_meta(alloc, text.as_slice(), catalog) {
         Ok(meta) => Ok(meta),
-        Err(MetaRefusal::Memory) => Err(Stop::Memory),
-        Err(_) => Err(Stop::Shape),
+        Err(refusal) => Err(stop_of(&refusal)),
     }
 }
 

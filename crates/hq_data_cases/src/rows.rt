@@ -5,18 +5,18 @@ use hq_case::{Case, Stop, given_catalog, push_value};
 use hq_outside::LARGEST_FILE;
 use hq_tables::{LoadRefusal, Rows, load_table};
 use hq_terms::Catalog;
-use std::alloc::Global;
+use std::alloc::{AllocError, Global};
 
-fn push_row(row: &[Val], out: &mut String) -> Result<(), Stop> {
+fn push_row(row: &[Val], out: &mut String) -> Result<(), AllocError> {
     for value in row {
         push_value(value, out)?;
         out.push_str(" ")?;
     }
-    Ok(out.push_str(";")?)
+    out.push_str(";")
 }
 
 // The values of the rows, a space behind each and a semicolon behind each row.
-fn push_rows(rows: &Rows, out: &mut String) -> Result<(), Stop> {
+fn push_rows(rows: &Rows, out: &mut String) -> Result<(), AllocError> {
     for at in 0..rows.len() {
         push_row(rows.row(at), out)?;
     }
@@ -45,16 +45,13 @@ fn push_loaded(
     out: &mut String,
 ) -> Result<(), Stop> {
     match loaded(alloc, bytes, catalog)? {
-        Ok(rows) => push_rows(&rows, out),
+        Ok(rows) => Ok(push_rows(&rows, out)?),
         Err(refusal) => Ok(write!(out, "{refusal:?}: {refusal}")?),
     }
 }
 
 /// The rows of a table's file, or its first refusal as it is told.
-pub fn table_file(alloc: Global, case: &Case) -> Result<String, Stop> {
-    let catalog = given_catalog(alloc, case)?;
+pub fn tell_table_file(alloc: Global, case: &Case, out: &mut String) -> Result<(), Stop> {
     let bytes = case.bytes(alloc, "in")?;
-    let mut out = String::new(alloc);
-    push_loaded(alloc, bytes.as_slice(), &catalog, &mut out)?;
-    Ok(out)
+    push_loaded(alloc, bytes.as_slice(), &given_catalog(alloc, case)?, out)
 }

@@ -1,7 +1,7 @@
 use crate::{catalogs, filters, metadata, rows, schemas};
 use hq_case::{Case, Stop, Subject};
 
-/// What cases are about: a file of `data/`, and the public calls that its cases go through.
+/// What cases are about: a file of cases, and the public calls that these go through.
 #[derive(Clone, Copy)]
 pub enum About {
     Catalogs,
@@ -45,18 +45,18 @@ impl Subject for About {
         }
     }
 
-    fn told(self, rt: &HostRuntime, case: &Case) -> Result<String, Stop> {
+    fn tell(self, rt: &HostRuntime, case: &Case, out: &mut String) -> Result<(), Stop> {
         let alloc = rt.alloc();
         match self {
-            About::Catalogs => catalogs::catalog(alloc, case),
-            About::TableFiles => rows::table_file(alloc, case),
-            About::Filters => filters::filter(alloc, case),
-            About::Bindings => filters::binding(alloc, case),
-            About::Metadata => metadata::verdict(alloc, case),
-            About::Exports => metadata::export(alloc, case),
-            About::Permissions => metadata::permission(alloc, case),
-            About::RoleSchemas => schemas::role_schema(alloc, case),
-            About::LookUps => schemas::look_ups(alloc, case),
+            About::Catalogs => catalogs::tell_catalog(alloc, case, out),
+            About::TableFiles => rows::tell_table_file(alloc, case, out),
+            About::Filters => filters::tell_filter(alloc, case, out),
+            About::Bindings => filters::tell_binding(alloc, case, out),
+            About::Metadata => metadata::tell_verdict(alloc, case, out),
+            About::Exports => metadata::tell_export(alloc, case, out),
+            About::Permissions => metadata::tell_permission(alloc, case, out),
+            About::RoleSchemas => schemas::tell_role_schema(alloc, case, out),
+            About::LookUps => schemas::tell_look_ups(alloc, case, out),
         }
     }
 }

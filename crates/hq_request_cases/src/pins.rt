@@ -1,5 +1,7 @@
 //! One request twice over tables one of whose pins fails.
-ghost use Rattle.std.specs.Prelude.{◌≡◌};
+ghost use Rattle.std.specs.Prelude.{◌≡◌, true, IfOk};
+ghost use Rattle.hq_terms.specs.Fits.{fits};
+ghost use Rattle.hq_terms.specs.Meta.{meta_view};
 
 use crate::loaded::loaded;
 use hq_app::answer_one;
@@ -11,7 +13,7 @@ use hq_link::Database;
 use hq_loading::Loaded;
 use hq_memory::{MemSink, MemSource};
 use hq_tables::{FlakyTables, MemTables};
-use hq_terms::Session;
+use hq_terms::{Catalog, Meta, Session};
 use std::alloc::Global;
 
 // A database one of whose pins fails.
@@ -27,6 +29,12 @@ fn input(alloc: Global, case: &Case) -> Result<MemSource, Stop> {
 
 fn output(alloc: Global) -> Result<MemSink, Stop> {
     Ok(MemSink::new(alloc, ROOM, List::new(alloc))?)
+}
+
+// The two outputs.
+fn outputs(alloc: Global) -> Result<(MemSink, MemSink), Stop> {
+    let written = output(alloc)?;
+    Ok((written, output(alloc)?))
 }
 
 fn push_outcome(
@@ -54,7 +62,7 @@ fn push_answer(
     ensures { ⟦<Failing as Database>⟧.tables db.new ≡ ⟦<Failing as Database>⟧.tables db.old }
 {
     let mut input = input(alloc, case)?;
-    let (mut written, mut told) = (output(alloc)?, output(alloc)?);
+    let (mut written, mut told) = outputs(alloc)?;
     let status = answer_one(
         alloc,
         engine,
@@ -83,10 +91,20 @@ fn push_both(
     push_answer(alloc, case, engine, session, db, out)
 }
 
+// An engine over a copy of the catalog.
+fn engine_over(alloc: Global, catalog: &Catalog, meta: Meta) -> Result<Engine, Stop>
+    requires { fits catalog.now.tables (meta_view meta) ≡ true }
+    ensures { IfOk result (λ engine. engine.catalog.tables ≡ catalog.now.tables) }
+{
+    let catalog = catalog.copy(alloc)?;
+    Ok(Engine::new(alloc, catalog, meta)?)
+}
+
 // Adds what comes of the two requests over what a directory holds.
 fn push_answers(
     alloc: Global,
     case: &Case,
+    session: &Session,
     loaded: Loaded,
     failing: u64,
     out: &mut String,
@@ -96,17 +114,14 @@ fn push_answers(
         meta,
         rows,
     } = loaded;
-    let session = given_session(alloc, case)?;
-    let engine = Engine::new(alloc, catalog.copy(alloc)?, meta)?;
+    let engine = engine_over(alloc, &catalog, meta)?;
     let mut db = SqlDb::new(FlakyTables::new(MemTables::new(catalog, rows), failing));
-    push_both(alloc, case, &engine, &session, &mut db, out)
+    push_both(alloc, case, &engine, session, &mut db, out)
 }
 
 /// The status of the request, what was written and what was told, and then those of the same request again.
-pub fn outcomes(rt: &HostRuntime, case: &Case) -> Result<String, Stop> {
-    let alloc = rt.alloc();
+pub fn tell_outcomes(rt: &HostRuntime, case: &Case, out: &mut String) -> Result<(), Stop> {
     let failing = case.number("failing")?.unwrap_or(0);
-    let mut out = String::new(alloc);
-    push_answers(alloc, case, loaded(rt, case)?, failing, &mut out)?;
-    Ok(out)
+    let session = given_session(rt.alloc(), case)?;
+    push_answers(rt.alloc(), case, &session, loaded(rt, case)?, failing, out)
 }

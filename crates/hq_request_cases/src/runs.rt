@@ -33,13 +33,19 @@ fn outputs(alloc: Global, case: &Case) -> Result<(MemSink, MemSink), Stop> {
     Ok((out, output(alloc, case, "errors")?))
 }
 
-fn world(rt: &HostRuntime, case: &Case) -> Result<Inside, Stop> {
-    let alloc = rt.alloc();
+// The input and the two outputs.
+fn streams(alloc: Global, case: &Case) -> Result<(MemSource, MemSink, MemSink), Stop> {
     let input = input(alloc, case)?;
     let (out, err) = outputs(alloc, case)?;
-    let door = door(alloc, case)?;
+    Ok((input, out, err))
+}
+
+fn world(rt: &HostRuntime, case: &Case) -> Result<Inside, Stop> {
+    let files = folder(rt, case)?;
+    let door = door(rt.alloc(), case)?;
+    let (input, out, err) = streams(rt.alloc(), case)?;
     Ok(World {
-        files: folder(rt, case)?,
+        files,
         door,
         input,
         out,
@@ -66,10 +72,7 @@ fn push_run(
 }
 
 /// The status of a run, what it wrote, the line that it told, and what each link got.
-pub fn outcome(rt: &HostRuntime, case: &Case) -> Result<String, Stop> {
-    let alloc = rt.alloc();
-    let words = case.texts(alloc, "words")?;
-    let mut out = String::new(alloc);
-    push_run(alloc, case, words.as_slice(), world(rt, case)?, &mut out)?;
-    Ok(out)
+pub fn tell_outcome(rt: &HostRuntime, case: &Case, out: &mut String) -> Result<(), Stop> {
+    let words = case.texts(rt.alloc(), "words")?;
+    push_run(rt.alloc(), case, words.as_slice(), world(rt, case)?, out)
 }

@@ -38,10 +38,7 @@ fn push_answered(alloc: Global, loaded: Loaded, text: &[u8], out: &mut String) -
 }
 
 /// The JSON that a statement is answered with, or its refusal.
-pub fn answer(rt: &HostRuntime, case: &Case) -> Result<String, Stop> {
-    let alloc = rt.alloc();
-    let text = case.bytes(alloc, "in")?;
-    let mut out = String::new(alloc);
-    push_answered(alloc, loaded(rt, case)?, text.as_slice(), &mut out)?;
-    Ok(out)
+pub fn tell_answer(rt: &HostRuntime, case: &Case, out: &mut String) -> Result<(), Stop> {
+    let text = case.bytes(rt.alloc(), "in")?;
+    push_answered(rt.alloc(), loaded(rt, case)?, text.as_slice(), out)
 }

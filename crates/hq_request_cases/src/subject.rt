@@ -1,7 +1,7 @@
 use crate::{pins, runs, statements};
 use hq_case::{Case, Stop, Subject};
 
-/// What cases are about: a file of `data/`, and the public calls that its cases go through.
+/// What cases are about: a file of cases, and the public calls that these go through.
 #[derive(Clone, Copy)]
 pub enum About {
     Worked,
@@ -60,11 +60,11 @@ impl Subject for About {
         }
     }
 
-    fn told(self, rt: &HostRuntime, case: &Case) -> Result<String, Stop> {
+    fn tell(self, rt: &HostRuntime, case: &Case, out: &mut String) -> Result<(), Stop> {
         match self {
-            About::Statements => statements::answer(rt, case),
-            About::Pins => pins::outcomes(rt, case),
-            _ => runs::outcome(rt, case),
+            About::Statements => statements::tell_answer(rt, case, out),
+            About::Pins => pins::tell_outcomes(rt, case, out),
+            _ => runs::tell_outcome(rt, case, out),
         }
     }
 }

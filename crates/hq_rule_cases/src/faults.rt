@@ -11,7 +11,7 @@ use hq_rules_doc::first_doc_fault;
 use hq_rules_fields::first_field_fault;
 use hq_schema::Schema;
 use hq_terms::{Role, Session, VarList};
-use std::alloc::Global;
+use std::alloc::{AllocError, Global};
 
 // The schema of the role that the member `role` names.
 fn schema_of(alloc: Global, case: &Case) -> Result<Schema, Stop> {
@@ -38,33 +38,36 @@ fn document_of(alloc: Global, text: &Bytes) -> Result<Document, Stop> {
     }
 }
 
-fn push_fault(fault: &Fault, out: &mut String) -> Result<(), Stop> {
+// The document that the member `in` writes.
+fn given_document(alloc: Global, case: &Case) -> Result<Document, Stop> {
+    document_of(alloc, &case.bytes(alloc, "in")?)
+}
+
+fn push_fault(fault: &Fault, out: &mut String) -> Result<(), AllocError> {
     out.push_str(fault.rule.text())?;
     match fault.at {
-        Some(at) => Ok(write!(out, " at {at}")?),
+        Some(at) => write!(out, " at {at}"),
         None => Ok(()),
     }
 }
 
-fn told(alloc: Global, fault: Option<Fault>) -> Result<String, Stop> {
-    let mut out = String::new(alloc);
+fn push_first(fault: Option<Fault>, out: &mut String) -> Result<(), AllocError> {
     match fault {
-        Some(fault) => push_fault(&fault, &mut out)?,
-        None => out.push_str("none")?,
+        Some(fault) => push_fault(&fault, out),
+        None => out.push_str("none"),
     }
-    Ok(out)
 }
 
 /// The first rule of documents that a text violates, and its place.
-pub fn of_document(alloc: Global, case: &Case) -> Result<String, Stop> {
+pub fn tell_of_document(alloc: Global, case: &Case, out: &mut String) -> Result<(), Stop> {
     let schema = schema_of(alloc, case)?;
-    let document = document_of(alloc, &case.bytes(alloc, "in")?)?;
-    told(alloc, first_doc_fault(alloc, &document, &schema)?)
+    let document = given_document(alloc, case)?;
+    Ok(push_first(first_doc_fault(alloc, &document, &schema)?, out)?)
 }
 
 /// The first rule of fields, arguments and values that a text violates, and its place.
-pub fn of_fields(alloc: Global, case: &Case) -> Result<String, Stop> {
+pub fn tell_of_fields(alloc: Global, case: &Case, out: &mut String) -> Result<(), Stop> {
     let schema = schema_of(alloc, case)?;
-    let document = document_of(alloc, &case.bytes(alloc, "in")?)?;
-    told(alloc, first_field_fault(alloc, &document, &schema)?)
+    let document = given_document(alloc, case)?;
+    Ok(push_first(first_field_fault(alloc, &document, &schema)?, out)?)
 }

@@ -1,7 +1,7 @@
 use crate::faults;
 use hq_case::{Case, Stop, Subject};
 
-/// What cases are about: a file of `data/`, and the public calls that its cases go through.
+/// What cases are about: a file of cases, and the public calls that these go through.
 #[derive(Clone, Copy)]
 pub enum About {
     DocumentRules,
@@ -23,10 +23,11 @@ impl Subject for About {
         }
     }
 
-    fn told(self, rt: &HostRuntime, case: &Case) -> Result<String, Stop> {
+    fn tell(self, rt: &HostRuntime, case: &Case, out: &mut String) -> Result<(), Stop> {
+        let alloc = rt.alloc();
         match self {
-            About::DocumentRules => faults::of_document(rt.alloc(), case),
-            About::FieldRules | About::MergingRule => faults::of_fields(rt.alloc(), case),
+            About::DocumentRules => faults::tell_of_document(alloc, case, out),
+            About::FieldRules | About::MergingRule => faults::tell_of_fields(alloc, case, out),
         }
     }
 }

@@ -8,31 +8,47 @@ use hq_memory::MemLink;
 use hq_outside::NumList;
 use std::alloc::Global;
 
+// The most bytes that a link takes.
+const ROOM: usize = 1_000_000;
+
+fn number(json: &Json) -> Result<u64, Stop> {
+    match json {
+        Json::Int(n) => u64::try_from(*n).map_err(|_| Stop::Shape),
+        _ => Err(Stop::Shape),
+    }
+}
+
 // The numbers of the calls of a link that fail.
 fn failing(alloc: Global, case: &Case, member: &str) -> Result<NumList, Stop> {
     let mut numbers = List::new(alloc);
     for json in case.list(member)? {
-        let Json::Int(n) = json else {
-            return Err(Stop::Shape);
-        };
-        numbers.push(u64::try_from(*n).map_err(|_| Stop::Shape)?)?;
+        numbers.push(number(json)?)?;
     }
     Ok(numbers)
 }
 
-/// How a connection ends, and what is written to it.
-pub fn connection(alloc: Global, case: &Case) -> Result<String, Stop> {
-    let mut link = MemLink::new(
-        alloc,
-        case.bytes(alloc, "in")?,
-        1_000_000,
-        failing(alloc, case, "failing_reads")?,
-        failing(alloc, case, "failing_writes")?,
-    )?;
-    let mut replies = Replies::given(alloc, case)?;
-    let end = serve_connection(alloc, &mut link, &mut replies);
-    let mut out = String::new(alloc);
+// The link of a case.
+fn link(alloc: Global, case: &Case) -> Result<MemLink, Stop> {
+    let reads = failing(alloc, case, "failing_reads")?;
+    let writes = failing(alloc, case, "failing_writes")?;
+    let input = case.bytes(alloc, "in")?;
+    Ok(MemLink::new(alloc, input, ROOM, reads, writes)?)
+}
+
+fn push_served(
+    alloc: Global,
+    link: &mut MemLink,
+    replies: &mut Replies,
+    out: &mut String,
+) -> Result<(), Stop> {
+    let end = serve_connection(alloc, link, replies);
     write!(out, "{end:?} | ")?;
-    push_bytes(alloc, link.out.bytes(), &mut out)?;
-    Ok(out)
+    push_bytes(alloc, link.out.bytes(), out)
+}
+
+/// How a connection ends, and what is written to it.
+pub fn tell_connection(alloc: Global, case: &Case, out: &mut String) -> Result<(), Stop> {
+    let mut link = link(alloc, case)?;
+    let mut replies = Replies::given(alloc, case)?;
+    push_served(alloc, &mut link, &mut replies, out)
 }

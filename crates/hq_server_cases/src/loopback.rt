@@ -58,21 +58,29 @@ fn push_reply<S: Read>(alloc: Global, peer: &mut S, out: &mut String) -> Result<
     push_bytes(alloc, &bytes, out)
 }
 
-/// How the connections end, and what each peer gets.
-pub fn connections(rt: &HostRuntime, case: &Case) -> Result<String, Stop> {
-    let alloc = rt.alloc();
-    let mut replies = Replies::given(alloc, case)?;
-    let mut out = String::new(alloc);
-    let mut door = TcpDoor::new(*rt);
-    let (Ok(()), Some(port)) = (door.listen(0), door.port()) else {
-        return Err(Stop::Unread);
-    };
-    let mut peers = peers(rt, alloc, case, port)?;
-    serve(alloc, &mut door, &mut replies, peers.len(), &mut out)?;
-    drop(door);
-    for peer in &mut peers {
-        out.push_str("| ")?;
-        push_reply(alloc, peer, &mut out)?;
+// The port at which a door listens.
+fn opened<R: Net>(door: &mut TcpDoor<R>) -> Result<u16, Stop> {
+    match (door.listen(0), door.port()) {
+        (Ok(()), Some(port)) => Ok(port),
+        _ => Err(Stop::Unread),
     }
-    Ok(out)
+}
+
+// The peers, once each is served and the door is gone. Adds how each connection ends.
+fn served(rt: &HostRuntime, case: &Case, out: &mut String) -> Result<Vec<TcpStream>, Stop> {
+    let mut replies = Replies::given(rt.alloc(), case)?;
+    let mut door = TcpDoor::new(*rt);
+    let port = opened(&mut door)?;
+    let peers = peers(rt, rt.alloc(), case, port)?;
+    serve(rt.alloc(), &mut door, &mut replies, peers.len(), out)?;
+    Ok(peers)
+}
+
+/// How the connections end, and what each peer gets.
+pub fn tell_connections(rt: &HostRuntime, case: &Case, out: &mut String) -> Result<(), Stop> {
+    for peer in &mut served(rt, case, out)? {
+        out.push_str("| ")?;
+        push_reply(rt.alloc(), peer, out)?;
+    }
+    Ok(())
 }

@@ -1,9 +1,8 @@
 //! Who the caller is, by the rule of an admin secret.
 
 use hq_base::Txt;
-use hq_case::{Case, Stop, given_headers};
+use hq_case::{Case, Stop, given_headers, push_session};
 use hq_session::{HookAnswer, SecretRule};
-use hq_terms::Session;
 use std::alloc::Global;
 
 // The text that a member writes, where it is there.
@@ -14,28 +13,29 @@ fn text_if(alloc: Global, case: &Case, member: &str) -> Result<Option<Txt>, Stop
     }
 }
 
-/// The session of a caller with these headers, or that the caller is denied.
-pub fn caller(alloc: Global, case: &Case) -> Result<String, Stop> {
-    let rule = SecretRule {
-        secret: text_if(alloc, case, "secret")?,
-        unauthorized: text_if(alloc, case, "unauthorized")?,
-    };
-    let Ok(headers) = given_headers(alloc, case.texts(alloc, "in")?.as_slice())? else {
-        return Err(Stop::Shape);
-    };
-    let mut out = String::new(alloc);
-    match rule.decide(alloc, &headers) {
-        HookAnswer::Session(session) => push_session(&session, &mut out)?,
-        HookAnswer::Denied => out.push_str("denied")?,
-        HookAnswer::Memory => return Err(Stop::Memory),
-    }
-    Ok(out)
+// The rule of a case.
+fn rule(alloc: Global, case: &Case) -> Result<SecretRule, Stop> {
+    let secret = text_if(alloc, case, "secret")?;
+    let unauthorized = text_if(alloc, case, "unauthorized")?;
+    Ok(SecretRule {
+        secret,
+        unauthorized,
+    })
 }
 
-fn push_session(session: &Session, out: &mut String) -> Result<(), Stop> {
-    write!(out, "{}:", session.role.as_str())?;
-    for var in session.vars.as_slice() {
-        write!(out, " {}={}", var.name.as_str(), var.value.as_str())?;
+fn push_caller(answer: HookAnswer, out: &mut String) -> Result<(), Stop> {
+    match answer {
+        HookAnswer::Session(session) => Ok(push_session(&session, out)?),
+        HookAnswer::Denied => Ok(out.push_str("denied")?),
+        HookAnswer::Memory => Err(Stop::Memory),
     }
-    Ok(())
+}
+
+/// The session of a caller with these headers, or that the caller is denied.
+pub fn tell_caller(alloc: Global, case: &Case, out: &mut String) -> Result<(), Stop> {
+    let rule = rule(alloc, case)?;
+    match given_headers(alloc, case.texts(alloc, "in")?.as_slice())? {
+        Ok(headers) => push_caller(rule.decide(alloc, &headers), out),
+        Err(_) => Err(Stop::Shape),
+    }
 }

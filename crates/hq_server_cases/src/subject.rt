@@ -1,7 +1,7 @@
 use crate::{connections, loopback, secrets, words};
 use hq_case::{Case, Stop, Subject};
 
-/// What cases are about: a file of `data/`, and the public calls that its cases go through.
+/// What cases are about: a file of cases, and the public calls that these go through.
 #[derive(Clone, Copy)]
 pub enum About {
     Words,
@@ -30,13 +30,13 @@ impl Subject for About {
         }
     }
 
-    fn told(self, rt: &HostRuntime, case: &Case) -> Result<String, Stop> {
+    fn tell(self, rt: &HostRuntime, case: &Case, out: &mut String) -> Result<(), Stop> {
         let alloc = rt.alloc();
         match self {
-            About::Words => words::command(alloc, case),
-            About::Secrets => secrets::caller(alloc, case),
-            About::Connections => connections::connection(alloc, case),
-            About::Loopback => loopback::connections(rt, case),
+            About::Words => words::tell_command(alloc, case, out),
+            About::Secrets => secrets::tell_caller(alloc, case, out),
+            About::Connections => connections::tell_connection(alloc, case, out),
+            About::Loopback => loopback::tell_connections(rt, case, out),
         }
     }
 }

@@ -4,26 +4,23 @@ use hq_base::Txt;
 use hq_case::{Case, Stop};
 use hq_session::Headers;
 use hq_words::{Command, WordsRefusal};
-use std::alloc::Global;
+use std::alloc::{AllocError, Global};
 
 /// What words ask, or that they are bad.
-pub fn command(alloc: Global, case: &Case) -> Result<String, Stop> {
-    let words = case.texts(alloc, "in")?;
-    let mut out = String::new(alloc);
-    match Command::read(alloc, &words) {
-        Ok(command) => push_command(&command, &mut out)?,
-        Err(WordsRefusal::BadWords) => out.push_str("bad")?,
-        Err(WordsRefusal::Memory) => return Err(Stop::Memory),
+pub fn tell_command(alloc: Global, case: &Case, out: &mut String) -> Result<(), Stop> {
+    match Command::read(alloc, &case.texts(alloc, "in")?) {
+        Ok(command) => Ok(push_command(&command, out)?),
+        Err(WordsRefusal::BadWords) => Ok(out.push_str("bad")?),
+        Err(WordsRefusal::Memory) => Err(Stop::Memory),
     }
-    Ok(out)
 }
 
-fn push_command(command: &Command, out: &mut String) -> Result<(), Stop> {
+fn push_command(command: &Command, out: &mut String) -> Result<(), AllocError> {
     match command {
         Command::Query { dir, headers } => push_request("query", dir, headers, out),
         Command::Sql { dir, headers } => push_request("sql", dir, headers, out),
-        Command::Check { dir } => Ok(write!(out, "check {}", dir.as_str())?),
-        Command::Gen { n } => Ok(write!(out, "gen {n}")?),
+        Command::Check { dir } => write!(out, "check {}", dir.as_str()),
+        Command::Gen { n } => write!(out, "gen {n}"),
         Command::Serve {
             dir,
             port,
@@ -38,7 +35,12 @@ fn push_command(command: &Command, out: &mut String) -> Result<(), Stop> {
     }
 }
 
-fn push_request(word: &str, dir: &Txt, headers: &Headers, out: &mut String) -> Result<(), Stop> {
+fn push_request(
+    word: &str,
+    dir: &Txt,
+    headers: &Headers,
+    out: &mut String,
+) -> Result<(), AllocError> {
     write!(out, "{word} {}", dir.as_str())?;
     for header in headers.as_slice() {
         write!(out, " {}={}", header.name.as_str(), header.value.as_str())?;
@@ -46,9 +48,9 @@ fn push_request(word: &str, dir: &Txt, headers: &Headers, out: &mut String) -> R
     Ok(())
 }
 
-fn push_text(word: &str, text: &Option<Txt>, out: &mut String) -> Result<(), Stop> {
+fn push_text(word: &str, text: &Option<Txt>, out: &mut String) -> Result<(), AllocError> {
     match text {
-        Some(text) => Ok(write!(out, ", {word} '{}'", text.as_str())?),
+        Some(text) => write!(out, ", {word} '{}'", text.as_str()),
         None => Ok(()),
     }
 }

@@ -46,11 +46,11 @@ fn truth_of(alloc: Global, op: &str, values: &[Val]) -> Result<Truth, Stop> {
 }
 
 /// A comparison of two cells, whether the first is among those behind it, or is like the second.
-pub fn test(alloc: Global, case: &Case) -> Result<String, Stop> {
+pub fn tell_test(alloc: Global, case: &Case, out: &mut String) -> Result<(), Stop> {
     let op = case.text(alloc, "op")?;
     let values = values(alloc, case.list("in")?)?;
     let truth = truth_of(alloc, op.as_str(), &values)?;
-    Ok(format!(in alloc; "{truth:?}")?)
+    Ok(write!(out, "{truth:?}")?)
 }
 
 fn is_among(cells: &[Cell<'_>]) -> Result<Truth, Stop> {
@@ -104,11 +104,9 @@ fn push_copies(alloc: Global, cells: &[Cell<'_>], out: &mut String) -> Result<()
 }
 
 /// The JSON of copies of cells.
-pub fn json(alloc: Global, case: &Case) -> Result<String, Stop> {
+pub fn tell_json(alloc: Global, case: &Case, out: &mut String) -> Result<(), Stop> {
     let values = values(alloc, case.list("in")?)?;
-    let mut out = String::new(alloc);
-    push_copies(alloc, &cells(alloc, &values)?, &mut out)?;
-    Ok(out)
+    push_copies(alloc, &cells(alloc, &values)?, out)
 }
 
 fn push_count(alloc: Global, distinct: bool, values: &[Val], out: &mut String) -> Result<(), Stop> {
@@ -134,11 +132,8 @@ fn push_aggregates(alloc: Global, values: &[Val], out: &mut String) -> Result<()
 }
 
 /// How many cells are not NULL, how many different ones are compared, the least and the greatest.
-pub fn aggregates(alloc: Global, case: &Case) -> Result<String, Stop> {
-    let values = values(alloc, case.list("in")?)?;
-    let mut out = String::new(alloc);
-    push_aggregates(alloc, &values, &mut out)?;
-    Ok(out)
+pub fn tell_aggregates(alloc: Global, case: &Case, out: &mut String) -> Result<(), Stop> {
+    push_aggregates(alloc, &values(alloc, case.list("in")?)?, out)
 }
 
 fn push_sum(alloc: Global, values: &[Val], out: &mut String) -> Result<(), Stop> {
@@ -147,9 +142,6 @@ fn push_sum(alloc: Global, values: &[Val], out: &mut String) -> Result<(), Stop>
 }
 
 /// The sum of whole numbers.
-pub fn sum(alloc: Global, case: &Case) -> Result<String, Stop> {
-    let values = values(alloc, case.list("in")?)?;
-    let mut out = String::new(alloc);
-    push_sum(alloc, &values, &mut out)?;
-    Ok(out)
+pub fn tell_sum(alloc: Global, case: &Case, out: &mut String) -> Result<(), Stop> {
+    push_sum(alloc, &values(alloc, case.list("in")?)?, out)
 }

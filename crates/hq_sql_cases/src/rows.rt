@@ -4,7 +4,7 @@ use crate::cells::{cells, values};
 use hq_base::{Json, Val};
 use hq_case::{Case, Stop};
 use hq_sql_cells::{Direction, Kept, first_kept, paged, rows_of, sort_kept};
-use std::alloc::Global;
+use std::alloc::{AllocError, Global};
 
 fn page_of(alloc: Global, offset: Option<u64>, limit: Option<u64>) -> Result<Vec<usize>, Stop> {
     let rows = vec![in alloc; 0, 1, 2, 3, 4]?;
@@ -12,18 +12,17 @@ fn page_of(alloc: Global, offset: Option<u64>, limit: Option<u64>) -> Result<Vec
 }
 
 /// What an offset and a limit leave of the rows 0 to 4.
-pub fn page(alloc: Global, case: &Case) -> Result<String, Stop> {
+pub fn tell_page(alloc: Global, case: &Case, out: &mut String) -> Result<(), Stop> {
     let offset = case.number("offset")?;
     let limit = case.number("limit")?;
-    push_places(alloc, page_of(alloc, offset, limit)?)
+    Ok(push_places(&page_of(alloc, offset, limit)?, out)?)
 }
 
-fn push_places(alloc: Global, places: Vec<usize>) -> Result<String, Stop> {
-    let mut out = String::new(alloc);
+fn push_places(places: &[usize], out: &mut String) -> Result<(), AllocError> {
     for place in places {
         write!(out, " {place}")?;
     }
-    Ok(out)
+    Ok(())
 }
 
 fn row_of(alloc: Global, json: &Json) -> Result<Vec<Val>, Stop> {
@@ -99,10 +98,10 @@ fn sorted(alloc: Global, order: &[Direction], values: &[Vec<Val>]) -> Result<Vec
 }
 
 /// The rows in their order.
-pub fn sort(alloc: Global, case: &Case) -> Result<String, Stop> {
+pub fn tell_sort(alloc: Global, case: &Case, out: &mut String) -> Result<(), Stop> {
     let order = directions(alloc, case)?;
     let values = rows_of_values(alloc, case)?;
-    push_places(alloc, sorted(alloc, &order, &values)?)
+    Ok(push_places(&sorted(alloc, &order, &values)?, out)?)
 }
 
 fn firsts(alloc: Global, values: &[Vec<Val>]) -> Result<Vec<usize>, Stop> {
@@ -112,7 +111,7 @@ fn firsts(alloc: Global, values: &[Vec<Val>]) -> Result<Vec<usize>, Stop> {
 }
 
 /// The first rows of their groups.
-pub fn groups(alloc: Global, case: &Case) -> Result<String, Stop> {
+pub fn tell_groups(alloc: Global, case: &Case, out: &mut String) -> Result<(), Stop> {
     let values = rows_of_values(alloc, case)?;
-    push_places(alloc, firsts(alloc, &values)?)
+    Ok(push_places(&firsts(alloc, &values)?, out)?)
 }

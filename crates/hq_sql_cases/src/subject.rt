@@ -1,7 +1,7 @@
 use crate::{cells, rows, texts};
 use hq_case::{Case, Stop, Subject};
 
-/// What cases are about: a file of `data/`, and the public calls that its cases go through.
+/// What cases are about: a file of cases, and the public calls that these go through.
 #[derive(Clone, Copy)]
 pub enum About {
     SqlTexts,
@@ -9,7 +9,7 @@ pub enum About {
     Scans,
     Tests,
     Cells,
-    Aggregates,
+    AggregateFunctions,
     Sums,
     Pages,
     Sorts,
@@ -24,7 +24,7 @@ impl About {
         About::Scans,
         About::Tests,
         About::Cells,
-        About::Aggregates,
+        About::AggregateFunctions,
         About::Sums,
         About::Pages,
         About::Sorts,
@@ -40,7 +40,7 @@ impl Subject for About {
             About::Scans => "scans",
             About::Tests => "tests",
             About::Cells => "cells",
-            About::Aggregates => "aggregates",
+            About::AggregateFunctions => "aggregate_functions",
             About::Sums => "sums",
             About::Pages => "pages",
             About::Sorts => "sorts",
@@ -48,19 +48,19 @@ impl Subject for About {
         }
     }
 
-    fn told(self, rt: &HostRuntime, case: &Case) -> Result<String, Stop> {
+    fn tell(self, rt: &HostRuntime, case: &Case, out: &mut String) -> Result<(), Stop> {
         let alloc = rt.alloc();
         match self {
-            About::SqlTexts => texts::text(alloc, case),
-            About::WellFormed => texts::well(alloc, case),
-            About::Scans => texts::scans(alloc, case),
-            About::Tests => cells::test(alloc, case),
-            About::Cells => cells::json(alloc, case),
-            About::Aggregates => cells::aggregates(alloc, case),
-            About::Sums => cells::sum(alloc, case),
-            About::Pages => rows::page(alloc, case),
-            About::Sorts => rows::sort(alloc, case),
-            About::Groups => rows::groups(alloc, case),
+            About::SqlTexts => texts::tell_text(alloc, case, out),
+            About::WellFormed => texts::tell_well_formed(alloc, case, out),
+            About::Scans => texts::tell_scans(alloc, case, out),
+            About::Tests => cells::tell_test(alloc, case, out),
+            About::Cells => cells::tell_json(alloc, case, out),
+            About::AggregateFunctions => cells::tell_aggregates(alloc, case, out),
+            About::Sums => cells::tell_sum(alloc, case, out),
+            About::Pages => rows::tell_page(alloc, case, out),
+            About::Sorts => rows::tell_sort(alloc, case, out),
+            About::Groups => rows::tell_groups(alloc, case, out),
         }
     }
 }

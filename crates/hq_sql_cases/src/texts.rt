@@ -5,7 +5,7 @@ use hq_sql_check::{scanned, well_formed};
 use hq_sql_text::{ReadRefusal, print, read};
 use hq_sql_tree::Select;
 use hq_terms::Table;
-use std::alloc::Global;
+use std::alloc::{AllocError, Global};
 
 // The statement that a case writes, if it is one. In a box, which is let go at little cost where a later step fails.
 fn statement(alloc: Global, case: &Case) -> Result<Option<Box<Select>>, Stop> {
@@ -31,30 +31,32 @@ fn push_printed(alloc: Global, case: &Case, select: &Select, out: &mut String) -
 }
 
 /// `read` where what was read is printed as it stood, and else what is printed; or that the text is no SQL.
-pub fn text(alloc: Global, case: &Case) -> Result<String, Stop> {
-    let mut out = String::new(alloc);
+pub fn tell_text(alloc: Global, case: &Case, out: &mut String) -> Result<(), Stop> {
     match statement(alloc, case)? {
-        Some(select) => push_printed(alloc, case, &select, &mut out)?,
-        None => out.push_str("NotSql")?,
+        Some(select) => push_printed(alloc, case, &select, out),
+        None => Ok(out.push_str("NotSql")?),
     }
-    Ok(out)
 }
 
-fn is_well(alloc: Global, case: &Case, select: &Select) -> Result<bool, Stop> {
-    let catalog = given_catalog(alloc, case)?;
-    Ok(well_formed(alloc, select, &catalog)?)
+fn push_well_formed(
+    alloc: Global,
+    case: &Case,
+    select: &Select,
+    out: &mut String,
+) -> Result<(), Stop> {
+    let well = well_formed(alloc, select, &given_catalog(alloc, case)?)?;
+    Ok(write!(out, "{well}")?)
 }
 
 /// Whether a text of SQL is a statement that is well-formed for the catalog.
-pub fn well(alloc: Global, case: &Case) -> Result<String, Stop> {
-    let Some(select) = statement(alloc, case)? else {
-        return Err(Stop::Shape);
-    };
-    let well = is_well(alloc, case, &select)?;
-    Ok(format!(in alloc; "{well}")?)
+pub fn tell_well_formed(alloc: Global, case: &Case, out: &mut String) -> Result<(), Stop> {
+    match statement(alloc, case)? {
+        Some(select) => push_well_formed(alloc, case, &select, out),
+        None => Err(Stop::Shape),
+    }
 }
 
-fn push_marked(tables: &[Table], marks: &[bool], out: &mut String) -> Result<(), Stop> {
+fn push_marked(tables: &[Table], marks: &[bool], out: &mut String) -> Result<(), AllocError> {
     for (table, marked) in tables.iter().zip(marks) {
         if *marked {
             write!(out, " {}.{}", table.schema.as_str(), table.name.as_str())?;
@@ -66,15 +68,13 @@ fn push_marked(tables: &[Table], marks: &[bool], out: &mut String) -> Result<(),
 fn push_scans(alloc: Global, case: &Case, select: &Select, out: &mut String) -> Result<(), Stop> {
     let catalog = given_catalog(alloc, case)?;
     let marks = scanned(alloc, select, catalog.tables.as_slice())?;
-    push_marked(catalog.tables.as_slice(), &marks, out)
+    Ok(push_marked(catalog.tables.as_slice(), &marks, out)?)
 }
 
 /// The tables of the catalog that a statement takes rows from.
-pub fn scans(alloc: Global, case: &Case) -> Result<String, Stop> {
-    let Some(select) = statement(alloc, case)? else {
-        return Err(Stop::Shape);
-    };
-    let mut out = String::new(alloc);
-    push_scans(alloc, case, &select, &mut out)?;
-    Ok(out)
+pub fn tell_scans(alloc: Global, case: &Case, out: &mut String) -> Result<(), Stop> {
+    match statement(alloc, case)? {
+        Some(select) => push_scans(alloc, case, &select, out),
+        None => Err(Stop::Shape),
+    }
 }

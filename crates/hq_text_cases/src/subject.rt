@@ -1,7 +1,7 @@
 use crate::{documents, headers, texts, words};
 use hq_case::{Case, Stop, Subject};
 
-/// What cases are about: a file of `data/`, and the public calls that its cases go through.
+/// What cases are about: a file of cases, and the public calls that these go through.
 #[derive(Clone, Copy)]
 pub enum About {
     Texts,
@@ -14,7 +14,7 @@ pub enum About {
     Truths,
     Headers,
     Sessions,
-    Variables,
+    SessionVariables,
     Tokens,
     Documents,
 }
@@ -32,7 +32,7 @@ impl About {
         About::Truths,
         About::Headers,
         About::Sessions,
-        About::Variables,
+        About::SessionVariables,
         About::Tokens,
         About::Documents,
     ];
@@ -51,28 +51,28 @@ impl Subject for About {
             About::Truths => "truths",
             About::Headers => "headers",
             About::Sessions => "sessions",
-            About::Variables => "variables",
+            About::SessionVariables => "session_variables",
             About::Tokens => "tokens",
             About::Documents => "documents",
         }
     }
 
-    fn told(self, rt: &HostRuntime, case: &Case) -> Result<String, Stop> {
+    fn tell(self, rt: &HostRuntime, case: &Case, out: &mut String) -> Result<(), Stop> {
         let alloc = rt.alloc();
         match self {
-            About::Texts => texts::text(alloc, case),
-            About::Bodies => texts::body(alloc, case),
-            About::Values => texts::order(alloc, case),
-            About::Patterns => texts::pattern(alloc, case),
-            About::Names => words::name(alloc, case),
-            About::Numbers => words::number(alloc, case),
-            About::TruthValues => words::truth_value(alloc, case),
-            About::Truths => words::truths(alloc, case),
-            About::Headers => headers::header(alloc, case),
-            About::Sessions => headers::session(alloc, case),
-            About::Variables => headers::variable(alloc, case),
-            About::Tokens => documents::tokens(alloc, case),
-            About::Documents => documents::document(alloc, case),
+            About::Texts => texts::tell_text(alloc, case, out),
+            About::Bodies => texts::tell_body(alloc, case, out),
+            About::Values => texts::tell_order(alloc, case, out),
+            About::Patterns => texts::tell_pattern(alloc, case, out),
+            About::Names => words::tell_name(alloc, case, out),
+            About::Numbers => words::tell_number(alloc, case, out),
+            About::TruthValues => words::tell_truth_value(alloc, case, out),
+            About::Truths => words::tell_truths(case, out),
+            About::Headers => headers::tell_header(alloc, case, out),
+            About::Sessions => headers::tell_session(alloc, case, out),
+            About::SessionVariables => headers::tell_variable(alloc, case, out),
+            About::Tokens => documents::tell_tokens(alloc, case, out),
+            About::Documents => documents::tell_document(alloc, case, out),
         }
     }
 }

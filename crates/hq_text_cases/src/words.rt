@@ -2,13 +2,13 @@
 
 use hq_base::{Json, Ty};
 use hq_case::{Case, Stop};
-use hq_terms::{Truth, is_free_name, truth_value as truth_value_of, whole_number};
+use hq_terms::{Truth, is_free_name, truth_value, whole_number};
 use std::alloc::Global;
 
 /// Whether a text is a name that does not begin with two underscores.
-pub fn name(alloc: Global, case: &Case) -> Result<String, Stop> {
-    let text = case.text(alloc, "in")?;
-    Ok(format!(in alloc; "{}", is_free_name(&text))?)
+pub fn tell_name(alloc: Global, case: &Case, out: &mut String) -> Result<(), Stop> {
+    let is_free = is_free_name(&case.text(alloc, "in")?);
+    Ok(write!(out, "{is_free}")?)
 }
 
 // The type that a case names.
@@ -26,17 +26,15 @@ fn type_of(case: &Case) -> Result<Ty, Stop> {
 }
 
 /// The whole number of a type that a text is.
-pub fn number(alloc: Global, case: &Case) -> Result<String, Stop> {
-    let text = case.text(alloc, "in")?;
-    let number = whole_number(type_of(case)?, text.as_str());
-    Ok(format!(in alloc; "{number:?}")?)
+pub fn tell_number(alloc: Global, case: &Case, out: &mut String) -> Result<(), Stop> {
+    let number = whole_number(type_of(case)?, case.text(alloc, "in")?.as_str());
+    Ok(write!(out, "{number:?}")?)
 }
 
 /// The truth value that a text is.
-pub fn truth_value(alloc: Global, case: &Case) -> Result<String, Stop> {
-    let text = case.text(alloc, "in")?;
-    let value = truth_value_of(text.as_str());
-    Ok(format!(in alloc; "{value:?}")?)
+pub fn tell_truth_value(alloc: Global, case: &Case, out: &mut String) -> Result<(), Stop> {
+    let value = truth_value(case.text(alloc, "in")?.as_str());
+    Ok(write!(out, "{value:?}")?)
 }
 
 // The truth that a member names.
@@ -49,10 +47,10 @@ fn truth(case: &Case, member: &str) -> Result<Truth, Stop> {
 }
 
 /// Two truths joined by AND and by OR, the first one under NOT, and whether it keeps a row.
-pub fn truths(alloc: Global, case: &Case) -> Result<String, Stop> {
+pub fn tell_truths(case: &Case, out: &mut String) -> Result<(), Stop> {
     let left = truth(case, "left")?;
     let right = truth(case, "right")?;
     let (and, or, not) = (left.and(right), left.or(right), left.negated());
     let kept = left.is_yes();
-    Ok(format!(in alloc; "and {and:?}, or {or:?}, not {not:?}, kept {kept}")?)
+    Ok(write!(out, "and {and:?}, or {or:?}, not {not:?}, kept {kept}")?)
 }

@@ -1,14 +1,14 @@
 //! A document in words: what it spells, each node behind its place.
 
 use hq_base::Txt;
-use hq_case::Stop;
 use hq_gql_tree::{
     Argument, Definition, Directive, Document, Field, Fragment, Inline, OpKind, Operation, Placed,
     Selection, Spread, TypeCond, TypeRefTree, Value, VarDef,
 };
+use std::alloc::AllocError;
 
 /// Adds the words of a document.
-pub fn push_document(document: &Document, out: &mut String) -> Result<(), Stop> {
+pub fn push_document(document: &Document, out: &mut String) -> Result<(), AllocError> {
     for definition in &document.definitions {
         match definition {
             Definition::Operation(operation) => push_operation(operation, out)?,
@@ -18,7 +18,7 @@ pub fn push_document(document: &Document, out: &mut String) -> Result<(), Stop> 
     Ok(())
 }
 
-fn push_operation(operation: &Operation, out: &mut String) -> Result<(), Stop> {
+fn push_operation(operation: &Operation, out: &mut String) -> Result<(), AllocError> {
     let kind = match operation.kind {
         OpKind::Query => "query",
         OpKind::Mutation => "mutation",
@@ -33,14 +33,19 @@ fn push_operation(operation: &Operation, out: &mut String) -> Result<(), Stop> {
     push_selections(&operation.selections, out)
 }
 
-fn push_name(before: &str, name: &Option<Txt>, after: &str, out: &mut String) -> Result<(), Stop> {
+fn push_name(
+    before: &str,
+    name: &Option<Txt>,
+    after: &str,
+    out: &mut String,
+) -> Result<(), AllocError> {
     if let Some(name) = name {
         write!(out, "{before}{}{after}", name.as_str())?;
     }
     Ok(())
 }
 
-fn push_variable(var: &VarDef, out: &mut String) -> Result<(), Stop> {
+fn push_variable(var: &VarDef, out: &mut String) -> Result<(), AllocError> {
     write!(out, " ({} ${}: ", var.at, var.name.as_str())?;
     push_type(&var.ty, out)?;
     if let Some(default) = &var.default {
@@ -48,49 +53,49 @@ fn push_variable(var: &VarDef, out: &mut String) -> Result<(), Stop> {
         push_value(default, out)?;
     }
     push_directives(&var.directives, out)?;
-    Ok(out.push_str(")")?)
+    out.push_str(")")
 }
 
-fn push_type(ty: &TypeRefTree, out: &mut String) -> Result<(), Stop> {
+fn push_type(ty: &TypeRefTree, out: &mut String) -> Result<(), AllocError> {
     match ty {
-        TypeRefTree::Named { at, name } => Ok(write!(out, "{at} {}", name.as_str())?),
+        TypeRefTree::Named { at, name } => write!(out, "{at} {}", name.as_str()),
         TypeRefTree::List { at, of } => {
             write!(out, "{at} [")?;
             push_type(of, out)?;
-            Ok(out.push_str("]")?)
+            out.push_str("]")
         }
         TypeRefTree::NonNull { at, of } => {
             write!(out, "{at} ")?;
             push_type(of, out)?;
-            Ok(out.push_str("!")?)
+            out.push_str("!")
         }
     }
 }
 
 #[cycle(value)]
-fn push_value(placed: &Placed, out: &mut String) -> Result<(), Stop> {
+fn push_value(placed: &Placed, out: &mut String) -> Result<(), AllocError> {
     write!(out, "{} ", placed.at)?;
     match &placed.value {
-        Value::Int(text) => Ok(out.push_str(text.as_str())?),
-        Value::Float(text) => Ok(out.push_str(text.as_str())?),
-        Value::Str(text) => Ok(write!(out, "\"{}\"", text.as_str())?),
-        Value::Bool(b) => Ok(write!(out, "{b}")?),
-        Value::Null => Ok(out.push_str("null")?),
-        Value::Enum(text) => Ok(out.push_str(text.as_str())?),
+        Value::Int(text) => out.push_str(text.as_str()),
+        Value::Float(text) => out.push_str(text.as_str()),
+        Value::Str(text) => write!(out, "\"{}\"", text.as_str()),
+        Value::Bool(b) => write!(out, "{b}"),
+        Value::Null => out.push_str("null"),
+        Value::Enum(text) => out.push_str(text.as_str()),
         Value::List(values) => push_list(values, out),
         Value::Object(members) => push_arguments("{", members, "}", out),
-        Value::Variable(name) => Ok(write!(out, "${}", name.as_str())?),
+        Value::Variable(name) => write!(out, "${}", name.as_str()),
     }
 }
 
 #[cycle(value)]
-fn push_list(values: &Vec<Placed>, out: &mut String) -> Result<(), Stop> {
+fn push_list(values: &Vec<Placed>, out: &mut String) -> Result<(), AllocError> {
     out.push_str("[")?;
     for value in values {
         push_value(value, out)?;
         out.push_str(",")?;
     }
-    Ok(out.push_str("]")?)
+    out.push_str("]")
 }
 
 #[cycle(value)]
@@ -99,17 +104,17 @@ fn push_arguments(
     arguments: &Vec<Argument>,
     close: &str,
     out: &mut String,
-) -> Result<(), Stop> {
+) -> Result<(), AllocError> {
     out.push_str(open)?;
     for argument in arguments {
         write!(out, "{} {}: ", argument.at, argument.name.as_str())?;
         push_value(&argument.value, out)?;
         out.push_str(",")?;
     }
-    Ok(out.push_str(close)?)
+    out.push_str(close)
 }
 
-fn push_directives(directives: &Vec<Directive>, out: &mut String) -> Result<(), Stop> {
+fn push_directives(directives: &Vec<Directive>, out: &mut String) -> Result<(), AllocError> {
     for directive in directives {
         write!(out, " {} @{}", directive.at, directive.name.as_str())?;
         push_arguments("(", &directive.args, ")", out)?;
@@ -118,7 +123,7 @@ fn push_directives(directives: &Vec<Directive>, out: &mut String) -> Result<(), 
 }
 
 #[cycle(selection)]
-fn push_selections(selections: &Vec<Selection>, out: &mut String) -> Result<(), Stop> {
+fn push_selections(selections: &Vec<Selection>, out: &mut String) -> Result<(), AllocError> {
     out.push_str(" {")?;
     for selection in selections {
         match selection {
@@ -128,11 +133,11 @@ fn push_selections(selections: &Vec<Selection>, out: &mut String) -> Result<(), 
         }
         out.push_str(",")?;
     }
-    Ok(out.push_str("}")?)
+    out.push_str("}")
 }
 
 #[cycle(selection)]
-fn push_field(field: &Field, out: &mut String) -> Result<(), Stop> {
+fn push_field(field: &Field, out: &mut String) -> Result<(), AllocError> {
     write!(out, "{} ", field.at)?;
     push_name("", &field.alias, ": ", out)?;
     out.push_str(field.name.as_str())?;
@@ -141,13 +146,13 @@ fn push_field(field: &Field, out: &mut String) -> Result<(), Stop> {
     push_selections(&field.selections, out)
 }
 
-fn push_spread(spread: &Spread, out: &mut String) -> Result<(), Stop> {
+fn push_spread(spread: &Spread, out: &mut String) -> Result<(), AllocError> {
     write!(out, "{} ...{}", spread.at, spread.name.as_str())?;
     push_directives(&spread.directives, out)
 }
 
 #[cycle(selection)]
-fn push_inline(inline: &Inline, out: &mut String) -> Result<(), Stop> {
+fn push_inline(inline: &Inline, out: &mut String) -> Result<(), AllocError> {
     write!(out, "{} ...", inline.at)?;
     if let Some(cond) = &inline.cond {
         push_condition(cond, out)?;
@@ -156,11 +161,11 @@ fn push_inline(inline: &Inline, out: &mut String) -> Result<(), Stop> {
     push_selections(&inline.selections, out)
 }
 
-fn push_condition(cond: &TypeCond, out: &mut String) -> Result<(), Stop> {
-    Ok(write!(out, " {} on {}", cond.at, cond.name.as_str())?)
+fn push_condition(cond: &TypeCond, out: &mut String) -> Result<(), AllocError> {
+    write!(out, " {} on {}", cond.at, cond.name.as_str())
 }
 
-fn push_fragment(fragment: &Fragment, out: &mut String) -> Result<(), Stop> {
+fn push_fragment(fragment: &Fragment, out: &mut String) -> Result<(), AllocError> {
     write!(out, "{} fragment {}", fragment.at, fragment.name.as_str())?;
     push_condition(&fragment.cond, out)?;
     push_directives(&fragment.directives, out)?;

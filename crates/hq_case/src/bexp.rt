@@ -1,13 +1,14 @@
 //! Boolean expressions in words: columns are `c` with their place, relationships `r` with theirs, session variables `$`
 //! with their name.
 
-use hq_case::{Stop, push_value};
+use crate::push_value;
 use hq_terms::{Bexp, BexpList, Op, Operand};
+use std::alloc::AllocError;
 
-fn push_operand(operand: &Operand, out: &mut String) -> Result<(), Stop> {
+fn push_operand(operand: &Operand, out: &mut String) -> Result<(), AllocError> {
     match operand {
         Operand::Const(value) => push_value(value, out),
-        Operand::Session(name) => Ok(write!(out, "${}", name.as_str())?),
+        Operand::Session(name) => write!(out, "${}", name.as_str()),
     }
 }
 
@@ -16,13 +17,13 @@ fn before(at: usize) -> &'static str {
     if at == 0 { "" } else { ", " }
 }
 
-fn push_operands(operands: &[Operand], out: &mut String) -> Result<(), Stop> {
+fn push_operands(operands: &[Operand], out: &mut String) -> Result<(), AllocError> {
     out.push_str("[")?;
     for (at, operand) in operands.iter().enumerate() {
         out.push_str(before(at))?;
         push_operand(operand, out)?;
     }
-    Ok(out.push_str("]")?)
+    out.push_str("]")
 }
 
 fn sign(op: Op) -> &'static str {
@@ -54,18 +55,28 @@ fn null_word(yes: bool) -> &'static str {
 }
 
 // A column, a word and an operand.
-fn push_test(col: usize, word: &str, operand: &Operand, out: &mut String) -> Result<(), Stop> {
+fn push_test(
+    col: usize,
+    word: &str,
+    operand: &Operand,
+    out: &mut String,
+) -> Result<(), AllocError> {
     write!(out, "c{col} {word} ")?;
     push_operand(operand, out)
 }
 
-fn push_within(col: usize, word: &str, operands: &[Operand], out: &mut String) -> Result<(), Stop> {
+fn push_within(
+    col: usize,
+    word: &str,
+    operands: &[Operand],
+    out: &mut String,
+) -> Result<(), AllocError> {
     write!(out, "c{col} {word} ")?;
     push_operands(operands, out)
 }
 
 #[cycle(bexp)]
-fn push_members(word: &str, bexps: &BexpList, out: &mut String) -> Result<(), Stop> {
+fn push_members(word: &str, bexps: &BexpList, out: &mut String) -> Result<(), AllocError> {
     write!(out, "{word}(")?;
     for (at, bexp) in bexps.iter().enumerate() {
         out.push_str(before(at))?;
@@ -75,22 +86,22 @@ fn push_members(word: &str, bexps: &BexpList, out: &mut String) -> Result<(), St
 }
 
 #[cycle(bexp)]
-fn push_not(inner: &Bexp, out: &mut String) -> Result<(), Stop> {
+fn push_not(inner: &Bexp, out: &mut String) -> Result<(), AllocError> {
     out.push_str("not ")?;
     push_bexp(inner, out)
 }
 
 #[cycle(bexp)]
-fn push_through(rel: usize, inner: &Bexp, out: &mut String) -> Result<(), Stop> {
+fn push_through(rel: usize, inner: &Bexp, out: &mut String) -> Result<(), AllocError> {
     write!(out, "r{rel}: ")?;
     push_bexp(inner, out)
 }
 
 /// Adds an expression.
 #[cycle(bexp)]
-pub fn push_bexp(bexp: &Bexp, out: &mut String) -> Result<(), Stop> {
+pub fn push_bexp(bexp: &Bexp, out: &mut String) -> Result<(), AllocError> {
     match bexp {
-        Bexp::True => Ok(out.push_str("true")?),
+        Bexp::True => out.push_str("true"),
         Bexp::And(bexps) => push_members("and", bexps, out),
         Bexp::Or(bexps) => push_members("or", bexps, out),
         Bexp::Not(inner) => push_not(inner, out),
@@ -100,7 +111,7 @@ pub fn push_bexp(bexp: &Bexp, out: &mut String) -> Result<(), Stop> {
             operands,
             negated,
         } => push_within(col.at(), in_word(*negated), operands.as_slice(), out),
-        Bexp::IsNull { col, yes } => Ok(write!(out, "c{} is {}", col.at(), null_word(*yes))?),
+        Bexp::IsNull { col, yes } => write!(out, "c{} is {}", col.at(), null_word(*yes)),
         Bexp::Like {
             col,
             fold,
