@@ -8,13 +8,13 @@ ghost use Rattle.hq_app.specs.Laws.{AnswersAlike};
 ghost use Rattle.hq_app.specs.Runs.{ReadCause, Runs, opens_door, outside, reads_input};
 
 use crate::laws::outputs_agree;
-use crate::{Done, Ran, Refusal, World};
+use crate::{Ran, World};
 use hq_base::Txt;
 use hq_commands::{check, generate_and_answer, serve};
 use hq_db::SqlDb;
 use hq_engine::Engine;
 use hq_link::Database;
-use hq_outcome::tell;
+use hq_outcome::{Done, Refusal, tell};
 use hq_outside::{Door, Files, Sink, Source};
 use hq_query::{query, reply_to, sql};
 use hq_session::SecretRule;

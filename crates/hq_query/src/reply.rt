@@ -113,7 +113,14 @@ fn respond<S: Source, K: Sink>(
         rows,
     } = loaded;
     let mut instance = Instance::over(alloc, catalog, meta, rows)?;
-    reply_to(alloc, &instance.engine, session, &mut instance.db, input, out)
+    reply_to(
+        alloc,
+        &instance.engine,
+        session,
+        &mut instance.db,
+        input,
+        out,
+    )
 }
 
 /// Loads a directory, and answers a request for the session of the headers.
