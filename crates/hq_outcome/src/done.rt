@@ -2,7 +2,7 @@ ghost use Rattle.std.specs.Prelude.{◌≡◌};
 ghost use Rattle.hq_outcome.specs.Ending.{done_status};
 
 /// What was written whole.
-#[derive(Clone, Copy, Debug, PartialEq, Eq)]
+#[derive(Clone, Copy)]
 pub enum Done {
     /// The data of a request, or the line of a check.
     Answered,
