@@ -1,7 +1,7 @@
 use Rattle.std.proofs.Common.{◌≤◌, List, length, sym, subst}
 use Rattle.hq_terms.specs.Database.{Row}
 use Rattle.hq_loading.proofs.Catalogs.{few_tables}
-use Rattle.hq_commands.proofs.check.write_check.Goals as goal
+use Rattle.hq_commands.proofs.checking.write_check.Goals as goal
 
 pub count_rows-rows-requires : goal.count_rows-rows-requires
 count_rows-rows-requires g c =
