@@ -39,9 +39,17 @@ fn serve_loaded<D: Door, K: Sink>(
         meta,
         rows,
     } = loaded;
-    let Instance { engine, db } = Instance::over(alloc, catalog, meta, rows)?;
+    let instance = Instance::over(alloc, catalog, meta, rows)?;
     door.listen(port)?;
-    serve_by_secret(alloc, engine, db, rule, door, out, connections)
+    serve_by_secret(
+        alloc,
+        instance.engine,
+        instance.db,
+        rule,
+        door,
+        out,
+        connections,
+    )
 }
 
 /// Loads a directory, opens a door at a port, and serves so many connections, one after the other, with a line for each.
