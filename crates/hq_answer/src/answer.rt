@@ -10,14 +10,14 @@ use hq_base::{Bytes, Json, Members, Memory, Txt};
 use std::alloc::Global;
 
 /// A member of a JSON object: its name, and the compact text of its value.
-#[derive(Debug, Drop)]
+#[derive(Drop)]
 pub struct AnswerMember {
     pub name: Txt,
     pub text: Bytes,
 }
 
 /// A JSON value as text.
-#[derive(Debug, Drop)]
+#[derive(Drop)]
 pub enum Answer {
     /// The members of an object, in order.
     Object(Vec<AnswerMember>),

@@ -11,7 +11,7 @@ pub type JsonList = Vec<Json>;
 pub type Members = Vec<Member>;
 
 /// A JSON value whose numbers are whole.
-#[derive(Debug, Drop)]
+#[derive(Drop)]
 #[cycle(json)]
 pub enum Json {
     Null,
@@ -23,7 +23,7 @@ pub enum Json {
 }
 
 /// A member of a JSON object.
-#[derive(Debug, Drop)]
+#[derive(Drop)]
 #[cycle(json)]
 pub struct Member {
     pub name: Txt,

@@ -11,14 +11,14 @@ use std::marker::Model;
 use thiserror::Error;
 
 /// A pattern of LIKE and ILIKE, which does not end in an escape. Contracts see its text.
-#[derive(Debug, Drop)]
+#[derive(Drop)]
 pub struct Pattern {
     text: Txt,
     steps: List<Step>,
 }
 
 // What a pattern asks for next.
-#[derive(Clone, Copy, Debug, PartialEq, Eq)]
+#[derive(Clone, Copy, PartialEq, Eq)]
 enum Step {
     Any,
     One,

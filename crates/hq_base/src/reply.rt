@@ -1,7 +1,7 @@
 use crate::Bytes;
 
 /// A reply: an HTTP status and the body's bytes.
-#[derive(Debug, Drop)]
+#[derive(Drop)]
 pub struct Reply {
     pub status: u16,
     pub body: Bytes,

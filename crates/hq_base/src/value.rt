@@ -4,7 +4,7 @@ use crate::{Json, Memory, Txt};
 use std::alloc::Global;
 
 /// A value of a table's cell or of an operand.
-#[derive(Debug, Drop, PartialEq, Eq, PartialOrd, Ord)]
+#[derive(Drop, PartialEq, Eq, PartialOrd, Ord)]
 pub enum Val {
     Null,
     Int(i64),
@@ -38,7 +38,7 @@ pub enum Ty {
 }
 
 /// A cell of a statement's rows.
-#[derive(Debug, Drop)]
+#[derive(Drop)]
 pub enum Cell {
     Null,
     Int(i128),

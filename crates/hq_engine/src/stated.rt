@@ -1,7 +1,7 @@
 use hq_base::{Bytes, Reply};
 
 /// What is asked for a request.
-#[derive(Debug, Drop)]
+#[derive(Drop)]
 pub enum Stated {
     /// Nothing: it has a fault, which this reply tells.
     Fault(Reply),

@@ -4,7 +4,7 @@ ghost use Rattle.hq_faults.specs.Faults.{rule_of, place_of, fault_at};
 use hq_gql_tree::{Fault, RuleId};
 
 /// Why a request's body is not read.
-#[derive(Clone, Copy, Debug, PartialEq, Eq)]
+#[derive(Clone, Copy, PartialEq, Eq)]
 pub enum BodyFault {
     /// It is not one JSON text in UTF-8, nested at most 127 deep.
     NotJson,
@@ -15,7 +15,7 @@ pub enum BodyFault {
 }
 
 /// What is wrong with a request.
-#[derive(Debug, Drop)]
+#[derive(Drop)]
 pub enum RequestFault {
     /// Its body is not read.
     Body(BodyFault),

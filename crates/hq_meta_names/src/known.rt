@@ -8,14 +8,14 @@ use hq_terms::TxtList;
 use std::alloc::Global;
 
 /// The names of all types, and of all root fields.
-#[derive(Debug, Drop)]
+#[derive(Drop)]
 pub struct Shared {
     pub types: TxtList,
     pub roots: TxtList,
 }
 
 /// The names of a type's fields, and of the inputs of its boolean expressions.
-#[derive(Debug, Drop)]
+#[derive(Drop)]
 pub struct Own {
     pub fields: TxtList,
     pub inputs: TxtList,

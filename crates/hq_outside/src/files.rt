@@ -14,7 +14,7 @@ use thiserror::Error;
 pub const LARGEST_FILE: usize = 268_435_456;
 
 /// A file of a folder.
-#[derive(Debug, Drop)]
+#[derive(Drop)]
 pub struct File {
     pub name: Txt,
     pub bytes: Bytes,

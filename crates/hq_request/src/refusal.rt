@@ -4,7 +4,7 @@ use hq_faults::RequestFault;
 use hq_gql_tree::Fault;
 
 /// Why a body makes no request.
-#[derive(Debug, Drop)]
+#[derive(Drop)]
 pub enum RequestRefusal {
     /// It has a fault.
     Fault(RequestFault),

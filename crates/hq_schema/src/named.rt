@@ -25,7 +25,7 @@ impl Named for Txt {
 
 /// A list whose items are found by their names, each in as many steps as the list's length has binary digits. Contracts see
 /// it as the list of its items.
-#[derive(Debug, Drop)]
+#[derive(Drop)]
 pub struct NamedList<T: Named> {
     items: Vec<T>,
     // The places of the items in ascending order of their names, of equal names the first place first.

@@ -3,7 +3,7 @@ use hq_base::Txt;
 use hq_terms::ColList;
 
 /// What a type is.
-#[derive(Clone, Copy, Debug, PartialEq, Eq)]
+#[derive(Clone, Copy, PartialEq, Eq)]
 pub enum Kind {
     Scalar,
     Object,
@@ -14,7 +14,7 @@ pub enum Kind {
 
 /// An argument of a field, or an input field of an input object. Its default is `false` where `default_false`, and else it
 /// has none.
-#[derive(Debug, Drop)]
+#[derive(Drop)]
 pub struct ArgDef {
     pub name: Txt,
     pub ty: TypeRef,
@@ -34,7 +34,7 @@ impl Named for ArgDef {
 pub type ArgDefList = NamedList<ArgDef>;
 
 /// A field of an object type, with its arguments.
-#[derive(Debug, Drop)]
+#[derive(Drop)]
 pub struct FieldDef {
     pub name: Txt,
     pub args: ArgDefList,
@@ -58,7 +58,7 @@ pub type TxtList = NamedList<Txt>;
 
 /// A type: an object has fields, an input object has inputs, an enum has values, and all else is empty. The values of an enum
 /// of columns stand for `columns`, one each; other values stand for none.
-#[derive(Debug, Drop)]
+#[derive(Drop)]
 pub struct TypeDef {
     pub name: Txt,
     pub kind: Kind,
@@ -82,7 +82,7 @@ pub type TypeDefList = NamedList<TypeDef>;
 
 /// A schema: its types, and the root type of a query. Beside the fields in the types, each object type takes `type_name`, and
 /// the root type of a query takes `introspection`; the directives `skip` and `include` take `conditions`.
-#[derive(Debug, Drop)]
+#[derive(Drop)]
 pub struct Schema {
     pub types: TypeDefList,
     pub query: TypeId,

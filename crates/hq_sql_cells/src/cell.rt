@@ -8,7 +8,7 @@ use hq_base::{Json, Memory, Txt, Val};
 use std::alloc::Global;
 
 /// A cell of a statement's rows. Its text is lent, by a table or by the statement.
-#[derive(Debug, Drop)]
+#[derive(Drop)]
 pub enum Cell<'d> {
     Null,
     Int(i128),

@@ -10,7 +10,7 @@ use crate::Cell;
 use std::cmp::Ordering;
 
 /// The direction of a sort key, and the end at which its NULLs stand.
-#[derive(Clone, Copy, Debug, PartialEq, Eq)]
+#[derive(Clone, Copy, PartialEq, Eq)]
 pub struct Direction {
     pub desc: bool,
     pub nulls_first: bool,

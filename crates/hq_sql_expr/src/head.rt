@@ -1,5 +1,5 @@
 /// What a JSON object or an aggregate begins with.
-#[derive(Clone, Copy, Debug, PartialEq, Eq)]
+#[derive(Clone, Copy, PartialEq, Eq)]
 pub enum Head {
     Object,
     CountAll,

@@ -16,7 +16,7 @@ use std::str;
 const NULL_FIELD: &str = "\\N";
 
 /// Why a field has no value of its column.
-#[derive(Clone, Copy, Debug, PartialEq, Eq)]
+#[derive(Clone, Copy, PartialEq, Eq)]
 pub enum FieldRefusal {
     NotUtf8,
     ZeroByte,

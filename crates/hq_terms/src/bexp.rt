@@ -2,7 +2,7 @@ use crate::{ColId, Op, RelId};
 use hq_base::{List, Txt, Val};
 
 /// What a column is compared with: a constant, which is never NULL, or the value of a session variable.
-#[derive(Debug, Drop)]
+#[derive(Drop)]
 pub enum Operand {
     Const(Val),
     Session(Txt),
@@ -15,7 +15,7 @@ pub type Operands = List<Operand>;
 pub type BexpList = Vec<Bexp>;
 
 /// A boolean expression over the rows of a table: a permission's filter, or the `where` of a request.
-#[derive(Debug, Drop)]
+#[derive(Drop)]
 #[cycle(bexp)]
 pub enum Bexp {
     /// Always true.

@@ -4,7 +4,7 @@ ghost use Rattle.hq_terms.specs.Catalog.{is_catalog};
 use crate::{Table, TableId, TableList};
 
 /// The tables of a database. Their names, columns, keys and foreign keys fit together.
-#[derive(Debug, Drop)]
+#[derive(Drop)]
 pub struct Catalog {
     pub tables: TableList,
     ghost valid: { is_catalog tables ≡ true },

@@ -4,7 +4,7 @@ use crate::{Bexp, ColId, ColList, RelId, TableId};
 use hq_base::{List, Txt};
 
 /// The names of a table's root fields.
-#[derive(Debug, Drop)]
+#[derive(Drop)]
 pub struct RootNames {
     pub select: Txt,
     pub select_aggregate: Txt,
@@ -12,7 +12,7 @@ pub struct RootNames {
 }
 
 /// A column of the table and the column of the remote table that is to equal it.
-#[derive(Clone, Copy, Debug, PartialEq, Eq)]
+#[derive(Clone, Copy, PartialEq, Eq)]
 pub struct Pair {
     pub own: ColId,
     pub remote: ColId,
@@ -22,7 +22,7 @@ pub struct Pair {
 pub type PairList = List<Pair>;
 
 /// A relationship: an array one where `many`, else an object one.
-#[derive(Debug, Drop)]
+#[derive(Drop)]
 pub struct Rel {
     pub name: Txt,
     pub remote: TableId,
@@ -34,7 +34,7 @@ pub struct Rel {
 pub type RelList = List<Rel>;
 
 /// A select permission of a role: the columns, the filter, the most rows of a list, and whether aggregates are allowed.
-#[derive(Debug, Drop)]
+#[derive(Drop)]
 pub struct Perm {
     pub role: Txt,
     pub cols: ColList,
@@ -52,7 +52,7 @@ pub type TxtList = List<Txt>;
 
 /// A tracked table: its GraphQL name, one GraphQL name for each column in the catalog's order, the names of its root
 /// fields, its relationships and its permissions.
-#[derive(Debug, Drop)]
+#[derive(Drop)]
 pub struct Tracked {
     pub table: TableId,
     pub name: Txt,
@@ -66,7 +66,7 @@ pub struct Tracked {
 pub type TrackedList = List<Tracked>;
 
 /// What the metadata says: the tracked tables.
-#[derive(Debug, Drop)]
+#[derive(Drop)]
 pub struct Meta {
     pub tracked: TrackedList,
 }

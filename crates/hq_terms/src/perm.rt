@@ -2,7 +2,7 @@ use crate::{Bexp, ColList};
 
 /// What a role may see of a table: the columns in the catalog's order, the filter, the most rows of a list, and whether
 /// aggregates are allowed.
-#[derive(Debug, Drop)]
+#[derive(Drop)]
 pub struct PermView {
     pub cols: ColList,
     pub filter: Bexp,

@@ -6,7 +6,7 @@ use hq_base::{Memory, Txt};
 use std::alloc::Global;
 
 /// The role of a session: `admin`, or one of the metadata's roles by its name.
-#[derive(Debug, Drop)]
+#[derive(Drop)]
 pub enum Role {
     Admin,
     Named(Txt),

@@ -4,7 +4,7 @@ ghost use Rattle.hq_terms.specs.Binding.{variable};
 use hq_base::{List, Txt};
 
 /// A session variable: its name in lower case, and its value.
-#[derive(Debug, Drop)]
+#[derive(Drop)]
 pub struct Var {
     pub name: Txt,
     pub value: Txt,
@@ -14,7 +14,7 @@ pub struct Var {
 pub type VarList = List<Var>;
 
 /// Who asks: a role, and the session variables.
-#[derive(Debug, Drop)]
+#[derive(Drop)]
 pub struct Session {
     pub role: Txt,
     pub vars: VarList,

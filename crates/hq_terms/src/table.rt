@@ -5,7 +5,7 @@ use crate::{ColId, ColList, TableId};
 use hq_base::{List, Txt, Ty};
 
 /// A column of a table.
-#[derive(Debug, Drop)]
+#[derive(Drop)]
 pub struct Column {
     pub name: Txt,
     pub ty: Ty,
@@ -17,7 +17,7 @@ pub struct Column {
 pub type ColumnList = List<Column>;
 
 /// A foreign key: the columns, and the columns of the other table that they refer to, pair by pair.
-#[derive(Debug, Drop)]
+#[derive(Drop)]
 pub struct ForeignKey {
     pub columns: ColList,
     pub remote: TableId,
@@ -28,7 +28,7 @@ pub struct ForeignKey {
 pub type ForeignKeyList = List<ForeignKey>;
 
 /// A table: its name, its columns, the columns of its primary key, and its foreign keys.
-#[derive(Debug, Drop)]
+#[derive(Drop)]
 pub struct Table {
     pub schema: Txt,
     pub name: Txt,
