@@ -1,5 +1,1 @@
-mod Endings
-mod Statings
-mod Servings
 mod Worlds
-mod Lines

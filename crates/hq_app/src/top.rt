@@ -1,24 +1,22 @@
 ghost use Rattle.std.specs.Prelude.{◌≡◌, ◌≢◌, ◌⊎◌, ◌≤◌, IsErrOf, IfErr, IfSome, None, false};
 ghost use Rattle.hq_outside.specs.Causes.{Rose};
 ghost use Rattle.hq_words.specs.Asked.{command_of};
-ghost use Rattle.hq_app.specs.Ending.{Answer, Answers, Silent, Tells, NotDatabase, status_of, told_line};
+ghost use Rattle.hq_outcome.specs.Ending.{Answer, Silent, Tells, NotDatabase, status_of, told_line};
+ghost use Rattle.hq_query.specs.Answers.{Answers};
+ghost use Rattle.hq_commands.specs.Serving.{seen_door};
 ghost use Rattle.hq_app.specs.Laws.{AnswersAlike};
 ghost use Rattle.hq_app.specs.Runs.{ReadCause, Runs, opens_door, outside, reads_input};
-ghost use Rattle.hq_app.specs.Serving.{seen_door};
 
-use crate::check::check;
-use crate::generating::generate_and_answer;
 use crate::laws::outputs_agree;
-use crate::line::write_line;
-use crate::reply::{query, reply_to};
-use crate::serving::serve;
-use crate::stating::sql;
-use crate::{Done, Ran, Refusal, World};
+use crate::{Ran, World};
 use hq_base::Txt;
+use hq_commands::{check, generate_and_answer, serve};
 use hq_db::SqlDb;
 use hq_engine::Engine;
 use hq_link::Database;
+use hq_outcome::{Done, Refusal, tell};
 use hq_outside::{Door, Files, Sink, Source};
+use hq_query::{query, reply_to, sql};
 use hq_session::SecretRule;
 use hq_tables::Tables;
 use hq_terms::Session;
@@ -70,20 +68,6 @@ fn answered<F: Files, D: Door, S: Source, K: Sink>(
             serve(alloc, &dir, &rule, port, connections, files, door, out)
         }
         Command::Gen { n } => generate_and_answer(alloc, n, out),
-    }
-}
-
-// Tells a refusal on standard error. Gives the status of the answer.
-fn tell<E: Sink>(err: &mut E, answer: Result<Done, Refusal>) -> u8
-    ensures status { result ≡ status_of answer }
-    ensures line { Tells (E.written err.old) (E.written err.new) (E.faults err.old) (E.faults err.new) (told_line answer) }
-{
-    match answer {
-        Ok(done) => done.status(),
-        Err(refusal) => {
-            let _ = write_line(err, &refusal);
-            refusal.status()
-        }
     }
 }
 

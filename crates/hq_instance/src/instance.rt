@@ -1,0 +1,42 @@
+use hq_base::Memory;
+use hq_db::SqlDb;
+use hq_engine::Engine;
+use hq_link::Database;
+use hq_tables::{MemTables, RowsList};
+use hq_terms::{Catalog, Meta};
+use std::alloc::Global;
+
+/// An engine, and a database in memory.
+#[derive(Drop)]
+pub struct Instance {
+    pub engine: Engine,
+    pub db: SqlDb<MemTables>,
+}
+
+impl Instance {
+    ghost use Rattle.std.specs.Prelude.{◌≡◌, true, IfOk, Some};
+    ghost use Rattle.hq_terms.specs.Database.{is_database};
+    ghost use Rattle.hq_terms.specs.Fits.{fits};
+    ghost use Rattle.hq_terms.specs.Meta.{meta_view};
+
+    /// An engine for this catalog and a metadata that fits it, and a database of the catalog with these rows.
+    pub fn over(
+        alloc: Global,
+        catalog: Catalog,
+        meta: Meta,
+        rows: RowsList,
+    ) -> Result<Instance, Memory>
+        requires database { is_database catalog.tables rows ≡ true }
+        requires fits { fits catalog.tables (meta_view meta) ≡ true }
+        ensures catalog { IfOk result (λ made. made.engine.catalog.tables ≡ catalog.tables) }
+        ensures meta { IfOk result (λ made. meta_view made.engine.meta ≡ meta_view meta) }
+        ensures tables { IfOk result (λ made. ⟦<SqlDb<MemTables> as Database>⟧.tables made.db ≡ catalog.tables) }
+        ensures rows { IfOk result (λ made. ⟦<SqlDb<MemTables> as Database>⟧.database made.db ≡ Some rows) }
+    {
+        let engine = Engine::new(alloc, catalog.copy(alloc)?, meta)?;
+        Ok(Instance {
+            engine,
+            db: SqlDb::new(MemTables::new(catalog, rows)),
+        })
+    }
+}
