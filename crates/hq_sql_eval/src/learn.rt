@@ -1,15 +1,13 @@
 //! What is learned of conditions before a statement is walked.
-ghost use Rattle.std.specs.Prelude.{◌≡◌, ◌+◌, ◌≤◌, ◌&&◌, [], map, length, IfOk, IfSome};
+ghost use Rattle.std.specs.Prelude.{◌≡◌, ◌+◌, ◌≤◌, ◌&&◌, map, length, IfOk, IfSome};
 ghost use Rattle.hq_sql_closed.specs.Conjuncts.{all_kept, lent_views, lent_weight};
 ghost use Rattle.hq_sql_closed.specs.Split.{kept_one};
 ghost use Rattle.hq_sql_closed.specs.Weight.{filter_weight};
-ghost use Rattle.hq_sql_tree.specs.Meaning.{has_rows, nothing, rows_of, with_alias};
 ghost use Rattle.hq_sql_tree.specs.Tree.{joins_of};
-ghost use Rattle.hq_sql_tree.specs.View.{filter_view, from_view, join_view, pred_view, select_view};
+ghost use Rattle.hq_sql_tree.specs.View.{filter_view, join_view, pred_view};
 ghost use Rattle.hq_sql_rows.specs.Known.{IsKnown, IsRight};
-ghost use Rattle.hq_sql_eval.specs.Narrowed.{narrowed, keeps_one};
-ghost use Rattle.hq_sql_rows.specs.Sources.{alias_in, rows_given};
 ghost use Rattle.hq_sql_rows.specs.View.{names_of, source_view, world_of};
+ghost use Rattle.hq_sql_eval.specs.Narrowed.{has_row, keeps_one, keeps_some, narrowed, truths_at};
 
 use hq_base::{Memory, Txt};
 use hq_sql_closed::{Names, split};
@@ -78,7 +76,7 @@ fn narrowed_each<'s, 'd>(
     world: &Pinned<'d>,
 ) -> Result<Vec<bool>, Memory>
     requires { length before.now ≡ length (source_view source) }
-    ensures { IfOk result (λ truths. truths.items ≡ narrowed before.now (map (λ row. kept_one (pred_view pred.now) (world_of world.now) (with_alias nothing alias.now row)) (source_view source.entry))) }
+    ensures { IfOk result (λ truths. truths.items ≡ narrowed before.now (truths_at (kept_one (pred_view pred.now) (world_of world.now)) source.entry alias.now)) }
 {
     let mut truths = Vec::with_capacity(alloc, before.len())?;
     for position in 0..before.len() {
@@ -104,7 +102,7 @@ fn narrowed_over<'s, 'd>(
     world: &Pinned<'d>,
 ) -> Result<Vec<bool>, Memory>
     requires { length before.now ≡ length (source_view source) }
-    ensures { IfOk result (λ truths. truths.items ≡ narrowed before.now (map (λ row. keeps_one (rows_given (from_view from.now) (world_of world.now) []) (alias_in (from_view from.now)) (joins_of (map join_view joins.now)) (filter_view filter.now) (world_of world.now) (with_alias nothing alias.now row)) (source_view source.entry))) }
+    ensures { IfOk result (λ truths. truths.items ≡ narrowed before.now (truths_at (keeps_some from.now joins.now filter.now world.now) source.entry alias.now)) }
 {
     let inner = source_of(world, from, &[]);
     let known = known_of(world, from, joins, filter);
@@ -141,7 +139,7 @@ fn narrowed_by<'s, 'd>(
     world: &Pinned<'d>,
 ) -> Result<Option<Vec<bool>>, Memory>
     requires { length before.now ≡ length (source_view source) }
-    ensures { IfOk result (λ found. IfSome found (λ truths. truths.items ≡ narrowed before.now (map (λ row. has_rows (rows_of (select_view select.now) (world_of world.now) (with_alias nothing alias.now row))) (source_view source.entry)))) }
+    ensures { IfOk result (λ found. IfSome found (λ truths. truths.items ≡ narrowed before.now (truths_at (has_row select.now world.now) source.entry alias.now))) }
 {
     let Select::Rows {
         from,
@@ -172,7 +170,7 @@ fn narrowed<'s, 'd>(
     world: &Pinned<'d>,
 ) -> Result<Vec<bool>, Memory>
     requires { length before.now ≡ length (source_view source) }
-    ensures { IfOk result (λ truths. truths.items ≡ narrowed before.now (map (λ row. kept_one (pred_view pred.now) (world_of world.now) (with_alias nothing alias.now row)) (source_view source.entry))) }
+    ensures { IfOk result (λ truths. truths.items ≡ narrowed before.now (truths_at (kept_one (pred_view pred.now) (world_of world.now)) source.entry alias.now)) }
 {
     if let Pred::Exists(select) = pred {
         if let Some(truths) = narrowed_by(alloc, before, source, alias, select, world)? {
@@ -190,7 +188,7 @@ fn truths_over<'s, 'd>(
     closed: &[&'d Pred],
     world: &Pinned<'d>,
 ) -> Result<Vec<bool>, Memory>
-    ensures { IfOk result (λ truths. truths.items ≡ map (λ row. all_kept (lent_views closed.now) (world_of world.now) (with_alias nothing alias.now row)) (source_view source.entry)) }
+    ensures { IfOk result (λ truths. truths.items ≡ truths_at (all_kept (lent_views closed.now) (world_of world.now)) source.entry alias.now) }
 {
     let mut truths = Vec::from_elem(alloc, true, count(source))?;
     for pred in closed {

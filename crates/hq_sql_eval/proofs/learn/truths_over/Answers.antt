@@ -1,6 +1,8 @@
-use Rattle.std.proofs.Common.{rules, ◌≡◌, ◌∙◌, ◌<◌, map, length, ap, arith}
-use Rattle.std.proofs.lemmas.List.{length-map}
+use Rattle.std.proofs.Common.{rules, ◌≡◌, ◌∙◌, ◌<◌, ◌≤◌, map, length, ap, arith}
+use Rattle.std.proofs.lemmas.List.{length-map, take_all}
+use Rattle.hq_sql_closed.specs.Conjuncts.{all_kept, lent_views}
 use Rattle.hq_sql_rows.specs.View.{source_view, world_of}
+use Rattle.hq_sql_eval.specs.Narrowed.{truths_at}
 use Rattle.hq_sql_eval.proofs.Learned.{truths_step, truths_none}
 use Rattle.hq_sql_eval.proofs.learn.truths_over.Goals as goal
 
@@ -15,3 +17,8 @@ loop-pred-preserved c =
 
 pub narrowed-requires : goal.narrowed-requires
 narrowed-requires c = ap length (c.deref.ensures.value ∙ c.loop-pred.invariant) ∙ length-map (source_view c.args.source) _
+
+pub returns : goal.returns
+returns c =
+    let all : length c.args.closed.now ≤ c.loop-pred.pred-index = omega (arith, c.loop-pred-test.false) in
+    c.loop-pred.invariant ∙ ap (λ ps. truths_at (all_kept (lent_views ps) (world_of c.args.world.now)) c.args.source c.args.alias.now) (take_all c.loop-pred.pred-index c.args.closed.now all)
