@@ -31,7 +31,7 @@ use hq_schema::{Named, NamedList, Schema, TypeRef};
 use std::alloc::Global;
 
 /// A variable with its coerced value, of which an enum is its text. A variable without a value has none of these.
-#[derive(Debug, Drop)]
+#[derive(Drop)]
 pub struct VarValue {
     pub name: Txt,
     pub value: Json,

@@ -10,7 +10,7 @@ use hq_outside::Link;
 use httparse::spans::HeaderSpan;
 
 /// Whether enough bytes arrived.
-#[derive(Clone, Copy, Debug, PartialEq, Eq)]
+#[derive(Clone, Copy)]
 pub enum Filled {
     Enough,
     Over,
@@ -18,7 +18,7 @@ pub enum Filled {
 }
 
 /// What arrived.
-#[derive(Clone, Copy, Debug, PartialEq, Eq)]
+#[derive(Clone, Copy)]
 pub enum Arrived {
     Whole(WholeRequest),
     Refused(Fault, bool),

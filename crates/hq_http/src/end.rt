@@ -1,5 +1,5 @@
 /// How a connection ended.
-#[derive(Clone, Copy, Debug, PartialEq, Eq)]
+#[derive(Clone, Copy, Debug)]
 pub enum ConnEnd {
     /// The input ended between two requests, or a reply was written after which the request wanted the end.
     Ended,
@@ -15,14 +15,14 @@ pub enum ConnEnd {
 }
 
 /// Whether the connection goes on.
-#[derive(Clone, Copy, Debug, PartialEq, Eq)]
+#[derive(Clone, Copy)]
 pub enum Step {
     GoesOn,
     Ends(ConnEnd),
 }
 
 /// Whether a reply was written.
-#[derive(Clone, Copy, Debug, PartialEq, Eq)]
+#[derive(Clone, Copy)]
 pub enum Sent {
     Whole,
     Fault,

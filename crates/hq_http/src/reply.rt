@@ -7,7 +7,7 @@ use http::StatusCode;
 use itoa::Buffer;
 
 /// How a reply is written.
-#[derive(Clone, Copy, Debug)]
+#[derive(Clone, Copy)]
 pub struct Manner {
     pub status: u16,
     /// The body is plain text, and not JSON.

@@ -14,7 +14,7 @@ use httparse::spans::HeaderSpan;
 use std::alloc::Global;
 
 /// What a whole request gets that is not refused.
-#[derive(Debug, Drop)]
+#[derive(Drop)]
 pub enum Response {
     /// The responder's reply.
     Replied(Reply),

@@ -9,7 +9,7 @@ use hq_session::Headers;
 use std::alloc::Global;
 
 /// What a responder answers.
-#[derive(Debug, Drop)]
+#[derive(Drop)]
 pub enum Answer {
     Body(Reply),
     /// The caller is nobody who may ask.

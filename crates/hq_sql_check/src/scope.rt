@@ -6,7 +6,7 @@ ghost use Rattle.hq_sql_check.specs.Scopes.{kind_view, name_view, alias_view, st
 use hq_base::Txt;
 
 /// What an expression's values are: whole numbers, perhaps those of a table's column, texts, truth values or JSON.
-#[derive(Clone, Copy, Debug, PartialEq, Eq)]
+#[derive(Clone, Copy)]
 pub(crate) enum Kind {
     Whole { of_column: bool },
     Text,

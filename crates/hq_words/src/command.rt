@@ -12,7 +12,7 @@ use hq_session::Headers;
 use std::alloc::Global;
 
 /// What words ask of the program.
-#[derive(Debug, Drop)]
+#[derive(Drop)]
 pub enum Command {
     /// To answer a request over a directory, for the session of the headers.
     Query {

@@ -3,7 +3,7 @@ use hq_session::HeadersRefusal;
 use thiserror::Error;
 
 /// Why words ask nothing.
-#[derive(Clone, Copy, Debug, PartialEq, Eq, Error)]
+#[derive(Clone, Copy, Debug, Error)]
 pub enum WordsRefusal {
     #[error("bad arguments")]
     BadWords,
