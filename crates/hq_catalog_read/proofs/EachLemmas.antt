@@ -1,5 +1,5 @@
 -- Items that are read in order: one step of the loop, and what comes of each item.
-use Rattle.std.proofs.Common.{◌≡◌, ◌∙◌, ℕ, ◌+◌, ◌<◌, List, [], ◌∷◌, ◌++◌, length, drop, get_or, Result, Ok, Err, refl, sym, ap, subst, append_assoc}
+use Rattle.std.proofs.Common.{◌≡◌, ◌∙◌, ℕ, ◌+◌, ◌<◌, List, [], ◌∷◌, ◌++◌, length, map, drop, get_or, Result, Ok, Err, refl, sym, ap, subst, append_assoc}
 use Rattle.std.specs.List.{AllZip}
 use Rattle.std.proofs.lemmas.List.{drop_more}
 use Rattle.hq_base.specs.Due.{and_then, mapped}
@@ -19,6 +19,16 @@ each_from-more read path p xs i x done more y whole so_far below is at given gro
     so_far
     ∙ ap (λ zs. mapped (λ ys. done ++ ys) (each_from read path i zs)) (drop_more xs i x below)
     ∙ ap (λ z. mapped (λ ys. done ++ ys) (and_then (λ v. mapped (λ ys. v ∷ ys) rest) z)) (ap (read (item_path path i)) (sym is) ∙ ap (λ q. read q x) (sym at) ∙ given)
+    ∙ grown done y rest
+    ∙ ap (λ front. mapped (λ ys. front ++ ys) rest) (sym grows)
+
+-- the same, where the items are seen by a view
+pub each_from-more_view : {A V B : Type 0} (view : A → V) (read : List ℕ → V → Result B CatalogRefusal) (path p : List ℕ) (xs : List A) (i : ℕ) (x : A) (done more : List B) (y : B) (whole : Result (List B) CatalogRefusal) → whole ≡ mapped (λ ys. done ++ ys) (each_from read path i (map view (drop i xs))) → i < length xs → x ≡ get_or xs i x → p ≡ item_path path i → read p (view x) ≡ Ok y → more ≡ done ++ y ∷ [] → whole ≡ mapped (λ ys. more ++ ys) (each_from read path (i + 1) (map view (drop (i + 1) xs)))
+each_from-more_view view read path p xs i x done more y whole so_far below is at given grows =
+    let rest = each_from read path (i + 1) (map view (drop (i + 1) xs)) in
+    so_far
+    ∙ ap (λ zs. mapped (λ ys. done ++ ys) (each_from read path i (map view zs))) (drop_more xs i x below)
+    ∙ ap (λ z. mapped (λ ys. done ++ ys) (and_then (λ v. mapped (λ ys. v ∷ ys) rest) z)) (ap (λ v. read (item_path path i) (view v)) (sym is) ∙ ap (λ q. read q (view x)) (sym at) ∙ given)
     ∙ grown done y rest
     ∙ ap (λ front. mapped (λ ys. front ++ ys) rest) (sym grows)
 

@@ -6,7 +6,7 @@ use hq_base::{Memory, Txt};
 use std::alloc::Global;
 
 /// A member of the file's objects.
-#[derive(Clone, Copy, Debug, PartialEq, Eq)]
+#[derive(Clone, Copy)]
 pub enum Field {
     Tables,
     Schema,

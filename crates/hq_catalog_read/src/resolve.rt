@@ -3,6 +3,7 @@ ghost use Rattle.std.specs.List.{list_all, position, zip};
 ghost use Rattle.hq_base.specs.Due.{Gives};
 ghost use Rattle.hq_terms.specs.Catalog.{comparable, can_pair, type_of};
 ghost use Rattle.hq_catalog_read.specs.Each.{each};
+ghost use Rattle.hq_catalog_read.specs.Node.{at};
 ghost use Rattle.hq_catalog_read.specs.Resolved.{column_named, table_named, columns_at, can_refer, foreign_key_of, settled, table_of, resolved};
 
 use crate::CatalogRefusal;
@@ -55,6 +56,20 @@ fn columns_named(
     Ok(found)
 }
 
+// The columns of the names in a member of the object at a path.
+fn member_columns(
+    alloc: Global,
+    columns: &[Column],
+    path: &Txt,
+    field: Field,
+    names: &[Txt],
+) -> Result<ColList, CatalogRefusal>
+    ensures { Gives (λ found. found) CatalogRefusal.Memory (each (column_named columns.now) (at path.now field) names.now) result }
+{
+    let path = member_path(alloc, path, field.name())?;
+    columns_named(alloc, columns, &path, names)
+}
+
 // The place of the first table of this schema and name.
 fn table_place(tables: &[WrittenTable], schema: &Txt, name: &Txt) -> Option<usize>
     ensures { result ≡ position (λ t. bytes_eq t.schema schema.now && bytes_eq t.name name.now) tables.now }
@@ -78,6 +93,19 @@ fn table_named(
         Some(place) => Ok(TableId::new(place)),
         None => Err(misshaped(alloc, path)),
     }
+}
+
+// The table that the foreign key at a path names.
+fn remote_of(
+    alloc: Global,
+    tables: &[WrittenTable],
+    path: &Txt,
+    key: &WrittenForeignKey,
+) -> Result<TableId, CatalogRefusal>
+    ensures { Gives (λ table. table) CatalogRefusal.Memory (table_named tables.now (at path.now Field.Table) key.now) result }
+{
+    let path = member_path(alloc, path, Field::Table.name())?;
+    table_named(alloc, tables, &path, key)
 }
 
 // The columns of a table.
@@ -142,18 +170,11 @@ fn foreign_key_of(
 ) -> Result<ForeignKey, CatalogRefusal>
     ensures { Gives (λ resolved. resolved) CatalogRefusal.Memory (foreign_key_of tables.now own.now path.now key.now) result }
 {
-    let columns_path = member_path(alloc, path, Field::Columns.name())?;
-    let columns = columns_named(alloc, own, &columns_path, key.columns.as_slice())?;
-    let table_path = member_path(alloc, path, Field::Table.name())?;
-    let remote = table_named(alloc, tables, &table_path, key)?;
+    let columns = member_columns(alloc, own, path, Field::Columns, key.columns.as_slice())?;
+    let remote = remote_of(alloc, tables, path, key)?;
     let remote_columns = columns_at(tables, remote);
-    let references_path = member_path(alloc, path, Field::References.name())?;
-    let references = columns_named(
-        alloc,
-        remote_columns,
-        &references_path,
-        key.references.as_slice(),
-    )?;
+    let names = key.references.as_slice();
+    let references = member_columns(alloc, remote_columns, path, Field::References, names)?;
     if !can_refer(
         own,
         remote_columns,
@@ -185,6 +206,20 @@ fn foreign_keys_of(
         resolved.push(key)?;
     }
     Ok(resolved)
+}
+
+// The foreign keys of the table that is written at a path.
+fn member_foreign_keys(
+    alloc: Global,
+    tables: &[WrittenTable],
+    path: &Txt,
+    table: &WrittenTable,
+) -> Result<ForeignKeyList, CatalogRefusal>
+    ensures { Gives (λ resolved. resolved) CatalogRefusal.Memory (each (foreign_key_of tables.now table.now.columns) (at path.now Field.ForeignKeys) table.now.foreign) result }
+{
+    let path = member_path(alloc, path, Field::ForeignKeys.name())?;
+    let own = table.columns.as_slice();
+    foreign_keys_of(alloc, tables, own, &path, table.foreign.as_slice())
 }
 
 // A copy of a column; one that the key names holds no NULL.
@@ -220,16 +255,14 @@ fn table_of(
     ensures { Gives (λ resolved. resolved) CatalogRefusal.Memory (table_of tables.now path.now table.now) result }
 {
     let columns = table.columns.as_slice();
-    let key_path = member_path(alloc, path, Field::PrimaryKey.name())?;
-    let key = columns_named(alloc, columns, &key_path, table.key.as_slice())?;
-    let foreign_path = member_path(alloc, path, Field::ForeignKeys.name())?;
-    let foreign = foreign_keys_of(
+    let key = member_columns(
         alloc,
-        tables,
         columns,
-        &foreign_path,
-        table.foreign.as_slice(),
+        path,
+        Field::PrimaryKey,
+        table.key.as_slice(),
     )?;
+    let foreign = member_foreign_keys(alloc, tables, path, table)?;
     Ok(Table {
         schema: table.schema.copy(alloc)?,
         name: table.name.copy(alloc)?,

@@ -5,7 +5,7 @@ use hq_terms::ColumnList;
 pub type NameList = List<Txt>;
 
 /// A foreign key as the file writes it: by names.
-#[derive(Debug, Drop)]
+#[derive(Drop)]
 pub struct WrittenForeignKey {
     pub columns: NameList,
     pub schema: Txt,
@@ -18,7 +18,7 @@ pub type WrittenForeignKeyList = List<WrittenForeignKey>;
 
 /// A table as the file writes it: its key and its foreign keys are by names, and its columns are as nullable as they
 /// say themselves.
-#[derive(Debug, Drop)]
+#[derive(Drop)]
 pub struct WrittenTable {
     pub schema: Txt,
     pub name: Txt,

@@ -1,5 +1,5 @@
 /// What a request is answered with that gets no reply of its own.
-#[derive(Clone, Copy, Debug, PartialEq, Eq)]
+#[derive(Clone, Copy)]
 pub enum Fault {
     BadRequest,
     Denied,

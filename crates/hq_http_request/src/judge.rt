@@ -10,7 +10,7 @@ use crate::number::{body_length, is_number};
 use httparse::spans::HeaderSpan;
 
 /// What a request asks for.
-#[derive(Clone, Copy, Debug, PartialEq, Eq)]
+#[derive(Clone, Copy)]
 pub enum Place {
     Graphql,
     Health,
@@ -20,7 +20,7 @@ pub enum Place {
 }
 
 /// A whole request that is not refused. Places count bytes from its first byte on.
-#[derive(Clone, Copy, Debug, PartialEq, Eq)]
+#[derive(Clone, Copy)]
 pub struct WholeRequest {
     pub place: Place,
     /// The method is HEAD, so the reply has no body.

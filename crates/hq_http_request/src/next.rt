@@ -13,7 +13,7 @@ use httparse::{Error, Status};
 pub const HEAD_LIMIT: usize = 16_384;
 
 /// What the bytes at hand hold.
-#[derive(Clone, Copy, Debug, PartialEq, Eq)]
+#[derive(Clone, Copy)]
 pub enum Next {
     /// The beginning of a request, which has at least so many bytes.
     More(usize),

@@ -1,3 +1,4 @@
 mod Selected
 mod ByName
 mod Worked
+mod Loops

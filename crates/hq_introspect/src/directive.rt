@@ -3,7 +3,7 @@ ghost use Rattle.hq_base.specs.Text.{has_zero};
 ghost use Rattle.hq_introspect.specs.Directives.{directive_text, all_directives};
 
 /// A directive that each schema has.
-#[derive(Clone, Copy, Debug, PartialEq, Eq)]
+#[derive(Clone, Copy)]
 pub enum Directive {
     Include,
     Skip,

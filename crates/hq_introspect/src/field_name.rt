@@ -4,7 +4,7 @@ ghost use Rattle.hq_introspect.specs.FieldNames.{field_text, all_fields, field_n
 use hq_base::Txt;
 
 /// The name of a field of introspection: of the root type, or of a type of introspection.
-#[derive(Clone, Copy, Debug, PartialEq, Eq)]
+#[derive(Clone, Copy)]
 pub enum FieldName {
     Kind,
     Name,

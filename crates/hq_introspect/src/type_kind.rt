@@ -5,7 +5,7 @@ ghost use Rattle.hq_introspect.specs.TypeKinds.{kind_text, kind_of};
 use hq_schema::Kind;
 
 /// What introspection says that a type is.
-#[derive(Clone, Copy, Debug, PartialEq, Eq)]
+#[derive(Clone, Copy)]
 pub enum TypeKind {
     Scalar,
     Object,

@@ -4,7 +4,7 @@ use hq_outside::{NumList, count_fault};
 
 /// The calls of an object: the numbers, from 1, of those that are to fail, how many were made, and how many faults
 /// there were. At its last value a count stays.
-#[derive(Debug, Drop)]
+#[derive(Drop)]
 pub struct Calls {
     pub failing: NumList,
     pub made: u64,

@@ -17,7 +17,7 @@ pub type MemLinkList = List<MemLink>;
 pub type SureLinkList = List<SureLink>;
 
 /// A door in memory. Where its links are used up, it gives links without input and without room.
-#[derive(Debug, Drop)]
+#[derive(Drop)]
 pub struct MemDoor {
     row: LinkRow<MemLink>,
     pub calls: Calls,
@@ -114,7 +114,7 @@ impl Door for MemDoor {
 }
 
 /// A door in memory that never fails. Where its links are used up, it gives links without input.
-#[derive(Debug, Drop)]
+#[derive(Drop)]
 pub struct SureDoor {
     row: LinkRow<SureLink>,
     alloc: Global,

@@ -9,7 +9,7 @@ use hq_outside::{File, FileList, FileRefusal, Files, LARGEST_FILE, NumList};
 use std::alloc::Global;
 
 /// A folder in memory. The names of its files differ.
-#[derive(Debug, Drop)]
+#[derive(Drop)]
 pub struct MemFiles {
     pub files: FileList,
     pub calls: Calls,
@@ -84,7 +84,7 @@ impl Files for MemFiles {
 }
 
 /// A folder in memory that never fails. The names of its files differ.
-#[derive(Debug, Drop)]
+#[derive(Drop)]
 pub struct SureFiles {
     pub files: FileList,
     ghost distinct: { NamesDiffer files },

@@ -4,7 +4,7 @@ use std::mem;
 
 /// Links that are accepted in order. The one accepted last is taken out of its place, where another one stands
 /// meanwhile; past the end it is one without input.
-#[derive(Debug, Drop)]
+#[derive(Drop)]
 pub struct LinkRow<L> {
     pub places: Vec<L>,
     pub present: L,

@@ -11,7 +11,7 @@ use hq_outside::{Link, NumList, ReadFailed, Sink, Source, WriteFailed};
 use std::alloc::Global;
 
 /// A link in memory: a source and a sink.
-#[derive(Debug, Drop)]
+#[derive(Drop)]
 pub struct MemLink {
     pub input: MemSource,
     pub out: MemSink,
@@ -92,7 +92,7 @@ impl Link for MemLink {
 }
 
 /// A link in memory that never fails, and neither keeps nor tells what is written to it.
-#[derive(Debug, Drop)]
+#[derive(Drop)]
 pub struct SureLink {
     pub input: SureSource,
     pub out: SureSink,

@@ -11,7 +11,7 @@ use std::alloc::Global;
 use std::marker::Model;
 
 /// A sink in memory with room for so many bytes. Contracts see what was written to it, its room, and its calls.
-#[derive(Debug, Drop)]
+#[derive(Drop)]
 pub struct MemSink {
     out: Vec<u8>,
     room: usize,
@@ -93,7 +93,7 @@ impl Sink for MemSink {
 }
 
 /// A sink that never fails, and neither keeps nor tells what is written to it.
-#[derive(Debug, Drop)]
+#[derive(Drop)]
 pub struct SureSink;
 
 impl SureSink {

@@ -11,7 +11,7 @@ use hq_outside::{NumList, ReadFailed, Source};
 use std::marker::Model;
 
 /// A source in memory. Contracts see what is left of it, and its calls.
-#[derive(Debug, Drop)]
+#[derive(Drop)]
 pub struct MemSource {
     input: Bytes,
     at: usize,
@@ -94,7 +94,7 @@ impl Source for MemSource {
 }
 
 /// A source in memory that never fails. Contracts see what is left of it.
-#[derive(Debug, Drop)]
+#[derive(Drop)]
 pub struct SureSource {
     input: Bytes,
     at: usize,

@@ -85,6 +85,21 @@ each_member-beside P read step path (m ∷ ms) =
     (λ y h. ok_mapped (λ ys. y ∷ ys) (AllZip (λ m y. P y) ms) (AllZip (λ m y. P y) (m ∷ ms)) (λ ys g. (h, g)) (each_member read path ms) (each_member-beside P read step path ms))
     (read m.0 (member_path path m.0) m.1) (step m.0 (member_path path m.0) m.1)
 
+-- the value before the rest, and both behind what is done
+grown : {B E : Type 0} (done : List B) (y : B) (rest : Result (List B) E) → mapped (λ ys. done ++ ys) (mapped (λ ys. y ∷ ys) rest) ≡ mapped (λ ys. (done ++ y ∷ []) ++ ys) rest
+grown done y (Ok ys) = ap Ok (sym (append_assoc done (y ∷ []) ys))
+grown done y (Err e) = refl
+
+-- one member more is read, behind those before it
+pub each_member-more : {A B C E : Type 0} (read : List ℕ → List ℕ → C → Result B E) (view : A → List ℕ × C) (path p : List ℕ) (ms : List A) (i : ℕ) (m : A) (done more : List B) (y : B) (whole : Result (List B) E) → whole ≡ mapped (λ ys. done ++ ys) (each_member read path (map view (drop i ms))) → i < length ms → m ≡ get_or ms i m → p ≡ member_path path (view m).0 → read (view m).0 p (view m).1 ≡ Ok y → more ≡ done ++ y ∷ [] → whole ≡ mapped (λ ys. more ++ ys) (each_member read path (map view (drop (i + 1) ms)))
+each_member-more read view path p ms i m done more y whole so_far below is at given grows =
+    let rest = each_member read path (map view (drop (i + 1) ms)) in
+    so_far
+    ∙ ap (λ zs. mapped (λ ys. done ++ ys) (each_member read path (map view zs))) (drop_more ms i m below ∙ ap (λ z. z ∷ drop (i + 1) ms) (sym is))
+    ∙ ap (λ z. mapped (λ ys. done ++ ys) (and_then (λ b. mapped (λ ys. b ∷ ys) rest) z)) (ap (λ q. read (view m).0 q (view m).1) (sym at) ∙ given)
+    ∙ grown done y rest
+    ∙ ap (λ front. mapped (λ ys. front ++ ys) rest) (sym grows)
+
 -- one element more is read, behind those before it
 pub each_after-more : {A B C E : Type 0} (read : List B → List ℕ → C → Result B E) (f : A → C) (path p : List ℕ) (place : ℕ) (before new : List B) (xs : List A) (x : A) (y : B) → place < length xs → x ≡ get_or xs place x → p ≡ item_path path place → read before p (f x) ≡ Ok y → new ≡ before ++ y ∷ [] → each_after read path (place + 1) new (map f (drop (place + 1) xs)) ≡ each_after read path place before (map f (drop place xs))
 each_after-more {B = B} {E = E} read f path p place before new xs x y below is at given grows =

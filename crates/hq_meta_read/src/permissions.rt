@@ -10,6 +10,7 @@ ghost use Rattle.hq_terms.specs.Meta.{meta_view, perm_view};
 ghost use Rattle.hq_terms.specs.Names.{is_admin_name};
 ghost use Rattle.hq_terms.specs.Schema.{schema_of};
 ghost use Rattle.hq_meta_tables.specs.Each.{each, each_after};
+ghost use Rattle.hq_meta_tables.specs.Node.{at};
 ghost use Rattle.hq_meta_read.specs.Sound.{Shallow, Sound, AllSound, TablesSound};
 ghost use Rattle.hq_meta_read.specs.Permitted.{role_due, all_columns, chosen, star, columns_at, filter_in, whole_limit, limit_due, aggregations_due, absent, permission_at, perm_at, perms_at, with_perms, permitted};
 ghost use Rattle.hq_meta_read.specs.Linked.{is_among};
@@ -110,26 +111,25 @@ fn star(alloc: Global, columns: &[Column], path: &Txt, text: &Txt) -> Result<Col
     Ok(all_columns(alloc, columns)?)
 }
 
-// The columns at a path: the text `*` is all of them, and a list names some.
+// The columns that a member of the object at a path gives: the text `*` is all of them, and a list names some.
 fn columns_at(
     alloc: Global,
     columns: &[Column],
     path: &Txt,
     json: &Json,
 ) -> Result<ColList, MetaRefusal>
-    ensures { Gives (λ cols. cols) MetaRefusal.Memory (columns_at columns.now path.now (json_view json.now)) result }
+    ensures { Gives (λ cols. cols) MetaRefusal.Memory (columns_at columns.now (at path.now Field.Columns) (json_view json.now)) result }
 {
+    let path = at(alloc, path, Field::Columns)?;
     if let Some(text) = json.as_txt() {
-        return star(alloc, columns, path, text);
+        return star(alloc, columns, &path, text);
     }
     match json.as_array() {
         Some(list) => {
-            let listed = listed_columns(alloc, columns, path, list)?;
+            let listed = listed_columns(alloc, columns, &path, list)?;
             Ok(chosen(alloc, listed.as_slice(), columns)?)
         }
-        None => Err(MetaRefusal::Shape {
-            path: path.copy(alloc)?,
-        }),
+        None => Err(MetaRefusal::Shape { path }),
     }
 }
 
@@ -139,7 +139,7 @@ fn boxed(alloc: Global, filter: Bexp) -> Result<Box<Bexp>, Memory>
     Ok(Box::new(alloc, filter)?)
 }
 
-// The filter at a path over a table, in a box, so that it is let go in one step.
+// The filter over a table that a member of the object at a path gives, in a box, so that it is let go in one step.
 fn filter_at(
     alloc: Global,
     scope: &Scope,
@@ -147,31 +147,32 @@ fn filter_at(
     path: &Txt,
     json: &Json,
 ) -> Result<Box<Bexp>, MetaRefusal>
-    ensures due { Gives (λ b. bexp_view b.value) MetaRefusal.Memory (filter_in (filter_due (json_view json.now) (schema_of scope.now.catalog.now.tables (meta_view scope.now.meta.now)) table path.now)) result }
+    ensures due { Gives (λ b. bexp_view b.value) MetaRefusal.Memory (filter_in (filter_due (json_view json.now) (schema_of scope.now.catalog.now.tables (meta_view scope.now.meta.now)) table (at path.now Field.Filter))) result }
     ensures is { IfOk result (λ b. is_filter (bexp_view b.value) (schema_of scope.now.catalog.now.tables (meta_view scope.now.meta.now)) table ≡ true) }
     ensures shallow { IfOk result (λ b. depth (bexp_view b.value) ≤ 2 * nesting (json_view json.now)) }
 {
-    let filter = read_filter(alloc, json, path, scope.catalog, scope.meta, table)?;
+    let path = at(alloc, path, Field::Filter)?;
+    let filter = read_filter(alloc, json, &path, scope.catalog, scope.meta, table)?;
     Ok(boxed(alloc, filter)?)
 }
 
-// A limit: a whole number from 0 on, below 2^63; it may be absent or null.
+// The limit of the object at a path: a whole number from 0 on, below 2^63; it may be absent or null.
 fn limit(alloc: Global, path: &Txt, json: Option<&Json>) -> Result<Option<u64>, MetaRefusal>
-    ensures { Gives (λ limit. limit) MetaRefusal.Memory (limit_due path.now (option_map (λ j. json_view j.now) json.entry)) result }
+    ensures { Gives (λ limit. limit) MetaRefusal.Memory (limit_due (at path.now Field.Limit) (option_map (λ j. json_view j.now) json.entry)) result }
 {
     match json {
         None => Ok(None),
         Some(Json::Null) => Ok(None),
         Some(Json::Int(n)) if 0 <= *n && *n < 1 << 63 => Ok(Some(*n as u64)),
         Some(_) => Err(MetaRefusal::Shape {
-            path: path.copy(alloc)?,
+            path: at(alloc, path, Field::Limit)?,
         }),
     }
 }
 
-// Whether aggregates are allowed: they are not where the file does not say.
+// Whether the object at a path allows aggregates: they are not where the file does not say.
 fn aggregations(alloc: Global, path: &Txt, json: Option<&Json>) -> Result<bool, MetaRefusal>
-    ensures { Gives (λ allowed. allowed) MetaRefusal.Memory (aggregations_due path.now (option_map (λ j. json_view j.now) json.entry)) result }
+    ensures { Gives (λ allowed. allowed) MetaRefusal.Memory (aggregations_due (at path.now Field.AllowAggregations) (option_map (λ j. json_view j.now) json.entry)) result }
 {
     let Some(json) = json else {
         return Ok(false);
@@ -179,7 +180,7 @@ fn aggregations(alloc: Global, path: &Txt, json: Option<&Json>) -> Result<bool, 
     match json.as_bool() {
         Some(allowed) => Ok(allowed),
         None => Err(MetaRefusal::Shape {
-            path: path.copy(alloc)?,
+            path: at(alloc, path, Field::AllowAggregations)?,
         }),
     }
 }
@@ -211,30 +212,12 @@ fn permission_at(
     ensures sound { IfOk result (λ p. Sound (schema_of scope.now.catalog.now.tables (meta_view scope.now.meta.now)) table (perm_view p)) }
 {
     let columns = member_at(alloc, path, object, Field::Columns)?;
-    let cols = columns_at(
-        alloc,
-        columns_of(scope.catalog, table),
-        &at(alloc, path, Field::Columns)?,
-        columns,
-    )?;
+    let cols = columns_at(alloc, columns_of(scope.catalog, table), path, columns)?;
     let written = member_at(alloc, path, object, Field::Filter)?;
-    let filter = filter_at(
-        alloc,
-        scope,
-        table,
-        &at(alloc, path, Field::Filter)?,
-        written,
-    )?;
-    let limit = limit(
-        alloc,
-        &at(alloc, path, Field::Limit)?,
-        object.member(Field::Limit.name()),
-    )?;
-    let aggregations = aggregations(
-        alloc,
-        &at(alloc, path, Field::AllowAggregations)?,
-        object.member(Field::AllowAggregations.name()),
-    )?;
+    let filter = filter_at(alloc, scope, table, path, written)?;
+    let limit = limit(alloc, path, object.member(Field::Limit.name()))?;
+    let allowed = object.member(Field::AllowAggregations.name());
+    let aggregations = aggregations(alloc, path, allowed)?;
     check_absent(alloc, path, object, Field::QueryRootFields)?;
     check_absent(alloc, path, object, Field::SubscriptionRootFields)?;
     Ok(Perm {

@@ -3,7 +3,7 @@ ghost use Rattle.hq_base.specs.Text.{has_zero};
 ghost use Rattle.hq_meta_tables.specs.Field.{field_name};
 
 /// A member of the file's objects.
-#[derive(Clone, Copy, Debug, PartialEq, Eq)]
+#[derive(Clone, Copy)]
 pub enum Field {
     AllowAggregations,
     ArrayRelationships,

@@ -2,7 +2,7 @@ ghost use Rattle.std.specs.Prelude.{◌≡◌, IfOk, map};
 ghost use Rattle.hq_schema.specs.Schema.{arg_view, field_view};
 ghost use Rattle.hq_role_schema.specs.Fields.{list_args, list_field, aggregate_field, count_args};
 
-use crate::member::arg;
+use crate::member::push_arg;
 use crate::reference::{all_items, fixed, items, non_null, part};
 use hq_base::{Memory, Txt};
 use hq_schema::{ArgDefList, ArgOrigin, FieldDef, FieldOrigin, Fixed, NamedList, Part};
@@ -13,16 +13,38 @@ use std::alloc::Global;
 pub fn list_args(alloc: Global, first: u32) -> Result<ArgDefList, Memory>
     ensures { IfOk result (λ args. map arg_view args ≡ list_args first) }
 {
+    let mut args = Vec::new(alloc);
     let columns = items(alloc, part(first, Part::Columns))?;
+    push_arg(
+        alloc,
+        &mut args,
+        "distinct_on",
+        columns,
+        ArgOrigin::DistinctOn,
+    )?;
+    push_arg(
+        alloc,
+        &mut args,
+        "limit",
+        fixed(Fixed::Int),
+        ArgOrigin::Limit,
+    )?;
+    push_arg(
+        alloc,
+        &mut args,
+        "offset",
+        fixed(Fixed::Int),
+        ArgOrigin::Offset,
+    )?;
     let sorts = items(alloc, part(first, Part::Sort))?;
-    let filter = part(first, Part::Filter);
-    let args = vec![in alloc;
-        arg(alloc, "distinct_on", columns, ArgOrigin::DistinctOn)?,
-        arg(alloc, "limit", fixed(Fixed::Int), ArgOrigin::Limit)?,
-        arg(alloc, "offset", fixed(Fixed::Int), ArgOrigin::Offset)?,
-        arg(alloc, "order_by", sorts, ArgOrigin::OrderBy)?,
-        arg(alloc, "where", filter, ArgOrigin::Where)?,
-    ]?;
+    push_arg(alloc, &mut args, "order_by", sorts, ArgOrigin::OrderBy)?;
+    push_arg(
+        alloc,
+        &mut args,
+        "where",
+        part(first, Part::Filter),
+        ArgOrigin::Where,
+    )?;
     NamedList::new(alloc, args)
 }
 
@@ -65,15 +87,15 @@ pub fn aggregate_field(
 pub fn count_args(alloc: Global, first: u32) -> Result<ArgDefList, Memory>
     ensures { IfOk result (λ args. map arg_view args ≡ count_args first) }
 {
+    let mut args = Vec::new(alloc);
     let columns = items(alloc, part(first, Part::Columns))?;
-    let args = vec![in alloc;
-        arg(alloc, "columns", columns, ArgOrigin::Columns)?,
-        arg(
-            alloc,
-            "distinct",
-            fixed(Fixed::Boolean),
-            ArgOrigin::Distinct
-        )?,
-    ]?;
+    push_arg(alloc, &mut args, "columns", columns, ArgOrigin::Columns)?;
+    push_arg(
+        alloc,
+        &mut args,
+        "distinct",
+        fixed(Fixed::Boolean),
+        ArgOrigin::Distinct,
+    )?;
     NamedList::new(alloc, args)
 }

@@ -9,7 +9,7 @@ use crate::reference::{all_items, fixed, non_null, part};
 use crate::shown::{Link, LinkList, ShownColumn, ShownColumnList};
 use crate::text::{suffixed, text};
 use hq_base::Memory;
-use hq_schema::{FieldDef, FieldOrigin, Fixed, Part, TypeRef};
+use hq_schema::{FieldDef, FieldDefList, FieldOrigin, Fixed, NamedList, Part, TypeRef};
 use std::alloc::Global;
 
 fn row_type(alloc: Global, column: &ShownColumn) -> Result<TypeRef, Memory>
@@ -109,12 +109,12 @@ fn push_links(alloc: Global, fields: &mut Vec<FieldDef>, links: &LinkList) -> Re
 fn beside_rows(alloc: Global, first: u32) -> Result<Vec<FieldDef>, Memory>
     ensures { IfOk result (λ fields. map field_view fields.items ≡ beside_rows first) }
 {
+    let mut fields = Vec::new(alloc);
     let aggregates = part(first, Part::AggregateFields);
+    fields.push(plain_field(alloc, "aggregate", aggregates, FieldOrigin::Aggregates)?)?;
     let rows = all_items(alloc, part(first, Part::Rows))?;
-    Ok(vec![in alloc;
-        plain_field(alloc, "aggregate", aggregates, FieldOrigin::Aggregates)?,
-        plain_field(alloc, "nodes", rows, FieldOrigin::Nodes)?,
-    ]?)
+    fields.push(plain_field(alloc, "nodes", rows, FieldOrigin::Nodes)?)?;
+    Ok(fields)
 }
 
 fn count_field(alloc: Global, first: u32) -> Result<FieldDef, Memory>
@@ -192,13 +192,14 @@ pub fn part_fields(
     columns: &ShownColumnList,
     links: &LinkList,
     p: Part,
-) -> Result<Vec<FieldDef>, Memory>
-    ensures { IfOk result (λ fields. map field_view fields.items ≡ part_fields first columns.now links.now p) }
+) -> Result<FieldDefList, Memory>
+    ensures { IfOk result (λ fields. map field_view fields ≡ part_fields first columns.now links.now p) }
 {
-    match p {
+    let fields = match p {
         Part::Rows => row_fields(alloc, columns, links),
         Part::Aggregate => beside_rows(alloc, first),
         Part::AggregateFields => over_rows(alloc, first, columns),
         _ => column_fields(alloc, p, columns),
-    }
+    }?;
+    NamedList::new(alloc, fields)
 }

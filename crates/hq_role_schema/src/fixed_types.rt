@@ -8,15 +8,15 @@ use crate::operators::operator_inputs;
 use crate::root::query_fields;
 use crate::shown::PlacedTableList;
 use crate::text::{text, texts};
-use hq_base::{List, Memory, Txt, Ty};
-use hq_schema::{ArgDef, FieldDef, Fixed, NamedList, TypeDef};
+use hq_base::{List, Memory, Ty};
+use hq_schema::{ArgDefList, FieldDefList, Fixed, NamedList, TxtList, TypeDef};
 use std::alloc::Global;
 
 #[tactic(auto, unfolding(crate::specs::FixedTypes::fixed_values))]
-fn fixed_values(alloc: Global, of: Fixed) -> Result<Vec<Txt>, Memory>
-    ensures { IfOk result (λ values. values.items ≡ fixed_values of) }
+fn fixed_values(alloc: Global, of: Fixed) -> Result<TxtList, Memory>
+    ensures { IfOk result (λ values. values ≡ fixed_values of) }
 {
-    match of {
+    let values = match of {
         Fixed::OrderBy => texts(
             alloc,
             &[
@@ -65,44 +65,44 @@ fn fixed_values(alloc: Global, of: Fixed) -> Result<Vec<Txt>, Memory>
                 "VARIABLE_DEFINITION",
             ],
         ),
-        _ => Ok(Vec::new(alloc)),
-    }
+        _ => return Ok(NamedList::empty(alloc)),
+    }?;
+    NamedList::new(alloc, values)
 }
 
-fn fixed_inputs(alloc: Global, of: Fixed) -> Result<Vec<ArgDef>, Memory>
-    ensures { IfOk result (λ inputs. map arg_view inputs.items ≡ fixed_inputs of) }
+fn fixed_inputs(alloc: Global, of: Fixed) -> Result<ArgDefList, Memory>
+    ensures { IfOk result (λ inputs. map arg_view inputs ≡ fixed_inputs of) }
 {
-    match of {
+    let inputs = match of {
         Fixed::BooleanComparison => operator_inputs(alloc, Ty::Boolean),
         Fixed::IntComparison => operator_inputs(alloc, Ty::Integer),
         Fixed::StringComparison => operator_inputs(alloc, Ty::Text),
         Fixed::BigintComparison => operator_inputs(alloc, Ty::Bigint),
-        _ => Ok(Vec::new(alloc)),
-    }
+        _ => return Ok(NamedList::empty(alloc)),
+    }?;
+    NamedList::new(alloc, inputs)
 }
 
-fn fixed_fields(alloc: Global, tables: &PlacedTableList, of: Fixed) -> Result<Vec<FieldDef>, Memory>
-    ensures { IfOk result (λ fields. map field_view fields.items ≡ fixed_fields tables.now of) }
+fn fixed_fields(alloc: Global, tables: &PlacedTableList, of: Fixed) -> Result<FieldDefList, Memory>
+    ensures { IfOk result (λ fields. map field_view fields ≡ fixed_fields tables.now of) }
 {
-    match of {
+    let fields = match of {
         Fixed::QueryRoot => query_fields(alloc, tables),
         _ => introspection_fields(alloc, of),
-    }
+    }?;
+    NamedList::new(alloc, fields)
 }
 
 #[tactic(auto, unfolding(crate::specs::FixedTypes::fixed_type))]
 fn fixed_type(alloc: Global, tables: &PlacedTableList, of: Fixed) -> Result<TypeDef, Memory>
     ensures { IfOk result (λ t. type_view t ≡ fixed_type tables.now of) }
 {
-    let fields = fixed_fields(alloc, tables, of)?;
-    let inputs = fixed_inputs(alloc, of)?;
-    let values = fixed_values(alloc, of)?;
     Ok(TypeDef {
         name: text(alloc, of.name())?,
         kind: of.kind(),
-        fields: NamedList::new(alloc, fields)?,
-        inputs: NamedList::new(alloc, inputs)?,
-        values: NamedList::new(alloc, values)?,
+        fields: fixed_fields(alloc, tables, of)?,
+        inputs: fixed_inputs(alloc, of)?,
+        values: fixed_values(alloc, of)?,
         columns: List::new(alloc),
         origin: of.origin(),
     })

@@ -3,25 +3,30 @@ ghost use Rattle.std.specs.List.{filter_map};
 ghost use Rattle.hq_schema.specs.Schema.{arg_view};
 ghost use Rattle.hq_role_schema.specs.Inputs.{connectives, input_type, column_input, is_filter, link_input, inputs_of, part_inputs, part_values, part_columns};
 
-use crate::member::{arg, arg_of};
+use crate::member::{arg_of, push_arg};
 use crate::reference::{fixed, items, part};
 use crate::shown::{Link, LinkList, ShownColumn, ShownColumnList};
 use hq_base::{List, Memory, Txt, Ty};
-use hq_schema::{ArgDef, ArgOrigin, Fixed, Part};
+use hq_schema::{ArgDef, ArgDefList, ArgOrigin, Fixed, NamedList, Part, TxtList};
 use hq_terms::ColList;
 use std::alloc::Global;
 
 fn connectives(alloc: Global, first: u32) -> Result<Vec<ArgDef>, Memory>
     ensures { IfOk result (λ inputs. map arg_view inputs.items ≡ connectives first) }
 {
+    let mut inputs = Vec::new(alloc);
     let all = items(alloc, part(first, Part::Filter))?;
-    let one = part(first, Part::Filter);
+    push_arg(alloc, &mut inputs, "_and", all, ArgOrigin::And)?;
+    push_arg(
+        alloc,
+        &mut inputs,
+        "_not",
+        part(first, Part::Filter),
+        ArgOrigin::Not,
+    )?;
     let any = items(alloc, part(first, Part::Filter))?;
-    Ok(vec![in alloc;
-        arg(alloc, "_and", all, ArgOrigin::And)?,
-        arg(alloc, "_not", one, ArgOrigin::Not)?,
-        arg(alloc, "_or", any, ArgOrigin::Or)?,
-    ]?)
+    push_arg(alloc, &mut inputs, "_or", any, ArgOrigin::Or)?;
+    Ok(inputs)
 }
 
 fn input_type(p: Part, ty: Ty) -> Fixed
@@ -111,16 +116,16 @@ pub fn part_inputs(
     columns: &ShownColumnList,
     links: &LinkList,
     p: Part,
-) -> Result<Vec<ArgDef>, Memory>
-    ensures { IfOk result (λ inputs. map arg_view inputs.items ≡ part_inputs first columns.now links.now p) }
+) -> Result<ArgDefList, Memory>
+    ensures { IfOk result (λ inputs. map arg_view inputs ≡ part_inputs first columns.now links.now p) }
 {
     let mut inputs = match p {
         Part::Filter => connectives(alloc, first)?,
         Part::Sort => Vec::new(alloc),
-        _ => return Ok(Vec::new(alloc)),
+        _ => return Ok(NamedList::empty(alloc)),
     };
     push_inputs(alloc, &mut inputs, p, columns, links)?;
-    Ok(inputs)
+    NamedList::new(alloc, inputs)
 }
 
 fn column_names(alloc: Global, columns: &ShownColumnList) -> Result<Vec<Txt>, Memory>
@@ -134,12 +139,12 @@ fn column_names(alloc: Global, columns: &ShownColumnList) -> Result<Vec<Txt>, Me
 }
 
 /// The names of a table's columns, where the type is the enum of them.
-pub fn part_values(alloc: Global, columns: &ShownColumnList, p: Part) -> Result<Vec<Txt>, Memory>
-    ensures { IfOk result (λ names. names.items ≡ part_values columns.now p) }
+pub fn part_values(alloc: Global, columns: &ShownColumnList, p: Part) -> Result<TxtList, Memory>
+    ensures { IfOk result (λ names. names ≡ part_values columns.now p) }
 {
     match p {
-        Part::Columns => column_names(alloc, columns),
-        _ => Ok(Vec::new(alloc)),
+        Part::Columns => NamedList::new(alloc, column_names(alloc, columns)?),
+        _ => Ok(NamedList::empty(alloc)),
     }
 }
 

@@ -10,7 +10,7 @@ use crate::inputs::{part_columns, part_inputs, part_values};
 use crate::shown::{LinkList, PlacedTable};
 use crate::text::suffixed;
 use hq_base::Memory;
-use hq_schema::{NamedList, Part, TypeDef};
+use hq_schema::{Part, TypeDef};
 use std::alloc::Global;
 
 #[tactic(auto, unfolding(crate::specs::RoleSchema::part_type))]
@@ -23,15 +23,12 @@ fn part_type(
     ensures { IfOk result (λ t. type_view t ≡ part_type placed.now links.now part) }
 {
     let shown = &placed.shown;
-    let fields = part_fields(alloc, placed.first, &shown.columns, links, part)?;
-    let inputs = part_inputs(alloc, placed.first, &shown.columns, links, part)?;
-    let values = part_values(alloc, &shown.columns, part)?;
     Ok(TypeDef {
         name: suffixed(alloc, &shown.name, part.suffix())?,
         kind: part.kind(),
-        fields: NamedList::new(alloc, fields)?,
-        inputs: NamedList::new(alloc, inputs)?,
-        values: NamedList::new(alloc, values)?,
+        fields: part_fields(alloc, placed.first, &shown.columns, links, part)?,
+        inputs: part_inputs(alloc, placed.first, &shown.columns, links, part)?,
+        values: part_values(alloc, &shown.columns, part)?,
         columns: part_columns(alloc, &shown.columns, part)?,
         origin: part.origin(shown.table),
     })

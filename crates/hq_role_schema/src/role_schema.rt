@@ -58,9 +58,9 @@ fn schema_over(alloc: Global, tables: &PlacedTableList) -> Result<Schema, Memory
     Ok(Schema {
         types: all_types(alloc, tables)?,
         query: Fixed::QueryRoot.place(),
-        type_name: type_name_field(alloc)?,
         introspection: introspection(alloc)?,
         conditions: conditions(alloc)?,
+        type_name: type_name_field(alloc)?,
     })
 }
 

@@ -10,7 +10,7 @@ use hq_schema::{ArgDef, ArgDefList, ArgOrigin, FieldDef, FieldOrigin, Fixed, Nam
 use std::alloc::Global;
 
 /// How a reference wraps its type: `R`, `R!`, `[R!]` or `[R!]!`; and `[R!]` of what may be deprecated.
-#[derive(Clone, Copy, Debug, PartialEq, Eq)]
+#[derive(Clone, Copy)]
 pub enum Shape {
     One,
     Required,

@@ -88,11 +88,11 @@ fn shown_table(
     Ok(ShownTable {
         table: tracked.table,
         name: tracked.name.copy(alloc)?,
-        roots: tracked.roots.try_copy(alloc)?,
         columns: shown_columns(alloc, table, tracked, &view.cols)?,
+        rels: copy_list(alloc, &tracked.rels)?,
         key: shown_key(alloc, table, tracked, &view.cols)?,
         aggregates: view.aggregations,
-        rels: copy_list(alloc, &tracked.rels)?,
+        roots: tracked.roots.try_copy(alloc)?,
     })
 }
 

@@ -2,7 +2,7 @@ use hq_base::{List, Txt, Ty};
 use hq_terms::{ColId, RelId, RelList, RootNames, TableId};
 
 /// A column as a schema shows it: its GraphQL name, its type, whether it may hold NULL, and which column it is.
-#[derive(Debug, Drop)]
+#[derive(Drop)]
 pub struct ShownColumn {
     pub name: Txt,
     pub ty: Ty,
@@ -15,7 +15,7 @@ pub type ShownColumnList = List<ShownColumn>;
 
 /// A tracked table as a role may see it: its permitted columns, the columns of its key where they are all permitted, and
 /// whether the role may aggregate.
-#[derive(Debug, Drop)]
+#[derive(Drop)]
 pub struct ShownTable {
     pub table: TableId,
     pub name: Txt,
@@ -30,7 +30,7 @@ pub struct ShownTable {
 pub type ShownTableList = List<ShownTable>;
 
 /// A table that a role may see, and the place of the first of its types in the schema.
-#[derive(Debug, Drop)]
+#[derive(Drop)]
 pub struct PlacedTable {
     pub shown: ShownTable,
     pub first: u32,
@@ -41,7 +41,7 @@ pub type PlacedTableList = List<PlacedTable>;
 
 /// A relationship to a table that the role may see: the place of the first of the remote table's types, and whether the role
 /// may aggregate over it.
-#[derive(Debug, Drop)]
+#[derive(Drop)]
 pub struct Link {
     pub name: Txt,
     pub rel: RelId,

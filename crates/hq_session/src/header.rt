@@ -8,7 +8,7 @@ use hq_base::{Memory, Txt};
 use std::alloc::Global;
 
 /// A header field: its name in lower case, and its value.
-#[derive(Debug, Drop)]
+#[derive(Drop)]
 pub struct Header {
     pub name: Txt,
     pub value: Txt,

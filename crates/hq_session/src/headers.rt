@@ -10,7 +10,7 @@ use thiserror::Error;
 pub const HEADERS_LIMIT: usize = 64;
 
 /// The headers of a request in order, at most 64. Contracts see them as a list.
-#[derive(Debug, Drop)]
+#[derive(Drop)]
 pub struct Headers {
     items: List<Header>,
 }
@@ -27,7 +27,7 @@ impl Model for Headers {
 }
 
 /// Why a header was not added.
-#[derive(Clone, Copy, Debug, PartialEq, Eq, Error)]
+#[derive(Clone, Copy, Debug, Error)]
 pub enum HeadersRefusal {
     #[error("too many headers")]
     TooMany,

@@ -5,7 +5,7 @@ use crate::Headers;
 use hq_terms::Session;
 
 /// Who the caller is, as a hook answers it.
-#[derive(Debug, Drop)]
+#[derive(Drop)]
 pub enum HookAnswer {
     Session(Session),
     /// The caller is nobody who may ask.

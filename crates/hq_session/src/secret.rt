@@ -9,7 +9,7 @@ use hq_terms::{Session, Var};
 use std::alloc::Global;
 
 /// The rule of an admin secret, and of a role for callers that give none.
-#[derive(Debug, Drop)]
+#[derive(Drop)]
 pub struct SecretRule {
     /// The secret that a caller has to give, if one is set.
     pub secret: Option<Txt>,
