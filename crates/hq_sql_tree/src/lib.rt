@@ -1,7 +1,6 @@
 //! The subset of SELECT that hq writes and reads: its trees, the one spelling of each, and what they mean.
 #![tactic(auto)]
 
-mod copy;
 mod depth;
 mod expr;
 mod exprs;
