@@ -1,23 +1,19 @@
 -- Steps of the evaluation of a select.
-use Rattle.std.proofs.Common.{◌≡◌, ◌==◌, ◌≤◌, ◌<◌, ◌+◌, ℕ, zero, suc, List, [], ◌∷◌, ◌++◌, map, filter, flat_map, take, drop, length, get_or, Bool, true, false, cond, not, Option, Some, None, Ordering, refl, sym, ap, ap₂, ◌∙◌, append-nil, append_assoc, add-one, is_gt, arith}
+use Rattle.std.proofs.Common.{◌≡◌, ◌==◌, ◌≤◌, ◌<◌, ◌+◌, ℕ, zero, suc, List, [], ◌∷◌, ◌++◌, map, filter, flat_map, take, drop, length, get_or, Bool, true, false, cond, Option, Some, None, Ordering, refl, sym, ap, ap₂, ◌∙◌, append-nil, append_assoc, add-one, is_gt, arith}
 use Rattle.std.proofs.lemmas.List.{map-append, take-append-drop, take_all}
 use Rattle.std.proofs.lemmas.Bool.{ne_eqb, false≢true}
 use Rattle.std.specs.Global.{Vec}
 use Rattle.std.proofs.Math.Seq.{take-suc}
 use Rattle.std.proofs.lemmas.List.Elements.{filter-append}
 use Rattle.std.proofs.lemmas.Grind.{flat_map-append}
-use Rattle.hq_base.specs.Json.{MemberTrees, member, members_of, JsonTree}
+use Rattle.hq_base.specs.Json.{member, members_of}
 use Rattle.hq_base.specs.Cells.{json_of}
-use Rattle.hq_base.specs.Lists.{sort, firsts, put}
+use Rattle.hq_base.specs.Lists.{sort, put}
 use Rattle.hq_base.proofs.Lists.{map_map}
-use Rattle.hq_sql_tree.specs.Tree.{ExprTree, PairTree, pairs_of, OutTree, OrderTree, SelectTree, rows, FromTree, table, sub, one, JoinTrees, no_join, join, FilterTree}
-use Rattle.hq_sql_tree.specs.declared.expr.Expr.{Expr}
-use Rattle.hq_sql_tree.specs.declared.expr.Order.{Order}
-use Rattle.hq_sql_tree.specs.View.{expr_view, order_view}
+use Rattle.hq_sql_tree.specs.Tree.{ExprTree, PairTree, pairs_of, OutTree, OrderTree, SelectTree, rows, FromTree, table, sub, one, JoinTrees, join, FilterTree}
 use Rattle.hq_sql_tree.specs.Meaning.{NamedRow, Scope, with_alias, World, rows_of, value, members, outputs, joined, order_cmp, distinct_on, limited, offset_by, kept, scopes_of, has_rows}
 use Rattle.hq_sql_rows.specs.declared.scope.Source.{Source}
-use Rattle.hq_sql_rows.specs.declared.scope.Source.TheVariants as source
-use Rattle.hq_sql_rows.specs.View.{first_row, beside, source_view, row_in, joined_view, place_of, names_at}
+use Rattle.hq_sql_rows.specs.View.{first_row, beside, row_in, joined_view, place_of, names_at}
 use Rattle.hq_sql_rows.specs.declared.row.Made.{Made}
 use Rattle.hq_sql_rows.specs.declared.place.Place.{Place}
 use Rattle.hq_sql_rows.specs.Joined.{put_off}

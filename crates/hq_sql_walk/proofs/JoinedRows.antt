@@ -1,9 +1,9 @@
 -- Rows of joins: those that are put off, and those that give one row at most.
-use Rattle.std.proofs.Common.{◌≡◌, ◌<◌, ℕ, ◌⊎◌, inl, inr, cond, Ordering, zero, suc, List, [], ◌∷◌, ◌++◌, map, filter, flat_map, take, drop, Bool, true, false, ◌&&◌, ◌||◌, Option, Some, None, refl, sym, ap, ap₂, ◌∙◌, append-nil, arith}
+use Rattle.std.proofs.Common.{◌≡◌, ◌<◌, ℕ, ◌⊎◌, inl, inr, cond, Ordering, zero, suc, List, [], ◌∷◌, map, filter, flat_map, take, drop, Bool, true, false, ◌&&◌, ◌||◌, Option, Some, None, refl, ap, ◌∙◌, append-nil, arith}
 use Rattle.std.proofs.lemmas.Bool.{ltb-true}
-use Rattle.hq_base.specs.Lists.{sort, firsts}
-use Rattle.hq_sql_tree.specs.Tree.{ExprTree, OutTree, OrderTree, SelectTree, rows, fold, FromTree, table, sub, one, JoinTrees, no_join, join, FilterTree}
-use Rattle.hq_sql_tree.specs.Meaning.{NamedRow, Scope, with_alias, World, rows_of, scopes_of, joined, kept, or_null_row, order_cmp, distinct_on, same_values, limited, offset_by, outputs}
+use Rattle.hq_base.specs.Lists.{sort}
+use Rattle.hq_sql_tree.specs.Tree.{ExprTree, SelectTree, rows, fold, FromTree, table, sub, one, JoinTrees, no_join, join}
+use Rattle.hq_sql_tree.specs.Meaning.{NamedRow, Scope, with_alias, World, rows_of, scopes_of, joined, kept, or_null_row, order_cmp, distinct_on, limited, offset_by, outputs}
 use Rattle.hq_sql_rows.specs.View.{first_row, beside}
 use Rattle.hq_sql_rows.specs.Joined.{put_off, first_joined, other_joined}
 use Rattle.hq_sql_rows.specs.Single.{is_single, are_single, is_one_at_most}

@@ -3,3 +3,4 @@ pub mod Ordered
 pub mod Evaluated
 pub mod Told
 pub mod Conjunctions
+pub mod Loops

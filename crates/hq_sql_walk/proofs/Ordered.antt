@@ -1,6 +1,6 @@
 -- Sorts and groups of rows whose keys were taken once.
-use Rattle.std.proofs.Common.{◌≡◌, ℕ, List, [], ◌∷◌, map, Bool, true, ◌&&◌, Ordering, refl, sym, ap, ap₂, ◌∙◌}
-use Rattle.std.specs.Ordering.{ordering_then, on}
+use Rattle.std.proofs.Common.{◌≡◌, List, [], ◌∷◌, map, Bool, ◌&&◌, Ordering, refl, sym, ap, ◌∙◌}
+use Rattle.std.specs.Ordering.{ordering_then}
 use Rattle.hq_base.specs.Cells.{CellTree, key_cmp, same_cell, json_of}
 use Rattle.hq_base.specs.Json.{JsonTree, json_view}
 use Rattle.hq_base.specs.Lists.{sort, firsts}
@@ -8,7 +8,7 @@ use Rattle.hq_base.specs.declared.json.Json.{Json}
 use Rattle.hq_base.proofs.Lists.{each_all, map_map, map_itself, firsts_map_on}
 use Rattle.hq_base.proofs.Sorts.{sort_map, sort_on}
 use Rattle.hq_sql_cells.specs.declared.kept.Kept.{Kept}
-use Rattle.hq_sql_cells.specs.Keys.{keys_cmp, same_cells, keys_of, same_group}
+use Rattle.hq_sql_cells.specs.Keys.{keys_cmp, same_cells}
 use Rattle.hq_sql_tree.specs.Tree.{ExprTree, OrderTree, orders_of}
 use Rattle.hq_sql_tree.specs.Meaning.{Scope, value, order_cmp, orders_cmp, same_values, distinct_on}
 use Rattle.hq_sql_rows.specs.Keys.{directions_of, row_of, by_keys, distinct_kept, expr_values, key_values, taken_at, with_cells, with_json, json_at}

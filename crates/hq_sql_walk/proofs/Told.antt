@@ -1,6 +1,6 @@
 -- How what is known of a condition is used.
 use Rattle.std.proofs.Common.{◌≡◌, ℕ, ◌<◌, List, [], ◌∷◌, filter, length, Bool, true, false, cond, ◌&&◌, refl, sym, ap, subst, ◌∙◌, arith}
-use Rattle.hq_sql_tree.specs.Meaning.{NamedRow, Scope, World, nothing, with_alias, joined, kept}
+use Rattle.hq_sql_tree.specs.Meaning.{NamedRow, Scope, World, with_alias, joined, kept}
 use Rattle.hq_sql_tree.specs.Tree.{JoinTrees, no_join, FilterTree, FromTree}
 use Rattle.hq_sql_rows.specs.Known.{Tells, IsKnown}
 use Rattle.hq_sql_rows.specs.Sources.{alias_in, rows_given, has_items}

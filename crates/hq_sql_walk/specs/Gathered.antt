@@ -1,5 +1,5 @@
 -- What the walk over joins gives (PostgreSQL, SELECT: LATERAL joins and WHERE), of values as they lie in memory.
-use Rattle.std.specs.Prelude.{◌≡◌, ℕ, List, map, filter, flat_map, Option, option_map}
+use Rattle.std.specs.Prelude.{◌≡◌, List, map, filter, flat_map, Option, option_map}
 use Rattle.std.specs.Global.{Vec}
 use Rattle.hq_sql_tree.specs.declared.select.Join.{Join}
 use Rattle.hq_sql_tree.specs.declared.select.Pred.{Pred}

@@ -1,4 +1,4 @@
-use Rattle.std.proofs.Common.{rules, ◌≡◌, ◌==◌, ◌≤◌, ◌+◌, ◌<◌, ◌∷◌, [], Some, None, true, false, IfOk, option_map, map, length, ◌++◌, filter as kept_items, flat_map, take, get_or, refl, subst, sym, ap, ap₂, ◌∙◌, arith}
+use Rattle.std.proofs.Common.{rules, ◌≡◌, ◌==◌, ◌≤◌, ◌+◌, ◌<◌, ◌∷◌, [], Some, None, true, IfOk, option_map, map, length, ◌++◌, filter as kept_items, flat_map, take, drop, get_or, refl, subst, sym, ap, ap₂, ◌∙◌, arith}
 use Rattle.std.proofs.lemmas.List.{map-append, length-map, take_all}
 use Rattle.std.proofs.lemmas.Result.{IfOk-weaker}
 use Rattle.std.specs.Vec.Iter.{into_iter_items}
@@ -10,33 +10,36 @@ use Rattle.hq_base.specs.Aggregates.{counted, summed, least, greatest}
 use Rattle.hq_base.specs.Lists.{sort}
 use Rattle.hq_sql_cells.specs.View.{cell_view}
 use Rattle.hq_sql_tree.specs.declared.select.Join.{the_lemmas as join_lemmas}
+use Rattle.hq_base.specs.declared.json.Member.{Member}
 use Rattle.hq_base.specs.declared.json.Json.{Arr, Obj, the_lemmas as json_lemmas}
 use Rattle.hq_sql_tree.specs.declared.expr.Agg.{the_lemmas as agg_lemmas}
 use Rattle.hq_sql_tree.specs.declared.expr.Expr.{the_lemmas as expr_lemmas}
 use Rattle.hq_sql_tree.specs.declared.select.Select.{the_lemmas as select_lemmas}
 use Rattle.hq_sql_tree.specs.declared.select.Pred.{the_lemmas as pred_lemmas}
-use Rattle.hq_terms.specs.Logic.{and3}
+use Rattle.hq_terms.specs.Logic.{and3, or3, is_true}
+use Rattle.hq_sql_cells.proofs.Truths.{or3_assoc}
 use Rattle.hq_sql_tree.specs.Tree.{pairs_of, orders_of, joins_of, preds_of, rows}
 use Rattle.hq_sql_tree.specs.View.{agg_view, expr_view, pair_view, order_view, out_view, pred_view, select_view, from_view, join_view, filter_view}
-use Rattle.hq_sql_tree.specs.Meaning.{with_alias, truth_at, all_true, value, members, taken, orders_cmp, order_cmp, distinct_on, limited, offset_by, outputs, has_rows, kept, rows_of, joined}
+use Rattle.hq_sql_tree.specs.Meaning.{with_alias, truth_at, all_true, value, members, taken, orders_cmp, order_cmp, distinct_on, limited, offset_by, outputs, has_rows, kept, rows_of, joined, any_true}
 use Rattle.hq_sql_rows.specs.View.{made_view, named_view, first_row, source_view, row_in, row_view, joined_view, world_of, names_of, names_at, group_of, beside}
 use Rattle.hq_sql_rows.specs.Joined.{join_in, first_joined}
 use Rattle.hq_sql_walk.proofs.JoinedRows.{beside_row}
-use Rattle.hq_sql_rows.specs.Keys.{with_json, json_at, outputs_of}
-use Rattle.hq_sql_rows.specs.Single.{is_single}
+use Rattle.hq_sql_rows.specs.Keys.{with_json, json_at, outputs_of, output_at, key_values, member_at, with_cells, taken_at}
 use Rattle.hq_sql_rows.specs.Sources.{alias_in, rows_given, has_items}
 use Rattle.hq_sql_rows.specs.Positions.{positions_of, rows_at, kept_of, FindsAll, FindsArranged}
 use Rattle.hq_sql_rows.proofs.InOrder.{none_arranged}
 use Rattle.hq_sql_rows.proofs.Looked.{at_place}
 use Rattle.hq_sql_closed.specs.Conjuncts.{all_kept, lent_views, lent_weight}
-use Rattle.hq_sql_closed.specs.Weight.{total, expr_weight, pair_weight, order_weight, out_weight, pred_weight, filter_weight}
+use Rattle.hq_sql_closed.specs.Weight.{total, expr_weight, pair_weight, order_weight, out_weight, pred_weight}
 use Rattle.hq_sql_closed.proofs.Weights.{item_weight, pair_item, order_item, out_item, expr_item, pred_item}
+use Rattle.hq_sql_walk.specs.Selected.{keyed_in}
 use Rattle.hq_sql_walk.specs.Costs.{all_at, part_at}
 use Rattle.hq_sql_walk.specs.declared.costs.Cost.TheVariants.{Nested, Rows}
 use Rattle.hq_sql_walk.proofs.Conjunctions.{and3_yes, all_is, all_more}
 use Rattle.hq_sql_walk.proofs.Ordered.{elements_are, arranged_is}
-use Rattle.hq_sql_walk.proofs.Evaluated.{members_mapped, outputs_all, later_is, keys_is, spread_step, any_found, any_passed, scan_step, no_images, some_images, rows_are, exists_is, paged_map, scan_all, page_front, top_step, top_page}
-use Rattle.hq_sql_walk.proofs.Told.{none_in, tells_at, known_out, known_in, known_at}
+use Rattle.hq_sql_walk.proofs.Evaluated.{members_mapped, outputs_all, later_is, keys_is, spread_step, any_found, any_passed, scan_step, rows_are, exists_is, paged_map, scan_all, page_front, top_step, top_page}
+use Rattle.hq_sql_walk.proofs.Loops.{map_more, scope_more, value_more, holds_next, next_item, view_pair, view_key}
+use Rattle.hq_sql_walk.proofs.Told.{none_in}
 use Rattle.hq_terms.specs.declared.truth.Truth.TheVariants.{Yes}
 use Rattle.hq_sql_walk.proofs.+eval.Goals.{truths::all_true-in-Opened+in_ok-all-in-Opened, truths::all_true-in-Tried+in_ok-truth-in-Tried, truths::all_true-in-Other}
 use Rattle.hq_sql_walk.proofs.+eval.Goals as goal
@@ -539,3 +542,128 @@ truths::exists-returns-in_ok-stages-in-Rows t c =
     ∙ exists_is D O F J C K w n (map made_view c.in_ok-made-in-Rows.made.items) (source_view c.source_of-source.result) c.alias_of-alias.result.now c.in_ok-made-in-Rows.ensures
     (c.source_of-source.ensures ∙ ap (λ given. rows_given F w (map made_view given)) c.as_slice-given.ensures.value) c.alias_of-alias.ensures)
     c.any_row.ensures)
+
+-- ---- lists of what each item gives
+
+pub values::members-loop-pair-preserved : goal.values::members-loop-pair-preserved
+values::members-loop-pair-preserved t c =
+    let items = c.deref-pair-items.result.now in
+    let i = c.loop-pair.pair-index in
+    let within : i < length items = omega arith in
+    let n = names_of c.args.scope.now c.args.world.now in
+    let g = group_of c.args.group n in
+    let p = c.pair-item.result in
+    let made : Member = record { name = c.in_ok-name.name; value = c.in_ok-into_json.field-0 } in
+    let done = map member_view c.loop-pair.members.items in
+    let seen : member_view made ≡ (made.name, json_view made.value) = search (rules, json_lemmas) in
+    map_more (member_at g n) pair_view items i p done (map member_view c.push.new.self.items) within c.pair-item.is c.loop-pair.invariant
+    (ap (map member_view) c.in_ok-push.ensures.items ∙ map-append member_view c.loop-pair.members.items (made ∷ [])
+    ∙ ap (λ v. done ++ v ∷ []) (seen ∙ ap₂ (λ name j. (name, j)) c.in_ok-name.ensures (c.in_ok-into_json.ensures ∙ ap json_of c.in_ok-cell.ensures) ∙ ap (member_at g n) (sym (view_pair p))))
+
+pub values::keys-loop-key-preserved : goal.values::keys-loop-key-preserved
+values::keys-loop-key-preserved t c =
+    let items = c.deref-key-items.result.now in
+    let i = c.loop-key.key-index in
+    let within : i < length items = omega arith in
+    let n = names_of c.args.scope.now c.args.world.now in
+    let done = map cell_view c.loop-key.keys.items in
+    map_more (λ o. value o.value [] n) order_view items i c.key-item.result done (map cell_view c.push.new.self.items) within c.key-item.is c.loop-key.invariant
+    (ap (map cell_view) c.in_ok-push.ensures.items ∙ map-append cell_view c.loop-key.keys.items _ ∙ ap (λ v. done ++ v ∷ []) (c.in_ok-value.ensures ∙ ap (λ e. value e [] n) (sym (view_key c.key-item.result))))
+
+pub values::values-loop-expr-preserved : goal.values::values-loop-expr-preserved
+values::values-loop-expr-preserved t c =
+    let items = c.deref-expr-items.result.now in
+    let i = c.loop-expr.expr-index in
+    let within : i < length items = omega arith in
+    let n = names_of c.args.scope.now c.args.world.now in
+    let done = map cell_view c.loop-expr.values.items in
+    map_more (λ e. value e [] n) expr_view items i c.expr-item.result done (map cell_view c.push.new.self.items) within c.expr-item.is c.loop-expr.invariant
+    (ap (map cell_view) c.in_ok-push.ensures.items ∙ map-append cell_view c.loop-expr.values.items _ ∙ ap (λ v. done ++ v ∷ []) c.in_ok-value.ensures)
+
+pub joins::outputs-loop-out-preserved : goal.joins::outputs-loop-out-preserved
+joins::outputs-loop-out-preserved t c =
+    let items = c.deref-out-items.result.now in
+    let i = c.loop-out.out-index in
+    let within : i < length items = omega arith in
+    let n = names_of c.args.scope.now c.args.world.now in
+    let done = map named_view c.loop-out.cells.items in
+    map_more (output_at n) out_view items i c.out-item.result done (map named_view c.push.new.self.items) within c.out-item.is c.loop-out.invariant
+    (ap (map named_view) c.in_ok-push.ensures.items ∙ map-append named_view c.loop-out.cells.items _ ∙ ap (λ v. done ++ (c.out-item.result.name, v) ∷ []) c.in_ok-cell.ensures)
+
+pub aggregates::each_value-loop-row-preserved : goal.aggregates::each_value-loop-row-preserved
+aggregates::each_value-loop-row-preserved t c =
+    let i = c.loop-row.row-index in
+    let within : i < length c.args.rows.now = omega arith in
+    let n = names_of c.args.scope.now c.args.world.now in
+    let a = c.args.alias.now in
+    let e = expr_view c.args.expr.now in
+    let done = map cell_view c.loop-row.cells.items in
+    scope_more (value e []) (with_alias n a) made_view c.args.rows.now i c.row-item.result done (map cell_view c.push.new.self.items) within c.row-item.is c.loop-row.invariant
+    (ap (map cell_view) c.in_ok-push.ensures.items ∙ map-append cell_view c.loop-row.cells.items _ ∙ ap (λ v. done ++ v ∷ []) (c.in_ok-value.ensures ∙ ap (λ cs. value e [] (with_alias n a (map named_view cs))) c.deref.ensures.value))
+
+pub aggregates::each_json-loop-row-preserved : goal.aggregates::each_json-loop-row-preserved
+aggregates::each_json-loop-row-preserved t c =
+    let i = c.loop-row.row-index in
+    let within : i < length c.args.rows.now = omega arith in
+    let n = names_of c.args.scope.now c.args.world.now in
+    let a = c.args.alias.now in
+    let e = expr_view c.args.expr.now in
+    let K = map order_view c.args.order.now.items in
+    let done = map with_json c.loop-row.kept.items in
+    scope_more (json_at e K) (with_alias n a) made_view c.args.rows.now i c.row-item.result done (map with_json c.push.new.self.items) within c.row-item.is c.loop-row.invariant
+    (ap (map with_json) c.in_ok-push.ensures.items ∙ map-append with_json c.loop-row.kept.items _
+    ∙ ap₂ (λ ks j. done ++ (ks, j) ∷ []) (c.in_ok-keys.ensures ∙ ap (λ cs. key_values K (with_alias n a (map named_view cs))) c.deref.ensures.value)
+    (c.in_ok-into_json.ensures ∙ ap json_of (c.in_ok-cell.ensures ∙ ap (λ cs. value e [] (with_alias n a (map named_view cs))) c.deref.ensures.value)))
+
+pub clauses::all_outputs-loop-place-preserved : goal.clauses::all_outputs-loop-place-preserved
+clauses::all_outputs-loop-place-preserved t c =
+    let i = c.loop-place.place-index in
+    let within : i < length c.args.places.now = omega arith in
+    let js = joins_of (map join_view c.args.joins.now) in
+    let w = world_of c.args.world.now in
+    let n = names_of c.args.scope.now c.args.world.now in
+    let a = c.args.alias.now in
+    let O = map out_view c.args.outs.now.items in
+    let done = map made_view c.loop-place.made.items in
+    map_more (outputs_of O) (names_at c.args.source a js w n) c.args.places.now i c.place-item.result done (map made_view c.push.new.self.items) within c.place-item.is c.loop-place.invariant
+    (ap (map made_view) c.in_ok-push.ensures.items ∙ map-append made_view c.loop-place.made.items _
+    ∙ ap (λ v. done ++ v ∷ []) (c.in_ok-outputs_at.ensures ∙ ap₂ (λ r rows. outputs_of O (beside js w (with_alias n a r) (map (option_map made_view) rows))) c.row_at.ensures c.deref.ensures.value))
+
+pub pages::keyed-loop-place-preserved : goal.pages::keyed-loop-place-preserved
+pages::keyed-loop-place-preserved t c =
+    let js = joins_of (map join_view c.args.joins.now) in
+    let w = world_of c.args.world.now in
+    let n = names_of c.args.scope.now c.args.world.now in
+    let a = c.args.alias.now in
+    let D = c.args.distinct.now.items in
+    let K = c.args.order.now.items in
+    let place = c.in-Some.place in
+    let done = map with_cells c.loop-place.kept.items in
+    value_more (taken_at (names_at c.args.source a js w n) (map order_view K) (map expr_view D)) done (map with_cells c.push.new.self.items) place _ (into_iter_items c.next.new.self) _ c.in-Some.ensures.steps.0
+    (ap (map with_cells) c.in_ok-push.ensures.items ∙ map-append with_cells c.loop-place.kept.items _
+    ∙ ap (λ v. done ++ v ∷ []) (c.in_ok-with_keys.ensures ∙ ap (λ r. keyed_in K D (beside js w (with_alias n a r) (joined_view place.joined)) place) c.row_at.ensures))
+    c.loop-place.invariant
+
+pub truths::any_true-loop-pred-preserved : goal.truths::any_true-loop-pred-preserved
+truths::any_true-loop-pred-preserved t c =
+    let items = c.deref-pred-items.result.now in
+    let i = c.loop-pred.pred-index in
+    let within : i < length items = omega arith in
+    let w = world_of c.args.world.now in
+    let n = names_of c.args.scope.now c.args.world.now in
+    let p = c.pred-item.result in
+    let any = c.loop-pred.any in
+    let rest = any_true (preds_of (map pred_view (drop (i + 1) items))) w n in
+    ap (λ x. or3 x rest) (c.or-any.ensures ∙ ap (or3 any) c.in_ok-truth.ensures) ∙ or3_assoc any (truth_at (pred_view p) w n) rest
+    ∙ ap (λ ps. or3 any (any_true (preds_of (map pred_view ps)) w n)) (sym (next_item items i p within c.pred-item.is)) ∙ c.loop-pred.invariant
+
+pub truths::all_hold-loop-pred-preserved : goal.truths::all_hold-loop-pred-preserved
+truths::all_hold-loop-pred-preserved t c =
+    let items = c.args.preds.now in
+    let i = c.loop-pred.pred-index in
+    let within : i < length items = omega arith in
+    let w = world_of c.args.world.now in
+    let n = names_of c.args.scope.now c.args.world.now in
+    let p = c.pred-item.result in
+    holds_next (is_true (truth_at (pred_view p.now) w n)) (all_kept (lent_views (drop (i + 1) items)) w n) (all_kept (lent_views (drop i items)) w n) _ (ap (λ ps. all_kept (lent_views ps) w n) (next_item items i p within c.pred-item.is)) c.loop-pred.invariant
+    (sym (ap is_true c.in_ok-truth.ensures) ∙ sym c.is_yes.ensures ∙ c.if-not-is_yes.false)

@@ -1,10 +1,11 @@
-use Rattle.std.proofs.Common.{◌≡◌, ◌∙◌, sym, ap, ◌+◌, ◌<◌, ◌++◌, ◌∷◌, [], map, drop, length, true, arith, rules}
-use Rattle.hq_sql_tree.specs.Tree.{joins_of}
-use Rattle.hq_sql_tree.specs.View.{select_view, join_view}
-use Rattle.hq_sql_tree.specs.WellFormed.{select_names, is_typed, are_typed_joins, joined_scope}
+use Rattle.std.proofs.Common.{◌≡◌, ◌∙◌, sym, ap, List, ◌+◌, ◌<◌, ◌++◌, ◌∷◌, [], map, drop, length, true, arith, rules}
+use Rattle.hq_sql_tree.specs.declared.select.Pred.{Pred}
+use Rattle.hq_sql_tree.specs.Tree.{joins_of, preds_of}
+use Rattle.hq_sql_tree.specs.View.{select_view, join_view, pred_view}
+use Rattle.hq_sql_tree.specs.WellFormed.{select_names, is_typed, are_typed_joins, joined_scope, is_typed_pred, are_typed_preds}
 use Rattle.hq_sql_check.specs.Scopes.{name_view, alias_view, stacked, scope_view}
 use Rattle.hq_sql_check.proofs.JoinSteps.{joins_typed, joins_scope}
-use Rattle.hq_sql_check.proofs.Next.{next_join}
+use Rattle.hq_sql_check.proofs.Next.{next_join, next_pred, passes, fails}
 use Rattle.hq_sql_check.proofs.typed.+typed.Goals as goal
 
 pub push_joins-loop-join-preserved : goal.push_joins-loop-join-preserved
@@ -27,3 +28,24 @@ push_joins-loop-join-preserved t c =
       well = ap (λ stack. are_typed_joins rest tables (stacked stack outer)) pushed ∙ (joins_typed before outer item.alias names s rest tables are typed ∙ (ap (λ js. are_typed_joins js tables (stacked before outer)) (sym next) ∙ c.loop-join.invariant.well));
       names = ap (λ stack. joined_scope rest tables (stacked stack outer)) pushed ∙ (joins_scope before outer item.alias names s rest tables are ∙ (ap (λ js. joined_scope js tables (stacked before outer)) (sym next) ∙ c.loop-join.invariant.names));
     }
+
+pub are_typed_preds-returns-then-not-branch : goal.are_typed_preds-returns-then-not-branch
+are_typed_preds-returns-then-not-branch t c =
+    let items = c.deref-pred-items.result.now in
+    let i = c.loop-pred.pred-index in
+    let within : i < length items = omega arith in
+    let tables = c.args.tables.now in
+    let scope = scope_view c.args.scope.now in
+    let whole = λ (list : List Pred). are_typed_preds (preds_of (map pred_view list)) tables scope in
+    fails (is_typed_pred (pred_view c.pred-item.result) tables scope) (whole (drop (i + 1) items)) (whole (drop i items)) (whole items) (ap (λ ps. are_typed_preds ps tables scope) (next_pred items i c.pred-item.result within c.pred-item.is)) c.loop-pred.invariant (sym c.in_ok-is_typed_pred.ensures ∙ c.if-not-branch.true)
+    ∙ ap whole c.deref-pred-items.ensures.value
+
+pub are_typed_preds-loop-pred-preserved : goal.are_typed_preds-loop-pred-preserved
+are_typed_preds-loop-pred-preserved t c =
+    let items = c.deref-pred-items.result.now in
+    let i = c.loop-pred.pred-index in
+    let within : i < length items = omega arith in
+    let tables = c.args.tables.now in
+    let scope = scope_view c.args.scope.now in
+    let whole = λ (list : List Pred). are_typed_preds (preds_of (map pred_view list)) tables scope in
+    passes (is_typed_pred (pred_view c.pred-item.result) tables scope) (whole (drop (i + 1) items)) (whole (drop i items)) (whole items) (ap (λ ps. are_typed_preds ps tables scope) (next_pred items i c.pred-item.result within c.pred-item.is)) c.loop-pred.invariant (sym c.in_ok-is_typed_pred.ensures ∙ c.if-not-branch.false)

@@ -1,0 +1,29 @@
+use Rattle.std.proofs.Common.{◌∙◌, ap, ◌+◌, ◌<◌, ◌++◌, map, drop, length, arith}
+use Rattle.hq_sql_tree.specs.Tree.{joins_of, preds_of}
+use Rattle.hq_sql_tree.specs.View.{select_view, join_view, pred_view}
+use Rattle.hq_sql_check.specs.Scans.{places, places_of_joins, places_of_pred, places_of_preds}
+use Rattle.hq_sql_check.proofs.Next.{next_join, next_pred, piece_more}
+use Rattle.hq_sql_check.proofs.places.+places.Goals as goal
+
+pub add_joins-loop-join-preserved : goal.add_joins-loop-join-preserved
+add_joins-loop-join-preserved t c =
+    let items = c.deref-join-items.result.now in
+    let i = c.loop-join.join-index in
+    let item = c.join-item.result in
+    let within : i < length items = omega arith in
+    let tables = c.args.tables.now in
+    let found = c.loop-join.found.items in
+    piece_more found c.add_places.new.found.items (places (select_view item.select.value) tables) (places_of_joins (joins_of (map join_view (drop (i + 1) items))) tables) (places_of_joins (joins_of (map join_view (drop i items))) tables) _
+    (c.in_ok-add_places.ensures ∙ ap (λ s. found ++ places (select_view s) tables) c.deref.ensures)
+    (ap (λ js. places_of_joins js tables) (next_join items i item within c.join-item.is)) c.loop-join.invariant
+
+pub add_preds-loop-pred-preserved : goal.add_preds-loop-pred-preserved
+add_preds-loop-pred-preserved t c =
+    let items = c.deref-pred-items.result.now in
+    let i = c.loop-pred.pred-index in
+    let item = c.pred-item.result in
+    let within : i < length items = omega arith in
+    let tables = c.args.tables.now in
+    piece_more c.loop-pred.found.items c.add_pred.new.found.items (places_of_pred (pred_view item) tables) (places_of_preds (preds_of (map pred_view (drop (i + 1) items))) tables) (places_of_preds (preds_of (map pred_view (drop i items))) tables) _
+    c.in_ok-add_pred.ensures
+    (ap (λ ps. places_of_preds ps tables) (next_pred items i item within c.pred-item.is)) c.loop-pred.invariant
