@@ -1,10 +1,10 @@
 -- Columns of a table by the names of its enum (Hasura, Queries: distinct_on; aggregates: count).
-use Rattle.std.specs.Prelude.{ℕ, List, [], ◌∷◌, ◌++◌, Bool, ◌==◌, if◌then◌else◌, Option, Some, None, option_and_then, slice_get, ok_or, Ok, Err}
+use Rattle.std.specs.Prelude.{ℕ, List, [], ◌∷◌, ◌++◌, ◌==◌, if◌then◌else◌, Option, Some, None, option_and_then, slice_get, ok_or, Ok, Err}
 use Rattle.std.specs.List.{list_all, list_any}
 use Rattle.hq_ask_laws.specs.Conditions.{fits_distinct}
-use Rattle.hq_base.specs.Due.{and_then, mapped}
+use Rattle.hq_base.specs.Due.{and_then}
 use Rattle.hq_base.specs.Json.{JsonTree}
-use Rattle.hq_base.specs.Look.{str_in, bool_in}
+use Rattle.hq_base.specs.Look.{str_in}
 use Rattle.hq_gql_tree.specs.declared.rule.RuleId.TheVariants.{CountColumns, DistinctOrder, ValuesOfCorrectType}
 use Rattle.hq_schema.specs.Look.{enum_column_of}
 use Rattle.hq_schema.specs.Schema.{base}

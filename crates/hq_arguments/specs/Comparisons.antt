@@ -1,5 +1,5 @@
 -- The conditions that the comparisons of a column write (Hasura, API reference: GraphQL API, operators).
-use Rattle.std.specs.Prelude.{ℕ, List, [], ◌∷◌, Bool, if◌then◌else◌, Option, Some, None, option_and_then, Ok, Err}
+use Rattle.std.specs.Prelude.{ℕ, List, [], ◌∷◌, Bool, if◌then◌else◌, Option, Some, None, option_and_then, Err}
 use Rattle.hq_base.specs.Due.{mapped}
 use Rattle.hq_base.specs.Json.{JsonTree, obj}
 use Rattle.hq_base.specs.Look.{member_list}

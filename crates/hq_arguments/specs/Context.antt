@@ -1,5 +1,5 @@
 -- What the arguments of a field are read against.
-use Rattle.std.specs.Prelude.{ℕ, List, map}
+use Rattle.std.specs.Prelude.{List, map}
 use Rattle.hq_schema.specs.Schema.{SchemaTree, schema_view}
 use Rattle.hq_terms.specs.Schema.{Schema}
 use Rattle.hq_terms.specs.Scope.{scope_schema}

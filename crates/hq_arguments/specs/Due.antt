@@ -1,6 +1,6 @@
 -- The coerced arguments of one field, or its first fault (GraphQL October 2021, 6.4.1; Hasura, Queries).
-use Rattle.std.specs.Prelude.{ℕ, List, [], ◌∷◌, Bool, Option, Some, None, codes, Result, Ok, Err}
-use Rattle.hq_base.specs.Due.{and_then, mapped, ◌>>=◌}
+use Rattle.std.specs.Prelude.{ℕ, List, [], ◌∷◌, Some, codes, Result, Ok, Err}
+use Rattle.hq_base.specs.Due.{mapped, ◌>>=◌}
 use Rattle.hq_coerce.specs.Faults.{fault_of}
 use Rattle.hq_coerce.specs.declared.refusal.CoerceRefusal.{CoerceRefusal}
 use Rattle.hq_coerce.specs.declared.refusal.CoerceRefusal.TheVariants as refusal
@@ -9,16 +9,15 @@ use Rattle.hq_gql_tree.specs.Values.{ArgumentTree}
 use Rattle.hq_schema.specs.Schema.{ArgTree, FieldTree}
 use Rattle.hq_schema.specs.declared.origin.FieldOrigin.{FieldOrigin}
 use Rattle.hq_schema.specs.declared.origin.FieldOrigin.TheVariants as origin
-use Rattle.hq_terms.specs.Bexp.{BexpTree}
-use Rattle.hq_terms.specs.Schema.{Schema, rel}
-use Rattle.hq_terms.specs.Selected.{SortKey, ListArguments}
+use Rattle.hq_terms.specs.Schema.{rel}
+use Rattle.hq_terms.specs.Selected.{ListArguments}
 use Rattle.hq_arguments.specs.Columns.{distinct_due, counted_due}
 use Rattle.hq_arguments.specs.Context.{Context}
 use Rattle.hq_arguments.specs.FieldArguments.{FieldArguments, rows, key, count, type_name, deprecated, nothing}
 use Rattle.hq_arguments.specs.Keys.{key_due}
 use Rattle.hq_arguments.specs.Page.{rows_due}
 use Rattle.hq_arguments.specs.Plain.{flag_due, text_due}
-use Rattle.hq_arguments.specs.Reading.{Read, Given, given_named}
+use Rattle.hq_arguments.specs.Reading.{Read, given_named}
 use Rattle.hq_arguments.specs.Sorts.{order_by_due}
 use Rattle.hq_arguments.specs.Where.{where_due}
 use Rattle.hq_arguments.specs.declared.refusal.ArgRefusal.{ArgRefusal}

@@ -1,5 +1,5 @@
 -- The values of a key by which a row is looked up (Hasura, Queries: fetch by primary key).
-use Rattle.std.specs.Prelude.{ℕ, List, Bool, true, false, ◌==◌, Option, Some, None, find, option_and_then, ok_or}
+use Rattle.std.specs.Prelude.{ℕ, List, Bool, false, ◌==◌, Option, find, option_and_then, ok_or}
 use Rattle.hq_base.specs.Due.{and_then}
 use Rattle.hq_base.specs.Json.{JsonTree}
 use Rattle.hq_base.specs.declared.value.Ty.{Ty}

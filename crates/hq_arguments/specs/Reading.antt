@@ -4,9 +4,7 @@ use Rattle.std.specs.Prelude.{ℕ, List, [], ◌∷◌, Option, Some, None, opti
 use Rattle.hq_base.specs.Due.{and_then, mapped}
 use Rattle.hq_base.specs.Json.{JsonTree, null}
 use Rattle.hq_base.specs.Look.{array_in}
-use Rattle.hq_gql_tree.specs.Selections.{FieldHead}
 use Rattle.hq_gql_tree.specs.Values.{ArgumentTree}
-use Rattle.hq_gql_tree.specs.declared.rule.RuleId.{RuleId}
 use Rattle.hq_gql_tree.specs.declared.rule.RuleId.TheVariants.{NullOperand, ValuesOfCorrectType}
 use Rattle.hq_schema.specs.Look.{arg_in}
 use Rattle.hq_schema.specs.Schema.{ArgTree}

@@ -10,7 +10,7 @@ use Rattle.hq_schema.specs.declared.origin.ArgOrigin.TheVariants as stands
 use Rattle.hq_terms.specs.Schema.{rel}
 use Rattle.hq_terms.specs.Selected.{SortKey}
 use Rattle.hq_arguments.specs.Context.{Context}
-use Rattle.hq_arguments.specs.Reading.{Read, each, items_in, misfit, fitting, Given}
+use Rattle.hq_arguments.specs.Reading.{Read, items_in, misfit, fitting, Given}
 use Rattle.hq_arguments.specs.declared.refusal.ArgRefusal.TheVariants.{Rule}
 use Rattle.hq_arguments.specs.declared.sorts.Direction.{Direction}
 

@@ -2,3 +2,5 @@ pub mod Lesser
 pub mod Grown
 pub mod Walks
 pub mod Lists
+pub mod Nodes
+mod Marking

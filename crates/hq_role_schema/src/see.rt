@@ -110,7 +110,7 @@ fn shown_entry(
         return Ok(None);
     };
     match meta.perm(alloc, role, tracked.table)? {
-        Some(view) => Ok(Some(shown_table(alloc, table, tracked, &view)?)),
+        Some(view) => shown_table(alloc, table, tracked, &view).map(Some),
         None => Ok(None),
     }
 }

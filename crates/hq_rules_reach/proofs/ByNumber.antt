@@ -1,5 +1,5 @@
 -- Uses told by the numbers of their names are those told by the names.
-use Rattle.std.proofs.Common.{◌≡◌, ◌<◌, ◌+◌, ◌∙◌, ◌⊎◌, inl, inr, cond, arith, ap, sym, refl, ℕ, zero, suc, length, get_or, List, [], ◌∷◌, ◌||◌, ◌==◌, Bool, true, false, Option, Some, None, bytes_eq, map, Vec, Global}
+use Rattle.std.proofs.Common.{◌≡◌, ◌<◌, ◌+◌, ◌∙◌, ◌⊎◌, inl, inr, cond, arith, ap, sym, refl, ℕ, zero, suc, get_or, List, [], ◌∷◌, ◌||◌, ◌==◌, Bool, true, false, Option, Some, None, bytes_eq, map, Vec, Global}
 use Rattle.std.specs.Prelude.{is_none, option_and_then, slice_get}
 use Rattle.std.specs.List.{All, list_any}
 use Rattle.std.specs.Option.{option_map_or}

@@ -1,5 +1,5 @@
 -- Loops over the definitions of a document, with the least place so far.
-use Rattle.std.proofs.Common.{◌≡◌, ◌∙◌, ap, sym, refl, ℕ, zero, suc, ◌+◌, ◌<◌, length, get_or, map, add-one, arith, List, [], ◌∷◌, false, Option, Some, None}
+use Rattle.std.proofs.Common.{◌≡◌, ◌∙◌, ap, sym, refl, ℕ, zero, suc, ◌+◌, ◌<◌, length, get_or, map, add-one, arith, List, [], ◌∷◌, Option, Some}
 use Rattle.std.specs.Prelude.{slice_get, option_and_then}
 use Rattle.hq_gql_tree.specs.declared.document.Definition.{Definition}
 use Rattle.hq_gql_tree.specs.Documents.{DefinitionTree, definition_view}

@@ -3,3 +3,4 @@ mod Falls
 pub mod LeastBelow
 mod VariableLemmas
 mod ByNumber
+mod AnySoFar

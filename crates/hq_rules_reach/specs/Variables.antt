@@ -1,5 +1,5 @@
 -- Rules of the uses of variables in an operation and in the fragments that it reaches (GraphQL October 2021, 5.8.3 to 5.8.5).
-use Rattle.std.specs.Prelude.{ℕ, List, [], ◌∷◌, Bool, true, false, not, ◌&&◌, ◌||◌, ◌==◌, Option, Some, None, cond, bytes_eq, is_none, option_and_then, slice_get, slice_index_or}
+use Rattle.std.specs.Prelude.{ℕ, List, [], ◌∷◌, Bool, false, not, ◌&&◌, ◌||◌, ◌==◌, Option, Some, None, cond, bytes_eq, is_none, option_and_then, slice_get, slice_index_or}
 use Rattle.std.specs.Option.{option_map_or}
 use Rattle.std.specs.List.{list_any, position_from}
 use Rattle.hq_schema.specs.Schema.{TypeRefTree, named, list_of, non_null, SchemaTree}

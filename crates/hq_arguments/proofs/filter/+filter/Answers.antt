@@ -2,16 +2,35 @@ use Rattle.std.proofs.Common.{◌≡◌, ◌∙◌, ap, refl, subst, List, map, 
 use Rattle.std.specs.Prelude.{◌⊎◌}
 use Rattle.std.proofs.lemmas.List.{map-append}
 use Rattle.hq_base.specs.Due.{Gives}
-use Rattle.hq_base.specs.Json.{member_view, members_of}
+use Rattle.hq_base.specs.Json.{json_view, member_view, elements_of, members_of}
+use Rattle.hq_base.specs.declared.json.Json.{Json}
 use Rattle.hq_base.specs.declared.json.Member.{Member}
 use Rattle.hq_terms.specs.Bexp.{bexp_view}
 use Rattle.hq_arguments.specs.Context.{context_view}
-use Rattle.hq_arguments.specs.Where.{members_due, named_due}
+use Rattle.hq_arguments.specs.Where.{elements_due, filter_due, members_due, named_due}
 use Rattle.hq_arguments.specs.declared.refusal.ArgRefusal.{ArgRefusal}
 use Rattle.hq_arguments.specs.declared.refusal.ArgRefusal.TheVariants.{Memory}
 use Rattle.hq_arguments.proofs.Named.{filter_named}
 use Rattle.hq_arguments.proofs.Steps.{read_more, read_refused}
 use Rattle.hq_arguments.proofs.filter.+filter.Goals as goal
+
+pub element_filters-loop-json-preserved : goal.element_filters-loop-json-preserved
+element_filters-loop-json-preserved t c =
+    let x = context_view c.args.context.now in
+    read_more (λ (js : List Json). elements_due (elements_of (map json_view js)) x c.args.p c.args.t) (λ (j : Json). filter_due (json_view j) x c.args.p c.args.t) (λ j js. refl)
+    c.deref-json-items.result.now c.loop-json.json-index c.json-item.result _ _ (bexp_view c.in_ok-bexp.bexp) _ c.loop-json.invariant c.loop-json-test.true c.json-item.is c.in_ok-bexp.ensures (ap (map bexp_view) c.in_ok-push.ensures.items ∙ map-append bexp_view _ _)
+
+pub element_filters-returns-in_err-bexp : goal.element_filters-returns-in_err-bexp
+element_filters-returns-in_err-bexp t c =
+    let x = context_view c.args.context.now in
+    let e : ArgRefusal = c.in_err-bexp.field-0.0 in
+    let refused : (e ≡ Memory) ⊎ (elements_due (elements_of (map json_view c.args.elements.now.items)) x c.args.p c.args.t ≡ Err e) =
+    elim c.in_err-bexp.ensures [
+      | inl m ↦ inl m
+      | inr given ↦ inr (read_refused (λ (js : List Json). elements_due (elements_of (map json_view js)) x c.args.p c.args.t) (λ (j : Json). filter_due (json_view j) x c.args.p c.args.t) (λ j js. refl)
+          c.deref-json-items.result.now c.loop-json.json-index c.json-item.result _ e _ c.loop-json.invariant c.loop-json-test.true c.json-item.is given)
+    ] in
+    search rules
 
 pub member_filters-loop-member-preserved : goal.member_filters-loop-member-preserved
 member_filters-loop-member-preserved t c =

@@ -11,7 +11,7 @@ abbrev pub invariant-element_filters-loop-json : goal.invariant-element_filters-
 invariant-element_filters-loop-json l =
     let c = context_view l.context in
     elements_due (elements_of (map json_view l.elements.items)) c l.p l.t
-    ≡ mapped (λ rest. map bexp_view l.bexps.items ++ rest) (elements_due (elements_of (map json_view (drop l.json-index l.elements.items))) c l.p l.t)
+    ≡ mapped (λ rest. map bexp_view l.bexps.items ++ rest) (elements_due (elements_of (map json_view (drop l.json-index l.json-items))) c l.p l.t)
 
 -- the expressions so far, and then those of the rest
 abbrev pub invariant-member_filters-loop-member : goal.invariant-member_filters-loop-member

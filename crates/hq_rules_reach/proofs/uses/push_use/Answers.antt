@@ -1,9 +1,8 @@
-use Rattle.std.proofs.Common.{◌≡◌, ◌∙◌, ap, map, subst, sym, List, [], ◌∷◌}
+use Rattle.std.proofs.Common.{subst, sym}
 use Rattle.std.specs.List.{All}
 use Rattle.std.proofs.lemmas.List.Elements.{All-push}
 use Rattle.hq_gql_nodes.specs.Names.{get_name}
-use Rattle.hq_rules_reach.specs.declared.uses.Use.{Use}
-use Rattle.hq_rules_reach.specs.Uses.{use_view, IsNumbered}
+use Rattle.hq_rules_reach.specs.Uses.{IsNumbered}
 use Rattle.hq_rules_reach.proofs.ByNumber.{numbered_kept}
 use Rattle.hq_rules_reach.proofs.uses.push_use.Goals as goal
 

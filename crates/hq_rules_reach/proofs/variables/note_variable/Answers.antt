@@ -1,4 +1,4 @@
-use Rattle.std.proofs.Common.{◌≡◌, ◌∙◌, ap, sym, ℕ, List, cond, length, Some, None, bytes_eq}
+use Rattle.std.proofs.Common.{◌≡◌, ◌∙◌, ap, sym, ℕ, List, cond, length, Some, None}
 use Rattle.std.specs.Option.{option_or}
 use Rattle.hq_gql_nodes.specs.Names.{get_name}
 use Rattle.hq_gql_nodes.proofs.Lists.{option_or_none}

@@ -1,4 +1,4 @@
-use Rattle.std.proofs.Common.{◌≡◌, ◌<◌, ◌∙◌, ap, ℕ, List, Option, Bool, false, get_or, map, Vec, Global}
+use Rattle.std.proofs.Common.{◌∙◌, ap, ℕ, List, Option, Bool, map, Vec, Global}
 use Rattle.hq_schema.specs.Schema.{schema_view}
 use Rattle.hq_gql_tree.specs.Documents.{var_def_view}
 use Rattle.hq_gql_nodes.specs.Least.{least_of}

@@ -1,4 +1,4 @@
-use Rattle.std.proofs.Common.{◌≡◌, ◌∙◌, ap, sym, subst, ℕ, Some, None, map, cond, length, bytes_eq, arith}
+use Rattle.std.proofs.Common.{◌∙◌, ap, sym, subst, Some, None, map, cond, bytes_eq, arith}
 use Rattle.std.specs.Option.{option_or}
 use Rattle.std.proofs.lemmas.List.{take_all}
 use Rattle.hq_gql_tree.specs.Documents.{VarDefTree, var_def_view}

@@ -1,0 +1,27 @@
+-- Walks that add nodes at the end of a list.
+use Rattle.std.proofs.Common.{◌≡◌, ◌∙◌, ℕ, ◌+◌, ◌<◌, List, [], ◌∷◌, ◌++◌, length, map, drop, get_or, sym, ap, append_assoc}
+use Rattle.std.proofs.lemmas.List.{drop_more, map-append}
+
+-- the list from a place on begins with the item there
+from_place : {A : Type 0} (xs : List A) (i : ℕ) (x : A) → i < length xs → x ≡ get_or xs i x → drop i xs ≡ x ∷ drop (i + 1) xs
+from_place xs i x below is = drop_more xs i x below ∙ ap (λ y. y ∷ drop (i + 1) xs) (sym is)
+
+-- a loop has added the nodes of one more item, where F gives those of a list
+pub item_added : {A B : Type 0} (F : List A → List B) (xs : List A) (i : ℕ) (x : A) (here done more whole : List B) → done ++ F (drop i xs) ≡ whole → i < length xs → x ≡ get_or xs i x → F (x ∷ drop (i + 1) xs) ≡ here ++ F (drop (i + 1) xs) → more ≡ done ++ here → more ++ F (drop (i + 1) xs) ≡ whole
+item_added F xs i x here done more whole so_far below is joins grows =
+    ap (λ ns. ns ++ F (drop (i + 1) xs)) grows
+    ∙ append_assoc done here (F (drop (i + 1) xs))
+    ∙ ap (λ ns. done ++ ns) (sym joins ∙ ap F (sym (from_place xs i x below is)))
+    ∙ so_far
+
+-- one node is added, and then others
+pub node_then : {A B : Type 0} (v : A → B) (old mid : List A) (x : A) (new rest : List B) → mid ≡ old ++ x ∷ [] → new ≡ map v mid ++ rest → new ≡ map v old ++ v x ∷ rest
+node_then v old mid x new rest one others =
+    others
+    ∙ ap (λ ns. map v ns ++ rest) one
+    ∙ ap (λ ns. ns ++ rest) (map-append v old (x ∷ []))
+    ∙ append_assoc (map v old) (v x ∷ []) rest
+
+-- nodes are added, and then others
+pub nodes_then : {B : Type 0} (old mid new here rest : List B) → mid ≡ old ++ here → new ≡ mid ++ rest → new ≡ old ++ (here ++ rest)
+nodes_then old mid new here rest first others = others ∙ ap (λ ns. ns ++ rest) first ∙ append_assoc old here rest
