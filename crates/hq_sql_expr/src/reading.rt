@@ -177,8 +177,9 @@ fn argument_of(alloc: Global, depth: u32, bytes: &[u8]) -> Result<(Box<Expr>, &[
     ensures { Reads (λ x. (expr_view x.0.value, x.1.now)) result (argument_with (expr_with (λ h. below (inside_at h) depth)) bytes.now) }
 {
     let (value, rest) = expr_of(alloc, depth, bytes)?;
+    let value = Box::new(alloc, value)?;
     let rest = skip(rest, Word::Close)?;
-    Ok((Box::new(alloc, value)?, rest))
+    Ok((value, rest))
 }
 
 #[cycle(read_expr)]
@@ -238,10 +239,10 @@ fn ordered_of(alloc: Global, depth: u32, bytes: &[u8]) -> Result<(Expr, &[u8]), 
     ensures { Reads (λ x. (expr_view x.0, x.1.now)) result (ordered_with (expr_with (λ h. below (inside_at h) depth)) bytes.now) }
 {
     let (value, rest) = expr_of(alloc, depth, bytes)?;
+    let value = Box::new(alloc, value)?;
     let rest = skip(rest, Word::OrderBy)?;
     let (order, rest) = order_list(alloc, depth, rest)?;
     let rest = skip(rest, Word::OrEmptyArray)?;
-    let value = Box::new(alloc, value)?;
     Ok((Expr::Agg(Agg::JsonAgg { value, order }), rest))
 }
 
