@@ -5,7 +5,7 @@ ghost use Rattle.hq_sql_tree.specs.WellFormed as well;
 ghost use Rattle.hq_sql_tree.specs.WellFormed.{kind_of_type, table_names, is_table};
 ghost use Rattle.hq_sql_check.specs.Scopes.{kind_view, name_view, alias_view};
 
-use crate::scope::{Alias, Kind, Name};
+use crate::scope::{Kind, Name, only_name};
 use hq_base::{Memory, Txt, Ty};
 use hq_terms::Table;
 use std::alloc::Global;
@@ -81,10 +81,9 @@ const TRUTH: &str = "u";
 pub(crate) fn one_names<'d>(alloc: Global) -> Result<Vec<Name<'d>>, Memory>
     ensures { IfOk result (λ names. map name_view names.items ≡ (codes "u", Some well.truth) ∷ []) }
 {
-    let mut names = Vec::new(alloc);
-    names.push(Name {
+    let truth = Name {
         name: TRUTH,
         kind: Some(Kind::Truth),
-    })?;
-    Ok(names)
+    };
+    only_name(alloc, truth)
 }

@@ -1,9 +1,10 @@
 //! The aliases in scope, and the kinds of their columns.
-ghost use Rattle.std.specs.Prelude.{◌≡◌, MatchOption, map, option_map};
+ghost use Rattle.std.specs.Prelude.{◌≡◌, ◌∷◌, [], IfOk, MatchOption, map, option_map};
 ghost use Rattle.hq_sql_tree.specs.WellFormed.{kind_named, kind_at, Aliases};
 ghost use Rattle.hq_sql_check.specs.Scopes.{kind_view, name_view, alias_view, stacked, scope_view};
 
-use hq_base::Txt;
+use hq_base::{Memory, Txt};
+use std::alloc::Global;
 
 /// What an expression's values are: whole numbers, perhaps those of a table's column, texts, truth values or JSON.
 #[derive(Clone, Copy, PartialEq, Eq)]
@@ -36,6 +37,15 @@ pub(crate) enum Scope<'s, 'd> {
         aliases: &'s [Alias<'d>],
         outer: &'s Scope<'s, 'd>,
     },
+}
+
+/// One name alone.
+pub(crate) fn only_name<'d>(alloc: Global, name: Name<'d>) -> Result<Vec<Name<'d>>, Memory>
+    ensures { IfOk result (λ names. map name_view names.items ≡ name_view name.entry ∷ []) }
+{
+    let mut names = Vec::new(alloc);
+    names.push(name)?;
+    Ok(names)
 }
 
 // The kind of the column of this name.

@@ -8,7 +8,7 @@ ghost use Rattle.hq_sql_check.specs.Scopes.{name_view, alias_view, stacked, scop
 use crate::aggregates::is_folded;
 use crate::from::{one_names, table_names};
 use crate::parts::{are_items, are_parts, out_names};
-use crate::scope::{Alias, Name, Scope};
+use crate::scope::{Alias, Name, Scope, only_name};
 use crate::values::{is_compared, is_item, is_text, is_value, kind};
 use hq_base::{Memory, Pattern, PatternRefusal, Txt};
 use hq_sql_tree::{Expr, From, JoinList, Out, Pred, PredList, Select};
@@ -80,8 +80,7 @@ fn fold_names<'d>(
         (λ outputs. (is_folded ((alias.entry.now, map name_view names.entry.items) ∷ scope_view scope.now) (expr_view out.now.value) ≡ true)
         × (map name_view outputs.items ≡ (out.now.name, kind ((alias.entry.now, map name_view names.entry.items) ∷ scope_view scope.now) (expr_view out.now.value)) ∷ []))) }
 {
-    let mut aliases = Vec::new(alloc);
-    aliases.push(Alias { alias, names })?;
+    let aliases = [Alias { alias, names }];
     let scope = Scope::Level {
         aliases: &aliases,
         outer: &*scope,
@@ -89,12 +88,11 @@ fn fold_names<'d>(
     if !is_folded(alloc, &scope, &out.value)? {
         return Ok(None);
     }
-    let mut outputs = Vec::new(alloc);
-    outputs.push(Name {
+    let output = Name {
         name: out.name.as_str(),
         kind: kind(&scope, &out.value),
-    })?;
-    Ok(Some(outputs))
+    };
+    Ok(Some(only_name(alloc, output)?))
 }
 
 // The alias of a FROM.

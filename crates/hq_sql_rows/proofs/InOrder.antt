@@ -1,5 +1,5 @@
 -- Rows in the order of an index, and what WHERE keeps of them, in the order of ORDER BY.
-use Rattle.std.proofs.Common.{◌≡◌, ◌∙◌, ◌==◌, ◌≤◌, ◌<◌, refl, sym, ap, ap₂, ℕ, zero, suc, List, [], ◌∷◌, ◌++◌, map, filter, flat_map, length, get_or, Bool, true, false, cond, not, Some, Ordering, bytes_eq, arith}
+use Rattle.std.proofs.Common.{◌≡◌, ◌∙◌, ◌==◌, ◌≤◌, refl, sym, ap, ap₂, ℕ, suc, List, [], ◌∷◌, ◌++◌, map, filter, flat_map, length, get_or, Bool, true, false, cond, not, Some, bytes_eq, arith}
 use Rattle.std.specs.List.{position}
 use Rattle.std.specs.Ordering.{nat_cmp, ordering_then}
 use Rattle.std.proofs.lemmas.Bool.{or_parts, ne_eqb, false≢true}
@@ -11,15 +11,15 @@ use Rattle.hq_terms.specs.Database.{Row}
 use Rattle.hq_terms.specs.Logic.{null_test}
 use Rattle.hq_terms.specs.declared.table.Column.{Column}
 use Rattle.hq_index.specs.Indexes.{counted, key_at, by_key, columns_of, entries_of}
-use Rattle.hq_index.specs.Keys.{cell_in, key_in, keys_cmp, has_null}
+use Rattle.hq_index.specs.Keys.{cell_in, key_in, has_null}
 use Rattle.hq_index.specs.declared.index.Index.{Index}
 use Rattle.hq_index.proofs.Counted.{length-counted}
 use Rattle.hq_index.proofs.Sorted.{by_key_total}
-use Rattle.hq_sql_tree.specs.Tree.{ExprTree, OrderTree, JoinTrees}
+use Rattle.hq_sql_tree.specs.Tree.{OrderTree, JoinTrees}
 use Rattle.hq_sql_tree.specs.View.{expr_view, order_view}
 use Rattle.hq_sql_tree.specs.declared.expr.Expr.{Expr}
 use Rattle.hq_sql_tree.specs.declared.expr.Order.{Order}
-use Rattle.hq_sql_tree.specs.Meaning.{NamedRow, Scope as Names, World, cell_named, with_alias, named_row, value, joined, order_cmp}
+use Rattle.hq_sql_tree.specs.Meaning.{NamedRow, Scope as Names, World, cell_named, with_alias, named_row, joined, order_cmp}
 use Rattle.hq_sql_rows.specs.Equations.{is_joined, is_column}
 use Rattle.hq_sql_rows.specs.Ordered.{IsKey, OrdersBy, HasOrder}
 use Rattle.hq_sql_rows.specs.Positions.{kept_of, arranged}

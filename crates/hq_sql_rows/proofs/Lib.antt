@@ -7,3 +7,4 @@ pub mod Blocks
 pub mod InOrder
 pub mod Enough
 pub mod Tops
+pub mod Loops
