@@ -1,5 +1,6 @@
 -- Steps of a loop that reads items one after the other, some of which cannot be read.
 use Rattle.std.proofs.Common.{◌≡◌, ◌∙◌, refl, ap, sym, ℕ, ◌+◌, ◌<◌, List, [], ◌∷◌, ◌++◌, length, drop, get_or, Option, Some, None, append_assoc}
+use Rattle.std.specs.Option.{option_to_list}
 use Rattle.std.specs.Prelude.{option_map, option_and_then}
 use Rattle.std.proofs.lemmas.List.{drop_more}
 
@@ -34,3 +35,11 @@ read_none F D reads xs i x done whole so_far below is given =
 pub reads_by_image : {A B : Type 0} (g : A → B) (rest : Option (List B)) (o : Option A) → option_and_then (λ x. option_map (λ ys. g x ∷ ys) rest) o ≡ option_and_then (λ y. option_map (λ ys. y ∷ ys) rest) (option_map g o)
 reads_by_image g rest None = refl
 reads_by_image g rest (Some x) = refl
+
+-- an item is passed that gives a value or none
+pub given_more : {X B : Type 0} (F : List X → List B) (xs : List X) (i : ℕ) (x : X) (o : Option B) (done more whole : List B) → done ++ F (drop i xs) ≡ whole → i < length xs → x ≡ get_or xs i x → F (x ∷ drop (i + 1) xs) ≡ option_to_list o ++ F (drop (i + 1) xs) → more ≡ done ++ option_to_list o → more ++ F (drop (i + 1) xs) ≡ whole
+given_more F xs i x o done more whole so_far below is gives grows =
+    ap (λ ys. ys ++ F (drop (i + 1) xs)) grows
+    ∙ append_assoc done (option_to_list o) (F (drop (i + 1) xs))
+    ∙ ap (λ ys. done ++ ys) (sym gives ∙ ap F (sym (drop_more xs i x below ∙ ap (λ z. z ∷ drop (i + 1) xs) (sym is))))
+    ∙ so_far
