@@ -1,3 +1,5 @@
 mod Lists
 mod Operations
 mod SameMembers
+mod Steps
+mod ValueSteps

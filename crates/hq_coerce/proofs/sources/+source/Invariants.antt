@@ -9,11 +9,11 @@ use Rattle.hq_coerce.proofs.sources.+source.Given as goal
 abbrev pub invariant-element_sources-loop-placed : goal.invariant-element_sources-loop-placed
 invariant-element_sources-loop-placed l =
     let vars = map var_view l.vars in
-    map json_view l.elements.items ++ element_sources vars (elements_of (map placed_view (drop l.placed-index l.values.items)))
+    map json_view l.elements.items ++ element_sources vars (elements_of (map placed_view (drop l.placed-index l.placed-items)))
     ≡ element_sources vars (elements_of (map placed_view l.values.items))
 
 abbrev pub invariant-member_sources-loop-argument : goal.invariant-member_sources-loop-argument
 invariant-member_sources-loop-argument l =
     let vars = map var_view l.vars in
-    map member_view l.members.items ++ member_sources vars (members_of (map argument_view (drop l.argument-index l.arguments.items)))
+    map member_view l.members.items ++ member_sources vars (members_of (map argument_view (drop l.argument-index l.argument-items)))
     ≡ member_sources vars (members_of (map argument_view l.arguments.items))

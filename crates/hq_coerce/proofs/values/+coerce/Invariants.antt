@@ -11,11 +11,11 @@ invariant-coerce_elements-loop-element l =
     let s = schema_view l.schema in
     let r = type_ref_view l.item in
     coerced_elements s (elements_of (map json_view l.elements.items)) r
-    ≡ option_map (λ rest. map json_view l.list.items ++ rest) (coerced_elements s (elements_of (map json_view (drop l.element-index l.elements.items))) r)
+    ≡ option_map (λ rest. map json_view l.list.items ++ rest) (coerced_elements s (elements_of (map json_view (drop l.element-index l.element-items))) r)
 
 -- the members so far, and then those of the rest
 abbrev pub invariant-coerce_members-loop-member : goal.invariant-coerce_members-loop-member
 invariant-coerce_members-loop-member l =
     let s = schema_view l.schema in
     coerced_members s (members_of (map member_view l.members.items)) l.t
-    ≡ option_map (λ rest. map member_view l.object.items ++ rest) (coerced_members s (members_of (map member_view (drop l.member-index l.members.items))) l.t)
+    ≡ option_map (λ rest. map member_view l.object.items ++ rest) (coerced_members s (members_of (map member_view (drop l.member-index l.member-items))) l.t)
