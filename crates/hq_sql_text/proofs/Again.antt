@@ -1,5 +1,5 @@
 -- Selects: what is spelled so is read again, whatever follows.
-use Rattle.std.proofs.Common.{◌≡◌, ℕ, zero, suc, ◌<◌, eqb, true, false, cond, List, [], ◌∷◌, ◌++◌, length, map, Option, Some, None, refl, sym, ap, ◌∙◌, append_assoc, arith}
+use Rattle.std.proofs.Common.{◌≡◌, ℕ, zero, suc, ◌<◌, eqb, true, false, cond, List, [], ◌∷◌, ◌++◌, length, map, Option, Some, None, refl, ap, ◌∙◌, append_assoc, arith}
 use Rattle.std.specs.Prelude.{codes}
 use Rattle.std.proofs.lemmas.List.{append-nil}
 use Rattle.std.specs.List.{AllByRecursion}
@@ -8,7 +8,7 @@ use Rattle.hq_sql_tree.specs.declared.word.Word.TheVariants as word
 use Rattle.hq_sql_tree.specs.Word.{word_text}
 use Rattle.hq_sql_tree.specs.Tree as tree
 use Rattle.hq_sql_tree.specs.Tree.{ExprTree, AggTree, OrderTree, OutTree, SelectTree, FromTree, JoinTree, JoinTrees, FilterTree, PredTree, joins_of, join_list}
-use Rattle.hq_sql_tree.specs.Form.{holds_agg, is_rows, reads_as_fold, is_count}
+use Rattle.hq_sql_tree.specs.Form.{holds_agg, is_rows, is_count}
 use Rattle.hq_sql_tree.specs.Spelling.{quoted, doubled, name_text, each_after, separated, clause_text, expr_text, out_text, distinct_text, number_text, select_text, from_text, join_text, join_texts, filter_text}
 use Rattle.hq_sql_expr.specs.Reading.{Reader, nothing, after, strip}
 use Rattle.hq_sql_expr.proofs.Sound.{after_again}

@@ -16,7 +16,7 @@ use Rattle.hq_sql_expr.proofs.Numbers.{NoDigit, number_again}
 use Rattle.hq_sql_expr.proofs.Exprs.{GoodOrder}
 use Rattle.hq_sql_expr.proofs.Again.{keys_again, expr_again}
 use Rattle.hq_sql_expr.proofs.Closed.{closed_list_text, close_distinct_closes, closed_exprs_again}
-use Rattle.hq_sql_text.specs.Reading.{EndTree, clause_with, distinct_at, count_at, counts_with}
+use Rattle.hq_sql_text.specs.Reading.{clause_with, distinct_at, count_at, counts_with}
 use Rattle.hq_sql_text.proofs.Fits.{FitsDistinct}
 
 -- ---- what may follow

@@ -1,5 +1,5 @@
 -- Conditions: what is spelled so is read again, whatever follows.
-use Rattle.std.proofs.Common.{◌≡◌, ℕ, zero, suc, ◌<◌, Bool, true, false, ◌||◌, List, [], ◌∷◌, ◌++◌, length, map, Option, Some, None, refl, sym, ap, ◌∙◌, append_assoc, arith}
+use Rattle.std.proofs.Common.{◌≡◌, ℕ, zero, suc, ◌<◌, Bool, true, false, ◌||◌, List, ◌∷◌, ◌++◌, length, map, Option, Some, refl, ap, ◌∙◌, append_assoc, arith}
 use Rattle.std.specs.List.{AllByRecursion}
 use Rattle.hq_terms.specs.declared.op.Op.{Op}
 use Rattle.hq_terms.specs.declared.op.Op.TheVariants as op
@@ -10,7 +10,7 @@ use Rattle.hq_sql_tree.specs.Tree as tree
 use Rattle.hq_sql_tree.specs.Tree.{ExprTree, AggTree, OrderTree, SelectTree, FilterTree, PredTree, PredTrees, preds_of, pred_list}
 use Rattle.hq_sql_tree.specs.Form.{is_rows, is_count}
 use Rattle.hq_sql_tree.specs.Spelling.{quoted, separated, expr_text, op_word, select_text, filter_text, pred_text, pred_texts}
-use Rattle.hq_sql_expr.specs.Reading.{Reader, nothing, after, all_many}
+use Rattle.hq_sql_expr.specs.Reading.{Reader, nothing, after}
 use Rattle.hq_sql_expr.proofs.Sound.{after_again}
 use Rattle.hq_sql_expr.proofs.Listed.{all_many_again}
 use Rattle.hq_sql_expr.proofs.Fits.{FitsExpr}
@@ -18,8 +18,8 @@ use Rattle.hq_sql_expr.proofs.Exprs.{GoodOrder, closed_text}
 use Rattle.hq_sql_expr.proofs.Again.{expr_again}
 use Rattle.hq_sql_expr.proofs.Again as expressions
 use Rattle.hq_sql_expr.proofs.Closed.{FitsClosed, closed_list_text, closed_expr_again, close_in_closes, closed_exprs_again}
-use Rattle.hq_sql_text.specs.Reading.{EndTree, joint_next, member_next, op_at, test_with, tested_at, others_with, joined_with, negated_with, inside_with, exists_with, pred_with, filter_with, counts_with, end_with}
-use Rattle.hq_sql_text.proofs.Fits.{AtLeastTwo, FitsSelect, FitsFilter, FitsPred, FitsPreds}
+use Rattle.hq_sql_text.specs.Reading.{joint_next, member_next, op_at, test_with, tested_at, others_with, joined_with, negated_with, inside_with, exists_with, pred_with, filter_with, end_with}
+use Rattle.hq_sql_text.proofs.Fits.{FitsSelect, FitsFilter, FitsPred, FitsPreds}
 use Rattle.hq_sql_text.proofs.ClausesAgain.{Ends, close_ends, Absent, counts_text, keys_text, behind_text, no_where_behind, counts_again, keys_clause}
 
 -- a reader of selects, within so many parentheses

@@ -1,5 +1,5 @@
 -- Selects: what is read is spelled so.
-use Rattle.std.proofs.Common.{◌≡◌, ℕ, zero, suc, Bool, true, false, ◌&&◌, ◌==◌, cond, List, [], ◌∷◌, ◌++◌, map, length, Option, Some, None, refl, sym, ap, subst, ◌∙◌, append_assoc, arith}
+use Rattle.std.proofs.Common.{◌≡◌, ℕ, zero, suc, Bool, true, false, ◌&&◌, ◌==◌, cond, List, [], ◌∷◌, ◌++◌, map, length, Option, Some, None, refl, sym, ap, subst, ◌∙◌, append_assoc}
 use Rattle.std.specs.Prelude.{is_none}
 use Rattle.std.proofs.lemmas.Bool.{eqb-true}
 use Rattle.std.proofs.lemmas.List.{append-nil, nil_from_length}
@@ -10,14 +10,14 @@ use Rattle.hq_sql_tree.specs.Word.{word_text}
 use Rattle.hq_sql_tree.specs.Tree as tree
 use Rattle.hq_sql_tree.specs.Tree.{ExprTree, OrderTree, OutTree, SelectTree, FromTree, JoinTree, JoinTrees, FilterTree, PredTree, joins_of}
 use Rattle.hq_sql_tree.specs.Form.{holds_agg, is_rows, is_lone_agg, is_sub_of_rows, is_no_join, is_no_filter, reads_as_fold}
-use Rattle.hq_sql_tree.specs.Spelling.{name_text, each_after, clause_text, order_text, out_text, distinct_text, select_text, from_text, join_text, join_texts}
-use Rattle.hq_sql_expr.specs.Reading.{◌>>=◌, Reader, nothing, after, choose, all_many, name_at, expr_at, order_with, out_with}
-use Rattle.hq_sql_expr.proofs.Sound.{Sound, Spelled, sound_next, sound_last, sound_word, sound_choose, sound_end, sound_pure, sound_nothing}
+use Rattle.hq_sql_tree.specs.Spelling.{name_text, each_after, clause_text, out_text, distinct_text, select_text, from_text, join_text, join_texts}
+use Rattle.hq_sql_expr.specs.Reading.{◌>>=◌, Reader, nothing, after, choose, all_many, name_at, expr_at, out_with}
+use Rattle.hq_sql_expr.proofs.Sound.{Sound, Spelled, sound_next, sound_last, sound_word, sound_choose, sound_end, sound_nothing}
 use Rattle.hq_sql_expr.proofs.Listed.{AllGood, list_text, all_many_takes}
 use Rattle.hq_sql_expr.proofs.Literals.{IsText, quoted_takes}
-use Rattle.hq_sql_expr.proofs.Exprs.{GoodOrder, GoodOut, outs_take}
+use Rattle.hq_sql_expr.proofs.Exprs.{GoodOut, outs_take}
 use Rattle.hq_sql_text.specs.Reading.{EndTree, clause_with, distinct_at, table_at, one_at, aliased_with, from_with, join_with, fold_of, shaped, end_with, select_with, select_at, inside_with, pred_with, pred_at}
-use Rattle.hq_sql_text.proofs.Fits.{FitsDistinct, FitsSelect, FitsFrom, FitsJoins, FitsPred}
+use Rattle.hq_sql_text.proofs.Fits.{FitsDistinct, FitsSelect, FitsFrom, FitsJoins}
 use Rattle.hq_sql_text.proofs.ClausesTaken.{clause_spelled, clause_takes, distinct_takes}
 use Rattle.hq_sql_text.proofs.ConditionsTaken.{OnePred, end_text, GoodEnd, end_takes, inside_takes, pred_with_takes}
 
