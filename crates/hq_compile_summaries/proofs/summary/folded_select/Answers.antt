@@ -3,9 +3,6 @@ use Rattle.std.proofs.lemmas.Result.{IfOk-weaker}
 use Rattle.hq_terms.specs.Schema.{table}
 use Rattle.hq_terms.specs.declared.table.Column.{Column}
 use Rattle.hq_ask_tree.specs.Arguments.{arguments_view}
-use Rattle.hq_sql_tree.specs.Tree.{OutTree, fold}
-use Rattle.hq_sql_tree.specs.View.{select_view}
-use Rattle.hq_compiled.specs.Names.{fold_alias}
 use Rattle.hq_compile_parts.specs.Contexts.{context_schema, context_rights}
 use Rattle.hq_compile_lists.specs.Starts.{start_tie}
 use Rattle.hq_compile_summaries.specs.SummaryTrees.{needed_rows_tree}
