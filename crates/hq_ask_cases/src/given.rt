@@ -1,7 +1,7 @@
 //! Documents, schemas and variables that cases name.
 
 use hq_base::{Bytes, Json, Txt};
-use hq_case::{Case, Stop};
+use hq_case::{Case, Stop, given_catalog, given_session};
 use hq_coerce::{CoerceRefusal, OpRef, choose};
 use hq_gql_lexer::lex;
 use hq_gql_parser::parse;
@@ -29,6 +29,13 @@ pub fn schema_of(
     session: &Session,
 ) -> Result<Schema, Stop> {
     Ok(derive(alloc, catalog, meta, &Role::of(alloc, session)?)?)
+}
+
+/// The schema of the role of a case's session.
+pub fn given_schema(alloc: Global, case: &Case) -> Result<Schema, Stop> {
+    let catalog = given_catalog(alloc, case)?;
+    let meta = given_meta(alloc, case, &catalog)?;
+    schema_of(alloc, &catalog, &meta, &given_session(alloc, case)?)
 }
 
 // The document that a text spells.

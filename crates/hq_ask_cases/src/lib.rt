@@ -1,4 +1,4 @@
-//! Cases about requests that violate no rule: the chosen operation, its variables, and the typed request.
+//! Cases about what a document asks: the rules that it violates, the chosen operation, its variables, and the typed request.
 #![tactic(auto)]
 
 mod arguments;
@@ -6,6 +6,7 @@ mod fields;
 mod given;
 mod operations;
 mod requests;
+mod rules;
 mod subject;
 mod variables;
 

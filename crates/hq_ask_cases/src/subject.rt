@@ -1,9 +1,12 @@
-use crate::{operations, requests, variables};
+use crate::{operations, requests, rules, variables};
 use hq_case::{Case, Stop, Subject};
 
 /// What cases are about: a file of cases, and the public calls that these go through.
 #[derive(Clone, Copy)]
 pub enum About {
+    DocumentRules,
+    FieldRules,
+    MergingRule,
     Operations,
     Variables,
     Arguments,
@@ -12,7 +15,10 @@ pub enum About {
 
 impl About {
     /// Each subject, in the order of its line.
-    pub const ALL: [About; 4] = [
+    pub const ALL: [About; 7] = [
+        About::DocumentRules,
+        About::FieldRules,
+        About::MergingRule,
         About::Operations,
         About::Variables,
         About::Arguments,
@@ -23,6 +29,9 @@ impl About {
 impl Subject for About {
     fn name(self) -> &'static str {
         match self {
+            About::DocumentRules => "document_rules",
+            About::FieldRules => "field_rules",
+            About::MergingRule => "merging_rule",
             About::Operations => "operations",
             About::Variables => "variables",
             About::Arguments => "arguments",
@@ -33,6 +42,8 @@ impl Subject for About {
     fn tell(self, rt: &HostRuntime, case: &Case, out: &mut String) -> Result<(), Stop> {
         let alloc = rt.alloc();
         match self {
+            About::DocumentRules => rules::tell_of_document(alloc, case, out),
+            About::FieldRules | About::MergingRule => rules::tell_of_fields(alloc, case, out),
             About::Operations => operations::tell_operation(alloc, case, out),
             About::Variables => variables::tell_values(alloc, case, out),
             About::Arguments | About::TypedRequests => requests::tell_request(alloc, case, out),

@@ -1,20 +1,11 @@
 //! The coerced variables of an operation.
 
-use crate::given::{
-    given_document, given_meta, given_operation, given_variables, push_refusal, schema_of,
-};
-use hq_case::{Case, Stop, given_catalog, given_session, push_json};
+use crate::given::{given_document, given_operation, given_schema, given_variables, push_refusal};
+use hq_case::{Case, Stop, push_json};
 use hq_coerce::{VarValue, coerce_variables};
 use hq_gql_tree::Document;
 use hq_schema::Schema;
 use std::alloc::Global;
-
-// The schema of the role of a case's session.
-fn given_schema(alloc: Global, case: &Case) -> Result<Schema, Stop> {
-    let catalog = given_catalog(alloc, case)?;
-    let meta = given_meta(alloc, case, &catalog)?;
-    schema_of(alloc, &catalog, &meta, &given_session(alloc, case)?)
-}
 
 // Each variable with its value, in words.
 fn push_values(alloc: Global, values: &[VarValue], out: &mut String) -> Result<(), Stop> {

@@ -8,7 +8,6 @@ fn main(rt: HostRuntime) -> ExitCode {
     let mut well = run_all(&rt, &hq_text_cases::About::ALL);
     well &= run_all(&rt, &hq_data_cases::About::ALL);
     well &= run_all(&rt, &hq_server_cases::About::ALL);
-    well &= run_all(&rt, &hq_rule_cases::About::ALL);
     well &= run_all(&rt, &hq_ask_cases::About::ALL);
     well &= run_all(&rt, &hq_sql_cases::About::ALL);
     well &= run_all(&rt, &hq_request_cases::About::ALL);
