@@ -14,6 +14,10 @@ use Rattle.hq_terms.specs.declared.op.Op.TheVariants.{Eq}
 abbrev pub rel_of : (name : List ℕ) → (remote : ℕ) → Pair → (many : Bool) → Rel
 rel_of name remote pair many = record { name = name; remote = remote; pairs = pair ∷ []; many = many }
 
+-- a tracked table with one permission
+abbrev pub tracked_of : (table : ℕ) → (name : List ℕ) → (column_names : List (List ℕ)) → RootNames → List Rel → PermTree → TrackedTree
+tracked_of table name column_names roots rels perm = record { table = table; name = name; column_names = column_names; roots = roots; rels = rels; perms = perm ∷ [] }
+
 -- the GraphQL names of the columns
 abbrev pub author_names : List (List ℕ)
 author_names = codes "id" ∷ codes "name" ∷ codes "email" ∷ []

@@ -1,10 +1,12 @@
 -- The generated catalog: authors, and articles that may have an author.
+use Rattle.std.specs.Borrow.{Bor}
 use Rattle.std.specs.Prelude.{ℕ, List, [], ◌∷◌, Bool, true, false, codes}
 use Rattle.hq_base.specs.declared.value.Ty.{Ty}
 use Rattle.hq_base.specs.declared.value.Ty.TheVariants.{Integer, Bigint, Text, Boolean}
 use Rattle.hq_terms.specs.declared.table.Column.{Column}
 use Rattle.hq_terms.specs.declared.table.ForeignKey.{ForeignKey}
 use Rattle.hq_terms.specs.declared.table.Table.{Table}
+use Rattle.hq_generator.specs.Words.{is_clean}
 
 abbrev pub column_of : (name : List ℕ) → Ty → (nullable : Bool) → Column
 column_of name ty nullable = record { name = name; ty = ty; nullable = nullable }
@@ -16,6 +18,13 @@ abbrev pub article_columns : List Column
 article_columns =
     column_of (codes "id") Integer false ∷ column_of (codes "author_id") Integer true ∷ column_of (codes "title") Text false
     ∷ column_of (codes "published") Boolean false ∷ column_of (codes "rating") Bigint true ∷ []
+
+-- a column by its name, its type, and whether it may be NULL; the name has no zero byte
+abbrev pub row_column : Bor (List ℕ) × Ty × Bool → Column
+row_column row = column_of row.0.now row.1 row.2
+
+abbrev pub is_clean_row : Bor (List ℕ) × Ty × Bool → Bool
+is_clean_row row = is_clean row.0
 
 -- an article's `author_id` is the `id` of an author
 abbrev pub author_key : ForeignKey

@@ -1,7 +1,7 @@
 //! The catalog: authors, and articles that may have an author.
-ghost use Rattle.std.specs.Prelude.{◌≡◌, ◌∷◌, [], false, IfOk};
-ghost use Rattle.hq_base.specs.Text.{has_zero};
-ghost use Rattle.hq_generator.specs.Tables.{article_columns, article_table, author_columns, author_key, author_table, column_of, tables};
+ghost use Rattle.std.specs.Prelude.{◌≡◌, ◌∷◌, [], true, map, IfOk};
+ghost use Rattle.std.specs.List.{list_all};
+ghost use Rattle.hq_generator.specs.Tables.{article_columns, article_table, author_columns, author_key, author_table, is_clean_row, row_column, tables};
 
 use crate::text::text;
 use hq_base::{List, Memory, Ty};
@@ -10,16 +10,20 @@ use hq_terms::{
 };
 use std::alloc::Global;
 
-// A column of this name.
-fn column(alloc: Global, name: &str, ty: Ty, nullable: bool) -> Result<Column, Memory>
-    requires { has_zero name.now ≡ false }
-    ensures { IfOk result (λ column. column ≡ column_of name.now ty nullable) }
+// Columns by their names, their types, and whether they may be NULL.
+fn columns(alloc: Global, rows: &[(&str, Ty, bool)]) -> Result<ColumnList, Memory>
+    requires { list_all is_clean_row rows.now ≡ true }
+    ensures { IfOk result (λ columns. columns ≡ map row_column rows.now) }
 {
-    Ok(Column {
-        name: text(alloc, name)?,
-        ty,
-        nullable,
-    })
+    let mut columns = List::new(alloc);
+    for (name, ty, nullable) in rows {
+        columns.push(Column {
+            name: text(alloc, name)?,
+            ty: *ty,
+            nullable: *nullable,
+        })?;
+    }
+    Ok(columns)
 }
 
 // One column, by its place.
@@ -34,23 +38,29 @@ fn one_column(alloc: Global, at: usize) -> Result<ColList, Memory>
 fn author_columns(alloc: Global) -> Result<ColumnList, Memory>
     ensures { IfOk result (λ columns. columns ≡ author_columns) }
 {
-    let mut columns = List::new(alloc);
-    columns.push(column(alloc, "id", Ty::Integer, false)?)?;
-    columns.push(column(alloc, "name", Ty::Text, false)?)?;
-    columns.push(column(alloc, "email", Ty::Text, true)?)?;
-    Ok(columns)
+    columns(
+        alloc,
+        &[
+            ("id", Ty::Integer, false),
+            ("name", Ty::Text, false),
+            ("email", Ty::Text, true),
+        ],
+    )
 }
 
 fn article_columns(alloc: Global) -> Result<ColumnList, Memory>
     ensures { IfOk result (λ columns. columns ≡ article_columns) }
 {
-    let mut columns = List::new(alloc);
-    columns.push(column(alloc, "id", Ty::Integer, false)?)?;
-    columns.push(column(alloc, "author_id", Ty::Integer, true)?)?;
-    columns.push(column(alloc, "title", Ty::Text, false)?)?;
-    columns.push(column(alloc, "published", Ty::Boolean, false)?)?;
-    columns.push(column(alloc, "rating", Ty::Bigint, true)?)?;
-    Ok(columns)
+    columns(
+        alloc,
+        &[
+            ("id", Ty::Integer, false),
+            ("author_id", Ty::Integer, true),
+            ("title", Ty::Text, false),
+            ("published", Ty::Boolean, false),
+            ("rating", Ty::Bigint, true),
+        ],
+    )
 }
 
 // An article's author is among the authors.

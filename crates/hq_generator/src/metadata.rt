@@ -1,14 +1,16 @@
 //! The metadata: both relationships, and what the role `user` may see.
-ghost use Rattle.std.specs.Prelude.{◌≡◌, ◌∷◌, [], false, IfOk};
+ghost use Rattle.std.specs.Prelude.{◌≡◌, ◌∷◌, [], true, false, map, IfOk};
+ghost use Rattle.std.specs.List.{list_all};
 ghost use Rattle.hq_base.specs.Text.{has_zero};
 ghost use Rattle.hq_terms.specs.Bexp.{bexp_view};
 ghost use Rattle.hq_terms.specs.Meta.{meta_view, perm_view, tracked_view};
-ghost use Rattle.hq_generator.specs.Metadata.{article_filter, article_names, article_perm, article_roots, article_tracked, author_names, author_perm, author_roots, author_tracked, metadata, rel_of};
+ghost use Rattle.hq_generator.specs.Metadata.{article_filter, article_perm, article_roots, article_tracked, author_perm, author_roots, author_tracked, metadata, rel_of, tracked_of};
+ghost use Rattle.hq_generator.specs.Words.{is_clean, word_text};
 
-use crate::text::text;
+use crate::text::{text, texts};
 use hq_base::{List, Memory, Txt, Val};
 use hq_terms::{
-    Bexp, ColId, Meta, Op, Operand, Pair, Perm, Rel, RelList, RootNames, TableId, Tracked, TxtList,
+    Bexp, ColId, Meta, Op, Operand, Pair, Perm, Rel, RelList, RootNames, TableId, Tracked,
 };
 use std::alloc::Global;
 
@@ -34,28 +36,6 @@ fn one_rel(
         many,
     })?;
     Ok(rels)
-}
-
-fn author_names(alloc: Global) -> Result<TxtList, Memory>
-    ensures { IfOk result (λ names. names ≡ author_names) }
-{
-    let mut names = List::new(alloc);
-    names.push(text(alloc, "id")?)?;
-    names.push(text(alloc, "name")?)?;
-    names.push(text(alloc, "email")?)?;
-    Ok(names)
-}
-
-fn article_names(alloc: Global) -> Result<TxtList, Memory>
-    ensures { IfOk result (λ names. names ≡ article_names) }
-{
-    let mut names = List::new(alloc);
-    names.push(text(alloc, "id")?)?;
-    names.push(text(alloc, "author_id")?)?;
-    names.push(text(alloc, "title")?)?;
-    names.push(text(alloc, "published")?)?;
-    names.push(text(alloc, "rating")?)?;
-    Ok(names)
 }
 
 fn author_roots(alloc: Global) -> Result<RootNames, Memory>
@@ -132,50 +112,73 @@ fn article_perm(alloc: Global) -> Result<Perm, Memory>
     })
 }
 
-fn author_tracked(alloc: Global) -> Result<Tracked, Memory>
-    ensures { IfOk result (λ tracked. tracked_view tracked ≡ author_tracked) }
+// A tracked table with one permission.
+fn tracked_table(
+    alloc: Global,
+    table: usize,
+    name: &str,
+    columns: &[&str],
+    roots: RootNames,
+    rels: RelList,
+    perm: Perm,
+) -> Result<Tracked, Memory>
+    requires name { has_zero name.now ≡ false }
+    requires columns { list_all is_clean columns.now ≡ true }
+    ensures { IfOk result (λ tracked. tracked_view tracked ≡ tracked_of table name.now (map word_text columns.now) roots rels (perm_view perm)) }
 {
-    let name = text(alloc, "author")?;
-    let column_names = author_names(alloc)?;
-    let roots = author_roots(alloc)?;
-    let pair = Pair {
-        own: ColId::new(0),
-        remote: ColId::new(1),
-    };
-    let rels = one_rel(alloc, "articles", 1, pair, true)?;
     let mut perms = List::new(alloc);
-    perms.push(author_perm(alloc)?)?;
+    perms.push(perm)?;
+    let name = text(alloc, name)?;
     Ok(Tracked {
-        table: TableId::new(0),
+        table: TableId::new(table),
         name,
-        column_names,
+        column_names: texts(alloc, columns)?,
         roots,
         rels,
         perms,
     })
 }
 
+fn author_tracked(alloc: Global) -> Result<Tracked, Memory>
+    ensures { IfOk result (λ tracked. tracked_view tracked ≡ author_tracked) }
+{
+    let pair = Pair {
+        own: ColId::new(0),
+        remote: ColId::new(1),
+    };
+    let rels = one_rel(alloc, "articles", 1, pair, true)?;
+    let perm = author_perm(alloc)?;
+    let roots = author_roots(alloc)?;
+    tracked_table(
+        alloc,
+        0,
+        "author",
+        &["id", "name", "email"],
+        roots,
+        rels,
+        perm,
+    )
+}
+
 fn article_tracked(alloc: Global) -> Result<Tracked, Memory>
     ensures { IfOk result (λ tracked. tracked_view tracked ≡ article_tracked) }
 {
-    let name = text(alloc, "article")?;
-    let column_names = article_names(alloc)?;
-    let roots = article_roots(alloc)?;
     let pair = Pair {
         own: ColId::new(1),
         remote: ColId::new(0),
     };
     let rels = one_rel(alloc, "author", 0, pair, false)?;
-    let mut perms = List::new(alloc);
-    perms.push(article_perm(alloc)?)?;
-    Ok(Tracked {
-        table: TableId::new(1),
-        name,
-        column_names,
+    let perm = article_perm(alloc)?;
+    let roots = article_roots(alloc)?;
+    tracked_table(
+        alloc,
+        1,
+        "article",
+        &["id", "author_id", "title", "published", "rating"],
         roots,
         rels,
-        perms,
-    })
+        perm,
+    )
 }
 
 /// The metadata.

@@ -1,9 +1,11 @@
 //! Texts of fixed words and of numbers.
-ghost use Rattle.std.specs.Prelude.{◌≡◌, ◌++◌, false, IfOk, OnOk};
+ghost use Rattle.std.specs.Prelude.{◌≡◌, ◌++◌, true, false, map, IfOk, OnOk};
 ghost use Rattle.std.specs.Fmt.{decimal};
+ghost use Rattle.std.specs.List.{list_all};
 ghost use Rattle.hq_base.specs.Text.{has_zero};
+ghost use Rattle.hq_generator.specs.Words.{is_clean, word_text};
 
-use hq_base::{Memory, Txt};
+use hq_base::{List, Memory, Txt};
 use itoa::Buffer;
 use std::alloc::Global;
 
@@ -15,6 +17,18 @@ pub fn text(alloc: Global, word: &str) -> Result<Txt, Memory>
     let mut text = Txt::new(alloc);
     text.push_str(word)?;
     Ok(text)
+}
+
+/// The texts of words without a zero byte.
+pub fn texts(alloc: Global, words: &[&str]) -> Result<List<Txt>, Memory>
+    requires { list_all is_clean words.now ≡ true }
+    ensures { IfOk result (λ texts. texts ≡ map word_text words.now) }
+{
+    let mut texts = List::new(alloc);
+    for word in words {
+        texts.push(text(alloc, word)?)?;
+    }
+    Ok(texts)
 }
 
 /// Adds the digits of a number.
