@@ -6,6 +6,7 @@ use hq_db::SqlDb;
 use hq_link::{Database, DbRefusal};
 use hq_sql_check::well_formed;
 use hq_sql_text::{ReadRefusal, print, read};
+use hq_sql_tree::Select;
 use itoa::Buffer;
 use std::alloc::{AllocError, Global};
 use std::test::Fail;
@@ -83,9 +84,14 @@ fn text_of(alloc: Global, kind: &Nested, times: u32) -> Result<Vec<u8>, AllocErr
     Ok(out)
 }
 
+// The statement of a text, in a box: a statement that lies on the stack is let go variant by variant, at each end of a function.
+fn boxed(alloc: Global, text: &[u8]) -> Result<Box<Select>, ReadRefusal> {
+    Ok(Box::new(alloc, read(alloc, text)?)?)
+}
+
 // What a text is printed as when it was read; empty where it is no SQL.
 fn printed(alloc: Global, text: &[u8]) -> Result<Bytes, Memory> {
-    match read(alloc, text) {
+    match boxed(alloc, text) {
         Ok(select) => print(alloc, &select),
         Err(ReadRefusal::NotSql) => Ok(Bytes::new(alloc)),
         Err(ReadRefusal::Memory) => Err(Memory),
@@ -128,7 +134,7 @@ static NEGATED: Nested = Nested(
 
 fn is_well(alloc: Global, text: &[u8]) -> Result<bool, Fail> {
     let catalog = read_catalog(alloc, br#"{"tables":[]}"#)?;
-    let select = read(alloc, text)?;
+    let select = boxed(alloc, text)?;
     Ok(well_formed(alloc, &select, &catalog)?)
 }
 
