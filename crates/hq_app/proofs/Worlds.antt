@@ -13,12 +13,12 @@ use Rattle.hq_terms.specs.Database.{Row}
 use Rattle.hq_terms.specs.Meta.{MetaTree, meta_view}
 use Rattle.hq_terms.specs.declared.session.Session.{Session}
 use Rattle.hq_terms.specs.declared.table.Table.{Table}
-use Rattle.hq_outcome.specs.Ending.{Answer, Ends, Output}
-use Rattle.hq_query.specs.Answers.{Answers}
+use Rattle.hq_commands.specs.Ending.{Answer, Ends, Output}
+use Rattle.hq_commands.specs.Answers.{Answers}
 use Rattle.hq_app.specs.Laws.{AnswersAlike, OutputsAgree}
-use Rattle.hq_query.specs.Output.{engine_output, reply_output, within_limit}
-use Rattle.hq_outcome.specs.declared.done.Done.TheVariants.{Answered}
-use Rattle.hq_outcome.specs.declared.refusal.Refusal.{Refusal}
+use Rattle.hq_commands.specs.Output.{engine_output, reply_output, within_limit}
+use Rattle.hq_commands.specs.declared.done.Done.TheVariants.{Answered}
+use Rattle.hq_commands.specs.declared.refusal.Refusal.{Refusal}
 
 -- equal replies are equal outputs
 output_same : (tables : List Table) (meta : MetaTree) (session : Session) (d e : List (List Row)) (made : Result AskTree RequestRefusal) → reply_to tables meta session d made ≡ reply_to tables meta session e made

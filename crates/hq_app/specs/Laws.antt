@@ -12,9 +12,9 @@ use Rattle.hq_terms.specs.Schema.{schema_of}
 use Rattle.hq_terms.specs.View.{Agree}
 use Rattle.hq_terms.specs.declared.session.Session.{Session}
 use Rattle.hq_terms.specs.declared.table.Table.{Table}
-use Rattle.hq_outcome.specs.Ending.{Answer}
-use Rattle.hq_query.specs.Answers.{Answers}
-use Rattle.hq_query.specs.Output.{request_output}
+use Rattle.hq_commands.specs.Ending.{Answer}
+use Rattle.hq_commands.specs.Answers.{Answers}
+use Rattle.hq_commands.specs.Output.{request_output}
 
 -- over two databases that a session cannot tell apart, the same output is due
 abbrev pub OutputsAgree : List Table → MetaTree → Session → (text : List ℕ) → (d e : List (List Row)) → Type 0

@@ -5,13 +5,13 @@ use Rattle.hq_outside.specs.declared.files.File.{File}
 use Rattle.hq_serve.specs.Serving.{Told}
 use Rattle.hq_words.specs.declared.command.Command.{Command}
 use Rattle.hq_words.specs.declared.command.Command.TheVariants.{Query, Sql, Check, Serve, Gen}
-use Rattle.hq_outcome.specs.Ending.{Answer, Ends}
+use Rattle.hq_commands.specs.Ending.{Answer, Ends}
 use Rattle.hq_commands.specs.Generating.{GenEnds}
-use Rattle.hq_query.specs.Output.{query_output, sql_output}
+use Rattle.hq_commands.specs.Output.{query_output, sql_output}
 use Rattle.hq_commands.specs.Check.{check_output}
 use Rattle.hq_commands.specs.Serving.{SeenDoor, ServeEnds}
-use Rattle.hq_outcome.specs.declared.done.Done.TheVariants.{Faulty}
-use Rattle.hq_outcome.specs.declared.refusal.Refusal.TheVariants.{BadWords, Memory}
+use Rattle.hq_commands.specs.declared.done.Done.TheVariants.{Faulty}
+use Rattle.hq_commands.specs.declared.refusal.Refusal.TheVariants.{BadWords, Memory}
 
 -- what files, an input or an output tell, and how often they have failed
 pub record Seen (A : Type 0) : Type 0 where

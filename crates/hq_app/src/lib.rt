@@ -5,8 +5,7 @@ mod laws;
 mod top;
 mod world;
 
-pub use hq_outcome::{Done, Refusal};
-pub use hq_query::INPUT_LIMIT;
+pub use hq_commands::{Done, INPUT_LIMIT, Refusal};
 pub use laws::outputs_agree;
 pub use top::{answer_one, run};
 pub use world::{Ran, World};

@@ -1,8 +1,8 @@
 ghost use Rattle.std.specs.Prelude.{◌≡◌, ◌≢◌, ◌⊎◌, ◌≤◌, IsErrOf, IfErr, IfSome, None, false};
 ghost use Rattle.hq_outside.specs.Causes.{Rose};
 ghost use Rattle.hq_words.specs.Asked.{command_of};
-ghost use Rattle.hq_outcome.specs.Ending.{Answer, Silent, Tells, NotDatabase, status_of, told_line};
-ghost use Rattle.hq_query.specs.Answers.{Answers};
+ghost use Rattle.hq_commands.specs.Ending.{Answer, Silent, Tells, NotDatabase, status_of, told_line};
+ghost use Rattle.hq_commands.specs.Answers.{Answers};
 ghost use Rattle.hq_commands.specs.Serving.{seen_door};
 ghost use Rattle.hq_app.specs.Laws.{AnswersAlike};
 ghost use Rattle.hq_app.specs.Runs.{ReadCause, Runs, opens_door, outside, reads_input};
@@ -10,13 +10,11 @@ ghost use Rattle.hq_app.specs.Runs.{ReadCause, Runs, opens_door, outside, reads_
 use crate::laws::outputs_agree;
 use crate::{Ran, World};
 use hq_base::Txt;
-use hq_commands::{check, generate_and_answer, serve};
+use hq_commands::{Done, Refusal, check, generate_and_answer, query, reply_to, serve, sql, tell};
 use hq_db::SqlDb;
 use hq_engine::Engine;
 use hq_link::Database;
-use hq_outcome::{Done, Refusal, tell};
 use hq_outside::{Door, Files, Sink, Source};
-use hq_query::{query, reply_to, sql};
 use hq_session::SecretRule;
 use hq_tables::Tables;
 use hq_terms::Session;

@@ -2,7 +2,7 @@
 use Rattle.std.proofs.Common.{◌≡◌, ◌≢◌, ◌≤◌, ◌∙◌, refl, sym, ap, ℕ, List, [], ◌∷◌, length, take, ◌&&◌, ◌==◌, arith}
 use Rattle.std.proofs.lemmas.Bool.{le-leb}
 use Rattle.std.specs.Prelude.{nat_le}
-use Rattle.hq_ask_laws.specs.Conditions.{are_sorts_of, fits_distinct}
+use Rattle.hq_ask_tree.specs.Conditions.{are_sorts_of, fits_distinct}
 use Rattle.hq_base.specs.Lists.{firsts}
 use Rattle.hq_terms.specs.Selected.{SortKey}
 

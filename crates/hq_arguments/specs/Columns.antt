@@ -1,7 +1,7 @@
 -- Columns of a table by the names of its enum (Hasura, Queries: distinct_on; aggregates: count).
 use Rattle.std.specs.Prelude.{ℕ, List, [], ◌∷◌, ◌++◌, ◌==◌, if◌then◌else◌, Option, Some, None, option_and_then, slice_get, ok_or, Ok, Err}
 use Rattle.std.specs.List.{list_all, list_any}
-use Rattle.hq_ask_laws.specs.Conditions.{fits_distinct}
+use Rattle.hq_ask_tree.specs.Conditions.{fits_distinct}
 use Rattle.hq_base.specs.Due.{and_then}
 use Rattle.hq_base.specs.Json.{JsonTree}
 use Rattle.hq_base.specs.Look.{str_in}

@@ -1,7 +1,7 @@
 //! Arguments that name columns: `distinct_on` of a list, and `columns` of `count`.
 ghost use Rattle.std.specs.Prelude.{◌≡◌, ◌≤◌, ◌==◌, ◌&&◌, IfOk, OnOk, map, option_map, length, take};
 ghost use Rattle.std.specs.List.{list_all, list_any};
-ghost use Rattle.hq_ask_laws.specs.Conditions.{are_sorts_of, fits_distinct, is_plain_sort};
+ghost use Rattle.hq_ask_tree.specs.Conditions.{are_sorts_of, fits_distinct, is_plain_sort};
 ghost use Rattle.hq_ask_tree.specs.Arguments.{sort_view};
 ghost use Rattle.hq_base.specs.Due.{Gives};
 ghost use Rattle.hq_base.specs.Json.{json_view};

@@ -4,7 +4,7 @@ use Rattle.std.specs.Prelude.{ℕ, List, length, Bool, ◌&&◌, cond, Option, S
 use Rattle.hq_base.specs.Due.{◌>>=◌}
 use Rattle.hq_ask.specs.Asked.{fields_due}
 use Rattle.hq_ask.specs.Known.{Due}
-use Rattle.hq_ask_laws.specs.Touched.{touched}
+use Rattle.hq_ask_tree.specs.Touched.{touched}
 use Rattle.hq_ask_tree.specs.Fields.{FieldTrees}
 use Rattle.hq_ask_tree.specs.Request.{BoundTree, AskTree}
 use Rattle.hq_bound.specs.Bound.{bounds_due}

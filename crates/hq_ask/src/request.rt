@@ -2,7 +2,7 @@
 ghost use Rattle.std.specs.Prelude.{◌≡◌, map, length, IfOk, Ok, Some, true};
 ghost use Rattle.hq_base.specs.Due.{Gives};
 ghost use Rattle.hq_ask.specs.Due.{operation_of, within_limits, collected_fields, collected_due, root_due, binding_fault, bound_in, build_due};
-ghost use Rattle.hq_ask_size.specs.FieldNodes.{is_bounded};
+ghost use Rattle.hq_collect.specs.FieldNodes.{is_bounded};
 ghost use Rattle.hq_ask_tree.specs.Fields.{fields_of, keyed_field_view};
 ghost use Rattle.hq_ask_tree.specs.Request.{ask_view, bound_view};
 ghost use Rattle.hq_coerce.specs.Choice.{operation_at};
@@ -23,12 +23,13 @@ ghost use Rattle.hq_terms.specs.Scope.{scope_schema};
 
 use crate::ask::ask_fields;
 use hq_arguments::Context;
-use hq_ask_size::is_bounded;
 use hq_ask_tree::{Ask, AskFields, BoundList};
 use hq_base::Memory;
 use hq_bound::bound_tables;
 use hq_coerce::{CoerceRefusal, OpRef, VarValues, fault_of, operation_at};
-use hq_collect::{CollectedList, Fragments, Request, collected_tree, is_narrow, is_small};
+use hq_collect::{
+    CollectedList, Fragments, Request, collected_tree, is_bounded, is_narrow, is_small,
+};
 use hq_gql_tree::{Document, Fault, Operation, RuleId};
 use hq_schema::Schema;
 use hq_terms::{BindRefusal, Catalog, Meta, Role, Scope, Session, TableId};

@@ -1,2 +1,9 @@
+pub mod Alike
+mod Among
+mod Touching
+pub mod Weaken
+mod Fitting
+mod Granting
+mod WellFormed
 pub mod Blog
 pub mod Worked

@@ -1,3 +1,16 @@
+pub mod Everywhere
+pub mod Allowed
+pub mod Uses
+pub mod Standing
+pub mod Conditions
+pub mod ResponseKeys
+pub mod TypeNames
+pub mod IntrospectionTypes
+pub mod Levels
+pub mod Touched
+pub mod WellFormed
+pub mod Sessions
+pub mod Laws
 pub mod Arguments
 pub mod Introspection
 pub mod Fields

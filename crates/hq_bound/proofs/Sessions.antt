@@ -18,8 +18,8 @@ use Rattle.hq_terms.specs.declared.role.Role.TheVariants.{Admin, Named}
 use Rattle.hq_terms.specs.declared.session.Session.{Session}
 use Rattle.hq_terms.specs.declared.session.Var.{Var}
 use Rattle.hq_terms.specs.declared.table.Table.{Table}
-use Rattle.hq_ask_laws.specs.Sessions.{session_grant}
-use Rattle.hq_ask_laws.specs.Touched.{touched}
+use Rattle.hq_ask_tree.specs.Sessions.{session_grant}
+use Rattle.hq_ask_tree.specs.Touched.{touched}
 use Rattle.hq_ask_tree.specs.Fields.{FieldTrees}
 use Rattle.hq_ask_tree.specs.Request.{BoundTree, with_bound, bound_table, grant_in}
 use Rattle.hq_bound.specs.Bound.{filter_of, filter_due, with_filter, bounds_due}

@@ -3,7 +3,7 @@ use Rattle.std.specs.Prelude.{ℕ, List, [], ◌∷◌, ◌++◌, cond, nat_eq, 
 use Rattle.std.specs.List.{list_any}
 use Rattle.hq_terms.specs.Schema.{Schema}
 use Rattle.hq_terms.specs.Selected.{SortKey}
-use Rattle.hq_ask_laws.specs.Touched.{path_tables}
+use Rattle.hq_ask_tree.specs.Touched.{path_tables}
 
 -- a table behind those so far, where it is none of them
 abbrev pub noted : List ℕ → ℕ → List ℕ

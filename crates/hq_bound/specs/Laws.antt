@@ -5,8 +5,8 @@ use Rattle.hq_terms.specs.Permission.{role_of}
 use Rattle.hq_terms.specs.Schema.{schema_of}
 use Rattle.hq_terms.specs.declared.session.Session.{Session}
 use Rattle.hq_terms.specs.declared.table.Table.{Table}
-use Rattle.hq_ask_laws.specs.Sessions.{IsFor}
-use Rattle.hq_ask_laws.specs.Touched.{touched}
+use Rattle.hq_ask_tree.specs.Sessions.{IsFor}
+use Rattle.hq_ask_tree.specs.Touched.{touched}
 use Rattle.hq_ask_tree.specs.Fields.{FieldTrees}
 use Rattle.hq_ask_tree.specs.Request.{BoundTree, AskTree}
 use Rattle.hq_bound.specs.Bound.{bounds_due}

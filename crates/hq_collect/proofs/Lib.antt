@@ -1,3 +1,6 @@
+pub mod Less
+pub mod Walks
+pub mod NodeViews
 pub mod Lists
 pub mod Views
 pub mod Grouped

@@ -1,3 +1,6 @@
+pub mod JsonNodes
+pub mod ValueNodes
+pub mod FieldNodes
 pub mod Groups
 pub mod Included
 pub mod Fragments

@@ -1,2 +1,6 @@
+mod Endings
+mod Statings
+mod Endings
+mod Statings
 mod Servings
 mod Lines

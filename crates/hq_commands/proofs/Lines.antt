@@ -12,10 +12,10 @@ use Rattle.hq_terms.specs.Database.{Row}
 use Rattle.hq_terms.specs.Meta.{MetaTree, meta_view}
 use Rattle.hq_terms.specs.declared.session.Session.{Session}
 use Rattle.hq_terms.specs.declared.table.Table.{Table}
-use Rattle.hq_outcome.specs.Ending.{Answer}
+use Rattle.hq_commands.specs.Ending.{Answer}
 use Rattle.hq_commands.specs.Generating.{GenEnds, gen_output, lines_over, reply_length, reply_lines}
-use Rattle.hq_outcome.specs.declared.done.Done.TheVariants.{Answered}
-use Rattle.hq_outcome.specs.declared.refusal.Refusal.TheVariants as refusal
+use Rattle.hq_commands.specs.declared.done.Done.TheVariants.{Answered}
+use Rattle.hq_commands.specs.declared.refusal.Refusal.TheVariants as refusal
 
 -- the line of the next request joins those so far
 next_line : {X : Type 0} (text_of : X → List ℕ) (length_of : List ℕ → ℕ) (xs : List X) (i : ℕ) (x : X) (k : ℕ) (lines more : List ℕ) → i < length xs

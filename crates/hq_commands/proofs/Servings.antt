@@ -14,11 +14,11 @@ use Rattle.hq_serve.specs.Serving.{Told, Serves}
 use Rattle.hq_serve.specs.declared.serving.ServeRefusal.{ServeRefusal}
 use Rattle.hq_serve.specs.declared.serving.ServeRefusal.TheVariants as serve
 use Rattle.hq_session.specs.declared.secret.SecretRule.{SecretRule}
-use Rattle.hq_outcome.specs.Ending.{Answer}
-use Rattle.hq_outcome.specs.Refusals.{contents_due, of_loading, of_serving}
+use Rattle.hq_commands.specs.Ending.{Answer}
+use Rattle.hq_commands.specs.Refusals.{contents_due, of_loading, of_serving}
 use Rattle.hq_commands.specs.Serving.{SeenDoor, seen_door, Untouched, ServesOver, OpensOver, ServesDirectory, ServeEnds}
-use Rattle.hq_outcome.specs.declared.done.Done.TheVariants.{Answered}
-use Rattle.hq_outcome.specs.declared.refusal.Refusal.TheVariants as refusal
+use Rattle.hq_commands.specs.declared.done.Done.TheVariants.{Answered}
+use Rattle.hq_commands.specs.declared.refusal.Refusal.TheVariants as refusal
 
 -- what is due of the directory, by what its loading gives
 held_due : (files : Option (List File)) (dir : List ℕ) (held : Contents) → IfSome files (λ fs. loading_due fs dir ≡ Ok held) → IfSome files (λ fs. contents_due dir fs ≡ Ok held)

@@ -7,13 +7,13 @@ use Rattle.hq_base.specs.Due.{◌>>=◌}
 use Rattle.hq_outside.specs.declared.files.File.{File}
 use Rattle.hq_terms.specs.Database.{Row}
 use Rattle.hq_roles.specs.Roles.{roles_in}
-use Rattle.hq_line.specs.Line.{phrase_text}
+use Rattle.hq_loading.specs.Line.{phrase_text}
 use Rattle.hq_loading.specs.Loading.{Contents}
-use Rattle.hq_line.specs.declared.phrase.Phrase.TheVariants as phrase
-use Rattle.hq_outcome.specs.Ending.{Output}
-use Rattle.hq_outcome.specs.Refusals.{contents_due}
-use Rattle.hq_outcome.specs.declared.done.Done.TheVariants.{Answered}
-use Rattle.hq_outcome.specs.declared.refusal.Refusal.{Refusal}
+use Rattle.hq_loading.specs.declared.phrase.Phrase.TheVariants as phrase
+use Rattle.hq_commands.specs.Ending.{Output}
+use Rattle.hq_commands.specs.Refusals.{contents_due}
+use Rattle.hq_commands.specs.declared.done.Done.TheVariants.{Answered}
+use Rattle.hq_commands.specs.declared.refusal.Refusal.{Refusal}
 
 -- the rows of all tables
 abbrev pub rows_in : List (List Row) → ℕ

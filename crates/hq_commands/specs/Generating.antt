@@ -11,8 +11,8 @@ use Rattle.hq_terms.specs.Database.{Row}
 use Rattle.hq_terms.specs.Meta.{MetaTree}
 use Rattle.hq_terms.specs.declared.session.Session.{Session}
 use Rattle.hq_terms.specs.declared.table.Table.{Table}
-use Rattle.hq_outcome.specs.Ending.{Answer, Ends, Output}
-use Rattle.hq_outcome.specs.declared.done.Done.TheVariants.{Answered}
+use Rattle.hq_commands.specs.Ending.{Answer, Ends, Output}
+use Rattle.hq_commands.specs.declared.done.Done.TheVariants.{Answered}
 
 -- how many bytes the body of the due reply has
 abbrev pub reply_length : List Table → MetaTree → Session → List (List Row) → (body : List ℕ) → ℕ

@@ -1,3 +1,13 @@
+pub mod Output
+pub mod Answers
+pub mod Line
+pub mod Refusals
+pub mod Ending
+pub mod Output
+pub mod Answers
+pub mod Line
+pub mod Refusals
+pub mod Ending
 pub mod Check
 pub mod Serving
 pub mod Generating

@@ -7,11 +7,11 @@ use Rattle.hq_serve.specs.Serving.{Told, Serves}
 use Rattle.hq_serve.specs.declared.serving.ServeRefusal.{ServeRefusal}
 use Rattle.hq_serve.specs.declared.serving.ServeRefusal.TheVariants as serve
 use Rattle.hq_session.specs.declared.secret.SecretRule.{SecretRule}
-use Rattle.hq_outcome.specs.Ending.{Answer}
-use Rattle.hq_outcome.specs.Refusals.{contents_due}
-use Rattle.hq_outcome.specs.declared.done.Done.TheVariants.{Answered, Faulty}
-use Rattle.hq_outcome.specs.declared.refusal.Refusal.{Refusal}
-use Rattle.hq_outcome.specs.declared.refusal.Refusal.TheVariants as refusal
+use Rattle.hq_commands.specs.Ending.{Answer}
+use Rattle.hq_commands.specs.Refusals.{contents_due}
+use Rattle.hq_commands.specs.declared.done.Done.TheVariants.{Answered, Faulty}
+use Rattle.hq_commands.specs.declared.refusal.Refusal.{Refusal}
+use Rattle.hq_commands.specs.declared.refusal.Refusal.TheVariants as refusal
 
 -- what a door tells: its links, how many it accepted, and how often it has failed
 pub record SeenDoor (L : Type 0) : Type 0 where

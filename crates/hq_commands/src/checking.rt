@@ -3,15 +3,14 @@ ghost use Rattle.std.specs.Prelude.{◌≡◌, ◌≢◌, ◌≤◌, Ok, Some, l
 ghost use Rattle.hq_outside.specs.Causes.{Rose};
 ghost use Rattle.hq_terms.specs.Meta.{meta_view};
 ghost use Rattle.hq_roles.specs.Roles.{roles_in};
-ghost use Rattle.hq_outcome.specs.Ending.{Ends, Silent, NotDatabase};
+ghost use Rattle.hq_commands.specs.Ending.{Ends, Silent, NotDatabase};
 ghost use Rattle.hq_commands.specs.Check.{rows_in, counts_line, check_line, check_output};
 ghost use Rattle.hq_loading.specs.Loading.{loaded_view};
-ghost use Rattle.hq_line.specs.Wrote.{Wrote};
+ghost use Rattle.hq_loading.specs.Wrote.{Wrote};
 
+use crate::{Done, Refusal};
 use hq_base::{Memory, Txt};
-use hq_line::{Part, Phrase, write_parts};
-use hq_loading::{Loaded, load};
-use hq_outcome::{Done, Refusal};
+use hq_loading::{Loaded, Part, Phrase, load, write_parts};
 use hq_outside::{Files, Sink, WriteFailed};
 use hq_roles::roles_in;
 use hq_tables::Rows;

@@ -3,16 +3,15 @@ ghost use Rattle.std.specs.Prelude.{◌≡◌, ◌≤◌, ◌++◌, ℕ, All, le
 ghost use Rattle.hq_generator.specs.Lines.{reply_line};
 ghost use Rattle.hq_outside.specs.Causes.{Rose};
 ghost use Rattle.hq_terms.specs.Meta.{meta_view};
-ghost use Rattle.hq_outcome.specs.Ending.{NotDatabase, Silent};
+ghost use Rattle.hq_commands.specs.Ending.{NotDatabase, Silent};
 ghost use Rattle.hq_commands.specs.Generating.{GenEnds, lines_over, reply_length, reply_lines};
 
+use crate::{Done, Instance, Refusal};
 use hq_base::{Bytes, Memory};
 use hq_db::SqlDb;
 use hq_engine::{Engine, EngineRefusal};
 use hq_generator::{Generated, caller, generate, put_reply_line, put_steps_line, requests};
-use hq_instance::Instance;
 use hq_link::Database;
-use hq_outcome::{Done, Refusal};
 use hq_outside::{Sink, write_all};
 use hq_tables::Tables;
 use hq_terms::Session;

@@ -3,13 +3,12 @@ ghost use Rattle.std.specs.Prelude.{◌≡◌, ◌≤◌, ◌⊎◌, IfErr, IsEr
 ghost use Rattle.hq_outside.specs.Causes.{Rose};
 ghost use Rattle.hq_terms.specs.Meta.{meta_view};
 ghost use Rattle.hq_loading.specs.Loading.{contents};
-ghost use Rattle.hq_outcome.specs.Ending.{NotDatabase};
+ghost use Rattle.hq_commands.specs.Ending.{NotDatabase};
 ghost use Rattle.hq_commands.specs.Serving.{OpensOver, ServeEnds, seen_door};
 
+use crate::{Done, Instance, Refusal};
 use hq_base::Txt;
-use hq_instance::Instance;
 use hq_loading::{Loaded, load};
-use hq_outcome::{Done, Refusal};
 use hq_outside::{Door, Files, Sink};
 use hq_responder::serve_by_secret;
 use hq_serve::ServeRefusal;

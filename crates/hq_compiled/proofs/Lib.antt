@@ -1,3 +1,11 @@
+mod Relationships
+mod FineConditions
+mod Distinct
+mod FineRequests
+mod LowRequests
+mod FineGrants
+mod TableRequests
+mod Asked
 pub mod Names
 pub mod Sound
 pub mod Conditions

@@ -1,3 +1,4 @@
+pub mod Asked
 pub mod Names
 pub mod Looks
 pub mod Rights

@@ -5,7 +5,7 @@ use Rattle.hq_answer.specs.Answers.{IsAnswer, answer_of}
 use Rattle.hq_answer.specs.declared.answer.Answer.{Answer}
 use Rattle.hq_ask_tree.specs.Request.{AskTree}
 use Rattle.hq_base.specs.Json.{JsonTree}
-use Rattle.hq_compile_laws.specs.Asked.{asked_statement}
+use Rattle.hq_compiled.specs.Asked.{asked_statement}
 use Rattle.hq_reply.specs.RootObject.{has_table_field, of_database}
 use Rattle.hq_reply.specs.TableObject.{IsResolved, table_object}
 use Rattle.hq_sql_tree.specs.Spelling.{select_text}

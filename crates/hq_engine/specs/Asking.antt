@@ -2,7 +2,7 @@
 -- catalog, the metadata, the session and the body; no database is looked at.
 use Rattle.std.specs.Prelude.{◌⊎◌, ℕ, List, cond, Option, Some, None, Result, Ok, Err}
 use Rattle.hq_ask_tree.specs.Request.{AskTree}
-use Rattle.hq_compile_laws.specs.Asked.{asked_statement}
+use Rattle.hq_compiled.specs.Asked.{asked_statement}
 use Rattle.hq_link.specs.Asked.{Asked, NotAsked}
 use Rattle.hq_reply.specs.RootObject.{has_table_field}
 use Rattle.hq_request.specs.Request.{request_due}

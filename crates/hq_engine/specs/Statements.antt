@@ -5,7 +5,7 @@ use Rattle.hq_answer.specs.declared.answer.Answer.{Answer}
 use Rattle.hq_ask_tree.specs.Request.{AskTree}
 use Rattle.hq_ask_tree.specs.Resolve.{resolved}
 use Rattle.hq_ask_tree.specs.Root.{table_fields}
-use Rattle.hq_compile_laws.specs.Asked.{asked_statement}
+use Rattle.hq_compiled.specs.Asked.{asked_statement}
 use Rattle.hq_link.specs.Typed.{IsTyped}
 use Rattle.hq_reply.specs.RootObject.{has_table_field}
 use Rattle.hq_request.specs.declared.refusal.RequestRefusal.{RequestRefusal}

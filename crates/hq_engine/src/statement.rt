@@ -1,7 +1,7 @@
 //! The statement of a request: its text, and asking it.
 ghost use Rattle.std.specs.Prelude.{◌≡◌, ◌⊎◌, ◌≤◌, Err, Ok, IfOk, IfErr, IfSome, OnOk, true};
 ghost use Rattle.hq_ask_tree.specs.Request.{ask_view};
-ghost use Rattle.hq_compile_laws.specs.Asked.{asked_statement};
+ghost use Rattle.hq_compiled.specs.Asked.{asked_statement};
 ghost use Rattle.hq_link.specs.Asked.{Asked, NotAsked};
 ghost use Rattle.hq_link.specs.Typed.{IsTyped};
 ghost use Rattle.hq_request_laws.specs.Formed.{IsOfSession};

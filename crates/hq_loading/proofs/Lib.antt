@@ -1,2 +1,3 @@
+mod WrittenParts
 pub mod Catalogs
 mod EachDue

@@ -3,8 +3,8 @@ use Rattle.std.specs.Prelude.{ℕ, List, [], ◌∷◌}
 use Rattle.std.specs.Fmt.{decimal}
 use Rattle.hq_catalog_read.specs.declared.refusal.CatalogRefusal.{CatalogRefusal}
 use Rattle.hq_catalog_read.specs.declared.refusal.CatalogRefusal.TheVariants as catalog
-use Rattle.hq_line.specs.declared.phrase.Phrase.{Phrase}
-use Rattle.hq_line.specs.declared.phrase.Phrase.TheVariants.{Missing, TooLarge, NotJson, Shape, Repeated, NoKey, NameLength, TooMany, Header, Width, NotUtf8, ZeroByte, NotInteger, NotBoolean, NullInNotNull, RepeatedKey, Version, UnknownTable, UnknownColumn, NoForeignKey, BadOperand, BadMapping, RepeatedName, RepeatedRole, Sources, Memory}
+use Rattle.hq_loading.specs.declared.phrase.Phrase.{Phrase}
+use Rattle.hq_loading.specs.declared.phrase.Phrase.TheVariants.{Missing, TooLarge, NotJson, Shape, Repeated, NoKey, NameLength, TooMany, Header, Width, NotUtf8, ZeroByte, NotInteger, NotBoolean, NullInNotNull, RepeatedKey, Version, UnknownTable, UnknownColumn, NoForeignKey, BadOperand, BadMapping, RepeatedName, RepeatedRole, Sources, Memory}
 use Rattle.hq_meta_tables.specs.declared.refusal.MetaRefusal.{MetaRefusal}
 use Rattle.hq_meta_tables.specs.declared.refusal.MetaRefusal.TheVariants as meta
 use Rattle.hq_tables.specs.declared.load.refusal.LoadRefusal.{LoadRefusal}

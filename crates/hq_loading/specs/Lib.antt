@@ -1,3 +1,5 @@
+pub mod Line
+pub mod Wrote
 pub mod Told
 pub mod Directory
 pub mod Loading

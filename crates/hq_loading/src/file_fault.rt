@@ -1,12 +1,11 @@
 //! Why a file of the directory is refused.
 ghost use Rattle.std.specs.Prelude.{◌≡◌};
-ghost use Rattle.hq_line.specs.Line.{field_texts};
+ghost use Rattle.hq_loading.specs.Line.{field_texts};
 ghost use Rattle.hq_loading.specs.Faults.{catalog_fields, catalog_name, meta_fields, meta_name, table_fields, table_name};
 
-use crate::LoadingRefusal;
+use crate::{Field, Fields, LoadingRefusal, Phrase};
 use hq_base::Txt;
 use hq_catalog_read::CatalogRefusal;
-use hq_line::{Field, Fields, Phrase};
 use hq_meta_read::MetaRefusal;
 use hq_outside::FileRefusal;
 use hq_tables::LoadRefusal;
@@ -137,7 +136,7 @@ fn table_fields(refusal: &LoadRefusal) -> Fields<'_>
 
 impl FileFault {
     ghost use Rattle.std.specs.Prelude.{◌≡◌};
-    ghost use Rattle.hq_line.specs.Line.{field_texts};
+    ghost use Rattle.hq_loading.specs.Line.{field_texts};
     ghost use Rattle.hq_loading.specs.Faults.{fault_fields, fault_name};
 
     /// Its name on a line.

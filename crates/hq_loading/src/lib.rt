@@ -1,13 +1,18 @@
-//! Reading a directory: its catalog, its metadata, and the rows of each table of the catalog, or the first refusal.
+//! Reading a directory: its catalog, its metadata, and the rows of each table of the catalog, or the first refusal; and the lines
+//! that tell of it, as the program writes them: fixed phrases, a file, fields and counts, one after the other.
 #![tactic(auto)]
 
 mod directory;
 mod file_fault;
 mod loaded;
 mod loading;
+mod parts;
+mod phrase;
 mod refusal;
 
 pub use file_fault::FileFault;
 pub use loaded::{Description, Loaded};
 pub use loading::{load, load_description};
+pub use parts::{Field, Fields, Part, write_both, write_parts};
+pub use phrase::Phrase;
 pub use refusal::LoadingRefusal;

@@ -7,7 +7,7 @@ use Rattle.serde_json.specs.Data.{Data, Items, Members, depth, items_depth, memb
 use Rattle.serde_json.specs.Read.{read}
 use Rattle.serde_json.specs.Find.{as_i64}
 use Rattle.serde_json.proofs.Nesting.{depth-read}
-use Rattle.hq_ask_fit.specs.ObjectsNest.{objects_nest, elements_nest, members_nest}
+use Rattle.hq_request_laws.specs.ObjectsNest.{objects_nest, elements_nest, members_nest}
 use Rattle.hq_base.specs.Body.{value_of, elements_in, members_in, value_if, body_of, clean}
 use Rattle.hq_base.specs.Due.{mapped, and_then}
 use Rattle.hq_base.specs.Json as tree

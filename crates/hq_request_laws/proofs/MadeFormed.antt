@@ -1,6 +1,6 @@
 -- What a body makes is a typed request of its session.
 use Rattle.std.proofs.Common.{◌≡◌, ℕ, ◌≤◌, List, length, Result, Ok, Err, ap, subst, arith, codes}
-use Rattle.hq_ask_fit.specs.Built.{Builds}
+use Rattle.hq_request_laws.specs.Built.{Builds}
 use Rattle.hq_ask_tree.specs.Request.{AskTree}
 use Rattle.hq_base.specs.Body.{body_of}
 use Rattle.hq_base.specs.Look.{member_in}

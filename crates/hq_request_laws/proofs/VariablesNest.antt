@@ -4,7 +4,7 @@ use Rattle.std.proofs.Common.{◌≡◌, ℕ, zero, suc, ◌≤◌, max, List, [
 use Rattle.std.specs.Prelude.{◌&&◌, unwrap_or}
 use Rattle.std.specs.Map.{lookup}
 use Rattle.std.specs.Option.{option_or}
-use Rattle.hq_ask_fit.specs.ObjectsNest.{objects_nest, elements_nest, members_nest}
+use Rattle.hq_request_laws.specs.ObjectsNest.{objects_nest, elements_nest, members_nest}
 use Rattle.hq_base.specs.Due.{mapped}
 use Rattle.hq_base.specs.Json.{JsonTree, MemberTrees, no_member, member, elements_of, members_of}
 use Rattle.hq_base.specs.Json as json

@@ -1,7 +1,7 @@
 -- What a body makes for a session is a typed request of it.
 use Rattle.std.specs.Prelude.{◌≡◌, ℕ, List, true, Ok}
-use Rattle.hq_ask_laws.specs.Sessions.{IsFor}
-use Rattle.hq_ask_laws.specs.WellFormed.{IsRequest}
+use Rattle.hq_ask_tree.specs.Sessions.{IsFor}
+use Rattle.hq_ask_tree.specs.WellFormed.{IsRequest}
 use Rattle.hq_ask_tree.specs.Request.{AskTree}
 use Rattle.hq_request.specs.Request.{request_due}
 use Rattle.hq_terms.specs.Catalog.{is_catalog}

@@ -1,1 +1,3 @@
+pub mod ObjectsNest
+pub mod Built
 pub mod Formed

@@ -6,7 +6,7 @@ ghost use Rattle.hq_terms.specs.declared.session.Session.{Session as Caller};
 ghost use Rattle.hq_terms.specs.declared.table.Table.{Table as CatalogTable};
 ghost use Rattle.hq_request_laws.specs.Formed.{MakesFormed};
 
-use hq_ask_fit::requests_are_built;
+use crate::requests_are_built;
 use hq_gql_parser::parsed_is_due;
 use hq_request::requests_are_made;
 

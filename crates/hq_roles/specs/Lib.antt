@@ -1,1 +1,4 @@
+pub mod Access
+pub mod Leads
+pub mod Differ
 pub mod Roles

@@ -19,10 +19,10 @@ use Rattle.hq_terms.specs.declared.session.Var.{Var}
 use Rattle.hq_terms.specs.declared.table.Table.{Table}
 use Rattle.hq_terms.proofs.Places.{at_0}
 use Rattle.hq_ask_tree.specs.Request.{AskTree}
-use Rattle.hq_ask_laws.specs.Allowed.{allowed_to, permitted_columns}
-use Rattle.hq_ask_laws.specs.Standing.{AllStand}
-use Rattle.hq_ask_laws.specs.Uses.{UsesAll}
-use Rattle.hq_ask_laws.proofs.Weaken.{Wider, uses_weaken}
+use Rattle.hq_ask_tree.specs.Allowed.{allowed_to, permitted_columns}
+use Rattle.hq_ask_tree.specs.Standing.{AllStand}
+use Rattle.hq_ask_tree.specs.Uses.{UsesAll}
+use Rattle.hq_ask_tree.proofs.Weaken.{Wider, uses_weaken}
 use Rattle.hq_views.specs.Laws.{granted, is_readable_in, ViewsDecide, WorldsAgree, resolved_in}
 use Rattle.hq_views.proofs.Views.{fields_alike}
 

@@ -15,7 +15,7 @@ use Rattle.hq_terms.specs.Schema.{Schema, table, rel, no_table, no_rel, numbered
 use Rattle.hq_terms.specs.Seen.{linked_by}
 use Rattle.hq_terms.specs.View.{cut, cut_rows, view_table, places_from, pairs_from, view_links, view, view_rows, cut_cell, has_pair, seen_in}
 use Rattle.hq_ask_tree.specs.Fields.{FieldTrees}
-use Rattle.hq_ask_laws.proofs.Alike.{Alike, root_alike}
+use Rattle.hq_ask_tree.proofs.Alike.{Alike, root_alike}
 use Rattle.hq_views.specs.Laws.{ResolvesAlike, granted, is_readable_in}
 
 -- ---- places in lists

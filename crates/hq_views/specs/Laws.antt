@@ -14,10 +14,10 @@ use Rattle.hq_terms.specs.declared.table.Table.{Table}
 use Rattle.hq_ask_tree.specs.Fields.{FieldTrees}
 use Rattle.hq_ask_tree.specs.Request.{AskTree}
 use Rattle.hq_ask_tree.specs.Resolve.{resolve_all, resolved}
-use Rattle.hq_ask_laws.specs.Allowed.{Allowed}
-use Rattle.hq_ask_laws.specs.Standing.{AllStand}
-use Rattle.hq_ask_laws.specs.Uses.{UsesAll}
-use Rattle.hq_ask_laws.specs.WellFormed.{IsRequest}
+use Rattle.hq_ask_tree.specs.Allowed.{Allowed}
+use Rattle.hq_ask_tree.specs.Standing.{AllStand}
+use Rattle.hq_ask_tree.specs.Uses.{UsesAll}
+use Rattle.hq_ask_tree.specs.WellFormed.{IsRequest}
 
 -- The JSON of root fields over a view: a row is its position, and neither a database nor a filter nor a hidden cell is among
 -- the arguments. Each table has perhaps a limit on the rows of a list

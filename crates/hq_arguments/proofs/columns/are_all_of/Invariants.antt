@@ -1,6 +1,6 @@
 use Rattle.std.proofs.Common.{◌≡◌, ◌==◌, ◌&&◌, map, drop}
 use Rattle.std.specs.List.{list_all, list_any}
-use Rattle.hq_ask_laws.specs.Conditions.{is_plain_sort}
+use Rattle.hq_ask_tree.specs.Conditions.{is_plain_sort}
 use Rattle.hq_ask_tree.specs.Arguments.{sort_view}
 use Rattle.hq_arguments.proofs.columns.are_all_of.Given as goal
 

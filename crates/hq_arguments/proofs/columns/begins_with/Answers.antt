@@ -1,6 +1,6 @@
 use Rattle.std.proofs.Common.{◌≢◌, ◌≤◌, ◌∙◌, ap, sym, length, map, arith}
 use Rattle.std.proofs.lemmas.List.{take-map, length-map}
-use Rattle.hq_ask_laws.specs.Conditions.{are_sorts_of}
+use Rattle.hq_ask_tree.specs.Conditions.{are_sorts_of}
 use Rattle.hq_ask_tree.specs.Arguments.{sort_view}
 use Rattle.hq_arguments.proofs.Distinct.{fits_by}
 use Rattle.hq_arguments.proofs.columns.begins_with.Goals as goal

@@ -1,5 +1,5 @@
 use Rattle.std.proofs.Common.{refl, map, List}
-use Rattle.hq_ask_laws.specs.Touched.{condition_tables, conditions_tables}
+use Rattle.hq_ask_tree.specs.Touched.{condition_tables, conditions_tables}
 use Rattle.hq_terms.specs.Bexp.{bexp_view, bexps_of}
 use Rattle.hq_terms.specs.Schema.{Schema}
 use Rattle.hq_terms.specs.Scope.{scope_schema}

@@ -1,7 +1,7 @@
 use Rattle.std.proofs.Common.{◌≡◌, map, drop}
 use Rattle.hq_terms.specs.Bexp.{bexp_view, bexps_of}
 use Rattle.hq_terms.specs.Scope.{scope_schema}
-use Rattle.hq_ask_laws.specs.Touched.{conditions_tables}
+use Rattle.hq_ask_tree.specs.Touched.{conditions_tables}
 use Rattle.hq_bound.specs.Joined.{joined}
 use Rattle.hq_bound.proofs.conditions.+conditions.Given as goal
 

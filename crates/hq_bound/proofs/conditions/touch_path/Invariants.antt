@@ -1,6 +1,6 @@
 use Rattle.std.proofs.Common.{◌≡◌, drop}
 use Rattle.hq_terms.specs.Scope.{scope_schema}
-use Rattle.hq_ask_laws.specs.Touched.{path_tables}
+use Rattle.hq_ask_tree.specs.Touched.{path_tables}
 use Rattle.hq_bound.specs.Joined.{joined}
 use Rattle.hq_bound.proofs.conditions.touch_path.Given as goal
 

@@ -1,5 +1,5 @@
 use Rattle.std.proofs.Common.{◌∙◌, refl, ap, map, List}
-use Rattle.hq_ask_laws.specs.Touched.{path_tables}
+use Rattle.hq_ask_tree.specs.Touched.{path_tables}
 use Rattle.hq_ask_tree.specs.Arguments.{sort_view}
 use Rattle.hq_ask_tree.specs.declared.arguments.Sort.{Sort}
 use Rattle.hq_terms.specs.Schema.{Schema}

@@ -1,5 +1,5 @@
 use Rattle.std.proofs.Common.{◌≡◌, ◌∙◌, refl, sym, ap, subst, map, ℕ, List, ◌++◌, OnOk}
-use Rattle.hq_ask_laws.specs.Touched.{list_tables, tables_of, field_tables, part_tables, one_part_tables}
+use Rattle.hq_ask_tree.specs.Touched.{list_tables, tables_of, field_tables, part_tables, one_part_tables}
 use Rattle.hq_ask_tree.specs.Arguments.{arguments_view}
 use Rattle.hq_ask_tree.specs.Fields.{FieldTrees, FieldTree, PartTrees, fields_of, parts_of, field_view, keyed_field_view, keyed_part_view}
 use Rattle.hq_ask_tree.specs.declared.field.KeyedAggPart.{KeyedAggPart}

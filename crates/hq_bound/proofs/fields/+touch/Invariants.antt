@@ -1,5 +1,5 @@
 use Rattle.std.proofs.Common.{◌≡◌, map, drop}
-use Rattle.hq_ask_laws.specs.Touched.{tables_of, part_tables}
+use Rattle.hq_ask_tree.specs.Touched.{tables_of, part_tables}
 use Rattle.hq_ask_tree.specs.Fields.{fields_of, parts_of, keyed_field_view, keyed_part_view}
 use Rattle.hq_terms.specs.Scope.{scope_schema}
 use Rattle.hq_bound.specs.Joined.{joined}

@@ -1,5 +1,5 @@
 use Rattle.std.proofs.Common.{◌∙◌, ap, map}
-use Rattle.hq_ask_laws.specs.Touched.{tables_of, touched}
+use Rattle.hq_ask_tree.specs.Touched.{tables_of, touched}
 use Rattle.hq_ask_tree.specs.Fields.{FieldTrees, fields_of, keyed_field_view}
 use Rattle.hq_terms.specs.Schema.{Schema}
 use Rattle.hq_terms.specs.Scope.{scope_schema}

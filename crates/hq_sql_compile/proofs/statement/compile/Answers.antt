@@ -3,7 +3,7 @@ use Rattle.hq_terms.specs.Meta.{meta_view}
 use Rattle.hq_ask_tree.specs.Request.{ask_view}
 use Rattle.hq_sql_tree.specs.Form.{select_fits}
 use Rattle.hq_sql_tree.specs.Tree.{SelectTree}
-use Rattle.hq_compile_laws.specs.Asked.{asked_statement}
+use Rattle.hq_compiled.specs.Asked.{asked_statement}
 use Rattle.hq_sql_compile.proofs.Requests.{bare_bounds, statement_is_readable}
 use Rattle.hq_sql_compile.proofs.statement.compile.Goals as goal
 

@@ -1,7 +1,7 @@
 use Rattle.std.proofs.Common.{sym, subst, ◌∙◌}
 use Rattle.std.proofs.lemmas.Result.{IfOk-weaker}
 use Rattle.hq_ask_tree.specs.Request.{ask_view}
-use Rattle.hq_compile_laws.specs.Asked.{asked_statement}
+use Rattle.hq_compiled.specs.Asked.{asked_statement}
 use Rattle.hq_link.specs.Typed.{IsTyped}
 use Rattle.hq_terms.specs.Grants.{grants_of}
 use Rattle.hq_terms.specs.Meta.{meta_view}

@@ -1,2 +1,0 @@
-pub mod ObjectsNest
-pub mod Built

@@ -1,7 +1,0 @@
-pub mod Alike
-mod Among
-mod Touching
-pub mod Weaken
-mod Fitting
-mod Granting
-mod WellFormed

@@ -1,3 +1,0 @@
-pub mod Less
-pub mod Walks
-pub mod Views

@@ -1,3 +1,0 @@
-pub mod JsonNodes
-pub mod ValueNodes
-pub mod FieldNodes

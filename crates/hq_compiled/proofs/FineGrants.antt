@@ -1,0 +1,69 @@
+-- What a typed request grants of a table fits the table, and is nested few enough.
+use Rattle.std.proofs.Common.{◌≡◌, ℕ, ◌≤◌, List, [], ◌∷◌, Bool, true, false, cond, ◌==◌, Option, Some, None, is_some, refl, sym, ap, subst, ◌∙◌, arith}
+use Rattle.std.specs.Prelude.{option_map, option_and_then, slice_get, unwrap_or}
+use Rattle.std.specs.List.{list_all}
+use Rattle.std.proofs.lemmas.Bool.{and_parts, eqb-true, false≢true}
+use Rattle.std.proofs.lemmas.Option.{unwrap_or-slice_get}
+use Rattle.hq_base.specs.Lists.{Each}
+use Rattle.hq_terms.specs.Bexp.{depth}
+use Rattle.hq_terms.specs.Grants.{grant, no_grant}
+use Rattle.hq_terms.specs.Meta.{MetaTree}
+use Rattle.hq_terms.specs.Permission.{Permission, permission}
+use Rattle.hq_terms.specs.Schema.{Schema, SchemaTable, table}
+use Rattle.hq_terms.proofs.Places.{at_0}
+use Rattle.hq_ask_tree.specs.Conditions.{is_condition}
+use Rattle.hq_ask_tree.specs.WellFormed.{is_bound_table}
+use Rattle.hq_ask_tree.specs.Request.{BoundTree, AskTree, bound_table, with_bound, grant_in, grants_in}
+use Rattle.hq_compiled.specs.Fine.{FineRel, FineBexp}
+use Rattle.hq_compiled.proofs.Relationships.{found}
+use Rattle.hq_compiled.proofs.FineConditions.{condition_fine, condition_low}
+
+-- a permission that fits a table, and is nested few enough
+pub record FinePermission (s : Schema) (t : ℕ) (p : Permission) : Type 0 where
+  pub filter : FineBexp p.filter s t
+  pub low : depth p.filter ≤ 300
+  pub unmasked : p.masks ≡ []
+
+none_fine : (s : Schema) (t : ℕ) → FinePermission s t no_grant
+none_fine s t = record { filter = tt; low = omega arith; unmasked = refl }
+
+each_found : (P : BoundTree → Type 0) (t : ℕ) (bs : List BoundTree) (b : BoundTree) → Each P bs → bound_table bs t ≡ Some b → P b
+each_found P t [] b h is = absurd (false≢true (ap is_some is))
+each_found P t (x ∷ bs) b h is =
+    let by : (c : Bool) → (x.table == t) ≡ c → cond c (Some x) (bound_table bs t) ≡ Some b → P b =
+    elim [ true ↦ λ e same. subst P (ap (λ o. unwrap_or o x) same) h.0 | false ↦ λ e later. each_found P t bs b h.1 later ] in
+    by (x.table == t) refl is
+
+module _ (s : Schema) (rels : (t r : ℕ) → is_some (slice_get (table s t).rels r) ≡ true → FineRel s t r) (m : MetaTree) (a : AskTree)
+    (fit : list_all (is_bound_table s) a.bound ≡ true) (bare : Each (λ b. b.masks ≡ []) a.bound) where
+  bound_fine : (t : ℕ) (p : Permission) (b : BoundTree) → bound_table a.bound t ≡ Some b → FinePermission s t (with_bound p b)
+  bound_fine t p b is =
+      let at = found (λ c. c.table == t) (is_bound_table s) a.bound b fit is in
+      let same : b.table ≡ t = eqb-true b.table t at.0 in
+      let condition : is_condition 300 b.filter s t ≡ true = subst (λ u. is_condition 300 b.filter s u ≡ true) same (and_parts _ _ at.1).0 in
+      record {
+        filter = condition_fine s rels 300 b.filter t condition;
+        low = condition_low 300 b.filter s t condition;
+        unmasked = each_found (λ c. c.masks ≡ []) t a.bound b bare is;
+      }
+
+  granted_fine : (t : ℕ) → FinePermission s t (unwrap_or (grant_in a m t) no_grant)
+  granted_fine t =
+      let under : (o : Option Permission) → FinePermission s t (unwrap_or (option_and_then (λ p. option_map (with_bound p) (bound_table a.bound t)) o) no_grant) =
+      elim [
+        | None ↦ none_fine s t
+        | Some p ↦
+            let of : (o : Option BoundTree) → bound_table a.bound t ≡ o → FinePermission s t (unwrap_or (option_map (with_bound p) o) no_grant) =
+            elim [ None ↦ λ is. none_fine s t | Some b ↦ λ is. bound_fine t p b is ] in
+            of (bound_table a.bound t) refl
+      ] in
+      under (permission a.role m t)
+
+  -- what is granted of any table
+  pub grant_fine : (t : ℕ) → FinePermission s t (grant (grants_in a m s) t)
+  grant_fine t =
+      let by : (o : Option SchemaTable) → FinePermission s t (unwrap_or (unwrap_or (option_map (λ x. grant_in a m t) o) None) no_grant) =
+      elim [ None ↦ none_fine s t | Some x ↦ granted_fine t ] in
+      subst (λ o. FinePermission s t (unwrap_or o no_grant))
+      (ap (λ o. unwrap_or o None) (sym (at_0 (λ u x. grant_in a m u) s t)) ∙ unwrap_or-slice_get (grants_in a m s) t None)
+      (by (slice_get s t))

@@ -1,3 +1,0 @@
-pub mod Access
-pub mod Leads
-pub mod Differ
