@@ -2,11 +2,13 @@ use hq_base::{JsonRefusal, Memory, TxtRefusal};
 use std::alloc::{AllocError, AllocFailed};
 use thiserror::Error;
 
-/// Why a table could not be run to its end.
+/// Why cases could not be run to their end.
 #[derive(Clone, Copy, Debug, Error)]
 pub enum Stop {
     #[error("a file cannot be read")]
     Unread,
+    #[error("the output cannot be written")]
+    Unwritten,
     #[error("the file is no JSON of whole numbers")]
     NotJson,
     #[error("a case has not its form")]

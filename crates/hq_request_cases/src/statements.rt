@@ -10,7 +10,8 @@ use hq_loading::Loaded;
 use hq_tables::MemTables;
 use std::alloc::Global;
 
-fn database(loaded: Loaded) -> SqlDb<MemTables> {
+/// The database of what a directory holds.
+pub fn database(loaded: Loaded) -> SqlDb<MemTables> {
     let Loaded {
         catalog,
         meta: _,
