@@ -8,6 +8,7 @@ pub mod Joined
 pub mod Characters
 pub mod Matching
 pub mod Lists
+pub mod Loops
 pub mod Zips
 pub mod Sorts
 pub mod StableSorts
