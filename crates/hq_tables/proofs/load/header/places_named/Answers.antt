@@ -1,4 +1,4 @@
-use Rattle.std.proofs.Common.{◌≡◌, ◌∙◌, ℕ, Option, Some, None, get_or, bytes_eq, ap, sym, rules}
+use Rattle.std.proofs.Common.{◌≡◌, ◌∙◌, Some, None, get_or, bytes_eq, ap, sym, rules}
 use Rattle.std.specs.List.{position_from}
 use Rattle.csv.specs.Records.{fields_of}
 use Rattle.hq_terms.specs.declared.table.Column.{Column}
