@@ -167,7 +167,7 @@ lone_character : (unit : ℕ) → unit < 65536 → is_high_surrogate unit ≡ fa
 lone_character unit small high low = record { is_scalar = grind (arith, nat_tests); some = grind (arith, nat_tests) }
 
 -- a high surrogate and a low one are a character
-pair_character : (high low : ℕ) → is_high_surrogate high ≡ true → is_low_surrogate low ≡ true → IsCharacterOf high (surrogate_pair_char high low)
+pub pair_character : (high low : ℕ) → is_high_surrogate high ≡ true → is_low_surrogate low ≡ true → IsCharacterOf high (surrogate_pair_char high low)
 pair_character high low h l = record { is_scalar = grind (arith, nat_tests); some = grind (arith, nat_tests) }
 
 -- the escape of a unit that is read is what its unit and the bytes behind it say

@@ -7,6 +7,7 @@ pub mod NumberLemmas
 pub mod ProductionLemmas
 pub mod CharacterLemmas
 pub mod EscapeLemmas
+pub mod UnitLemmas
 pub mod ReadLemmas
 pub mod PlainLemmas
 pub mod QuotesLemmas

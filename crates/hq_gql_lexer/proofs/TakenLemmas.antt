@@ -5,9 +5,8 @@ use Rattle.std.specs.Char.{is_ascii_digit}
 use Rattle.std.proofs.lemmas.Bool.{cond-true, cond-false, false≢true, or_from, or_left}
 use Rattle.std.proofs.lemmas.Bool.Decides.{nat_tests}
 use Rattle.std.proofs.lemmas.List.{length-append, drop_at}
-use Rattle.hq_base.specs.Due.{◌>>=◌, Gives}
+use Rattle.hq_base.specs.Due.{◌>>=◌}
 use Rattle.hq_gql_lexer.specs.declared.refusal.LexRefusal.{LexRefusal}
-use Rattle.hq_gql_lexer.specs.declared.refusal.LexRefusal.TheVariants as refusal
 use Rattle.hq_gql_lexer.specs.declared.token.Punct.{Punct}
 use Rattle.hq_gql_lexer.specs.declared.token.Punct.TheVariants as punct
 use Rattle.hq_gql_lexer.specs.declared.token.Token.{Token}

@@ -5,7 +5,7 @@ use crate::{Kind, TypeId, TypeOrigin};
 use hq_base::Ty;
 
 /// The types that each schema has, in the order in which they stand there, before all others.
-#[derive(Clone, Copy, PartialEq, Eq)]
+#[derive(Clone, Copy)]
 pub enum Fixed {
     Boolean,
     Int,

@@ -2,7 +2,7 @@ use hq_base::Ty;
 use hq_terms::{ColId, Op, RelId, TableId};
 
 /// What a type stands for. A table's types are those of its rows, of the inputs over them, and of their aggregates.
-#[derive(Clone, Copy, PartialEq, Eq)]
+#[derive(Clone, Copy)]
 pub enum TypeOrigin {
     /// The scalar of a column's type.
     Scalar(Ty),
@@ -35,7 +35,7 @@ pub enum TypeOrigin {
 }
 
 /// What a field of an object type stands for. Which type it leads to, its own type says.
-#[derive(Clone, Copy, PartialEq, Eq)]
+#[derive(Clone, Copy)]
 pub enum FieldOrigin {
     /// A column of the rows, or its greatest value, its least or its sum.
     Column(ColId),
@@ -73,7 +73,7 @@ pub enum FieldOrigin {
 }
 
 /// An operator of a column.
-#[derive(Clone, Copy, PartialEq, Eq)]
+#[derive(Clone, Copy)]
 pub enum Operator {
     Compare(Op),
     /// `_in`, or `_nin` where negated.
@@ -85,7 +85,7 @@ pub enum Operator {
 }
 
 /// What an argument or an input field stands for. Which type its value has, its own type says.
-#[derive(Clone, Copy, PartialEq, Eq)]
+#[derive(Clone, Copy)]
 pub enum ArgOrigin {
     Where,
     OrderBy,

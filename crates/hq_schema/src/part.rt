@@ -6,7 +6,7 @@ use hq_terms::TableId;
 
 /// The types of a table, in the order in which they stand in a schema: the rows, the filters and sorts over them, the columns,
 /// and the aggregates. A table that has fewer has the first ones.
-#[derive(Clone, Copy, PartialEq, Eq)]
+#[derive(Clone, Copy)]
 pub enum Part {
     Rows,
     Filter,

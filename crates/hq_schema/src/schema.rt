@@ -3,7 +3,7 @@ use hq_base::Txt;
 use hq_terms::ColList;
 
 /// What a type is.
-#[derive(Clone, Copy, PartialEq, Eq)]
+#[derive(Clone, Copy)]
 pub enum Kind {
     Scalar,
     Object,

@@ -2,7 +2,6 @@
 use Rattle.std.proofs.Common.{◌≡◌, ◌∙◌, ℕ, zero, suc, ◌+◌, ◌*◌, ◌≤◌, List, [], ◌∷◌, ◌++◌, length, length-append, take, drop, cond, Bool, true, false, Option, Some, None, Result, Ok, Err, refl, sym, ap, ap₂, subst, arith}
 use Rattle.std.specs.Prelude.{◌==◌, IfOk}
 use Rattle.std.proofs.lemmas.List.{append_assoc, append-nil, length-map}
-use Rattle.csv.specs.Reading.{default_config, records, strip_bom}
 use Rattle.hq_base.specs.Due.{Gives, and_then, mapped}
 use Rattle.hq_base.specs.declared.value.Val.{Val}
 use Rattle.hq_index.specs.Chunks.{chunked}
@@ -11,7 +10,7 @@ use Rattle.hq_terms.specs.declared.table.Column.{Column}
 use Rattle.hq_terms.specs.declared.table.Table.{Table}
 use Rattle.hq_tables.specs.Header.{header_due, in_catalog_order}
 use Rattle.hq_tables.specs.Keys.{behind, keys_due, next_read, rows_read}
-use Rattle.hq_tables.specs.Load.{fields_due, line_of_key, record_due, rows_due, table_due, unless_repeated}
+use Rattle.hq_tables.specs.Load.{fields_due, file_due, line_of_key, record_due, rows_due, unless_repeated}
 use Rattle.hq_tables.specs.declared.load.refusal.LoadRefusal.{LoadRefusal}
 use Rattle.hq_tables.specs.declared.load.refusal.LoadRefusal.TheVariants.{Header, Memory, Width}
 use Rattle.hq_tables.proofs.Valid.{mapped_ok}
@@ -40,22 +39,19 @@ rows_due-keys t names columns seen (r ∷ rs) line at = by (record_due line t na
         rw (here, is) refl
 
 -- the rows of a file, by the rows of its records and their keys
-pub table_due-keys : (t : Table) (bytes : List ℕ) (names : List (List ℕ)) (columns : List Column) (rest : List (List (List ℕ))) (rows : List Row) (refused : Option LoadRefusal)
-    → records default_config (strip_bom bytes) ≡ names ∷ rest → header_due t.columns names ≡ Some columns → rows_read 2 t names columns rest ≡ (rows, refused) → table_due t bytes ≡ keys_due t [] rows refused
-table_due-keys t bytes names columns rest rows refused all header read =
-    rw (all, header) (rows_due-keys t names columns [] rest 2 refl ∙ ap₂ (keys_due t []) (ap (λ p. p.0) read) (ap (λ p. p.1) read))
+pub file_due-keys : (t : Table) (all : List (List (List ℕ))) (names : List (List ℕ)) (columns : List Column) (rest : List (List (List ℕ))) (rows : List Row) (refused : Option LoadRefusal)
+    → all ≡ names ∷ rest → header_due t.columns names ≡ Some columns → rows_read 2 t names columns rest ≡ (rows, refused) → file_due t all ≡ keys_due t [] rows refused
+file_due-keys t all names columns rest rows refused split header read =
+    rw (split, header) (rows_due-keys t names columns [] rest 2 refl ∙ ap₂ (keys_due t []) (ap (λ p. p.0) read) (ap (λ p. p.1) read))
 
 -- and row by row
-pub table_due-rows : (t : Table) (bytes : List ℕ) (names : List (List ℕ)) (columns : List Column) (rest : List (List (List ℕ)))
-    → records default_config (strip_bom bytes) ≡ names ∷ rest → header_due t.columns names ≡ Some columns → table_due t bytes ≡ rows_due t names columns [] rest
-table_due-rows t bytes names columns rest all header = rw (all, header) refl
+pub file_due-rows : (t : Table) (all : List (List (List ℕ))) (names : List (List ℕ)) (columns : List Column) (rest : List (List (List ℕ)))
+    → all ≡ names ∷ rest → header_due t.columns names ≡ Some columns → file_due t all ≡ rows_due t names columns [] rest
+file_due-rows t all names columns rest split header = rw (split, header) refl
 
--- a file without a record, and one whose header is not the table's column names
-pub table_due-empty : (t : Table) (bytes : List ℕ) → records default_config (strip_bom bytes) ≡ [] → table_due t bytes ≡ Err Header
-table_due-empty t bytes all = rw all refl
-
-pub table_due-header : (t : Table) (bytes : List ℕ) (names : List (List ℕ)) (rest : List (List (List ℕ))) → records default_config (strip_bom bytes) ≡ names ∷ rest → header_due t.columns names ≡ None → table_due t bytes ≡ Err Header
-table_due-header t bytes names rest all header = rw (all, header) refl
+-- a file whose header is not the table's column names
+pub file_due-header : (t : Table) (all : List (List (List ℕ))) (names : List (List ℕ)) (rest : List (List (List ℕ))) → all ≡ names ∷ rest → header_due t.columns names ≡ None → file_due t all ≡ Err Header
+file_due-header t all names rest split header = rw (split, header) refl
 
 -- no more rows than records
 pub rows_read-few : (line : ℕ) (t : Table) (names : List (List ℕ)) (columns : List Column) (rs : List (List (List ℕ))) → length (rows_read line t names columns rs).0 ≤ length rs

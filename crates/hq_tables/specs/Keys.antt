@@ -1,9 +1,10 @@
 -- A table file in two steps: first the rows of its records, and then their keys.
-use Rattle.std.specs.Prelude.{ℕ, ◌+◌, List, [], ◌∷◌, ◌++◌, length, Option, Some, None, Result, Ok, Err}
+use Rattle.std.specs.Prelude.{◌≡◌, ℕ, ◌+◌, List, [], ◌∷◌, ◌++◌, length, Option, Some, None, Result, Ok, Err}
 use Rattle.hq_base.specs.Due.{and_then}
 use Rattle.hq_terms.specs.Database.{Row, key_of}
 use Rattle.hq_terms.specs.declared.table.Column.{Column}
 use Rattle.hq_terms.specs.declared.table.Table.{Table}
+use Rattle.hq_tables.specs.Header.{header_due}
 use Rattle.hq_tables.specs.Load.{line_of_key, record_due, unless_repeated}
 use Rattle.hq_tables.specs.declared.load.refusal.LoadRefusal.{LoadRefusal}
 
@@ -16,6 +17,12 @@ next_read later (Err e) = ([], Some e)
 abbrev pub rows_read : (line : ℕ) → Table → (names : List (List ℕ)) → List Column → List (List (List ℕ)) → List Row × Option LoadRefusal
 rows_read line t names columns [] = ([], None)
 rows_read line t names columns (r ∷ rs) = next_read (rows_read (line + 1) t names columns rs) (record_due line t names columns r)
+
+-- the rows of the records behind a header that is the table's column names
+pub record ReadsUnder (t : Table) (names : List (List ℕ)) (rest : List (List (List ℕ))) (rows : List Row) (refused : Option LoadRefusal) : Type 0 where
+  pub columns : List Column
+  pub header : header_due t.columns names ≡ Some columns
+  pub read : rows_read 2 t names columns rest ≡ (rows, refused)
 
 -- rows before those that were read
 abbrev pub behind : List Row → List Row × Option LoadRefusal → List Row × Option LoadRefusal

@@ -16,7 +16,7 @@ use std::str;
 const NULL_FIELD: &str = "\\N";
 
 /// Why a field has no value of its column.
-#[derive(Clone, Copy, PartialEq, Eq)]
+#[derive(Clone, Copy)]
 pub enum FieldRefusal {
     NotUtf8,
     ZeroByte,

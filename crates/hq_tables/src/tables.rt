@@ -10,7 +10,7 @@ use std::alloc::Global;
 use thiserror::Error;
 
 /// Why a table is not pinned.
-#[derive(Clone, Copy, Debug, PartialEq, Eq, Error)]
+#[derive(Clone, Copy, Debug, Error)]
 pub enum StoreRefusal {
     /// The store's count of faults rose from `before` to `after` in this call.
     #[error("a read of a table failed")]

@@ -8,7 +8,7 @@ use thiserror::Error;
 
 /// Why a table file is refused: the first fault, by record. Records are numbered from 1, the header, and the fields of a
 /// record from 1.
-#[derive(Clone, Copy, Debug, PartialEq, Eq, Error)]
+#[derive(Clone, Copy, Debug, Error)]
 pub enum LoadRefusal {
     /// The first record is not the table's column names, each once.
     #[error("the header is not the table's column names")]
