@@ -1,5 +1,5 @@
 -- One step of a loop: what was made so far, and what comes of the next item.
-use Rattle.std.proofs.Common.{◌≡◌, ◌∙◌, ℕ, ◌+◌, ◌<◌, List, [], ◌∷◌, ◌++◌, length, map, take, drop, get_or, sym, ap, append_assoc, Bool, true, false, ◌&&◌, rules}
+use Rattle.std.proofs.Common.{◌≡◌, ◌∙◌, ℕ, ◌+◌, ◌<◌, zero, suc, List, [], ◌∷◌, ◌++◌, length, map, take, drop, get_or, sym, ap, subst, append_assoc, Bool, true, false, ◌&&◌, arith, rules}
 use Rattle.std.proofs.lemmas.List.{take_more, drop_more, map-append}
 use Rattle.hq_sql_tree.specs.declared.expr.Agg.{the_lemmas as agg_lemmas}
 use Rattle.hq_sql_tree.specs.declared.expr.Order.{Order}
@@ -25,6 +25,20 @@ pub left_more : {A V : Type 0} (F : List A → List V) (before after : List V) (
     → after ≡ before ++ v ∷ [] → before ++ F left ≡ whole → after ++ F rest ≡ whole
 left_more F before after x left rest whole v adds split grows so_far =
     ap (λ l. l ++ F rest) grows ∙ append_assoc before (v ∷ []) (F rest) ∙ ap (λ l. before ++ l) (sym (ap F split ∙ adds)) ∙ so_far
+
+-- what holds of each, and of one more behind them
+each_pushed : {A : Type 0} (P : A → Type 0) (xs : List A) (x : A) → P x → ((i : ℕ) (d : A) → i < length xs → P (get_or xs i d)) → (i : ℕ) (d : A) → i < length (xs ++ x ∷ []) → P (get_or (xs ++ x ∷ []) i d)
+each_pushed P [] x holds so_far zero d h = holds
+each_pushed P [] x holds so_far (suc i) d h = absurd (omega arith)
+each_pushed P (y ∷ xs) x holds so_far zero d h = so_far zero d (omega arith)
+each_pushed P (y ∷ xs) x holds so_far (suc i) d h =
+    let within : i < length (xs ++ x ∷ []) = omega arith in
+    each_pushed P xs x holds (λ j e k. let more : suc j < length (y ∷ xs) = omega arith in so_far (suc j) e more) i d within
+
+-- what holds of each so far, and of one more
+pub each_more : {A : Type 0} (P : A → Type 0) (xs ys : List A) (x : A) → ys ≡ xs ++ x ∷ [] → P x → ((i : ℕ) (d : A) → i < length xs → P (get_or xs i d)) → (i : ℕ) (d : A) → i < length ys → P (get_or ys i d)
+each_more {A} P xs ys x grows holds so_far i d h =
+    subst (λ (l : List A). i < length l → P (get_or l i d)) (sym grows) (each_pushed P xs x holds so_far i d) h
 
 -- what is left tells what the whole does: the first of it holds
 pub holds_next : (first rest left whole : Bool) → left ≡ (first && rest) → left ≡ whole → first ≡ true → rest ≡ whole
