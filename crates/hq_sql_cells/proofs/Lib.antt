@@ -6,3 +6,4 @@ pub mod Fresh
 pub mod SeenGroups
 pub mod BestOnes
 pub mod Sums
+pub mod Loops

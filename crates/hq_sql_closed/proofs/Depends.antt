@@ -1,12 +1,12 @@
 -- The truth of a condition depends on the aliases alone that it mentions.
-use Rattle.std.proofs.Common.{◌≡◌, ℕ, List, [], ◌∷◌, ◌++◌, map, flat_map, filter, Bool, true, false, cond, ◌&&◌, ◌||◌, Option, Some, None, Ordering, refl, sym, ap, ap₂, ◌∙◌, is_gt}
-use Rattle.std.specs.Prelude.{bytes_eq, is_none, codes}
+use Rattle.std.proofs.Common.{◌≡◌, ℕ, List, [], ◌∷◌, map, flat_map, filter, Bool, true, false, cond, ◌||◌, Some, None, Ordering, refl, sym, ap, ap₂, ◌∙◌, is_gt}
+use Rattle.std.specs.Prelude.{bytes_eq, codes}
 use Rattle.std.proofs.lemmas.Bool.{and_parts, false≢true}
 use Rattle.hq_base.specs.Cells as cell
 use Rattle.hq_base.specs.Cells.{CellTree}
-use Rattle.hq_base.specs.Lists.{sort, put, firsts}
+use Rattle.hq_base.specs.Lists.{sort, put}
 use Rattle.hq_terms.specs.Logic.{is_true, truth_of, not3, and3, or3, compared, among, null_test, matched}
-use Rattle.hq_sql_tree.specs.Meaning.{NamedRow, Scope, World, nothing, with_alias, cell_named, value, rows_named, order_cmp, outputs, has_rows, rows_of, scopes_of, joined, kept, truth_at, all_true, any_true, distinct_on, offset_by, limited}
+use Rattle.hq_sql_tree.specs.Meaning.{NamedRow, Scope, World, nothing, with_alias, cell_named, value, rows_named, order_cmp, outputs, has_rows, rows_of, scopes_of, joined, kept, truth_at, all_true, any_true, distinct_on}
 use Rattle.hq_sql_tree.specs.Tree as tree
 use Rattle.hq_sql_tree.specs.Tree.{ExprTree, OutTree, OrderTree, SelectTree, FromTree, JoinTrees, FilterTree, PredTree, PredTrees}
 use Rattle.hq_sql_closed.specs.Closed.{is_named, is_bound, are_bound, is_closed, are_closed, is_closed_select, is_closed_filter, is_simple, alias_of}

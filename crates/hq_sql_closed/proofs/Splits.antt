@@ -1,13 +1,12 @@
 -- Steps of a split.
-use Rattle.std.proofs.Common.{◌≡◌, ℕ, zero, suc, ◌+◌, ◌≤◌, ◌<◌, List, [], ◌∷◌, ◌++◌, map, length, get_or, Bool, true, false, ◌&&◌, Result, OnOk, Ok, Err, refl, sym, ap, ap₂, ◌∙◌, arith}
+use Rattle.std.proofs.Common.{◌≡◌, ℕ, ◌+◌, List, [], ◌∷◌, ◌++◌, map, Bool, true, false, ◌&&◌, Result, OnOk, Ok, Err, refl, sym, ap, ap₂, ◌∙◌, arith}
 use Rattle.std.specs.Borrow.{Bor}
 use Rattle.std.proofs.lemmas.List.{map-append}
 use Rattle.hq_base.specs.declared.memory.Memory.{Memory}
-use Rattle.hq_terms.specs.Logic.{is_true}
 use Rattle.hq_sql_tree.specs.declared.select.Pred.{Pred}
 use Rattle.hq_sql_tree.specs.Tree.{PredTree, all_of, preds_of}
 use Rattle.hq_sql_tree.specs.View.{pred_view}
-use Rattle.hq_sql_tree.specs.Meaning.{World, Scope, truth_at}
+use Rattle.hq_sql_tree.specs.Meaning.{World, Scope}
 use Rattle.hq_sql_closed.specs.Closed.{is_closed}
 use Rattle.hq_sql_closed.specs.Weight.{total, pred_weight}
 use Rattle.hq_sql_closed.specs.Conjuncts.{all_kept, all_closed, lent_views, lent_weight}

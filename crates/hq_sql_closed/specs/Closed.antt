@@ -1,7 +1,6 @@
 -- Conditions that mention no alias but these, and those that their own EXISTS bring. Their truth at a row of such an alias is the same
 -- whatever else is in scope (PostgreSQL, subquery expressions: EXISTS).
-use Rattle.std.specs.Prelude.{ℕ, List, [], ◌∷◌, Bool, true, false, ◌&&◌, ◌||◌, bytes_eq, Option, is_none}
-use Rattle.std.specs.List.{list_any, list_all}
+use Rattle.std.specs.Prelude.{ℕ, List, [], ◌∷◌, Bool, true, false, ◌&&◌, ◌||◌, bytes_eq, is_none}
 use Rattle.hq_sql_tree.specs.Form.{is_no_join}
 use Rattle.hq_sql_tree.specs.Tree.{ExprTree, column, int, text, bool, object, aggregate, SelectTree, rows, fold, FromTree, table, sub, one, FilterTree, no_filter, filter, PredTree, always, never, compare, like, within, is_null, negation, all_of, any_of, exists, PredTrees, no_pred, pred}
 

@@ -1,5 +1,5 @@
 -- The conjuncts of a condition: WHERE keeps a row where each of them is true.
-use Rattle.std.specs.Prelude.{ℕ, ◌+◌, List, [], ◌∷◌, map, Bool, true, ◌&&◌}
+use Rattle.std.specs.Prelude.{ℕ, List, [], ◌∷◌, map, Bool, true, ◌&&◌}
 use Rattle.std.specs.Borrow.{Bor}
 use Rattle.hq_sql_tree.specs.declared.select.Pred.{Pred}
 use Rattle.hq_sql_tree.specs.Meaning.{World, Scope, truth_at}

@@ -4,10 +4,11 @@ ghost use Rattle.std.specs.Fmt.{decimal};
 ghost use Rattle.hq_sql_tree.specs.Word.{word_text};
 ghost use Rattle.hq_sql_tree.specs.View.{agg_view, expr_view, pair_view, order_view, out_view};
 ghost use Rattle.hq_sql_tree.specs.Tree.{pairs_of, orders_of};
-ghost use Rattle.hq_sql_tree.specs.Spelling.{quoted, name_text, literal_text, int_text, separated, collate_text, direction_word, pair_texts, order_texts, expr_text, agg_text, order_text, out_text, pair_text};
+ghost use Rattle.hq_sql_tree.specs.Spelling.{name_text, literal_text, int_text, separated, collate_text, direction_word, pair_texts, order_texts, expr_text, agg_text, order_text, out_text, pair_text};
 ghost use Rattle.hq_sql_expr.specs.Between.{before};
 
 use hq_base::{Memory, Txt};
+use hq_sql_quotes::put_quoted;
 use hq_sql_tree::{
     Agg, Expr, ExprList, ExprPair, ExprPairList, Order, OrderList, Out, OutList, Word,
 };
@@ -28,21 +29,6 @@ pub fn put_between(out: &mut Vec<u8>, word: Word, index: usize) -> Result<(), Me
     if index > 0 {
         put_word(out, word)?;
     }
-    Ok(())
-}
-
-#[tactic(auto, unfolding(hq_sql_tree::specs::Spelling::quoted))]
-fn put_quoted(out: &mut Vec<u8>, quote: u8, bytes: &[u8]) -> Result<(), Memory>
-    ensures { OnOk result (out.new.items ≡ out.old.items ++ quoted quote bytes.now) }
-{
-    out.push(quote)?;
-    for b in bytes {
-        if *b == quote {
-            out.push(*b)?;
-        }
-        out.push(*b)?;
-    }
-    out.push(quote)?;
     Ok(())
 }
 

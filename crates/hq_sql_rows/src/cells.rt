@@ -8,7 +8,7 @@ ghost use Rattle.hq_sql_tree.specs.Meaning.{taken};
 ghost use Rattle.hq_sql_rows.specs.Keys.{directions_of, row_of, by_keys, distinct_kept};
 
 use hq_base::{Json, Memory};
-use hq_sql_cells::{Cell, Direction, Kept, first_kept, sort_kept, summed};
+use hq_sql_cells::{Cell, Direction, Kept, first_kept, rows_of, sort_kept, summed};
 use hq_sql_tree::{Agg, ExprList, OrderList};
 use std::alloc::Global;
 
@@ -66,7 +66,7 @@ pub fn sorted<'d, T: Drop>(
 ) -> Result<Vec<T>, Memory>
     ensures { IfOk result (λ rows. rows.items ≡ map row_of (sort (by_keys (map order_view order.now.items)) kept.entry.items)) }
 {
-    rows_of_kept(alloc, by_keys(alloc, order, kept)?)
+    rows_of(alloc, by_keys(alloc, order, kept)?)
 }
 
 /// The rows of kept ones, by their keys, and of these with DISTINCT ON the first of each group.
@@ -80,18 +80,7 @@ pub fn arranged<'d, T: Drop>(
 {
     let kept = by_keys(alloc, order, kept)?;
     if distinct.is_empty() {
-        return rows_of_kept(alloc, kept);
+        return rows_of(alloc, kept);
     }
-    rows_of_kept(alloc, first_kept(alloc, kept)?)
-}
-
-/// The rows of kept ones.
-fn rows_of_kept<'d, T: Drop>(alloc: Global, kept: Vec<Kept<'d, T>>) -> Result<Vec<T>, Memory>
-    ensures { IfOk result (λ rows. rows.items ≡ map row_of kept.entry.items) }
-{
-    let mut rows = Vec::with_capacity(alloc, kept.len())?;
-    for one in kept {
-        rows.push(one.row)?;
-    }
-    Ok(rows)
+    rows_of(alloc, first_kept(alloc, kept)?)
 }

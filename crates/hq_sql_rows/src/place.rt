@@ -52,11 +52,13 @@ pub fn add_lists<'d>(all: &mut Vec<Joined<'d>>, lists: Vec<Joined<'d>>) -> Resul
     Ok(())
 }
 
-fn put_in_front<'d>(joined: Joined<'d>, row: Option<Made<'d>>) -> Result<Joined<'d>, Memory>
-    ensures { IfOk result (λ all. joined_view all ≡ option_map made_view row.entry ∷ joined_view joined.entry) }
+// A copy of the row, in front of the others.
+fn in_front<'d>(alloc: Global, row: &Made<'d>, joined: Joined<'d>) -> Result<Joined<'d>, Memory>
+    ensures { IfOk result (λ all. joined_view all ≡ Some (made_view row.now) ∷ joined_view joined.entry) }
 {
     let mut all = joined;
-    all.insert(0, row)?;
+    let copy = row.copy(alloc)?;
+    all.insert(0, Some(copy))?;
     Ok(all)
 }
 
@@ -70,8 +72,7 @@ pub fn with_row<'d>(
 {
     let mut all = Vec::with_capacity(alloc, lists.len())?;
     for joined in lists {
-        let copy = row.copy(alloc)?;
-        all.push(put_in_front(joined, Some(copy))?)?;
+        all.push(in_front(alloc, &row, joined)?)?;
     }
     Ok(all)
 }

@@ -3,3 +3,4 @@ pub mod Views
 pub mod Listed
 pub mod Plain
 pub mod Conjunctions
+pub mod Next

@@ -1,7 +1,8 @@
 use Rattle.std.proofs.Common.{◌∙◌, ◌<◌, ◌∷◌, ◌++◌, [], length, sym, ap, arith}
 use Rattle.hq_sql_tree.specs.View.{order_view}
 use Rattle.hq_sql_rows.specs.Keys.{direction_of}
-use Rattle.hq_sql_rows.proofs.Loops.{map_more, view_order}
+use Rattle.hq_sql_tree.proofs.Next.{view_order}
+use Rattle.hq_sql_rows.proofs.Loops.{map_more}
 use Rattle.hq_sql_rows.proofs.cells.directions.Goals as goal
 
 pub loop-key-preserved : goal.loop-key-preserved

@@ -1,0 +1,63 @@
+-- The next item of a list that is gone over: what is left tells what the whole does.
+use Rattle.std.proofs.Common.{◌≡◌, ◌∙◌, sym, ap, ℕ, suc, ◌+◌, ◌<◌, List, ◌∷◌, drop, length, get_or, arith, map, max, nat_le, Bool, true, false, ◌&&◌, rules}
+use Rattle.std.proofs.Math.Seq.{drop-cons}
+use Rattle.std.proofs.lemmas.Bool.Decides.{nat_tests}
+use Rattle.hq_sql_tree.specs.declared.expr.Agg as agg
+use Rattle.hq_sql_tree.specs.declared.expr.ExprPair.{ExprPair}
+use Rattle.hq_sql_tree.specs.declared.expr.Order.{Order}
+use Rattle.hq_sql_tree.specs.declared.select.Join.{Join}
+use Rattle.hq_sql_tree.specs.declared.select.Pred.{Pred}
+use Rattle.hq_sql_tree.specs.Tree as tree
+use Rattle.hq_sql_tree.specs.Tree.{PairTree, OrderTree, JoinTree, joins_of, pairs_of, orders_of, preds_of}
+use Rattle.hq_sql_tree.specs.View.{expr_view, order_view, select_view, join_view, pair_view, pred_view}
+use Rattle.hq_sql_tree.proofs.Views.{view_join}
+
+-- it stands in front of those that are left
+pub next_item : {A : Type 0} (xs : List A) (i : ℕ) (x : A) → i < length xs → x ≡ get_or xs i x → drop i xs ≡ x ∷ drop (i + 1) xs
+next_item xs i x lt is =
+    let more : suc i ≡ i + 1 = omega arith in
+    drop-cons xs i x lt ∙ (ap (λ y. y ∷ drop (suc i) xs) (sym is) ∙ ap (λ n. x ∷ drop n xs) more)
+
+-- a join of those that are left
+pub next_join : (js : List Join) (i : ℕ) (j : Join) → i < length js → j ≡ get_or js i j
+    → joins_of (map join_view (drop i js)) ≡ tree.join (select_view j.select.value) j.alias (joins_of (map join_view (drop (i + 1) js)))
+next_join js i j lt is =
+    ap (λ xs. joins_of (map join_view xs)) (next_item js i j lt is)
+    ∙ ap (λ (seen : JoinTree). tree.join seen.select seen.alias (joins_of (map join_view (drop (i + 1) js)))) (view_join j)
+
+-- a condition of those that are left
+pub next_pred : (ps : List Pred) (i : ℕ) (p : Pred) → i < length ps → p ≡ get_or ps i p → preds_of (map pred_view (drop i ps)) ≡ tree.pred (pred_view p) (preds_of (map pred_view (drop (i + 1) ps)))
+next_pred ps i p lt is = ap (λ xs. preds_of (map pred_view xs)) (next_item ps i p lt is)
+
+-- the parts of a pair
+view_pair : (p : ExprPair) → pair_view p ≡ record { name = p.name; value = expr_view p.value }
+view_pair p = search (rules, agg.the_lemmas)
+
+-- the parts of a sort key
+pub view_order : (o : Order) → order_view o ≡ record { value = expr_view o.value; desc = o.desc; nulls_first = o.nulls_first }
+view_order o = search (rules, agg.the_lemmas)
+
+-- a sort key of those that are left
+pub next_order : (os : List Order) (i : ℕ) (o : Order) → i < length os → o ≡ get_or os i o
+    → orders_of (map order_view (drop i os)) ≡ tree.order (expr_view o.value) o.desc o.nulls_first (orders_of (map order_view (drop (i + 1) os)))
+next_order os i o lt is =
+    ap (λ xs. orders_of (map order_view xs)) (next_item os i o lt is)
+    ∙ ap (λ (seen : OrderTree). tree.order seen.value seen.desc seen.nulls_first (orders_of (map order_view (drop (i + 1) os)))) (view_order o)
+
+-- a pair of those that are left
+pub next_pair : (ps : List ExprPair) (i : ℕ) (p : ExprPair) → i < length ps → p ≡ get_or ps i p → pairs_of (map pair_view (drop i ps)) ≡ tree.pair p.name (expr_view p.value) (pairs_of (map pair_view (drop (i + 1) ps)))
+next_pair ps i p lt is =
+    ap (λ xs. pairs_of (map pair_view xs)) (next_item ps i p lt is)
+    ∙ ap (λ (seen : PairTree). tree.pair seen.name seen.value (pairs_of (map pair_view (drop (i + 1) ps)))) (view_pair p)
+
+-- what is left tells what the whole does: the first of it passes
+pub passes : (first rest left whole : Bool) → left ≡ (first && rest) → left ≡ whole → first ≡ true → rest ≡ whole
+passes first rest left whole split so_far holds = sym (split ∙ ap (λ b. b && rest) holds) ∙ so_far
+
+-- or fails
+pub fails : (first rest left whole : Bool) → left ≡ (first && rest) → left ≡ whole → first ≡ false → false ≡ whole
+fails first rest left whole split so_far holds = sym (split ∙ ap (λ b. b && rest) holds) ∙ so_far
+
+-- the greater of two is within where both are
+pub max_within : (a b n : ℕ) → nat_le (max a b) n ≡ (nat_le a n && nat_le b n)
+max_within a b n = grind (arith, nat_tests)
