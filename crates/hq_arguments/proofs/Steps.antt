@@ -1,6 +1,6 @@
 -- Steps of a loop that reads items one after the other.
-use Rattle.std.proofs.Common.{◌≡◌, ◌∙◌, refl, ap, sym, ℕ, ◌+◌, ◌<◌, List, [], ◌∷◌, ◌++◌, length, drop, get_or, Result, Ok, Err, append_assoc}
-use Rattle.std.proofs.lemmas.List.{drop_more}
+use Rattle.std.proofs.Common.{◌≡◌, ◌∙◌, refl, ap, sym, ℕ, ◌+◌, ◌<◌, ◌≤◌, List, [], ◌∷◌, ◌++◌, length, drop, get_or, Result, Ok, Err, append_assoc}
+use Rattle.std.proofs.lemmas.List.{drop_more, append-nil, at_drop_all}
 use Rattle.hq_base.specs.Due.{and_then, mapped}
 
 -- the value before the rest, and both behind what is done
@@ -38,6 +38,11 @@ pub read_refused : {X B E : Type 0} (F : List X → Result (List B) E) (D : X �
 read_refused F D reads xs i x done e whole so_far below is given =
     so_far
     ∙ ap (mapped (λ ys. done ++ ys)) (ap F (from_place xs i x below is) ∙ reads x (drop (i + 1) xs) ∙ ap (and_then (λ z. mapped (λ ys. z ∷ ys) (F (drop (i + 1) xs)))) given)
+
+-- all items are read
+pub read_all : {X B E : Type 0} (F : List X → Result (List B) E) (xs : List X) (i : ℕ) (done : List B) (whole : Result (List B) E) → whole ≡ mapped (λ ys. done ++ ys) (F (drop i xs)) → length xs ≤ i → F [] ≡ Ok [] → whole ≡ Ok done
+read_all F xs i done whole so_far over none =
+    so_far ∙ at_drop_all (λ ys. mapped (λ zs. done ++ zs) (F ys)) xs i over ∙ ap (mapped (λ zs. done ++ zs)) none ∙ ap Ok (append-nil done)
 
 -- what is read of an item is put behind what is done
 joined : {B E : Type 0} (done new : List B) (here rest : Result (List B) E) → mapped (λ more. done ++ more) here ≡ Ok new → mapped (λ more. done ++ more) (and_then (λ ys. mapped (λ more. ys ++ more) rest) here) ≡ mapped (λ more. new ++ more) rest

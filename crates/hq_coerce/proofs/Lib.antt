@@ -3,3 +3,4 @@ mod Operations
 mod SameMembers
 mod Steps
 mod ValueSteps
+pub mod Refusals

@@ -25,3 +25,11 @@ values_more s required given defs i x o done more whole so_far below is due grow
     ∙ ap (λ r. mapped (λ vs. done ++ vs) (and_then (λ v. mapped (with_value x.name v) rest) r)) due
     ∙ grown x.name o done rest
     ∙ ap (λ front. mapped (λ vs. front ++ vs) rest) (sym grows)
+
+-- a variable is refused, and so all are
+pub values_refused : (s : SchemaTree) (required : List ℕ → Bool) (given : List (List ℕ × JsonTree)) (defs : List VarDef) (i : ℕ) (x : VarDef) (e : CoerceRefusal) (done : List VarTree) (whole : Result (List VarTree) CoerceRefusal) → whole ≡ mapped (λ vs. done ++ vs) (values_due s required given (map var_def_view (drop i defs))) → i < length defs → x ≡ get_or defs i x → variable_due s required given (var_def_view x) ≡ Err e → whole ≡ Err e
+values_refused s required given defs i x e done whole so_far below is due =
+    let rest = values_due s required given (map var_def_view (drop (i + 1) defs)) in
+    so_far
+    ∙ ap (λ ds. mapped (λ vs. done ++ vs) (values_due s required given (map var_def_view ds))) (drop_more defs i x below ∙ ap (λ d. d ∷ drop (i + 1) defs) (sym is))
+    ∙ ap (λ r. mapped (λ vs. done ++ vs) (and_then (λ v. mapped (with_value x.name v) rest) r)) due

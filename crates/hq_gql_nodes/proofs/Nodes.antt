@@ -1,5 +1,5 @@
 -- Walks that add nodes at the end of a list.
-use Rattle.std.proofs.Common.{◌≡◌, ◌∙◌, ℕ, ◌+◌, ◌<◌, List, [], ◌∷◌, ◌++◌, length, map, drop, get_or, sym, ap, append_assoc}
+use Rattle.std.proofs.Common.{◌≡◌, ◌∙◌, ℕ, ◌+◌, ◌<◌, List, [], ◌∷◌, ◌++◌, length, map, drop, get_or, sym, ap, append_assoc, Result, Ok, Err, OnOk}
 use Rattle.std.proofs.lemmas.List.{drop_more, map-append}
 
 -- the list from a place on begins with the item there
@@ -14,14 +14,15 @@ item_added F xs i x here done more whole so_far below is joins grows =
     ∙ ap (λ ns. done ++ ns) (sym joins ∙ ap F (sym (from_place xs i x below is)))
     ∙ so_far
 
--- one node is added, and then others
-pub node_then : {A B : Type 0} (v : A → B) (old mid : List A) (x : A) (new rest : List B) → mid ≡ old ++ x ∷ [] → new ≡ map v mid ++ rest → new ≡ map v old ++ v x ∷ rest
-node_then v old mid x new rest one others =
-    others
-    ∙ ap (λ ns. map v ns ++ rest) one
-    ∙ ap (λ ns. ns ++ rest) (map-append v old (x ∷ []))
-    ∙ append_assoc (map v old) (v x ∷ []) rest
+-- a node is added
+pub node_added : {A B : Type 0} (v : A → B) (old mid : List A) (x : A) → mid ≡ old ++ x ∷ [] → map v mid ≡ map v old ++ v x ∷ []
+node_added v old mid x one = ap (map v) one ∙ map-append v old (x ∷ [])
 
 -- nodes are added, and then others
-pub nodes_then : {B : Type 0} (old mid new here rest : List B) → mid ≡ old ++ here → new ≡ mid ++ rest → new ≡ old ++ (here ++ rest)
-nodes_then old mid new here rest first others = others ∙ ap (λ ns. ns ++ rest) first ∙ append_assoc old here rest
+pub nodes_added : {B : Type 0} (old mid new here rest : List B) → mid ≡ old ++ here → new ≡ mid ++ rest → new ≡ old ++ (here ++ rest)
+nodes_added old mid new here rest first others = others ∙ ap (λ ns. ns ++ rest) first ∙ append_assoc old here rest
+
+-- nodes are added, and then those that a last call adds
+pub nodes_then : {B T E : Type 0} (r : Result T E) (old mid new here rest due : List B) → mid ≡ old ++ here → here ++ rest ≡ due → OnOk r (new ≡ mid ++ rest) → OnOk r (new ≡ old ++ due)
+nodes_then (Ok y) old mid new here rest due first same others = nodes_added old mid new here rest first others ∙ ap (λ ns. old ++ ns) same
+nodes_then (Err e) old mid new here rest due first same others = tt

@@ -4,3 +4,4 @@ pub mod LeastBelow
 mod VariableLemmas
 mod ByNumber
 mod AnySoFar
+pub mod LeastSoFar

@@ -1,8 +1,8 @@
-use Rattle.std.proofs.Common.{◌≡◌, refl, subst, List, map, Err, inl, inr, rules}
-use Rattle.std.specs.Prelude.{◌⊎◌}
+use Rattle.std.proofs.Common.{refl, subst, List, map}
 use Rattle.hq_base.specs.Due.{Gives}
 use Rattle.hq_base.specs.Json.{member_view, members_of}
 use Rattle.hq_base.specs.declared.json.Member.{Member}
+use Rattle.hq_coerce.proofs.Refusals.{passed_up}
 use Rattle.hq_arguments.specs.Context.{context_view}
 use Rattle.hq_arguments.specs.SortLists.{sorts_view, behind}
 use Rattle.hq_arguments.specs.Sorts.{members_due, named_due}
@@ -24,13 +24,10 @@ with_members-returns-in_err-next t c =
     let x = context_view c.args.context.now in
     let through = c.args.through.now in
     let e : ArgRefusal = c.in_err-next.field-0.0 in
-    let refused : (e ≡ Memory) ⊎ (behind (sorts_view c.args.sorts) (members_due (members_of (map member_view c.args.members.now.items)) x through c.args.p c.args.t) ≡ Err e) =
-    elim c.in_err-next.ensures [
-      | inl m ↦ inl m
-      | inr given ↦ inr (join_refused (λ (ms : List Member). members_due (members_of (map member_view ms)) x through c.args.p c.args.t) (λ (m : Member). named_due x through c.args.p c.args.t (member_view m).0 (member_view m).1) (λ m ms. refl)
-          c.deref-member-items.result.now c.loop-member.member-index c.member-item.result (sorts_view c.loop-member.sorts) e _ c.loop-member.invariant c.loop-member-test.true c.member-item.is given)
-    ] in
-    search rules
+    passed_up sorts_view Memory e _ _ c.from_residual.result
+    (join_refused (λ (ms : List Member). members_due (members_of (map member_view ms)) x through c.args.p c.args.t) (λ (m : Member). named_due x through c.args.p c.args.t (member_view m).0 (member_view m).1) (λ m ms. refl)
+    c.deref-member-items.result.now c.loop-member.member-index c.member-item.result (sorts_view c.loop-member.sorts) e _ c.loop-member.invariant c.loop-member-test.true c.member-item.is)
+    c.in_err-next.ensures c.from_residual.ensures.1
 
 pub with_member-returns-in-Some : goal.with_member-returns-in-Some
 with_member-returns-in-Some t c =

@@ -1,14 +1,16 @@
-use Rattle.std.proofs.Common.{◌≡◌, ◌∙◌, refl, sym, ap, ℕ, ◌+◌, List, [], ◌∷◌, ◌++◌, drop, map, Option, Some, None, rules}
+use Rattle.std.proofs.Common.{◌≡◌, ◌∙◌, refl, sym, ap, ℕ, ◌+◌, List, [], ◌∷◌, ◌++◌, drop, map, Option, Some, None, Vec, Global, rules}
 use Rattle.std.specs.Prelude.{option_map}
 use Rattle.std.specs.Option.{option_to_list}
-use Rattle.std.proofs.lemmas.List.{map-append, append-nil}
-use Rattle.hq_base.proofs.Looks.{view-Member}
+use Rattle.std.proofs.lemmas.List.{map-append, append-nil, at_drop_all}
+use Rattle.hq_base.proofs.Looks.{view-Arr, view-Obj, view-Member}
 use Rattle.hq_base.specs.Json.{JsonTree, json_view, member_view}
+use Rattle.hq_base.specs.Json as json
 use Rattle.hq_base.specs.declared.json.Member.{Member}
 use Rattle.hq_gql_tree.specs.declared.value.Argument.{Argument}
 use Rattle.hq_gql_tree.specs.declared.value.Placed.{Placed}
 use Rattle.hq_gql_tree.specs.declared.value.Value.{the_lemmas}
-use Rattle.hq_gql_tree.specs.Values.{PlacedTree, ArgumentTree, value_view, placed_view, argument_view, elements_of, members_of}
+use Rattle.hq_gql_tree.specs.declared.value.Value.TheVariants as value
+use Rattle.hq_gql_tree.specs.Values.{PlacedTree, ArgumentTree, list, object, value_view, placed_view, argument_view, elements_of, members_of}
 use Rattle.hq_coerce.specs.Variables.{var_view}
 use Rattle.hq_coerce.specs.Sources.{source_of, element_sources, member_sources, with_element, with_member}
 use Rattle.hq_coerce.proofs.Steps.{given_more}
@@ -70,3 +72,38 @@ member_sources-loop-argument-preserved t c =
           let none : c.in_ok-value.field-0 ≡ None = search rules in
           step None (seen ∙ sym c.in_ok-value.ensures ∙ ap (option_map json_view) none) (ap (λ v. map member_view v.items) w.members-is ∙ sym (append-nil _))
     ]
+
+pub element_sources-returns : goal.element_sources-returns
+element_sources-returns t c =
+    let vars = map var_view c.args.vars.now in
+    let done = map json_view c.loop-placed.elements.items in
+    sym (append-nil done)
+    ∙ sym (at_drop_all (λ (vs : List Placed). done ++ element_sources vars (elements_of (map placed_view vs))) c.deref-placed-items.result.now c.loop-placed.placed-index c.loop-placed-test.false)
+    ∙ c.loop-placed.invariant
+
+pub member_sources-returns : goal.member_sources-returns
+member_sources-returns t c =
+    let vars = map var_view c.args.vars.now in
+    let done = map member_view c.loop-argument.members.items in
+    sym (append-nil done)
+    ∙ sym (at_drop_all (λ (ms : List Argument). done ++ member_sources vars (members_of (map argument_view ms))) c.deref-argument-items.result.now c.loop-argument.argument-index c.loop-argument-test.false)
+    ∙ c.loop-argument.invariant
+
+-- a list and an object are seen as their parts
+view-List : (vs : Vec Placed Global) → value_view (value.«List» vs) ≡ list (elements_of (map placed_view vs.items))
+view-List vs = search (rules, the_lemmas)
+
+view-Object : (ms : Vec Argument Global) → value_view (value.Object ms) ≡ object (members_of (map argument_view ms.items))
+view-Object ms = search (rules, the_lemmas)
+
+pub source-returns-in_ok-element_sources-in-List : goal.source-returns-in_ok-element_sources-in-List
+source-returns-in_ok-element_sources-in-List t c =
+    let vars = map var_view c.args.vars.now in
+    ap Some (view-Arr _ ∙ ap (λ js. json.arr (json.elements_of js)) c.in_ok-element_sources-in-List.ensures)
+    ∙ sym (ap (λ v. source_of vars (value_view v)) c.in-List.is ∙ ap (source_of vars) (view-List c.in-List.values))
+
+pub source-returns-in_ok-member_sources-in-Object : goal.source-returns-in_ok-member_sources-in-Object
+source-returns-in_ok-member_sources-in-Object t c =
+    let vars = map var_view c.args.vars.now in
+    ap Some (view-Obj _ ∙ ap (λ ms. json.obj (json.members_of ms)) c.in_ok-member_sources-in-Object.ensures)
+    ∙ sym (ap (λ v. source_of vars (value_view v)) c.in-Object.is ∙ ap (source_of vars) (view-Object c.in-Object.members))

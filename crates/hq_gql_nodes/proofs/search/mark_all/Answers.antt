@@ -1,5 +1,7 @@
-use Rattle.std.proofs.Common.{◌∙◌, ℕ, List, [], ◌∷◌, get_or, length, refl, subst, arith}
-use Rattle.hq_gql_nodes.specs.Marks.{Adds}
+use Rattle.std.proofs.Common.{◌≡◌, ◌∙◌, ℕ, List, [], ◌∷◌, get_or, length, take, refl, subst, arith, true}
+use Rattle.std.proofs.lemmas.List.{take_all}
+use Rattle.hq_gql_nodes.specs.Reach.{has}
+use Rattle.hq_gql_nodes.specs.Marks.{Among, Adds}
 use Rattle.hq_gql_nodes.proofs.Marking.{adds_more, marked_more}
 use Rattle.hq_gql_nodes.proofs.search.mark_all.Goals as goal
 
@@ -20,3 +22,16 @@ loop-place-preserved c =
       marked = marked_more count places i p old new c.loop-place-test.true refl adds (λ h. made.marked (omega (arith, loop.as_long, h))) loop.marked;
       adds = adds_more count places i p c.args.order.now.items old new c.loop-place-test.true refl loop.adds adds;
     }
+
+pub mark-requires : goal.mark-requires
+mark-requires c = c.loop-place.invariant.agrees
+
+pub returns-clause-marked : goal.returns-clause-marked
+returns-clause-marked c =
+    let all : take c.loop-place.place-index c.args.places.now ≡ c.args.places.now = take_all _ _ (omega arith) in
+    subst (λ (places : List ℕ). (q : ℕ) → Among (length c.args.marks.now.items) places q → has c.loop-place.order.items q ≡ true) all c.loop-place.invariant.marked
+
+pub returns-clause-adds : goal.returns-clause-adds
+returns-clause-adds c =
+    let all : take c.loop-place.place-index c.args.places.now ≡ c.args.places.now = take_all _ _ (omega arith) in
+    subst (λ (places : List ℕ). Adds (length c.args.marks.now.items) places c.args.order.now.items c.loop-place.order.items) all c.loop-place.invariant.adds
