@@ -39,7 +39,8 @@ fn text_of(
     ensures statement { OnOk result (IsStatement catalog.now.tables (meta_view meta.now) session.now (ask_view request.now)) }
 {
     let _ = session;
-    let select = compile(alloc, request, catalog, meta)?;
+    // In a box: a statement that lies on the stack is let go variant by variant where this ends.
+    let select = Box::new(alloc, compile(alloc, request, catalog, meta)?)?;
     print(alloc, &select)
 }
 
