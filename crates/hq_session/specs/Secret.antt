@@ -10,14 +10,14 @@ use Rattle.hq_session.specs.declared.header.Header.{Header}
 use Rattle.hq_session.specs.declared.hook.HookAnswer.{HookAnswer}
 use Rattle.hq_session.specs.declared.hook.HookAnswer.TheVariants as answer
 use Rattle.hq_session.specs.declared.secret.SecretRule.{SecretRule}
-use Rattle.hq_session.specs.Sessions.{value_of, role_name, session_of}
+use Rattle.hq_session.specs.Sessions.{value_of, role_variable, session_of}
 
 abbrev pub secret_name : List ℕ
 secret_name = codes "x-hasura-admin-secret"
 
 -- the session of a role that has no other variable
 abbrev pub session_by_role : List ℕ → Session
-session_by_role role = record { role = role; vars = (record { name = role_name; value = role }) ∷ [] }
+session_by_role role = record { role = role; vars = role_variable role ∷ [] }
 
 -- the answer that a session is, where memory was there for it
 abbrev pub answer_with : Result Session Memory → HookAnswer

@@ -17,6 +17,10 @@ role_name = codes "x-hasura-role"
 abbrev pub role_in : List Header → List ℕ
 role_in headers = unwrap_or (value_of headers role_name) (codes "admin")
 
+-- the variable that a role is
+abbrev pub role_variable : List ℕ → Var
+role_variable role = record { name = role_name; value = role }
+
 -- session variables begin so; the secret is none of them
 abbrev pub is_variable : List ℕ → Bool
 is_variable name = is_some (after (codes "x-hasura-") name) && not (bytes_eq name (codes "x-hasura-admin-secret"))
@@ -36,7 +40,7 @@ new_variables earlier (v ∷ vs) = cond (has_variable earlier v.name) (new_varia
 -- the role, and the variables of the headers, each name once
 abbrev pub variables_in : List Header → List Var
 variables_in headers =
-    new_variables [] (record { name = role_name; value = role_in headers } ∷ map variable_of (filter (λ h. is_variable h.name) headers))
+    new_variables [] (role_variable (role_in headers) ∷ map variable_of (filter (λ h. is_variable h.name) headers))
 
 -- the session of the headers
 abbrev pub session_of : List Header → Session

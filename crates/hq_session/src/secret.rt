@@ -2,10 +2,10 @@ ghost use Rattle.std.specs.Prelude.{◌≡◌, ◌∷◌, [], length, IfOk, code
 ghost use Rattle.std.specs.Str.{bytes_eq};
 ghost use Rattle.hq_session.specs.Secret.{AllowedBySecret, secret_name, session_by_role, answer_with};
 
-use crate::session::role_name;
+use crate::session::role_variable;
 use crate::{Headers, HookAnswer, HookRule};
-use hq_base::{List, Memory, Txt};
-use hq_terms::{Session, Var};
+use hq_base::{Memory, Txt};
+use hq_terms::Session;
 use std::alloc::Global;
 
 /// The rule of an admin secret, and of a role for callers that give none.
@@ -56,11 +56,7 @@ fn secret_name(alloc: Global) -> Result<Txt, Memory>
 fn session_by_role(alloc: Global, role: &Txt) -> Result<Session, Memory>
     ensures { IfOk result (λ session. session ≡ session_by_role role.now) }
 {
-    let mut vars = List::new(alloc);
-    vars.push(Var {
-        name: role_name(alloc)?,
-        value: role.copy(alloc)?,
-    })?;
+    let vars = role_variable(alloc, role)?;
     Ok(Session {
         role: role.copy(alloc)?,
         vars,

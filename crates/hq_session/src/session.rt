@@ -1,14 +1,14 @@
 ghost use Rattle.std.specs.Prelude.{◌≡◌, ◌++◌, ◌∷◌, [], List as Items, IfOk, OnOk, map, filter, cond, codes};
 ghost use Rattle.hq_terms.specs.declared.session.Var.{Var};
-ghost use Rattle.hq_session.specs.Sessions.{role_in, role_name, is_variable, variable_of, has_variable, new_variables, variables_in, session_of};
+ghost use Rattle.hq_session.specs.Sessions.{role_in, role_name, role_variable, is_variable, variable_of, has_variable, new_variables, variables_in, session_of};
 
 use crate::{Header, Headers};
 use hq_base::{List, Memory, Txt};
 use hq_terms::{Session, Var, VarList};
 use std::alloc::Global;
 
-/// The name of the role's header.
-pub fn role_name(alloc: Global) -> Result<Txt, Memory>
+// The name of the role's header.
+fn role_name(alloc: Global) -> Result<Txt, Memory>
     ensures { IfOk result (λ name. name ≡ role_name) }
 {
     let mut name = Txt::new(alloc);
@@ -64,16 +64,24 @@ fn add_variable(alloc: Global, vars: &mut VarList, header: &Header) -> Result<()
     Ok(())
 }
 
-// The variables of headers, after that of the role.
-fn variables(alloc: Global, headers: &Headers, role: &Txt) -> Result<VarList, Memory>
-    requires { role.now ≡ role_in headers.now }
-    ensures { IfOk result (λ vars. vars ≡ variables_in headers.now) }
+/// The variable that a role is, alone.
+pub fn role_variable(alloc: Global, role: &Txt) -> Result<VarList, Memory>
+    ensures { IfOk result (λ vars. vars ≡ role_variable role.now ∷ []) }
 {
     let mut vars = List::new(alloc);
     vars.push(Var {
         name: role_name(alloc)?,
         value: role.copy(alloc)?,
     })?;
+    Ok(vars)
+}
+
+// The variables of headers, after that of the role.
+fn variables(alloc: Global, headers: &Headers, role: &Txt) -> Result<VarList, Memory>
+    requires { role.now ≡ role_in headers.now }
+    ensures { IfOk result (λ vars. vars ≡ variables_in headers.now) }
+{
+    let mut vars = role_variable(alloc, role)?;
     for header in headers.as_slice() {
         add_variable(alloc, &mut vars, header)?;
     }

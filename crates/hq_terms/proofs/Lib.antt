@@ -1,4 +1,5 @@
 pub mod Numbers
 mod Lists
 pub mod Places
+pub mod Steps
 mod Worked
