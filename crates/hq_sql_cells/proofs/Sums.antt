@@ -20,15 +20,17 @@ pub sum_taken : (sum more : Option ℤ) (c : CellTree) (rest left : List CellTre
     → (sum_from sum (filter is_taken left) ≡ total) × (Fits → SumsFit sum (filter is_taken left)) → (sum_from more (filter is_taken rest) ≡ total) × (Fits → SumsFit more (filter is_taken rest))
 sum_taken sum more c rest left total Fits split taken grows so_far =
     let first : filter is_taken (c ∷ rest) ≡ c ∷ filter is_taken rest = rw taken refl in
-    let same : filter is_taken left ≡ c ∷ filter is_taken rest = ap (filter is_taken) split ∙ first in
-    (ap (λ s. sum_from s (filter is_taken rest)) grows ∙ sym (ap (sum_from sum) same ∙ sum_step sum c (filter is_taken rest)) ∙ so_far.0,
-    λ f. subst (λ s. SumsFit s (filter is_taken rest)) (sym grows) (subst (SumsFit sum) same (so_far.1 f)).1)
+    let same : filter is_taken left ≡ c ∷ filter is_taken rest = ap (filter is_taken) split ∙ first in (
+      ap (λ s. sum_from s (filter is_taken rest)) grows ∙ sym (ap (sum_from sum) same ∙ sum_step sum c (filter is_taken rest)) ∙ so_far.0,
+      λ f. subst (λ s. SumsFit s (filter is_taken rest)) (sym grows) (subst (SumsFit sum) same (so_far.1 f)).1,
+    )
 
 -- or passed over
 pub sum_passed : (sum more : Option ℤ) (c : CellTree) (rest left : List CellTree) (total : CellTree) (Fits : Type 0) → left ≡ c ∷ rest → is_taken c ≡ false → more ≡ sum
     → (sum_from sum (filter is_taken left) ≡ total) × (Fits → SumsFit sum (filter is_taken left)) → (sum_from more (filter is_taken rest) ≡ total) × (Fits → SumsFit more (filter is_taken rest))
 sum_passed sum more c rest left total Fits split other stays so_far =
     let first : filter is_taken (c ∷ rest) ≡ filter is_taken rest = rw other refl in
-    let same : filter is_taken left ≡ filter is_taken rest = ap (filter is_taken) split ∙ first in
-    (ap (λ s. sum_from s (filter is_taken rest)) stays ∙ ap (sum_from sum) (sym same) ∙ so_far.0,
-    λ f. subst (λ s. SumsFit s (filter is_taken rest)) (sym stays) (subst (SumsFit sum) same (so_far.1 f)))
+    let same : filter is_taken left ≡ filter is_taken rest = ap (filter is_taken) split ∙ first in (
+      ap (λ s. sum_from s (filter is_taken rest)) stays ∙ ap (sum_from sum) (sym same) ∙ so_far.0,
+      λ f. subst (λ s. SumsFit s (filter is_taken rest)) (sym stays) (subst (SumsFit sum) same (so_far.1 f)),
+    )

@@ -1,6 +1,6 @@
 -- Lists that are written one after another.
-use Rattle.std.proofs.Common.{◌≡◌, ◌∙◌, ℕ, zero, suc, ◌+◌, ◌<◌, List, [], ◌∷◌, ◌++◌, length, map, drop, get_or, refl, sym, ap, append_assoc, add-one}
-use Rattle.std.proofs.lemmas.List.{drop_more}
+use Rattle.std.proofs.Common.{◌≡◌, ◌∙◌, ℕ, zero, suc, ◌+◌, ◌<◌, ◌≤◌, List, [], ◌∷◌, ◌++◌, length, map, drop, get_or, refl, sym, ap, append_assoc, add-one}
+use Rattle.std.proofs.lemmas.List.{drop_more, at_drop_all, append-nil}
 use Rattle.hq_sql_tree.specs.declared.word.Word.{Word}
 use Rattle.hq_sql_tree.specs.Tree.{PairTree, OrderTree, pairs_of, orders_of}
 use Rattle.hq_sql_tree.specs.Spelling.{separated, each_after, pair_text, pair_texts, order_text, order_texts}
@@ -36,6 +36,18 @@ pub rest_of-more : {A : Type 0} (w : Word) (texts : List A → List (List ℕ)) 
     → between ≡ out ++ before w i → more ≡ between ++ text → more ++ rest_of w (i + 1) (texts (drop (i + 1) xs)) ≡ whole
 rest_of-more w texts xs i x text out between more whole so_far below is next parted put =
     ap (λ k. more ++ rest_of w k (texts (drop (i + 1) xs))) (add-one i) ∙ each_after-more w i texts xs i x text out between more whole so_far below is next parted put
+
+-- nothing comes of no members
+nothing_left : (w : Word) (i : ℕ) → rest_of w i [] ≡ []
+nothing_left w zero = refl
+nothing_left w (suc i) = refl
+
+-- at the end of the list all are written
+pub rest_of-end : {A : Type 0} (w : Word) (written : ℕ) (texts : List A → List (List ℕ)) (xs : List A) (i : ℕ) (out whole : List ℕ)
+    → texts [] ≡ [] → length xs ≤ i → out ++ rest_of w written (texts (drop i xs)) ≡ whole → out ≡ whole
+rest_of-end w written texts xs i out whole none over so_far =
+    let left : rest_of w written (texts (drop i xs)) ≡ [] = at_drop_all (λ l. rest_of w written (texts l)) xs i over ∙ ap (rest_of w written) none ∙ nothing_left w written in
+    sym (append-nil out) ∙ ap (λ z. out ++ z) (sym left) ∙ so_far
 
 -- the members of an object and the keys of an order, as plain lists
 pub pair_texts_of : (ps : List PairTree) → pair_texts (pairs_of ps) ≡ map pair_text ps

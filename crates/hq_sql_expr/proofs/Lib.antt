@@ -13,3 +13,4 @@ pub mod Exprs
 pub mod Again
 pub mod Form
 pub mod Closed
+pub mod Joined

@@ -1,6 +1,5 @@
 pub mod Below
 pub mod Views
-pub mod Joined
 pub mod Fits
 pub mod ClausesTaken
 pub mod ConditionsTaken

@@ -16,7 +16,7 @@ loop-cell-preserved c =
     let split : map cell_view (drop i cells) ≡ cell_view cell ∷ map cell_view (drop (i + 1) cells) = ap (map cell_view) (next_item cells i cell c.loop-cell-test.true c.cell-item.is) in
     elim c.if-is_taken.branch [
       | then-is_taken+in_ok-total_after w ↦
-        let more : c.if-is_taken.sum ≡ Some (total_after sum (int_in (cell_view cell))) = search rules in
-        sum_taken sum c.if-is_taken.sum (cell_view cell) _ _ _ _ split (sym c.is_taken.ensures ∙ w.if-is_taken.true) more c.loop-cell.invariant
+          let more : c.if-is_taken.sum ≡ Some (total_after sum (int_in (cell_view cell))) = search rules in
+          sum_taken sum c.if-is_taken.sum (cell_view cell) _ _ _ _ split (sym c.is_taken.ensures ∙ w.if-is_taken.true) more c.loop-cell.invariant
       | else-is_taken w ↦ sum_passed sum c.if-is_taken.sum (cell_view cell) _ _ _ _ split (sym c.is_taken.ensures ∙ w.if-is_taken.false) w.sum-is c.loop-cell.invariant
     ]

@@ -7,9 +7,9 @@ use Rattle.hq_sql_tree.specs.declared.select.Join.{Join}
 use Rattle.hq_sql_tree.specs.declared.select.Pred.{Pred}
 use Rattle.hq_sql_tree.specs.View.{expr_view, order_view, out_view, select_view, from_view, join_view, pred_view, filter_view}
 use Rattle.hq_sql_tree.specs.Spelling.{separated, each_after, clause_text, order_text, out_text, distinct_text, number_text, select_text, from_text, join_text, join_texts, filter_text, pred_text, pred_texts}
-use Rattle.hq_sql_expr.proofs.Between.{rest_of-more, each_after-more}
+use Rattle.hq_sql_expr.proofs.Between.{rest_of-more, rest_of-end, each_after-more}
 use Rattle.hq_sql_text.proofs.Views.{view_rows}
-use Rattle.hq_sql_text.proofs.Joined.{on_ok, five}
+use Rattle.hq_sql_expr.proofs.Joined.{on_ok, five}
 use Rattle.hq_sql_text.proofs.printing.+put_select.Goals as goal
 
 -- the pieces of rows
@@ -40,6 +40,17 @@ put_pred_list-loop-i-preserved t c =
     let below = rw c.deref-pred-items.ensures.value at c.loop-i-test.true in
     let is = rw c.deref-pred-items.ensures.value at c.pred-item.is in
     rest_of-more c.args.word (λ (ps : List Pred). pred_texts (preds_of (map pred_view ps))) c.args.preds.now.items c.loop-i.i c.pred-item.result (pred_text (pred_view c.pred-item.result)) c.loop-i.out.items c.put_between.new.out.items c.put_pred.new.out.items _ c.loop-i.invariant below is refl c.in_ok-put_between.ensures c.in_ok-put_pred.ensures
+
+pub put_pred_list-returns : goal.put_pred_list-returns
+put_pred_list-returns t c =
+    let over = rw c.deref-pred-items.ensures.value at c.loop-i-test.false in
+    rest_of-end c.args.word c.loop-i.i (λ (ps : List Pred). pred_texts (preds_of (map pred_view ps))) c.args.preds.now.items c.loop-i.i c.loop-i.out.items _ refl over c.loop-i.invariant
+
+pub put_joins-returns : goal.put_joins-returns
+put_joins-returns t c =
+    let texts = λ (js : List Join). join_texts (joins_of (map join_view js)) in
+    rest_of-end word.LateralJoin 1 texts c.deref-join-items.result.now c.loop-join.join-index c.loop-join.out.items _ refl c.loop-join-test.false c.loop-join.invariant
+    ∙ ap (λ js. c.args.out.now.items ++ each_after word.LateralJoin (texts js)) c.deref-join-items.ensures.value
 
 pub put_joins-loop-join-preserved : goal.put_joins-loop-join-preserved
 put_joins-loop-join-preserved t c =
