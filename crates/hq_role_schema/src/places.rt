@@ -16,10 +16,11 @@ pub fn placed(alloc: Global, tables: ShownTableList) -> Result<PlacedTableList, 
     let mut placed = List::new(alloc);
     let mut first = FIXED;
     for shown in tables.into_vec() {
-        let Some(next) = first.checked_add(part_count(&shown)) else {
+        let count = part_count(&shown);
+        placed.push(PlacedTable { shown, first })?;
+        let Some(next) = first.checked_add(count) else {
             return Err(Memory);
         };
-        placed.push(PlacedTable { shown, first })?;
         first = next;
     }
     Ok(placed)

@@ -10,7 +10,7 @@ loop-shown-preserved c =
     let t = c.in-Some.shown in
     let there : ℕ → PlacedTable = λ n. record { shown = t; first = n } in
     let more : c.in-Some-checked_add.next ≡ count_of 18 ts + part_count t =
-    omega (arith, c.in-Some-checked_add.ensures, c.part_count.ensures.count, c.loop-shown.invariant.next)
+    omega (arith, c.in-Some-checked_add.ensures, c.part_count-count.ensures.count, c.loop-shown.invariant.next)
     in
     record {
       so_far =
