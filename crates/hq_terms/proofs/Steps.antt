@@ -1,4 +1,4 @@
--- Steps of a loop that reads items one after the other.
+-- Steps of a loop that reads or copies items one after the other.
 use Rattle.std.proofs.Common.{◌≡◌, ◌∙◌, refl, ap, sym, ℕ, ◌+◌, ◌<◌, List, [], ◌∷◌, ◌++◌, length, map, take, drop, get_or, Result, Ok, Err, append_assoc}
 use Rattle.std.proofs.lemmas.List.{take_more, drop_more, map-append}
 use Rattle.hq_base.specs.Due.{and_then, mapped}
@@ -29,3 +29,18 @@ pub read_refused : {X B E : Type 0} (F : List X → Result (List B) E) (D : X �
 read_refused F D reads xs i x done e whole so_far below is given =
     so_far
     ∙ ap (mapped (λ ys. done ++ ys)) (read_first F D reads xs i x below is ∙ ap (and_then (λ z. mapped (λ ys. z ∷ ys) (F (drop (i + 1) xs)))) given)
+
+-- a copy of the items so far, and that of the next
+pub taken_more : {A : Type 0} (xs : List A) (i : ℕ) (x : A) (done more : List A) (y : A) → done ≡ take i xs → i < length xs → x ≡ get_or xs i x → y ≡ x → more ≡ done ++ y ∷ [] → more ≡ take (i + 1) xs
+taken_more xs i x done more y so_far below is same grows =
+    grows ∙ ap (λ ys. ys ++ y ∷ []) so_far ∙ ap (λ z. take i xs ++ z ∷ []) (same ∙ is) ∙ sym (take_more xs i x below)
+
+-- the same of copies that are seen by a function
+pub map_taken-more : {A B : Type 0} (view : A → B) (xs : List A) (i : ℕ) (x : A) (done more : List A) (y : A) → map view done ≡ map view (take i xs) → i < length xs → x ≡ get_or xs i x → view y ≡ view x → more ≡ done ++ y ∷ [] → map view more ≡ map view (take (i + 1) xs)
+map_taken-more view xs i x done more y so_far below is same grows =
+    ap (map view) grows
+    ∙ map-append view done (y ∷ [])
+    ∙ ap (λ vs. vs ++ view y ∷ []) so_far
+    ∙ ap (λ v. map view (take i xs) ++ v ∷ []) same
+    ∙ sym (map-append view (take i xs) (x ∷ []))
+    ∙ ap (map view) (ap (λ z. take i xs ++ z ∷ []) is ∙ sym (take_more xs i x below))

@@ -5,7 +5,7 @@ use hq_base::List;
 use std::marker::Model;
 
 /// A table of the catalog, by its place from 0.
-#[derive(Clone, Copy, PartialEq, Eq)]
+#[derive(Clone, Copy)]
 pub struct TableId {
     at: usize,
 }
@@ -37,7 +37,7 @@ impl TableId {
 }
 
 /// A column of its table, by its place from 0.
-#[derive(Clone, Copy, PartialEq, Eq)]
+#[derive(Clone, Copy)]
 pub struct ColId {
     at: usize,
 }
@@ -79,7 +79,7 @@ pub fn has_column(columns: &[ColId], column: ColId) -> bool
 }
 
 /// A relationship of its tracked table, by its place from 0.
-#[derive(Clone, Copy, PartialEq, Eq)]
+#[derive(Clone, Copy)]
 pub struct RelId {
     at: usize,
 }

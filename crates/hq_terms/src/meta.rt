@@ -12,7 +12,7 @@ pub struct RootNames {
 }
 
 /// A column of the table and the column of the remote table that is to equal it.
-#[derive(Clone, Copy, PartialEq, Eq)]
+#[derive(Clone, Copy)]
 pub struct Pair {
     pub own: ColId,
     pub remote: ColId,

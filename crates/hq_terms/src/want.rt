@@ -1,5 +1,5 @@
 /// What a session variable's text is to be read as.
-#[derive(Clone, Copy, Debug, PartialEq, Eq)]
+#[derive(Clone, Copy, Debug)]
 pub enum Want {
     Integer,
     Bigint,
