@@ -5,7 +5,7 @@ use Rattle.hq_sql_tree.specs.View.{select_view, join_view, pred_view}
 use Rattle.hq_sql_tree.specs.WellFormed.{select_names, is_typed, are_typed_joins, joined_scope, is_typed_pred, are_typed_preds}
 use Rattle.hq_sql_check.specs.Scopes.{name_view, alias_view, stacked, scope_view}
 use Rattle.hq_sql_check.proofs.JoinSteps.{joins_typed, joins_scope}
-use Rattle.hq_sql_check.proofs.Next.{next_join, next_pred, passes, fails}
+use Rattle.hq_sql_tree.proofs.Next.{next_join, next_pred, passes, fails}
 use Rattle.hq_sql_check.proofs.typed.+typed.Goals as goal
 
 pub push_joins-loop-join-preserved : goal.push_joins-loop-join-preserved
