@@ -1,7 +1,9 @@
 -- The next item of a list that is gone over: what is left tells what the whole does.
-use Rattle.std.proofs.Common.{◌≡◌, ◌∙◌, sym, ap, ℕ, suc, ◌+◌, ◌<◌, List, ◌∷◌, drop, length, get_or, arith, map, max, nat_le, Bool, true, false, ◌&&◌, rules}
+use Rattle.std.proofs.Common.{◌≡◌, ◌∙◌, sym, ap, ℕ, suc, ◌+◌, ◌<◌, ◌≤◌, List, [], ◌∷◌, drop, length, get_or, arith, map, max, nat_le, Bool, true, false, ◌&&◌, rules}
+use Rattle.std.specs.List.{list_all}
 use Rattle.std.proofs.Math.Seq.{drop-cons}
 use Rattle.std.proofs.lemmas.Bool.Decides.{nat_tests}
+use Rattle.std.proofs.lemmas.List.{at_drop_all}
 use Rattle.hq_sql_tree.specs.declared.expr.Agg as agg
 use Rattle.hq_sql_tree.specs.declared.expr.ExprPair.{ExprPair}
 use Rattle.hq_sql_tree.specs.declared.expr.Order.{Order}
@@ -37,6 +39,10 @@ view_pair p = search (rules, agg.the_lemmas)
 pub view_order : (o : Order) → order_view o ≡ record { value = expr_view o.value; desc = o.desc; nulls_first = o.nulls_first }
 view_order o = search (rules, agg.the_lemmas)
 
+-- the expression of a sort key
+pub view_key : (o : Order) → (order_view o).value ≡ expr_view o.value
+view_key o = ap (λ (seen : OrderTree). seen.value) (view_order o)
+
 -- a sort key of those that are left
 pub next_order : (os : List Order) (i : ℕ) (o : Order) → i < length os → o ≡ get_or os i o
     → orders_of (map order_view (drop i os)) ≡ tree.order (expr_view o.value) o.desc o.nulls_first (orders_of (map order_view (drop (i + 1) os)))
@@ -57,6 +63,22 @@ passes first rest left whole split so_far holds = sym (split ∙ ap (λ b. b && 
 -- or fails
 pub fails : (first rest left whole : Bool) → left ≡ (first && rest) → left ≡ whole → first ≡ false → false ≡ whole
 fails first rest left whole split so_far holds = sym (split ∙ ap (λ b. b && rest) holds) ∙ so_far
+
+-- at the end of a list what is left tells what the whole does
+pub at_end : {A V : Type 0} (F : List A → V) (xs : List A) (i : ℕ) (v whole : V) → F [] ≡ v → length xs ≤ i → F (drop i xs) ≡ whole → v ≡ whole
+at_end F xs i v whole none over so_far = sym (at_drop_all F xs i over ∙ none) ∙ so_far
+
+-- a test of all: where the next item passes, those behind it tell what all do
+pub all_pass : {A B : Type 0} (p : B → Bool) (view : A → B) (xs : List A) (i : ℕ) (x : A) → i < length xs → x ≡ get_or xs i x
+    → list_all p (map view (drop i xs)) ≡ list_all p (map view xs) → p (view x) ≡ true → list_all p (map view (drop (i + 1) xs)) ≡ list_all p (map view xs)
+all_pass p view xs i x lt is so_far holds =
+    passes (p (view x)) (list_all p (map view (drop (i + 1) xs))) (list_all p (map view (drop i xs))) (list_all p (map view xs)) (ap (λ ys. list_all p (map view ys)) (next_item xs i x lt is)) so_far holds
+
+-- and where it fails, all do
+pub all_fail : {A B : Type 0} (p : B → Bool) (view : A → B) (xs all : List A) (i : ℕ) (x : A) → xs ≡ all → i < length xs → x ≡ get_or xs i x
+    → list_all p (map view (drop i xs)) ≡ list_all p (map view xs) → p (view x) ≡ false → false ≡ list_all p (map view all)
+all_fail p view xs all i x same lt is so_far holds =
+    fails (p (view x)) (list_all p (map view (drop (i + 1) xs))) (list_all p (map view (drop i xs))) (list_all p (map view xs)) (ap (λ ys. list_all p (map view ys)) (next_item xs i x lt is)) so_far holds ∙ ap (λ ys. list_all p (map view ys)) same
 
 -- the greater of two is within where both are
 pub max_within : (a b n : ℕ) → nat_le (max a b) n ≡ (nat_le a n && nat_le b n)

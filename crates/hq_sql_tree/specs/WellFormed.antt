@@ -1,13 +1,12 @@
 -- Which trees are well-formed for a catalog (PostgreSQL manual: Value Expressions, Aggregate Expressions, Collation Support;
 -- SELECT with its FROM, LATERAL, WHERE, DISTINCT and ORDER BY clauses). PostgreSQL takes more; what is said here is this subset.
-use Rattle.std.specs.Prelude.{ℕ, List, [], ◌∷◌, map, length, Bool, true, false, ◌&&◌, ◌||◌, nat_le, Option, Some, None, is_some, is_ok, bytes_eq, codes, if◌then◌else◌}
+use Rattle.std.specs.Prelude.{ℕ, List, [], ◌∷◌, map, Bool, true, false, ◌&&◌, ◌||◌, nat_le, Option, Some, None, is_some, is_ok, bytes_eq, codes, if◌then◌else◌}
 use Rattle.std.specs.List.{list_all, list_any}
 use Rattle.std.specs.Ordering.{int_cmp, bool_cmp, is_eq}
 use Rattle.hq_base.specs.Lists.{all_differ}
 use Rattle.hq_base.specs.Patterns.{pattern_of}
 use Rattle.hq_base.specs.declared.value.Ty.{Ty}
 use Rattle.hq_base.specs.declared.value.Ty.TheVariants.{Integer, Bigint, Text, Boolean}
-use Rattle.hq_terms.specs.declared.table.Column.{Column}
 use Rattle.hq_terms.specs.declared.table.Table.{Table}
 use Rattle.hq_sql_tree.specs.Form.{is_select, select_depth, select_fits}
 use Rattle.hq_sql_tree.specs.Tree as tree

@@ -1,8 +1,8 @@
-use Rattle.std.proofs.Common.{refl, ap, ◌+◌, ◌<◌, map, drop, length, ◌&&◌, arith}
-use Rattle.hq_sql_tree.specs.Tree.{joins_of, preds_of}
-use Rattle.hq_sql_tree.specs.View.{select_view, join_view, pred_view}
-use Rattle.hq_sql_tree.specs.Form.{is_text, select_fits, joins_fit, pred_fits, preds_fit}
-use Rattle.hq_sql_tree.proofs.Next.{next_join, next_pred, passes}
+use Rattle.std.proofs.Common.{ap, ◌+◌, ◌<◌, map, drop, length, arith}
+use Rattle.hq_sql_tree.specs.Tree.{preds_of}
+use Rattle.hq_sql_tree.specs.View.{pred_view}
+use Rattle.hq_sql_tree.specs.Form.{pred_fits, preds_fit}
+use Rattle.hq_sql_tree.proofs.Next.{next_pred, passes}
 use Rattle.hq_sql_tree.proofs.+fits_select.Goals as goal
 
 pub fits::preds_fit-loop-pred-preserved : goal.fits::preds_fit-loop-pred-preserved

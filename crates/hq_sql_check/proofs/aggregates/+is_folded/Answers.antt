@@ -4,7 +4,7 @@ use Rattle.hq_sql_tree.specs.Tree.{pairs_of}
 use Rattle.hq_sql_tree.specs.View.{expr_view, pair_view}
 use Rattle.hq_sql_tree.specs.WellFormed.{is_folded, are_folded}
 use Rattle.hq_sql_check.specs.Scopes.{scope_view}
-use Rattle.hq_sql_check.proofs.Next.{next_pair, passes, fails}
+use Rattle.hq_sql_tree.proofs.Next.{next_pair, passes, fails}
 use Rattle.hq_sql_check.proofs.aggregates.+is_folded.Goals as goal
 
 pub are_folded-returns-then-not-branch : goal.are_folded-returns-then-not-branch

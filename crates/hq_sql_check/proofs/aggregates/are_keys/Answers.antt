@@ -4,7 +4,7 @@ use Rattle.hq_sql_tree.specs.Tree.{orders_of}
 use Rattle.hq_sql_tree.specs.View.{expr_view, order_view}
 use Rattle.hq_sql_tree.specs.WellFormed.{is_compared, are_keys}
 use Rattle.hq_sql_check.specs.Scopes.{scope_view}
-use Rattle.hq_sql_check.proofs.Next.{next_order, passes, fails}
+use Rattle.hq_sql_tree.proofs.Next.{next_order, passes, fails}
 use Rattle.hq_sql_check.proofs.aggregates.are_keys.Goals as goal
 
 pub returns-then-not-branch : goal.returns-then-not-branch

@@ -1,10 +1,13 @@
-use Rattle.std.proofs.Common.{◌∙◌, sym, ap, ◌+◌, ◌<◌, ◌++◌, [], map, drop, length, arith}
+use Rattle.std.proofs.Common.{◌∙◌, refl, sym, ap, List, ◌+◌, ◌<◌, ◌++◌, [], map, drop, length, arith}
+use Rattle.hq_sql_tree.specs.declared.select.Join.{Join}
+use Rattle.hq_sql_tree.specs.declared.select.Pred.{Pred}
 use Rattle.hq_sql_tree.specs.Tree.{joins_of, preds_of}
 use Rattle.hq_sql_tree.specs.View.{select_view, from_view, join_view, pred_view, filter_view}
 use Rattle.hq_sql_tree.specs.WellFormed.{aliases_in, aliases_in_joins, aliases_in_preds}
 use Rattle.hq_sql_check.specs.Scopes.{texts}
 use Rattle.hq_sql_check.proofs.AliasLists.{pieces, beside, beside_end, behind}
-use Rattle.hq_sql_check.proofs.Next.{next_join, next_pred}
+use Rattle.hq_sql_tree.proofs.Next.{next_join, next_pred}
+use Rattle.hq_sql_check.proofs.Next.{piece_end}
 use Rattle.hq_sql_tree.proofs.Views.{view_rows, view_fold}
 use Rattle.hq_sql_check.proofs.aliases.+push_aliases.Goals as goal
 
@@ -41,3 +44,15 @@ push_of_preds-loop-pred-preserved t c =
     let within : i < length items = omega arith in
     behind (texts c.loop-pred.aliases.items) (texts c.push_of_pred.new.aliases.items) (aliases_in_preds (preds_of (map pred_view (drop (i + 1) items))) []) (pred_view item) c.in_ok-push_of_pred.ensures
     ∙ (ap (λ ps. texts c.loop-pred.aliases.items ++ aliases_in_preds ps []) (sym (next_pred items i item within c.pred-item.is)) ∙ c.loop-pred.invariant)
+
+pub push_of_joins-returns : goal.push_of_joins-returns
+push_of_joins-returns t c =
+    let stand = λ (list : List Join). aliases_in_joins (joins_of (map join_view list)) [] in
+    piece_end stand c.deref-join-items.result.now c.loop-join.join-index (texts c.loop-join.aliases.items) _ refl c.loop-join-test.false c.loop-join.invariant
+    ∙ ap (λ list. texts c.args.aliases.now.items ++ stand list) c.deref-join-items.ensures.value
+
+pub push_of_preds-returns : goal.push_of_preds-returns
+push_of_preds-returns t c =
+    let stand = λ (list : List Pred). aliases_in_preds (preds_of (map pred_view list)) [] in
+    piece_end stand c.deref-pred-items.result.now c.loop-pred.pred-index (texts c.loop-pred.aliases.items) _ refl c.loop-pred-test.false c.loop-pred.invariant
+    ∙ ap (λ list. texts c.args.aliases.now.items ++ stand list) c.deref-pred-items.ensures.value

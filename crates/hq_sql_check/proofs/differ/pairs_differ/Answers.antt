@@ -6,7 +6,8 @@ use Rattle.hq_sql_tree.specs.Tree.{pairs_of}
 use Rattle.hq_sql_tree.specs.View.{pair_view}
 use Rattle.hq_sql_tree.specs.WellFormed.{pair_names}
 use Rattle.hq_sql_check.specs.Scopes.{texts}
-use Rattle.hq_sql_check.proofs.Next.{next_pair, piece_more}
+use Rattle.hq_sql_tree.proofs.Next.{next_pair}
+use Rattle.hq_sql_check.proofs.Next.{piece_more}
 use Rattle.hq_sql_check.proofs.differ.pairs_differ.Goals as goal
 
 pub loop-pair-preserved : goal.loop-pair-preserved

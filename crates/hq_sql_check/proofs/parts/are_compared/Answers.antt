@@ -2,7 +2,7 @@ use Rattle.std.proofs.Common.{◌∙◌, sym, ◌<◌, length, arith}
 use Rattle.hq_sql_tree.specs.View.{expr_view}
 use Rattle.hq_sql_tree.specs.WellFormed.{is_compared}
 use Rattle.hq_sql_check.specs.Scopes.{scope_view}
-use Rattle.hq_sql_check.proofs.Next.{all_pass, all_fail}
+use Rattle.hq_sql_tree.proofs.Next.{all_pass, all_fail}
 use Rattle.hq_sql_check.proofs.parts.are_compared.Goals as goal
 
 pub returns-then-not-branch : goal.returns-then-not-branch

@@ -1,8 +1,11 @@
-use Rattle.std.proofs.Common.{◌∙◌, ap, ◌+◌, ◌<◌, ◌++◌, map, drop, length, arith}
+use Rattle.std.proofs.Common.{◌∙◌, refl, ap, List, ◌+◌, ◌<◌, ◌++◌, map, drop, length, arith}
+use Rattle.hq_sql_tree.specs.declared.select.Join.{Join}
+use Rattle.hq_sql_tree.specs.declared.select.Pred.{Pred}
 use Rattle.hq_sql_tree.specs.Tree.{joins_of, preds_of}
 use Rattle.hq_sql_tree.specs.View.{select_view, join_view, pred_view}
 use Rattle.hq_sql_check.specs.Scans.{places, places_of_joins, places_of_pred, places_of_preds}
-use Rattle.hq_sql_check.proofs.Next.{next_join, next_pred, piece_more}
+use Rattle.hq_sql_tree.proofs.Next.{next_join, next_pred}
+use Rattle.hq_sql_check.proofs.Next.{piece_more, piece_end}
 use Rattle.hq_sql_check.proofs.places.+places.Goals as goal
 
 pub add_joins-loop-join-preserved : goal.add_joins-loop-join-preserved
@@ -27,3 +30,15 @@ add_preds-loop-pred-preserved t c =
     piece_more c.loop-pred.found.items c.add_pred.new.found.items (places_of_pred (pred_view item) tables) (places_of_preds (preds_of (map pred_view (drop (i + 1) items))) tables) (places_of_preds (preds_of (map pred_view (drop i items))) tables) _
     c.in_ok-add_pred.ensures
     (ap (λ ps. places_of_preds ps tables) (next_pred items i item within c.pred-item.is)) c.loop-pred.invariant
+
+pub add_joins-returns : goal.add_joins-returns
+add_joins-returns t c =
+    let stand = λ (list : List Join). places_of_joins (joins_of (map join_view list)) c.args.tables.now in
+    piece_end stand c.deref-join-items.result.now c.loop-join.join-index (c.loop-join.found.items) _ refl c.loop-join-test.false c.loop-join.invariant
+    ∙ ap (λ list. c.args.found.now.items ++ stand list) c.deref-join-items.ensures.value
+
+pub add_preds-returns : goal.add_preds-returns
+add_preds-returns t c =
+    let stand = λ (list : List Pred). places_of_preds (preds_of (map pred_view list)) c.args.tables.now in
+    piece_end stand c.deref-pred-items.result.now c.loop-pred.pred-index (c.loop-pred.found.items) _ refl c.loop-pred-test.false c.loop-pred.invariant
+    ∙ ap (λ list. c.args.found.now.items ++ stand list) c.deref-pred-items.ensures.value

@@ -1,11 +1,12 @@
-use Rattle.std.proofs.Common.{◌≡◌, ◌∙◌, sym, ap, List, ◌+◌, ◌<◌, ◌++◌, ◌∷◌, [], map, drop, length, true, arith, rules}
+use Rattle.std.proofs.Common.{◌≡◌, ◌∙◌, refl, sym, ap, List, ◌+◌, ◌<◌, ◌++◌, ◌∷◌, [], map, drop, length, true, arith, rules}
+use Rattle.hq_sql_tree.specs.declared.select.Join.{Join}
 use Rattle.hq_sql_tree.specs.declared.select.Pred.{Pred}
 use Rattle.hq_sql_tree.specs.Tree.{joins_of, preds_of}
 use Rattle.hq_sql_tree.specs.View.{select_view, join_view, pred_view}
 use Rattle.hq_sql_tree.specs.WellFormed.{select_names, is_typed, are_typed_joins, joined_scope, is_typed_pred, are_typed_preds}
 use Rattle.hq_sql_check.specs.Scopes.{name_view, alias_view, stacked, scope_view}
 use Rattle.hq_sql_check.proofs.JoinSteps.{joins_typed, joins_scope}
-use Rattle.hq_sql_check.proofs.Next.{next_join, next_pred, passes, fails}
+use Rattle.hq_sql_tree.proofs.Next.{next_join, next_pred, passes, fails, at_end}
 use Rattle.hq_sql_check.proofs.typed.+typed.Goals as goal
 
 pub push_joins-loop-join-preserved : goal.push_joins-loop-join-preserved
@@ -49,3 +50,26 @@ are_typed_preds-loop-pred-preserved t c =
     let scope = scope_view c.args.scope.now in
     let whole = λ (list : List Pred). are_typed_preds (preds_of (map pred_view list)) tables scope in
     passes (is_typed_pred (pred_view c.pred-item.result) tables scope) (whole (drop (i + 1) items)) (whole (drop i items)) (whole items) (ap (λ ps. are_typed_preds ps tables scope) (next_pred items i c.pred-item.result within c.pred-item.is)) c.loop-pred.invariant (sym c.in_ok-is_typed_pred.ensures ∙ c.if-not-branch.false)
+
+pub are_typed_preds-returns : goal.are_typed_preds-returns
+are_typed_preds-returns t c =
+    let whole = λ (list : List Pred). are_typed_preds (preds_of (map pred_view list)) c.args.tables.now (scope_view c.args.scope.now) in
+    at_end whole c.deref-pred-items.result.now c.loop-pred.pred-index true _ refl c.loop-pred-test.false c.loop-pred.invariant ∙ ap whole c.deref-pred-items.ensures.value
+
+pub push_joins-returns-clause-well : goal.push_joins-returns-clause-well
+push_joins-returns-clause-well t c =
+    let outer = scope_view c.args.scope.now in
+    let found = stacked (map alias_view c.loop-join.aliases.items) outer in
+    let begun = stacked (map alias_view c.args.aliases.now.items) outer in
+    let left = λ (list : List Join). are_typed_joins (joins_of (map join_view list)) c.args.tables.now found in
+    let whole = λ (list : List Join). are_typed_joins (joins_of (map join_view list)) c.args.tables.now begun in
+    at_end left c.deref-join-items.result.now c.loop-join.join-index true _ refl c.loop-join-test.false c.loop-join.invariant.well ∙ ap whole c.deref-join-items.ensures.value
+
+pub push_joins-returns-clause-aliases : goal.push_joins-returns-clause-aliases
+push_joins-returns-clause-aliases t c = λ _.
+    let outer = scope_view c.args.scope.now in
+    let found = stacked (map alias_view c.loop-join.aliases.items) outer in
+    let begun = stacked (map alias_view c.args.aliases.now.items) outer in
+    let left = λ (list : List Join). joined_scope (joins_of (map join_view list)) c.args.tables.now found in
+    let whole = λ (list : List Join). joined_scope (joins_of (map join_view list)) c.args.tables.now begun in
+    at_end left c.deref-join-items.result.now c.loop-join.join-index found _ refl c.loop-join-test.false c.loop-join.invariant.names ∙ ap whole c.deref-join-items.ensures.value

@@ -4,7 +4,7 @@ use Rattle.hq_sql_tree.specs.Tree.{pairs_of}
 use Rattle.hq_sql_tree.specs.View.{expr_view, pair_view}
 use Rattle.hq_sql_tree.specs.WellFormed.{is_value, are_values}
 use Rattle.hq_sql_check.specs.Scopes.{scope_view}
-use Rattle.hq_sql_check.proofs.Next.{next_pair, passes, fails}
+use Rattle.hq_sql_tree.proofs.Next.{next_pair, passes, fails}
 use Rattle.hq_sql_check.proofs.values.+is_value.Goals as goal
 
 pub are_values-returns-then-not-branch : goal.are_values-returns-then-not-branch
