@@ -1,8 +1,8 @@
-use Rattle.std.proofs.Common.{◌≡◌, ◌∙◌, refl, ap, map, [], ◌∷◌, ◌++◌, List, Ok, Err, inl, inr, rules}
-use Rattle.std.specs.Prelude.{◌⊎◌}
+use Rattle.std.proofs.Common.{◌∙◌, refl, ap, map, [], ◌∷◌, ◌++◌, List, Ok}
 use Rattle.std.proofs.lemmas.List.{map-append, at_drop_all}
 use Rattle.hq_base.specs.Due.{mapped}
 use Rattle.hq_arguments.specs.Context.{Context, context_view}
+use Rattle.hq_coerce.proofs.Refusals.{passed_up}
 use Rattle.hq_coerce.specs.declared.refusal.CoerceRefusal.{CoerceRefusal}
 use Rattle.hq_coerce.specs.declared.refusal.CoerceRefusal.TheVariants.{Memory}
 use Rattle.hq_collect.specs.TreeSeen.{collected_view, trees_of}
@@ -11,7 +11,7 @@ use Rattle.hq_ask.proofs.Walks.{front, walk_more, walk_refused}
 use Rattle.hq_ask.proofs.Ends.{fields_end, parts_end}
 use Rattle.hq_ask.specs.Asked.{fields_due, parts_due}
 use Rattle.hq_ask.specs.Parts.{field_due, part_due}
-use Rattle.hq_ask_tree.specs.Fields.{field, part, field_view, part_view, keyed_field_view, keyed_part_view}
+use Rattle.hq_ask_tree.specs.Fields.{field, part, fields_of, parts_of, field_view, part_view, keyed_field_view, keyed_part_view}
 use Rattle.hq_ask.proofs.ask.+asking.Goals as goal
 
 pub ask_fields-returns : goal.ask_fields-returns
@@ -25,13 +25,10 @@ pub ask_fields-returns-in_err-ask : goal.ask_fields-returns-in_err-ask
 ask_fields-returns-in_err-ask t c =
     let d : Context = context_view c.args.context.now in
     let e : CoerceRefusal = c.in_err-ask.field-0.0 in
-    let refused : (e ≡ Memory) ⊎ (fields_due d c.args.place c.args.t (trees_of (map collected_view c.args.fields.now.items)) ≡ Err e) =
-    elim c.in_err-ask.ensures [
-      | inl m ↦ inl m
-      | inr given ↦ inr (walk_refused field (field_due d c.args.place c.args.t) (λ fs. fields_due d c.args.place c.args.t (trees_of (map collected_view fs))) (λ f fs. refl)
-          c.deref-field-items.result.now c.loop-field.field-index c.field-item.result (map keyed_field_view c.loop-field.asks.items) e _ c.loop-field.invariant c.loop-field-test.true c.field-item.is given)
-    ] in
-    search rules
+    passed_up (λ v. fields_of (map keyed_field_view v.items)) Memory e _ _ c.from_residual-in_err-ask.result
+    (walk_refused field (field_due d c.args.place c.args.t) (λ fs. fields_due d c.args.place c.args.t (trees_of (map collected_view fs))) (λ f fs. refl)
+    c.deref-field-items.result.now c.loop-field.field-index c.field-item.result (map keyed_field_view c.loop-field.asks.items) e _ c.loop-field.invariant c.loop-field-test.true c.field-item.is)
+    c.in_err-ask.ensures c.from_residual-in_err-ask.ensures.1
 
 pub ask_fields-loop-field-preserved : goal.ask_fields-loop-field-preserved
 ask_fields-loop-field-preserved t c =
@@ -51,13 +48,10 @@ pub ask_parts-returns-in_err-part : goal.ask_parts-returns-in_err-part
 ask_parts-returns-in_err-part t c =
     let d : Context = context_view c.args.context.now in
     let e : CoerceRefusal = c.in_err-part.field-0.0 in
-    let refused : (e ≡ Memory) ⊎ (parts_due d c.args.place c.args.t (trees_of (map collected_view c.args.fields.now.items)) ≡ Err e) =
-    elim c.in_err-part.ensures [
-      | inl m ↦ inl m
-      | inr given ↦ inr (walk_refused part (part_due d c.args.place c.args.t) (λ fs. parts_due d c.args.place c.args.t (trees_of (map collected_view fs))) (λ f fs. refl)
-          c.deref-field-items.result.now c.loop-field.field-index c.field-item.result (map keyed_part_view c.loop-field.parts.items) e _ c.loop-field.invariant c.loop-field-test.true c.field-item.is given)
-    ] in
-    search rules
+    passed_up (λ v. parts_of (map keyed_part_view v.items)) Memory e _ _ c.from_residual-in_err-part.result
+    (walk_refused part (part_due d c.args.place c.args.t) (λ fs. parts_due d c.args.place c.args.t (trees_of (map collected_view fs))) (λ f fs. refl)
+    c.deref-field-items.result.now c.loop-field.field-index c.field-item.result (map keyed_part_view c.loop-field.parts.items) e _ c.loop-field.invariant c.loop-field-test.true c.field-item.is)
+    c.in_err-part.ensures c.from_residual-in_err-part.ensures.1
 
 pub ask_parts-loop-field-preserved : goal.ask_parts-loop-field-preserved
 ask_parts-loop-field-preserved t c =

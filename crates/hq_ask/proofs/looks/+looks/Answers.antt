@@ -1,8 +1,8 @@
-use Rattle.std.proofs.Common.{◌≡◌, ◌∙◌, refl, ap, map, [], ◌∷◌, ◌++◌, List, Ok, Err, inl, inr, rules}
-use Rattle.std.specs.Prelude.{◌⊎◌}
+use Rattle.std.proofs.Common.{◌∙◌, refl, ap, map, [], ◌∷◌, ◌++◌, List, Ok}
 use Rattle.std.proofs.lemmas.List.{map-append, at_drop_all}
 use Rattle.hq_base.specs.Due.{mapped}
 use Rattle.hq_arguments.specs.Context.{Context, context_view}
+use Rattle.hq_coerce.proofs.Refusals.{passed_up}
 use Rattle.hq_coerce.specs.declared.refusal.CoerceRefusal.{CoerceRefusal}
 use Rattle.hq_coerce.specs.declared.refusal.CoerceRefusal.TheVariants.{Memory}
 use Rattle.hq_collect.specs.TreeSeen.{collected_view, trees_of}
@@ -11,7 +11,7 @@ use Rattle.hq_ask.proofs.Walks.{front, walk_more, walk_refused}
 use Rattle.hq_ask.proofs.Ends.{looks_end}
 use Rattle.hq_ask.specs.Looks.{looks_due}
 use Rattle.hq_ask.specs.Parts.{look_due}
-use Rattle.hq_ask_tree.specs.Introspection.{looks, introspection_view, keyed_introspection_view}
+use Rattle.hq_ask_tree.specs.Introspection.{looks, looks_of, introspection_view, keyed_introspection_view}
 use Rattle.hq_ask.proofs.looks.+looks.Goals as goal
 
 pub ask_looks-returns : goal.ask_looks-returns
@@ -25,13 +25,10 @@ pub ask_looks-returns-in_err-look : goal.ask_looks-returns-in_err-look
 ask_looks-returns-in_err-look t c =
     let d : Context = context_view c.args.context.now in
     let e : CoerceRefusal = c.in_err-look.field-0.0 in
-    let refused : (e ≡ Memory) ⊎ (looks_due d c.args.place c.args.t (trees_of (map collected_view c.args.fields.now.items)) ≡ Err e) =
-    elim c.in_err-look.ensures [
-      | inl m ↦ inl m
-      | inr given ↦ inr (walk_refused looks (look_due d c.args.place c.args.t) (λ fs. looks_due d c.args.place c.args.t (trees_of (map collected_view fs))) (λ f fs. refl)
-          c.deref-field-items.result.now c.loop-field.field-index c.field-item.result (map keyed_introspection_view c.loop-field.looks.items) e _ c.loop-field.invariant c.loop-field-test.true c.field-item.is given)
-    ] in
-    search rules
+    passed_up (λ v. looks_of (map keyed_introspection_view v.items)) Memory e _ _ c.from_residual-in_err-look.result
+    (walk_refused looks (look_due d c.args.place c.args.t) (λ fs. looks_due d c.args.place c.args.t (trees_of (map collected_view fs))) (λ f fs. refl)
+    c.deref-field-items.result.now c.loop-field.field-index c.field-item.result (map keyed_introspection_view c.loop-field.looks.items) e _ c.loop-field.invariant c.loop-field-test.true c.field-item.is)
+    c.in_err-look.ensures c.from_residual-in_err-look.ensures.1
 
 pub ask_looks-loop-field-preserved : goal.ask_looks-loop-field-preserved
 ask_looks-loop-field-preserved t c =

@@ -1,8 +1,8 @@
-use Rattle.std.proofs.Common.{◌≡◌, ◌∙◌, refl, ap, map, [], ◌∷◌, ◌++◌, List, Ok, Err, inl, inr, rules}
-use Rattle.std.specs.Prelude.{◌⊎◌}
+use Rattle.std.proofs.Common.{◌∙◌, refl, ap, map, [], ◌∷◌, ◌++◌, List, Ok}
 use Rattle.std.proofs.lemmas.List.{map-append, at_drop_all}
 use Rattle.hq_base.specs.Due.{mapped}
 use Rattle.hq_arguments.specs.Context.{Context, context_view}
+use Rattle.hq_coerce.proofs.Refusals.{passed_up}
 use Rattle.hq_coerce.specs.declared.refusal.CoerceRefusal.{CoerceRefusal}
 use Rattle.hq_coerce.specs.declared.refusal.CoerceRefusal.TheVariants.{Memory}
 use Rattle.hq_collect.specs.TreeSeen.{collected_view, trees_of}
@@ -24,13 +24,10 @@ pub returns-in_err-one : goal.returns-in_err-one
 returns-in_err-one c =
     let d : Context = context_view c.args.context.now in
     let e : CoerceRefusal = c.in_err-one.field-0.0 in
-    let refused : (e ≡ Memory) ⊎ (taken_due d c.args.place c.args.t (trees_of (map collected_view c.args.fields.now.items)) ≡ Err e) =
-    elim c.in_err-one.ensures [
-      | inl m ↦ inl m
-      | inr given ↦ inr (walk_refused with_taken (one_taken_due d c.args.place c.args.t) (λ fs. taken_due d c.args.place c.args.t (trees_of (map collected_view fs))) (λ f fs. refl)
-          c.deref-field-items.result.now c.loop-field.field-index c.field-item.result (map taken_pair c.loop-field.taken) e _ c.loop-field.invariant c.loop-field-test.true c.field-item.is given)
-    ] in
-    search rules
+    passed_up (λ v. v) Memory e _ _ c.from_residual-in_err-one.result
+    (walk_refused with_taken (one_taken_due d c.args.place c.args.t) (λ fs. taken_due d c.args.place c.args.t (trees_of (map collected_view fs))) (λ f fs. refl)
+    c.deref-field-items.result.now c.loop-field.field-index c.field-item.result (map taken_pair c.loop-field.taken) e _ c.loop-field.invariant c.loop-field-test.true c.field-item.is)
+    c.in_err-one.ensures c.from_residual-in_err-one.ensures.1
 
 pub loop-field-preserved : goal.loop-field-preserved
 loop-field-preserved c =
