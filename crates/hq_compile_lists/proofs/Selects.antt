@@ -9,8 +9,8 @@ use Rattle.hq_compiled.specs.Looks.{own_look}
 use Rattle.hq_compiled.specs.Names.{fold_alias, value_name}
 use Rattle.hq_compiled.specs.Rights.{Rights}
 use Rattle.hq_compiled.specs.Sorts.{output_orders}
-use Rattle.hq_compile_parts.specs.Contexts.{rights_in}
-use Rattle.hq_compile_parts.specs.declared.context.Granted.{Granted}
+use Rattle.hq_compile_context.specs.Contexts.{rights_in}
+use Rattle.hq_compile_context.specs.declared.context.Granted.{Granted}
 use Rattle.hq_compile_lists.specs.Bodies.{BodyTree, PartsTree, RowTree, parts_tree, members_tree, body_tree, array_tree, object_rows_tree, list_tree}
 
 abbrev body_with : List ExprTree → FilterTree → PartsTree → BodyTree
@@ -27,8 +27,8 @@ body_of s g t n m a tie ds ps ks d c k e =
     ∙ ap (λ (x : PartsTree). body_with (distinct_columns (table s t).columns (own_look (table s t).columns n) a.distinct) (where_of (members_tree s g t a n tie)) x) (k ∙ ap (parts_tree s g t a n) e)
 
 -- a list
-pub list_of : (s : Schema) (g : Rights) (t n : ℕ) (a : ListArguments) (b : BodyTree) (row : RowTree) (f given : SelectTree) (out : OutTree)
-    → f ≡ fold out given (fold_alias n) → out ≡ array_tree s t a n → given ≡ object_rows_tree s g t a n b row → f ≡ list_tree s g t a n b row
+pub list_of : (s : Schema) (g : Rights) (t n : ℕ) (a : ListArguments) (b : BodyTree) (row : RowTree) (f given : SelectTree) (out : OutTree) (alias : List ℕ)
+    → f ≡ fold out given alias → alias ≡ fold_alias n → out ≡ array_tree s t a n → given ≡ object_rows_tree s g t a n b row → f ≡ list_tree s g t a n b row
 unfolding list_tree
-list_of s g t n a b row f given out is o r =
-    is ∙ ap (λ (x : OutTree). fold x given (fold_alias n)) o ∙ ap (λ (x : SelectTree). fold (array_tree s t a n) x (fold_alias n)) r
+list_of s g t n a b row f given out alias is l o r =
+    is ∙ ap (fold out given) l ∙ ap (λ (x : OutTree). fold x given (fold_alias n)) o ∙ ap (λ (x : SelectTree). fold (array_tree s t a n) x (fold_alias n)) r

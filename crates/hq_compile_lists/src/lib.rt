@@ -5,6 +5,6 @@ mod list;
 mod row;
 mod start;
 
-pub use list::{ListBody, fold, list_body, list_rows, list_select, wide};
+pub use list::{ListBody, fold, list_body, list_rows, list_select};
 pub use row::{Row, empty_row, no_row, object, one_row};
 pub use start::{FirstRow, ListStart, key_row, list_table, list_tie, remote_row};

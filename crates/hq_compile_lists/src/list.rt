@@ -1,7 +1,6 @@
 //! The select of a list: the array of its rows' objects in order.
-ghost use Rattle.std.specs.Prelude.{◌≡◌, ◌+◌, ◌++◌, ◌∷◌, [], IfOk, OnOk, map, false, option_and_then};
+ghost use Rattle.std.specs.Prelude.{◌≡◌, ◌+◌, ◌++◌, ◌∷◌, [], IfOk, OnOk, map, false};
 ghost use Rattle.hq_terms.specs.Schema.{table};
-ghost use Rattle.hq_terms.specs.Selected.{smaller};
 ghost use Rattle.hq_ask_tree.specs.Arguments.{arguments_view};
 ghost use Rattle.hq_sql_tree.specs.Tree as tree;
 ghost use Rattle.hq_sql_tree.specs.View.{expr_view, order_view, out_view, select_view, join_view, pred_view};
@@ -9,17 +8,16 @@ ghost use Rattle.hq_compiled.specs.Looks.{own_look};
 ghost use Rattle.hq_compiled.specs.Lists.{list_sorts, distinct_columns, sorts_from, children_from};
 ghost use Rattle.hq_compiled.specs.Names.{fold_alias, value_name};
 ghost use Rattle.hq_compiled.specs.Sorts.{sorts_numbers, output_orders};
-ghost use Rattle.hq_compile_parts.specs.Contexts.{context_schema, context_rights};
+ghost use Rattle.hq_compile_context.specs.Contexts.{context_schema, context_rights};
 ghost use Rattle.hq_compile_lists.specs.Bodies.{body_view, body_tree, parts_view, parts_tree, members_tree, array_tree, row_view, rows_tree, object_rows_tree, list_tree};
 
 use crate::row::{Row, object};
 use hq_ask_tree::Args;
-use hq_base::Memory;
-use hq_compile_parts::{
-    Context, compared_column, fold_alias, from_table, row_members, value_name, value_output,
-    where_of, where_predicate, with_member,
-};
+use hq_base::{Memory, Txt};
+use hq_compile_context::{Context, RowUse, fold_alias, row_limit, value_name, wide};
+use hq_compile_predicates::{row_members, where_predicate};
 use hq_compile_sorts::{SortParts, list_sorts, output_orders, sort_parts};
+use hq_compile_tables::{compared_column, from_table, value_output, where_of, with_member};
 use hq_sql_tree::{Agg, Expr, ExprList, JoinList, OrderList, Out, OutList, Pred, PredList, Select};
 use hq_terms::{ColId, Column, TableId};
 use std::alloc::Global;
@@ -153,37 +151,6 @@ pub fn list_rows(
     })
 }
 
-/// A number of rows in 64 bits.
-pub fn wide(rows: Option<u32>) -> Option<u64>
-    ensures { result ≡ rows }
-{
-    match rows {
-        Some(rows) => Some(u64::from(rows)),
-        None => None,
-    }
-}
-
-// The smaller of a list's own limit and the permission's.
-fn smaller(own: Option<u32>, permission: Option<u64>) -> Option<u64>
-    ensures { result ≡ smaller own permission }
-{
-    match (own, permission) {
-        (None, limit) => limit,
-        (Some(limit), None) => Some(u64::from(limit)),
-        (Some(own), Some(permission)) => Some(u64::from(own).min(permission)),
-    }
-}
-
-// The permission's limit on the rows of a list.
-fn permission_limit(context: &Context, t: TableId) -> Option<u64>
-    ensures { result ≡ (context_rights context.now).limit t }
-{
-    match context.granted(t) {
-        Some(granted) => granted.limit,
-        None => None,
-    }
-}
-
 // The value of a row of the fold of number n.
 fn row_value(alloc: Global, n: u64) -> Result<Box<Expr>, Memory>
     ensures { IfOk result (λ value. expr_view value.value ≡ tree.column (fold_alias n) value_name false) }
@@ -220,13 +187,11 @@ fn row_outputs(alloc: Global, value: Expr, keys: &mut OutList) -> Result<OutList
     Ok(outs)
 }
 
-/// The fold of number n over rows.
-pub fn fold(alloc: Global, out: Out, rows: Select, n: u64) -> Result<Select, Memory>
-    ensures { IfOk result (λ select. select_view select ≡ tree.fold (out_view out) (select_view rows) (fold_alias n)) }
+/// The fold over rows under an alias.
+pub fn fold(out: Out, rows: Box<Select>, alias: Txt) -> Select
+    ensures { select_view result ≡ tree.fold (out_view out) (select_view rows.value) alias }
 {
-    let rows = Box::new(alloc, rows)?;
-    let alias = fold_alias(alloc, n)?;
-    Ok(Select::Fold { out, rows, alias })
+    Select::Fold { out, rows, alias }
 }
 
 // The sort keys of a list as those of the fold of number n over its rows.
@@ -272,7 +237,7 @@ fn object_rows(
         object_rows_tree (context_schema context.now) (context_rights context.now) t (arguments_view args.now) n (body_view body) (row_view row)) }
 {
     let outs = row_outputs(alloc, object(row.pairs), &mut body.sorts.outputs)?;
-    let limit = smaller(args.limit, permission_limit(context, t));
+    let limit = row_limit(context, t, RowUse::List, args.limit);
     list_rows(
         alloc,
         context,
@@ -299,7 +264,9 @@ pub fn list_select(
     ensures { IfOk result (λ select. select_view select ≡
         list_tree (context_schema context.now) (context_rights context.now) t (arguments_view args.now) n (body_view body) (row_view row)) }
 {
-    let out = list_output(alloc, context, t, n, args)?;
     let rows = object_rows(alloc, context, t, n, args, body, row)?;
-    fold(alloc, out, rows, n)
+    let rows = Box::new(alloc, rows)?;
+    let alias = fold_alias(alloc, n)?;
+    let out = list_output(alloc, context, t, n, args)?;
+    Ok(fold(out, rows, alias))
 }

@@ -10,7 +10,7 @@ use Rattle.hq_compiled.specs.Names.{join_alias}
 use Rattle.hq_compiled.specs.Predicates.{link}
 use Rattle.hq_compiled.specs.Rights.{Rights}
 use Rattle.hq_compiled.specs.Sorts.{sort_place}
-use Rattle.hq_compile_parts.specs.Unmasked.{first_row}
+use Rattle.hq_compile_tables.specs.Selects.{first_row}
 use Rattle.hq_compile_sorts.specs.declared.order.SortStep.{SortStep}
 
 -- a table and its number, the members of its WHERE, and the output of the cell that is passed on

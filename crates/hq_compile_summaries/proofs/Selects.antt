@@ -9,8 +9,8 @@ use Rattle.hq_compiled.specs.Aggregates.{needed, needed_outputs, summary_pairs, 
 use Rattle.hq_compiled.specs.Looks.{own_look}
 use Rattle.hq_compiled.specs.Names.{fold_alias, value_name}
 use Rattle.hq_compiled.specs.Rights.{Rights}
-use Rattle.hq_compile_parts.specs.Contexts.{rights_in}
-use Rattle.hq_compile_parts.specs.declared.context.Granted.{Granted}
+use Rattle.hq_compile_context.specs.Contexts.{rights_in}
+use Rattle.hq_compile_context.specs.declared.context.Granted.{Granted}
 use Rattle.hq_compile_lists.specs.Bodies.{BodyTree, body_tree, rows_tree}
 use Rattle.hq_compile_summaries.specs.SummaryTrees.{needed_rows_tree, folded_tree, summary_tree}
 
@@ -30,12 +30,13 @@ abbrev pub output_of : List Column → (n : ℕ) → (cs : List ℕ) → List Ke
 output_of columns n cs fs = record { value = object (pairs_of (summary_pairs columns n cs fs)); name = value_name }
 
 -- an aggregate
-pub folded_of : (s : Schema) (gs : List Granted) (t n : ℕ) (a : ListArguments) (tie : PredTree) (fs : List KeyedAggField) (given : SelectTree) (out : OutTree)
-    → given ≡ needed_rows_tree s (rights_in gs) t a n tie (needed fs []) → out ≡ output_of (table s t).columns n (needed fs []) fs
-    → fold out given (fold_alias n) ≡ folded_tree fs s (rights_in gs) t a n tie
+pub folded_of : (s : Schema) (gs : List Granted) (t n : ℕ) (a : ListArguments) (tie : PredTree) (fs : List KeyedAggField) (given : SelectTree) (out : OutTree) (alias : List ℕ)
+    → given ≡ needed_rows_tree s (rights_in gs) t a n tie (needed fs []) → out ≡ output_of (table s t).columns n (needed fs []) fs → alias ≡ fold_alias n
+    → fold out given alias ≡ folded_tree fs s (rights_in gs) t a n tie
 unfolding folded_tree needed_rows_tree body_tree
-folded_of s gs t n a tie fs given out r o =
-    ap (λ (x : SelectTree). fold out x (fold_alias n)) r ∙ ap (λ (x : OutTree). fold x (needed_rows_tree s (rights_in gs) t a n tie (needed fs [])) (fold_alias n)) o
+folded_of s gs t n a tie fs given out alias r o l =
+    ap (fold out given) l ∙ ap (λ (x : SelectTree). fold out x (fold_alias n)) r
+    ∙ ap (λ (x : OutTree). fold x (needed_rows_tree s (rights_in gs) t a n tie (needed fs [])) (fold_alias n)) o
 
 -- the one of both that is taken
 pub summary_folded : (s : Schema) (g : Rights) (t n : ℕ) (a : ListArguments) (tie : PredTree) (fs : List KeyedAggField) → some_aggregate fs ≡ true → folded_tree fs s g t a n tie ≡ summary_tree fs s g t a n tie

@@ -8,7 +8,7 @@ ghost use Rattle.hq_compiled.specs.Looks.{own_look};
 ghost use Rattle.hq_compiled.specs.Names.{fold_alias, value_name, needed_name, unit_name};
 ghost use Rattle.hq_compiled.specs.Aggregates.{needed, needed_cell, taken_value, taken_pairs, count_value, summary_value, summary_pairs, needed_columns, needed_outputs, summary_numbers, plain_select};
 ghost use Rattle.hq_compiled.specs.Lists.{children_from};
-ghost use Rattle.hq_compile_parts.specs.Contexts.{context_schema, context_rights};
+ghost use Rattle.hq_compile_context.specs.Contexts.{context_schema, context_rights};
 ghost use Rattle.hq_compile_lists.specs.Starts.{start_tie};
 ghost use Rattle.hq_compile_summaries.specs.SummaryTrees.{needed_rows_tree, folded_tree, summary_tree};
 ghost use Rattle.hq_compile_summaries.specs.Takings.{taking_of};
@@ -16,10 +16,11 @@ ghost use Rattle.hq_compile_summaries.specs.Takings.{taking_of};
 use crate::needs::{needed, place_of, some_aggregate};
 use hq_ask_tree::{AggCol, AggField, KeyedAggCol, KeyedAggField};
 use hq_base::Memory;
-use hq_compile_lists::{ListStart, fold, list_body, list_rows, list_tie, object, one_row, wide};
-use hq_compile_parts::{
-    Context, fold_alias, is_text, needed_name, own_column, unit_name, value_name,
+use hq_compile_context::{
+    Context, RowUse, fold_alias, needed_name, row_limit, unit_name, value_name,
 };
+use hq_compile_lists::{ListStart, fold, list_body, list_rows, list_tie, object, one_row};
+use hq_compile_tables::{is_text, own_column};
 use hq_sql_tree::{Agg, Expr, ExprPair, ExprPairList, Out, OutList, Select};
 use hq_terms::{ColId, Column, TableId};
 use std::alloc::Global;
@@ -114,6 +115,21 @@ fn taken_pairs(
     Ok(pairs)
 }
 
+// The object of sum, min or max.
+fn taken_object(
+    alloc: Global,
+    taking: Taking,
+    columns: &[Column],
+    n: u64,
+    needed: &[ColId],
+    fields: &[KeyedAggCol],
+) -> Result<Expr, Memory>
+    ensures { IfOk result (λ e. expr_view e ≡ tree.object (tree.pairs_of (taken_pairs (taking_of taking) columns.now n needed.now fields.now))) }
+{
+    let pairs = taken_pairs(alloc, taking, columns, n, needed, fields)?;
+    Ok(object(pairs))
+}
+
 // A number of values of a column.
 fn counted(alloc: Global, value: Expr, distinct: bool) -> Result<Expr, Memory>
     ensures { IfOk result (λ e. expr_view e ≡ tree.aggregate (tree.count (expr_view value) distinct)) }
@@ -157,30 +173,30 @@ fn summary_value(
         AggField::Count { col, distinct } => {
             count_value(alloc, columns, n, needed, *col, *distinct)
         }
-        AggField::Sum(fields) => Ok(object(taken_pairs(
+        AggField::Sum(fields) => taken_object(
             alloc,
             Taking::Sum,
             columns,
             n,
             needed,
             fields.as_slice(),
-        )?)),
-        AggField::Min(fields) => Ok(object(taken_pairs(
+        ),
+        AggField::Min(fields) => taken_object(
             alloc,
             Taking::Min,
             columns,
             n,
             needed,
             fields.as_slice(),
-        )?)),
-        AggField::Max(fields) => Ok(object(taken_pairs(
+        ),
+        AggField::Max(fields) => taken_object(
             alloc,
             Taking::Max,
             columns,
             n,
             needed,
             fields.as_slice(),
-        )?)),
+        ),
         AggField::Typename { name } => Ok(Expr::Text(name.copy(alloc)?)),
     }
 }
@@ -290,7 +306,7 @@ fn needed_rows(
     let outs = needed_outputs(alloc, context.columns(t), n, needed)?;
     let tie = list_tie(alloc, context, start, n)?;
     let body = list_body(alloc, context, t, n, tie, start.args, next)?;
-    let limit = wide(start.args.limit);
+    let limit = row_limit(context, t, RowUse::Aggregate, start.args.limit);
     let offset = start.args.offset;
     list_rows(
         alloc,
@@ -338,10 +354,12 @@ fn folded_select(
         IfOk result (λ select. select_view select ≡ folded_tree fields.now s (context_rights context.now) t a n (start_tie s start.now n)) }
     ensures numbers { OnOk result (next.new ≡ children_from (context_schema context.now) (context_rights context.now) t [] (arguments_view start.now.args.now) n) }
 {
-    let columns = needed(alloc, fields)?;
-    let out = summary_output(alloc, context.columns(t), n, columns.as_slice(), fields)?;
-    let rows = needed_rows(alloc, context, start, t, n, columns.as_slice(), next)?;
-    fold(alloc, out, rows, n)
+    let needs = needed(alloc, fields)?;
+    let rows = needed_rows(alloc, context, start, t, n, needs.as_slice(), next)?;
+    let rows = Box::new(alloc, rows)?;
+    let alias = fold_alias(alloc, n)?;
+    let out = summary_output(alloc, context.columns(t), n, needs.as_slice(), fields)?;
+    Ok(fold(out, rows, alias))
 }
 
 // Over one row, where no aggregate occurs.

@@ -9,20 +9,20 @@ ghost use Rattle.hq_compiled.specs.Fields.{fields_numbers, field_numbers, parts_
 ghost use Rattle.hq_compiled.specs.Looks.{own_look};
 ghost use Rattle.hq_compiled.specs.Names.{join_alias};
 ghost use Rattle.hq_compiled.specs.Selects.{behind_filter};
-ghost use Rattle.hq_compile_parts.specs.Contexts.{context_schema, context_rights};
+ghost use Rattle.hq_compile_context.specs.Contexts.{context_schema, context_rights};
 ghost use Rattle.hq_compile_lists.specs.Starts.{start_origin, start_table};
 ghost use Rattle.hq_sql_compile.specs.Rows.{fields_view, parts_view, values_at, first_join};
 
 use hq_ask_tree::{AggFields, AggPart, AggParts, AskField, AskFields, KeyedAggPart, KeyedAskField};
 use hq_base::{Memory, Txt};
+use hq_compile_context::{Context, take_number};
 use hq_compile_lists::{
     FirstRow, ListStart, Row, empty_row, key_row, list_body, list_select, list_table, list_tie,
     no_row, object, one_row, remote_row,
 };
-use hq_compile_parts::{
-    Context, first_select, one_join, own_column, row_members, take_number, value_column,
-};
+use hq_compile_predicates::row_members;
 use hq_compile_summaries::summary_select;
+use hq_compile_tables::{first_select, one_join, own_column, value_column};
 use hq_sql_tree::{Expr, ExprPair, ExprPairList, Join, JoinList};
 use hq_terms::TableId;
 use std::alloc::Global;

@@ -4,15 +4,22 @@ ghost use Rattle.hq_terms.specs.Meta.{meta_view};
 ghost use Rattle.hq_terms.specs.Schema.{schema_of};
 ghost use Rattle.hq_ask_tree.specs.Request.{ask_view, bound_view, grants_in};
 ghost use Rattle.hq_compiled.specs.Rights.{rights_of};
-ghost use Rattle.hq_compile_parts.specs.Contexts.{rights_in};
+ghost use Rattle.hq_compile_context.specs.Contexts.{rights_in};
 ghost use Rattle.hq_sql_compile.specs.GrantedTrees.{granted_view, granted_under, granted_for, granted_all, option_list};
 ghost use Rattle.hq_terms.specs.PermView.{permission_view};
 
 use hq_ask_tree::{Ask, Bound};
 use hq_base::{List, Memory};
-use hq_compile_parts::{Granted, GrantedList};
+use hq_compile_context::{Granted, GrantedList};
 use hq_terms::{Catalog, Meta, PermView, Role};
 use std::alloc::Global;
+
+// The most rows of a list, by a permission that is let go.
+fn limit_of(permission: PermView) -> Option<u64>
+    ensures { result ≡ permission.limit }
+{
+    permission.limit
+}
 
 fn with_permission(
     alloc: Global,
@@ -23,11 +30,15 @@ fn with_permission(
 {
     match permission {
         None => Ok(None),
-        Some(view) => Ok(Some(Granted {
-            table: bound.table,
-            filter: bound.filter.copy(alloc)?,
-            limit: view.limit,
-        })),
+        Some(permission) => {
+            let limit = limit_of(permission);
+            let filter = bound.filter.copy(alloc)?;
+            Ok(Some(Granted {
+                table: bound.table,
+                filter,
+                limit,
+            }))
+        }
     }
 }
 

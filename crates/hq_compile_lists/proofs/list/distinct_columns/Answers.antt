@@ -2,7 +2,7 @@ use Rattle.std.proofs.Common.{refl}
 use Rattle.hq_sql_tree.specs.View.{expr_view}
 use Rattle.hq_compiled.specs.Looks.{own_look}
 use Rattle.hq_compiled.specs.Lists.{distinct_columns}
-use Rattle.hq_compile_parts.proofs.Loops.{viewed_rest-more}
+use Rattle.hq_compile_tables.proofs.Loops.{viewed_rest-more}
 use Rattle.hq_compile_lists.proofs.list.distinct_columns.Goals as goal
 
 pub loop-column-preserved : goal.loop-column-preserved

@@ -4,9 +4,9 @@ use Rattle.hq_terms.specs.Bexp.{bexp_view}
 use Rattle.hq_sql_tree.specs.View.{pred_view}
 use Rattle.hq_compiled.specs.Conditions.{with_member}
 use Rattle.hq_compiled.specs.Masks.{filter_numbers, filter_predicate, where_mode}
-use Rattle.hq_compile_parts.proofs.Members.{three_members}
-use Rattle.hq_compile_parts.specs.Contexts.{context_schema, context_rights}
-use Rattle.hq_compile_parts.specs.Unmasked.{own_predicate}
+use Rattle.hq_compile_tables.proofs.Members.{three_members}
+use Rattle.hq_compile_context.specs.Contexts.{context_schema, context_rights}
+use Rattle.hq_compile_predicates.specs.Unmasked.{own_predicate}
 use Rattle.hq_compile_lists.proofs.list.list_members.Goals as goal
 
 -- no column has a mask, so the filter's numbers begin behind the list's own, and those of `where` behind the filter's

@@ -1,10 +1,11 @@
-use Rattle.std.proofs.Common.{ℕ, ◌+◌, List, [], ◌∷◌, ◌++◌, map, drop, refl, sym, ap}
+use Rattle.std.proofs.Common.{◌∙◌, ℕ, ◌+◌, List, [], ◌∷◌, ◌++◌, map, drop, refl, sym, ap}
+use Rattle.std.proofs.lemmas.List.{append-nil, at_drop_all}
 use Rattle.hq_terms.specs.Schema.{table}
 use Rattle.hq_sql_tree.specs.View.{join_view, order_view, out_view}
 use Rattle.hq_compiled.specs.Looks.{own_look}
 use Rattle.hq_compiled.specs.Sorts.{sort_numbers, sort_joins, sorts_numbers, sorts_joins, orders, key_outputs}
-use Rattle.hq_compile_parts.specs.Contexts.{context_schema, context_rights}
-use Rattle.hq_compile_parts.proofs.Loops.{rest-more, count-more}
+use Rattle.hq_compile_context.specs.Contexts.{context_schema, context_rights}
+use Rattle.hq_compile_tables.proofs.Loops.{rest-more, count-more}
 use Rattle.hq_compile_sorts.specs.declared.sorts.RowSort.{RowSort}
 use Rattle.hq_compile_sorts.specs.RowSorts.{row_sort_view}
 use Rattle.hq_compile_sorts.proofs.order.sort_parts.Goals as goal
@@ -39,3 +40,30 @@ loop-i-preserved c =
           (ap (λ (n : ℕ). output ++ key_outputs rest s g look t p n (i + 1)) (sym adds.numbers)) adds.outputs;
       numbers = count-more (λ (ks : List RowSort). sorts_numbers (map row_sort_view ks) s g t) sorts i sort next after (sort_numbers sort.through s g t sort.column) _ is.numbers c.loop-i-test.true c.index-sorts-i.is refl adds.numbers;
     }
+
+-- behind the last sort key nothing is left
+pub returns-clause-joins : goal.returns-clause-joins
+returns-clause-joins c =
+    let s = context_schema c.args.context.now in
+    let g = context_rights c.args.context.now in
+    let done = map join_view c.loop-i.parts.joins.items in
+    sym (append-nil done) ∙ sym (at_drop_all (λ (ks : List RowSort). done ++ sorts_joins (map row_sort_view ks) s g c.args.t c.args.p c.loop-i.next) c.args.sorts.now c.loop-i.i c.loop-i-test.false)
+    ∙ c.loop-i.invariant.joins
+
+pub returns-clause-orders : goal.returns-clause-orders
+returns-clause-orders c =
+    let s = context_schema c.args.context.now in
+    let g = context_rights c.args.context.now in
+    let look = own_look (table s c.args.t).columns c.args.p in
+    let done = map order_view c.loop-i.parts.orders.items in
+    sym (append-nil done) ∙ sym (at_drop_all (λ (ks : List RowSort). done ++ orders (map row_sort_view ks) s g look c.args.t c.args.p c.loop-i.next) c.args.sorts.now c.loop-i.i c.loop-i-test.false)
+    ∙ c.loop-i.invariant.orders
+
+pub returns-clause-outputs : goal.returns-clause-outputs
+returns-clause-outputs c =
+    let s = context_schema c.args.context.now in
+    let g = context_rights c.args.context.now in
+    let look = own_look (table s c.args.t).columns c.args.p in
+    let done = map out_view c.loop-i.parts.outputs.items in
+    sym (append-nil done) ∙ sym (at_drop_all (λ (ks : List RowSort). done ++ key_outputs (map row_sort_view ks) s g look c.args.t c.args.p c.loop-i.next c.loop-i.i) c.args.sorts.now c.loop-i.i c.loop-i-test.false)
+    ∙ c.loop-i.invariant.outputs

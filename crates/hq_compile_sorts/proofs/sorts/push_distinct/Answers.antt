@@ -1,7 +1,7 @@
 use Rattle.std.proofs.Common.{ℕ, List, [], refl}
 use Rattle.hq_terms.specs.Selected.{ascending}
 use Rattle.hq_compiled.specs.Sorts.{shown_sorts}
-use Rattle.hq_compile_parts.proofs.Loops.{viewed_rest-more}
+use Rattle.hq_compile_tables.proofs.Loops.{viewed_rest-more}
 use Rattle.hq_compile_sorts.specs.RowSorts.{row_sort_view}
 use Rattle.hq_compile_sorts.proofs.sorts.push_distinct.Goals as goal
 

@@ -5,7 +5,7 @@ use Rattle.hq_ask_tree.specs.Arguments.{arguments_view}
 use Rattle.hq_sql_tree.specs.View.{join_view}
 use Rattle.hq_compiled.specs.Aggregates.{needed_outputs}
 use Rattle.hq_compiled.specs.Looks.{own_look}
-use Rattle.hq_compile_parts.specs.Contexts.{context_schema, context_rights}
+use Rattle.hq_compile_context.specs.Contexts.{context_schema, context_rights}
 use Rattle.hq_compile_lists.specs.Bodies.{body_tree}
 use Rattle.hq_compile_lists.specs.Starts.{start_tie}
 use Rattle.hq_compile_summaries.proofs.Selects.{needed_rows_of}
@@ -23,5 +23,5 @@ returns-clause-select c =
     (λ select is. needed_rows_of s g t n a tie c.args.needed.now
     _ _ _ _ _ is (c.in_ok-body.ensures.body ∙ ap (body_tree s g t a n) c.in_ok-tie.ensures)
     (c.in_ok-outs.ensures ∙ ap (λ (columns : List Column). needed_outputs (own_look columns n) c.args.needed.now) c.columns.ensures)
-    (ap (map join_view) c.new.ensures.items) c.wide-limit.ensures)
+    (ap (map join_view) c.new.ensures.items) c.row_limit-limit.ensures)
     c.list_rows.ensures

@@ -1,7 +1,7 @@
 use Rattle.std.proofs.Common.{refl}
 use Rattle.hq_sql_tree.specs.View.{pair_view}
 use Rattle.hq_compiled.specs.Aggregates.{taken_pairs}
-use Rattle.hq_compile_parts.proofs.Loops.{viewed_rest-more}
+use Rattle.hq_compile_tables.proofs.Loops.{viewed_rest-more}
 use Rattle.hq_compile_summaries.specs.Takings.{taking_of}
 use Rattle.hq_compile_summaries.proofs.summary.taken_pairs.Goals as goal
 

@@ -1,0 +1,15 @@
+//! Columns, conditions on them, and the selects of one table's rows in a compiled statement.
+#![tactic(auto)]
+
+mod columns;
+mod condition;
+mod table;
+
+pub use columns::{column_at, compared_column, is_text, own_column, value_at, value_column};
+pub use condition::{
+    comparison, first_member, is_null, joined_by_and, joined_by_or, like, literal, negation,
+    where_of, with_member, within,
+};
+pub use table::{
+    exists_where, first_row, first_select, from_table, key_orders, link, one_join, value_output,
+};
