@@ -1,16 +1,13 @@
 -- The selects of lists, put together from their parts.
-use Rattle.std.proofs.Common.{◌≡◌, ◌∙◌, ℕ, List, [], true, false, cond, Option, ap, sym}
+use Rattle.std.proofs.Common.{◌≡◌, ◌∙◌, ℕ, List, [], ap}
 use Rattle.hq_terms.specs.Schema.{Schema, table}
 use Rattle.hq_terms.specs.Selected.{ListArguments}
-use Rattle.hq_sql_tree.specs.Tree.{ExprTree, column, object, aggregate, json_agg, orders_of, pairs_of, OrderTree, OutTree, SelectTree, fold, JoinTree, FilterTree, PredTree}
+use Rattle.hq_sql_tree.specs.Tree.{ExprTree, OutTree, SelectTree, fold, FilterTree, PredTree}
 use Rattle.hq_compiled.specs.Conditions.{where_of}
-use Rattle.hq_compiled.specs.Lists.{list_sorts, sorts_from, distinct_columns}
+use Rattle.hq_compiled.specs.Lists.{sorts_from, distinct_columns}
 use Rattle.hq_compiled.specs.Looks.{own_look}
-use Rattle.hq_compiled.specs.Names.{fold_alias, value_name}
+use Rattle.hq_compiled.specs.Names.{fold_alias}
 use Rattle.hq_compiled.specs.Rights.{Rights}
-use Rattle.hq_compiled.specs.Sorts.{output_orders}
-use Rattle.hq_compile_context.specs.Contexts.{rights_in}
-use Rattle.hq_compile_context.specs.declared.context.Granted.{Granted}
 use Rattle.hq_compile_lists.specs.Bodies.{BodyTree, PartsTree, RowTree, parts_tree, members_tree, body_tree, array_tree, object_rows_tree, list_tree}
 
 abbrev body_with : List ExprTree → FilterTree → PartsTree → BodyTree
