@@ -1,7 +1,8 @@
 -- Steps of a loop that reads items one after the other.
 use Rattle.std.proofs.Common.{◌≡◌, ◌∙◌, refl, ap, sym, ℕ, ◌+◌, ◌<◌, ◌≤◌, List, [], ◌∷◌, ◌++◌, length, drop, get_or, Result, Ok, Err, append_assoc}
-use Rattle.std.proofs.lemmas.List.{drop_more, append-nil, at_drop_all}
+use Rattle.std.proofs.lemmas.List.{append-nil, at_drop_all}
 use Rattle.hq_base.specs.Due.{and_then, mapped}
+use Rattle.hq_base.proofs.Loops.{next_item}
 
 -- the value before the rest, and both behind what is done
 grown : {B E : Type 0} (done : List B) (y : B) (rest : Result (List B) E) → mapped (λ ys. done ++ ys) (mapped (λ ys. y ∷ ys) rest) ≡ mapped (λ ys. (done ++ y ∷ []) ++ ys) rest
@@ -21,15 +22,11 @@ ReadsBy {X} F D = (x : X) (xs : List X) → F (x ∷ xs) ≡ and_then (λ y. map
 abbrev pub JoinsBy : {X B E : Type 0} → (List X → Result (List B) E) → (X → Result (List B) E) → Type 0
 JoinsBy {X} F D = (x : X) (xs : List X) → F (x ∷ xs) ≡ and_then (λ here. mapped (λ more. here ++ more) (F xs)) (D x)
 
--- the list from a place on begins with the item there
-from_place : {X : Type 0} (xs : List X) (i : ℕ) (x : X) → i < length xs → x ≡ get_or xs i x → drop i xs ≡ x ∷ drop (i + 1) xs
-from_place xs i x below is = drop_more xs i x below ∙ ap (λ y. y ∷ drop (i + 1) xs) (sym is)
-
 -- an item is read, and the loop goes on behind it
 pub read_more : {X B E : Type 0} (F : List X → Result (List B) E) (D : X → Result B E) → ReadsBy F D → (xs : List X) (i : ℕ) (x : X) (done more : List B) (y : B) (whole : Result (List B) E) → whole ≡ mapped (λ ys. done ++ ys) (F (drop i xs)) → i < length xs → x ≡ get_or xs i x → D x ≡ Ok y → more ≡ done ++ y ∷ [] → whole ≡ mapped (λ ys. more ++ ys) (F (drop (i + 1) xs))
 read_more F D reads xs i x done more y whole so_far below is given grows =
     so_far
-    ∙ ap (mapped (λ ys. done ++ ys)) (ap F (from_place xs i x below is) ∙ reads x (drop (i + 1) xs) ∙ ap (and_then (λ z. mapped (λ ys. z ∷ ys) (F (drop (i + 1) xs)))) given)
+    ∙ ap (mapped (λ ys. done ++ ys)) (ap F (next_item xs i x below is) ∙ reads x (drop (i + 1) xs) ∙ ap (and_then (λ z. mapped (λ ys. z ∷ ys) (F (drop (i + 1) xs)))) given)
     ∙ grown done y (F (drop (i + 1) xs))
     ∙ ap (λ front. mapped (λ ys. front ++ ys) (F (drop (i + 1) xs))) (sym grows)
 
@@ -37,7 +34,7 @@ read_more F D reads xs i x done more y whole so_far below is given grows =
 pub read_refused : {X B E : Type 0} (F : List X → Result (List B) E) (D : X → Result B E) → ReadsBy F D → (xs : List X) (i : ℕ) (x : X) (done : List B) (e : E) (whole : Result (List B) E) → whole ≡ mapped (λ ys. done ++ ys) (F (drop i xs)) → i < length xs → x ≡ get_or xs i x → D x ≡ Err e → whole ≡ Err e
 read_refused F D reads xs i x done e whole so_far below is given =
     so_far
-    ∙ ap (mapped (λ ys. done ++ ys)) (ap F (from_place xs i x below is) ∙ reads x (drop (i + 1) xs) ∙ ap (and_then (λ z. mapped (λ ys. z ∷ ys) (F (drop (i + 1) xs)))) given)
+    ∙ ap (mapped (λ ys. done ++ ys)) (ap F (next_item xs i x below is) ∙ reads x (drop (i + 1) xs) ∙ ap (and_then (λ z. mapped (λ ys. z ∷ ys) (F (drop (i + 1) xs)))) given)
 
 -- all items are read
 pub read_all : {X B E : Type 0} (F : List X → Result (List B) E) (xs : List X) (i : ℕ) (done : List B) (whole : Result (List B) E) → whole ≡ mapped (λ ys. done ++ ys) (F (drop i xs)) → length xs ≤ i → F [] ≡ Ok [] → whole ≡ Ok done
@@ -56,11 +53,11 @@ joined_refused done (Err y) rest x e = e
 pub join_more : {X B E : Type 0} (F : List X → Result (List B) E) (D : X → Result (List B) E) → JoinsBy F D → (xs : List X) (i : ℕ) (x : X) (done new : List B) (whole : Result (List B) E) → whole ≡ mapped (λ more. done ++ more) (F (drop i xs)) → i < length xs → x ≡ get_or xs i x → mapped (λ more. done ++ more) (D x) ≡ Ok new → whole ≡ mapped (λ more. new ++ more) (F (drop (i + 1) xs))
 join_more F D joins xs i x done new whole so_far below is given =
     so_far
-    ∙ ap (mapped (λ more. done ++ more)) (ap F (from_place xs i x below is) ∙ joins x (drop (i + 1) xs))
+    ∙ ap (mapped (λ more. done ++ more)) (ap F (next_item xs i x below is) ∙ joins x (drop (i + 1) xs))
     ∙ joined done new (D x) (F (drop (i + 1) xs)) given
 
 pub join_refused : {X B E : Type 0} (F : List X → Result (List B) E) (D : X → Result (List B) E) → JoinsBy F D → (xs : List X) (i : ℕ) (x : X) (done : List B) (e : E) (whole : Result (List B) E) → whole ≡ mapped (λ more. done ++ more) (F (drop i xs)) → i < length xs → x ≡ get_or xs i x → mapped (λ more. done ++ more) (D x) ≡ Err e → whole ≡ Err e
 join_refused F D joins xs i x done e whole so_far below is given =
     so_far
-    ∙ ap (mapped (λ more. done ++ more)) (ap F (from_place xs i x below is) ∙ joins x (drop (i + 1) xs))
+    ∙ ap (mapped (λ more. done ++ more)) (ap F (next_item xs i x below is) ∙ joins x (drop (i + 1) xs))
     ∙ joined_refused done (D x) (F (drop (i + 1) xs)) e given

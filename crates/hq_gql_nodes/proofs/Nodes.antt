@@ -1,17 +1,14 @@
 -- Walks that add nodes at the end of a list.
 use Rattle.std.proofs.Common.{◌≡◌, ◌∙◌, ℕ, ◌+◌, ◌<◌, List, [], ◌∷◌, ◌++◌, length, map, drop, get_or, sym, ap, append_assoc, Result, Ok, Err, OnOk}
-use Rattle.std.proofs.lemmas.List.{drop_more, map-append}
-
--- the list from a place on begins with the item there
-from_place : {A : Type 0} (xs : List A) (i : ℕ) (x : A) → i < length xs → x ≡ get_or xs i x → drop i xs ≡ x ∷ drop (i + 1) xs
-from_place xs i x below is = drop_more xs i x below ∙ ap (λ y. y ∷ drop (i + 1) xs) (sym is)
+use Rattle.std.proofs.lemmas.List.{map-append}
+use Rattle.hq_base.proofs.Loops.{next_item}
 
 -- a loop has added the nodes of one more item, where F gives those of a list
 pub item_added : {A B : Type 0} (F : List A → List B) (xs : List A) (i : ℕ) (x : A) (here done more whole : List B) → done ++ F (drop i xs) ≡ whole → i < length xs → x ≡ get_or xs i x → F (x ∷ drop (i + 1) xs) ≡ here ++ F (drop (i + 1) xs) → more ≡ done ++ here → more ++ F (drop (i + 1) xs) ≡ whole
 item_added F xs i x here done more whole so_far below is joins grows =
     ap (λ ns. ns ++ F (drop (i + 1) xs)) grows
     ∙ append_assoc done here (F (drop (i + 1) xs))
-    ∙ ap (λ ns. done ++ ns) (sym joins ∙ ap F (sym (from_place xs i x below is)))
+    ∙ ap (λ ns. done ++ ns) (sym joins ∙ ap F (sym (next_item xs i x below is)))
     ∙ so_far
 
 -- a node is added

@@ -1,10 +1,11 @@
 -- Lists of fields, spreads and sets that grow by one more selection, and by one more definition.
-use Rattle.std.proofs.Common.{◌≡◌, ℕ, zero, suc, ◌+◌, ◌<◌, ◌≤◌, Option, List, [], ◌∷◌, ◌++◌, drop, length, get_or, sym, refl, ap, ◌∙◌, add-one, arith}
+use Rattle.std.proofs.Common.{◌≡◌, ℕ, zero, suc, ◌+◌, ◌≤◌, Option, List, [], ◌∷◌, ◌++◌, drop, length, sym, refl, ap, ◌∙◌, arith}
 use Rattle.hq_schema.specs.Schema.{SchemaTree}
 use Rattle.hq_gql_tree.specs.Selections.{SelectionTree, SelectionTrees, selection}
 use Rattle.hq_gql_tree.specs.Documents.{DefinitionTree, DocumentTree}
 use Rattle.hq_gql_nodes.specs.Fragments.{Places}
 use Rattle.hq_rules_overlap.specs.Sets.{FieldTree, SetTree, field_count_of, field_count, own_fields_of, own_fields, inner_sets_of, inner_sets, set_of, parent_of, selections_of_definition, roots, below_roots}
+pub use Rattle.hq_base.proofs.Loops.{next_item as drop_first}
 
 pub nothing_more : {X : Type 0} (xs : List X) → xs ++ [] ≡ xs
 nothing_more [] = refl
@@ -13,15 +14,6 @@ nothing_more (x ∷ xs) = ap (λ ys. x ∷ ys) (nothing_more xs)
 pub join_assoc : {X : Type 0} (xs ys zs : List X) → (xs ++ ys) ++ zs ≡ xs ++ (ys ++ zs)
 join_assoc [] ys zs = refl
 join_assoc (x ∷ xs) ys zs = ap (λ ws. x ∷ ws) (join_assoc xs ys zs)
-
--- what is left from a place in a list
-drop_by : {X : Type 0} (xs : List X) (i : ℕ) (x : X) → i < length xs → x ≡ get_or xs i x → drop i xs ≡ x ∷ drop (suc i) xs
-drop_by [] i x h e = absurd (omega arith)
-drop_by (y ∷ ys) zero x h e = ap (λ z. z ∷ ys) (sym e)
-drop_by (y ∷ ys) (suc i) x h e = drop_by ys i x (omega arith) e
-
-pub drop_first : {X : Type 0} (xs : List X) (i : ℕ) (x : X) → i < length xs → x ≡ get_or xs i x → drop i xs ≡ x ∷ drop (i + 1) xs
-drop_first xs i x h e = drop_by xs i x h e ∙ ap (λ n. x ∷ drop n xs) (sym (add-one i))
 
 pub drop_end : {X : Type 0} (xs : List X) (i : ℕ) → length xs ≤ i → drop i xs ≡ []
 drop_end [] zero h = refl

@@ -6,4 +6,3 @@ pub mod Fresh
 pub mod SeenGroups
 pub mod BestOnes
 pub mod Sums
-pub mod Loops

@@ -1,7 +1,6 @@
 -- The next item of a list that is gone over: what is left tells what the whole does.
-use Rattle.std.proofs.Common.{◌≡◌, ◌∙◌, sym, ap, ℕ, suc, ◌+◌, ◌<◌, ◌≤◌, List, [], ◌∷◌, drop, length, get_or, arith, map, max, nat_le, Bool, true, false, ◌&&◌, rules}
+use Rattle.std.proofs.Common.{◌≡◌, ◌∙◌, sym, ap, ℕ, ◌+◌, ◌<◌, ◌≤◌, List, [], drop, length, get_or, arith, map, max, nat_le, Bool, true, false, ◌&&◌, rules}
 use Rattle.std.specs.List.{list_all}
-use Rattle.std.proofs.Math.Seq.{drop-cons}
 use Rattle.std.proofs.lemmas.Bool.Decides.{nat_tests}
 use Rattle.std.proofs.lemmas.List.{at_drop_all}
 use Rattle.hq_sql_tree.specs.declared.expr.Agg as agg
@@ -13,12 +12,7 @@ use Rattle.hq_sql_tree.specs.Tree as tree
 use Rattle.hq_sql_tree.specs.Tree.{PairTree, OrderTree, JoinTree, joins_of, pairs_of, orders_of, preds_of}
 use Rattle.hq_sql_tree.specs.View.{expr_view, order_view, select_view, join_view, pair_view, pred_view}
 use Rattle.hq_sql_tree.proofs.Views.{view_join}
-
--- it stands in front of those that are left
-pub next_item : {A : Type 0} (xs : List A) (i : ℕ) (x : A) → i < length xs → x ≡ get_or xs i x → drop i xs ≡ x ∷ drop (i + 1) xs
-next_item xs i x lt is =
-    let more : suc i ≡ i + 1 = omega arith in
-    drop-cons xs i x lt ∙ (ap (λ y. y ∷ drop (suc i) xs) (sym is) ∙ ap (λ n. x ∷ drop n xs) more)
+pub use Rattle.hq_base.proofs.Loops.{next_item, holds_next as passes, fails_next as fails}
 
 -- a join of those that are left
 pub next_join : (js : List Join) (i : ℕ) (j : Join) → i < length js → j ≡ get_or js i j
@@ -55,14 +49,6 @@ pub next_pair : (ps : List ExprPair) (i : ℕ) (p : ExprPair) → i < length ps 
 next_pair ps i p lt is =
     ap (λ xs. pairs_of (map pair_view xs)) (next_item ps i p lt is)
     ∙ ap (λ (seen : PairTree). tree.pair seen.name seen.value (pairs_of (map pair_view (drop (i + 1) ps)))) (view_pair p)
-
--- what is left tells what the whole does: the first of it passes
-pub passes : (first rest left whole : Bool) → left ≡ (first && rest) → left ≡ whole → first ≡ true → rest ≡ whole
-passes first rest left whole split so_far holds = sym (split ∙ ap (λ b. b && rest) holds) ∙ so_far
-
--- or fails
-pub fails : (first rest left whole : Bool) → left ≡ (first && rest) → left ≡ whole → first ≡ false → false ≡ whole
-fails first rest left whole split so_far holds = sym (split ∙ ap (λ b. b && rest) holds) ∙ so_far
 
 -- at the end of a list what is left tells what the whole does
 pub at_end : {A V : Type 0} (F : List A → V) (xs : List A) (i : ℕ) (v whole : V) → F [] ≡ v → length xs ≤ i → F (drop i xs) ≡ whole → v ≡ whole

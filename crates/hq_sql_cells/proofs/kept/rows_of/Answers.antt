@@ -1,7 +1,7 @@
 use Rattle.std.proofs.Common.{map, refl}
 use Rattle.std.specs.Vec.Iter.{into_iter_items}
 use Rattle.hq_sql_cells.specs.declared.kept.Kept.{Kept}
-use Rattle.hq_sql_cells.proofs.Loops.{left_more}
+use Rattle.hq_base.proofs.Loops.{left_more}
 use Rattle.hq_sql_cells.proofs.kept.rows_of.Goals as goal
 
 pub loop-row-preserved : goal.loop-row-preserved

@@ -1,6 +1,6 @@
 use Rattle.std.proofs.Common.{refl}
 use Rattle.std.specs.Vec.Iter.{into_iter_items}
-use Rattle.hq_sql_cells.proofs.Loops.{left_more}
+use Rattle.hq_base.proofs.Loops.{left_more}
 use Rattle.hq_sql_rows.proofs.place.add_lists.Goals as goal
 
 pub loop-joined-preserved : goal.loop-joined-preserved

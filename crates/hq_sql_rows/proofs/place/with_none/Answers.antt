@@ -3,7 +3,7 @@ use Rattle.std.proofs.lemmas.List.{map-append}
 use Rattle.std.specs.Vec.Iter.{into_iter_items}
 use Rattle.hq_sql_rows.specs.Joined.{put_off}
 use Rattle.hq_sql_rows.specs.View.{joined_view}
-use Rattle.hq_sql_cells.proofs.Loops.{left_more}
+use Rattle.hq_base.proofs.Loops.{left_more}
 use Rattle.hq_sql_rows.proofs.place.with_none.Goals as goal
 
 pub loop-joined-preserved : goal.loop-joined-preserved

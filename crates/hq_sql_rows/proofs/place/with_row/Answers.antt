@@ -2,7 +2,7 @@ use Rattle.std.proofs.Common.{◌∙◌, ◌∷◌, ◌++◌, [], Some, map, ref
 use Rattle.std.proofs.lemmas.List.{map-append}
 use Rattle.std.specs.Vec.Iter.{into_iter_items}
 use Rattle.hq_sql_rows.specs.View.{joined_view, made_view}
-use Rattle.hq_sql_cells.proofs.Loops.{left_more}
+use Rattle.hq_base.proofs.Loops.{left_more}
 use Rattle.hq_sql_rows.proofs.place.with_row.Goals as goal
 
 pub loop-joined-preserved : goal.loop-joined-preserved
