@@ -1,6 +1,4 @@
 mod Endings
 mod Statings
-mod Endings
-mod Statings
 mod Servings
 mod Lines

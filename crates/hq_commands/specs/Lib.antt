@@ -3,11 +3,6 @@ pub mod Answers
 pub mod Line
 pub mod Refusals
 pub mod Ending
-pub mod Output
-pub mod Answers
-pub mod Line
-pub mod Refusals
-pub mod Ending
 pub mod Check
 pub mod Serving
 pub mod Generating
