@@ -1,12 +1,13 @@
 //! The deepest texts of SQL, on the usual stack: a statement opens at most 2,000 parentheses.
 use super::store::store;
-use hq_base::{Bytes, Memory};
-use hq_catalog_read::read_catalog;
+use hq_answer::Answer;
+use hq_base::{Bytes, List, Memory};
 use hq_db::SqlDb;
 use hq_link::{Database, DbRefusal};
 use hq_sql_check::well_formed;
 use hq_sql_text::{ReadRefusal, print, read};
 use hq_sql_tree::Select;
+use hq_terms::Catalog;
 use itoa::Buffer;
 use std::alloc::{AllocError, Global};
 use std::test::Fail;
@@ -133,8 +134,10 @@ static NEGATED: Nested = Nested(
 );
 
 fn is_well(alloc: Global, text: &[u8]) -> Result<bool, Fail> {
-    let catalog = read_catalog(alloc, br#"{"tables":[]}"#)?;
     let select = boxed(alloc, text)?;
+    let catalog = Catalog {
+        tables: List::new(alloc),
+    };
     Ok(well_formed(alloc, &select, &catalog)?)
 }
 
@@ -230,23 +233,31 @@ fn statement(
     Ok(out)
 }
 
-fn answer(alloc: Global, text: &[u8]) -> Result<Bytes, Fail> {
+fn answered(alloc: Global, text: &[u8]) -> Result<Answer, DbRefusal> {
     let mut database = SqlDb::new(store(alloc)?);
-    let mut out = Bytes::new(alloc);
-    match database.run(alloc, text) {
-        Ok(answer) => answer.write_to(&mut out)?,
-        Err(DbRefusal::Memory) => return Err(Fail::from(Memory)),
-        Err(_) => out.append(b"refused")?,
+    database.run(alloc, text)
+}
+
+// Adds the JSON that a statement is answered with.
+fn push_answer(alloc: Global, text: &[u8], out: &mut Bytes) -> Result<(), Memory> {
+    match answered(alloc, text) {
+        Ok(answer) => answer.write_to(out),
+        Err(DbRefusal::Memory) => Err(Memory),
+        Err(_) => out.append(b"refused"),
     }
-    Ok(out)
+}
+
+fn is_evaluated(alloc: Global, front: &'static str, back: &'static str) -> Result<bool, Fail> {
+    let text = statement(alloc, front, back)?;
+    let mut out = Bytes::new(alloc);
+    push_answer(alloc, &text, &mut out)?;
+    Ok(out.as_slice() == br#"{"v":true}"#.as_slice())
 }
 
 #[test]
 fn the_deepest_statements_are_evaluated(rt: HostRuntime) -> Result<(), Fail> {
     for (front, back) in &EVALUATED {
-        let text = statement(rt.alloc(), front, back)?;
-        let out = answer(rt.alloc(), &text)?;
-        assert!(rt; out.as_slice() == br#"{"v":true}"#.as_slice());
+        assert!(rt; is_evaluated(rt.alloc(), front, back)?);
     }
     Ok(())
 }
