@@ -75,36 +75,13 @@ fn push_within(
     push_operands(operands, out)
 }
 
-#[cycle(bexp)]
-fn push_members(word: &str, bexps: &BexpList, out: &mut String) -> Result<(), AllocError> {
-    write!(out, "{word}(")?;
-    for (at, bexp) in bexps.iter().enumerate() {
-        out.push_str(before(at))?;
-        push_bexp(bexp, out)?;
-    }
-    Ok(out.push_str(")")?)
-}
-
-#[cycle(bexp)]
-fn push_not(inner: &Bexp, out: &mut String) -> Result<(), AllocError> {
-    out.push_str("not ")?;
-    push_bexp(inner, out)
-}
-
-#[cycle(bexp)]
-fn push_through(rel: usize, inner: &Bexp, out: &mut String) -> Result<(), AllocError> {
-    write!(out, "r{rel}: ")?;
-    push_bexp(inner, out)
-}
-
-/// Adds an expression.
-#[cycle(bexp)]
-pub fn push_bexp(bexp: &Bexp, out: &mut String) -> Result<(), AllocError> {
+// What stands before the expressions in an expression: all of it where there are none.
+fn push_front(bexp: &Bexp, out: &mut String) -> Result<(), AllocError> {
     match bexp {
         Bexp::True => out.push_str("true"),
-        Bexp::And(bexps) => push_members("and", bexps, out),
-        Bexp::Or(bexps) => push_members("or", bexps, out),
-        Bexp::Not(inner) => push_not(inner, out),
+        Bexp::And(_) => out.push_str("and("),
+        Bexp::Or(_) => out.push_str("or("),
+        Bexp::Not(_) => out.push_str("not "),
         Bexp::Cmp { col, op, operand } => push_test(col.at(), sign(*op), operand, out),
         Bexp::Within {
             col,
@@ -118,6 +95,26 @@ pub fn push_bexp(bexp: &Bexp, out: &mut String) -> Result<(), AllocError> {
             negated,
             operand,
         } => push_test(col.at(), like_word(*fold, *negated), operand, out),
-        Bexp::Through { rel, inner } => push_through(rel.at(), inner, out),
+        Bexp::Through { rel, .. } => write!(out, "r{}: ", rel.at()),
+    }
+}
+
+#[cycle(bexp)]
+fn push_members(bexps: &BexpList, out: &mut String) -> Result<(), AllocError> {
+    for (at, bexp) in bexps.iter().enumerate() {
+        out.push_str(before(at))?;
+        push_bexp(bexp, out)?;
+    }
+    Ok(out.push_str(")")?)
+}
+
+/// Adds an expression.
+#[cycle(bexp)]
+pub fn push_bexp(bexp: &Bexp, out: &mut String) -> Result<(), AllocError> {
+    push_front(bexp, out)?;
+    match bexp {
+        Bexp::And(bexps) | Bexp::Or(bexps) => push_members(bexps, out),
+        Bexp::Not(inner) | Bexp::Through { inner, .. } => push_bexp(inner, out),
+        _ => Ok(()),
     }
 }

@@ -38,25 +38,23 @@ impl<'a> Case<'a> {
 
     /// The text that a member writes.
     pub fn text(&self, alloc: Global, member: &str) -> Result<Txt, Stop> {
-        Ok(Txt::of(alloc, self.bytes(alloc, member)?.as_slice())?)
+        input::text(alloc, self.get(member)?)
     }
 
     /// The compact text of a member's value.
     pub fn json_text(&self, alloc: Global, member: &str) -> Result<Bytes, Stop> {
+        let json = self.get(member)?;
         let mut out = Bytes::new(alloc);
-        self.get(member)?.write_to(alloc, &mut out)?;
+        json.write_to(alloc, &mut out)?;
         Ok(out)
     }
 
     /// The texts that the elements of a member write.
     pub fn texts(&self, alloc: Global, member: &str) -> Result<Vec<Txt>, Stop> {
-        let Json::Arr(elements) = self.get(member)? else {
-            return Err(Stop::Shape);
-        };
+        let elements = self.list(member)?;
         let mut texts = Vec::new(alloc);
         for element in elements {
-            let text = Txt::of(alloc, input::bytes(alloc, element)?.as_slice())?;
-            texts.push(text)?;
+            texts.push(input::text(alloc, element)?)?;
         }
         Ok(texts)
     }

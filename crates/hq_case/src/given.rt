@@ -23,6 +23,14 @@ pub fn given_catalog(alloc: Global, case: &Case) -> Result<Catalog, Stop> {
     }
 }
 
+// The header that a text writes.
+fn given_header(alloc: Global, line: &Txt) -> Result<Header, Stop> {
+    match Header::read(alloc, line)? {
+        Some(header) => Ok(header),
+        None => Err(Stop::Shape),
+    }
+}
+
 /// The headers that these texts write, or the refusal of one too many.
 pub fn given_headers(
     alloc: Global,
@@ -30,10 +38,7 @@ pub fn given_headers(
 ) -> Result<Result<Headers, HeadersRefusal>, Stop> {
     let mut headers = Headers::new(alloc);
     for line in lines {
-        let Some(header) = Header::read(alloc, line)? else {
-            return Err(Stop::Shape);
-        };
-        if let Err(refusal) = headers.push(header) {
+        if let Err(refusal) = headers.push(given_header(alloc, line)?) {
             return Ok(Err(refusal));
         }
     }

@@ -3,7 +3,7 @@
 //! `{"times": N, "of": PIECES}`, in which `null` is the number of the turn, from 0 up, and with `"down"` from N - 1 down.
 
 use crate::Stop;
-use hq_base::{Bytes, Json};
+use hq_base::{Bytes, Json, Txt};
 use std::alloc::Global;
 
 /// The bytes that a value writes.
@@ -18,6 +18,12 @@ pub fn bytes(alloc: Global, json: &Json) -> Result<Bytes, Stop> {
         _ => push_piece(alloc, json, &mut out)?,
     }
     Ok(out)
+}
+
+/// The text that a value writes.
+pub fn text(alloc: Global, json: &Json) -> Result<Txt, Stop> {
+    let bytes = bytes(alloc, json)?;
+    Ok(Txt::of(alloc, bytes.as_slice())?)
 }
 
 fn push_piece(alloc: Global, piece: &Json, out: &mut Bytes) -> Result<(), Stop> {

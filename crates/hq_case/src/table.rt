@@ -2,7 +2,7 @@
 
 use crate::{Case, Stop};
 use hq_base::Json;
-use std::alloc::Global;
+use std::alloc::{AllocError, Global};
 use std::fs;
 
 /// What the cases of a file are about.
@@ -24,24 +24,20 @@ fn file_of<S: Subject>(rt: &HostRuntime, subject: S) -> Result<Json, Stop> {
     Ok(Json::from_body(rt.alloc(), bytes.as_slice())?)
 }
 
-// What comes of a case.
-fn told<S: Subject>(rt: &HostRuntime, subject: S, case: &Case) -> Result<String, Stop> {
-    let mut out = String::new(rt.alloc());
-    subject.tell(rt, case, &mut out)?;
-    Ok(out)
+// Adds the name of a case that differs, what was due and what came.
+fn push_differing(name: &str, due: &str, came: &str, out: &mut String) -> Result<(), AllocError> {
+    writeln!(out, "  {name}\n    due:  {due}\n    came: {came}")
 }
 
-// Adds the name of a case that differs, what was due and what came.
-fn push_differing(
-    alloc: Global,
-    case: &Case,
-    due: &str,
-    came: &str,
-    out: &mut String,
-) -> Result<(), Stop> {
+// Whether what came of a case is what was due. If not, it is told.
+fn is_due(alloc: Global, case: &Case, came: &str, out: &mut String) -> Result<bool, Stop> {
+    let due = case.text(alloc, "due")?;
+    if came == due.as_str() {
+        return Ok(true);
+    }
     let name = case.text(alloc, "name")?;
-    let name = name.as_str();
-    Ok(writeln!(out, "  {name}\n    due:  {due}\n    came: {came}")?)
+    push_differing(name.as_str(), due.as_str(), came, out)?;
+    Ok(false)
 }
 
 // Runs a case, and returns whether it came out as it should. If not, it is told.
@@ -51,13 +47,9 @@ fn agrees<S: Subject>(
     case: &Case,
     out: &mut String,
 ) -> Result<bool, Stop> {
-    let due = case.text(rt.alloc(), "due")?;
-    let told = told(rt, subject, case)?;
-    if told.as_str() == due.as_str() {
-        return Ok(true);
-    }
-    push_differing(rt.alloc(), case, due.as_str(), told.as_str(), out)?;
-    Ok(false)
+    let mut came = String::new(rt.alloc());
+    subject.tell(rt, case, &mut came)?;
+    is_due(rt.alloc(), case, came.as_str(), out)
 }
 
 // How many of the cases differ. These are told.
@@ -88,8 +80,8 @@ fn runs<S: Subject>(
     let mut lines = String::new(rt.alloc());
     let differ = differing(rt, subject, file, cases, &mut lines)?;
     let (name, count) = (subject.name(), cases.len());
-    writeln!(out, "{name}: {count} cases, {differ} differ")?;
-    out.push_str(lines.as_str())?;
+    let lines = lines.as_str();
+    write!(out, "{name}: {count} cases, {differ} differ\n{lines}")?;
     Ok(differ == 0)
 }
 

@@ -1,6 +1,6 @@
 //! Values, JSON and sessions in words.
 
-use crate::Stop;
+use crate::{Stop, written};
 use hq_base::{Bytes, Json, Txt, Val};
 use hq_terms::Session;
 use std::alloc::{AllocError, Global};
@@ -31,7 +31,8 @@ pub fn push_value(value: &Val, out: &mut String) -> Result<(), AllocError> {
 
 /// Adds bytes, which are to be a text.
 pub fn push_bytes(alloc: Global, bytes: &[u8], out: &mut String) -> Result<(), Stop> {
-    Ok(out.push_str(Txt::of(alloc, bytes)?.as_str())?)
+    let text = Txt::of(alloc, bytes)?;
+    written(out.push_str(text.as_str()))
 }
 
 /// Adds the compact text of a JSON value.

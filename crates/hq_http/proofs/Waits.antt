@@ -3,6 +3,7 @@ use Rattle.std.proofs.Common.{◌≡◌, ◌≤◌, ◌<◌, ◌+◌, ℕ, List,
 use Rattle.std.proofs.lemmas.List.{nil_from_length, take-append-le, take-take, take-append-drop}
 use Rattle.std.proofs.Math.Seq.{take-append_seam}
 use Rattle.std.specs.declared.option.Option.{Option}
+use Rattle.std.specs.Io.KnownBytes.{Consumes}
 use Rattle.httparse.specs.Grammar.{RequestHead, print_request}
 use Rattle.hq_http_request.specs.declared.next.Next.{Next}
 use Rattle.hq_http_request.specs.declared.next.Next.TheVariants.{More}
@@ -30,6 +31,26 @@ reaches_fill a b c xs ys zs n h k = reaches_more a b c xs ys zs h (record { piec
 
 pub fills_grow : (a b : Option (List ℕ)) (xs ys : List ℕ) (n : ℕ) → Fills a b xs ys n → length ys ≡ length xs + n
 fills_grow a b xs ys n h = ap length h.added ∙ length-append xs h.piece ∙ ap (λ k. length xs + k) h.long
+
+-- how reading up to a number of bytes ends: with as many at hand
+pub enough_fills : (a b : Option (List ℕ)) (xs ys : List ℕ) (need : ℕ) → Reaches a b xs ys → need ≤ length ys → FillsTo a b xs ys need Enough
+enough_fills a b xs ys need r holds = record { piece = r.piece; added = r.added; consumed = r.consumed; holds = holds }
+
+-- with none more to come
+pub over_fills : (a b c : Option (List ℕ)) (xs ys zs : List ℕ) (need n : ℕ) → Reaches a b xs ys → Fills b c ys zs n → length ys < need → n ≡ 0 → FillsTo a c xs zs need Over
+over_fills a b c xs ys zs need n r f short none =
+    let all = reaches_fill a b c xs ys zs n r f in
+    let grown : length zs ≡ length ys + n = fills_grow b c ys zs n f in
+    record { piece = all.piece; added = all.added; consumed = all.consumed; holds = (omega arith, f.over none) }
+
+-- or with a fault, which leaves all as it was
+pub failed_fills : (a b c : Option (List ℕ)) (xs ys zs : List ℕ) (need : ℕ) → Reaches a b xs ys → c ≡ b → zs ≡ ys → length ys < need → FillsTo a c xs zs need Failed
+failed_fills a b c xs ys zs need r left same short = record {
+  piece = r.piece;
+  added = same ∙ r.added;
+  consumed = subst (λ (l : Option (List ℕ)). Consumes a l r.piece) (sym left) r.consumed;
+  holds = subst (λ (w : List ℕ). length w < need) (sym same) short;
+}
 
 head_short : (b : List ℕ) (h : RequestHead) → HasHead b h → length (print_request h) ≤ 16384
 head_short b h hd =

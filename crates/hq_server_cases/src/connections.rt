@@ -13,7 +13,10 @@ const ROOM: usize = 1_000_000;
 
 fn number(json: &Json) -> Result<u64, Stop> {
     match json {
-        Json::Int(n) => u64::try_from(*n).map_err(|_| Stop::Shape),
+        Json::Int(n) => match u64::try_from(*n) {
+            Ok(n) => Ok(n),
+            Err(_) => Err(Stop::Shape),
+        },
         _ => Err(Stop::Shape),
     }
 }
@@ -48,7 +51,7 @@ fn push_served(
 
 /// How a connection ends, and what is written to it.
 pub fn tell_connection(alloc: Global, case: &Case, out: &mut String) -> Result<(), Stop> {
-    let mut link = link(alloc, case)?;
     let mut replies = Replies::given(alloc, case)?;
+    let mut link = link(alloc, case)?;
     push_served(alloc, &mut link, &mut replies, out)
 }

@@ -66,14 +66,25 @@ fn opened<R: Net>(door: &mut TcpDoor<R>) -> Result<u16, Stop> {
     }
 }
 
-// The peers, once each is served and the door is gone. Adds how each connection ends.
+// The peers of a door, once each is served. Adds how each connection ends.
+fn served_at(
+    rt: &HostRuntime,
+    door: &mut TcpDoor<HostRuntime>,
+    replies: &mut Replies,
+    case: &Case,
+    out: &mut String,
+) -> Result<Vec<TcpStream>, Stop> {
+    let port = opened(door)?;
+    let peers = peers(rt, rt.alloc(), case, port)?;
+    serve(rt.alloc(), door, replies, peers.len(), out)?;
+    Ok(peers)
+}
+
+// The same, once the door is gone.
 fn served(rt: &HostRuntime, case: &Case, out: &mut String) -> Result<Vec<TcpStream>, Stop> {
     let mut replies = Replies::given(rt.alloc(), case)?;
     let mut door = TcpDoor::new(*rt);
-    let port = opened(&mut door)?;
-    let peers = peers(rt, rt.alloc(), case, port)?;
-    serve(rt.alloc(), &mut door, &mut replies, peers.len(), out)?;
-    Ok(peers)
+    served_at(rt, &mut door, &mut replies, case, out)
 }
 
 /// How the connections end, and what each peer gets.

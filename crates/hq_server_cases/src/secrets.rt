@@ -1,7 +1,7 @@
 //! Who the caller is, by the rule of an admin secret.
 
 use hq_base::Txt;
-use hq_case::{Case, Stop, given_headers, push_session};
+use hq_case::{Case, Stop, given_headers, push_session, written};
 use hq_session::{HookAnswer, SecretRule};
 use std::alloc::Global;
 
@@ -23,19 +23,29 @@ fn rule(alloc: Global, case: &Case) -> Result<SecretRule, Stop> {
     })
 }
 
-fn push_caller(answer: HookAnswer, out: &mut String) -> Result<(), Stop> {
+fn push_caller(answer: &HookAnswer, out: &mut String) -> Result<(), Stop> {
     match answer {
-        HookAnswer::Session(session) => Ok(push_session(&session, out)?),
-        HookAnswer::Denied => Ok(out.push_str("denied")?),
+        HookAnswer::Session(session) => written(push_session(session, out)),
+        HookAnswer::Denied => written(out.push_str("denied")),
         HookAnswer::Memory => Err(Stop::Memory),
+    }
+}
+
+fn push_decided(
+    alloc: Global,
+    rule: &SecretRule,
+    lines: &[Txt],
+    out: &mut String,
+) -> Result<(), Stop> {
+    match given_headers(alloc, lines)? {
+        Ok(headers) => push_caller(&rule.decide(alloc, &headers), out),
+        Err(_) => Err(Stop::Shape),
     }
 }
 
 /// The session of a caller with these headers, or that the caller is denied.
 pub fn tell_caller(alloc: Global, case: &Case, out: &mut String) -> Result<(), Stop> {
     let rule = rule(alloc, case)?;
-    match given_headers(alloc, case.texts(alloc, "in")?.as_slice())? {
-        Ok(headers) => push_caller(rule.decide(alloc, &headers), out),
-        Err(_) => Err(Stop::Shape),
-    }
+    let lines = case.texts(alloc, "in")?;
+    push_decided(alloc, &rule, lines.as_slice(), out)
 }

@@ -1,16 +1,21 @@
 //! The words behind the program's name.
 
 use hq_base::Txt;
-use hq_case::{Case, Stop};
+use hq_case::{Case, Stop, written};
 use hq_session::Headers;
 use hq_words::{Command, WordsRefusal};
 use std::alloc::{AllocError, Global};
 
 /// What words ask, or that they are bad.
 pub fn tell_command(alloc: Global, case: &Case, out: &mut String) -> Result<(), Stop> {
-    match Command::read(alloc, &case.texts(alloc, "in")?) {
-        Ok(command) => Ok(push_command(&command, out)?),
-        Err(WordsRefusal::BadWords) => Ok(out.push_str("bad")?),
+    let words = case.texts(alloc, "in")?;
+    push_asked(alloc, words.as_slice(), out)
+}
+
+fn push_asked(alloc: Global, words: &[Txt], out: &mut String) -> Result<(), Stop> {
+    match Command::read(alloc, words) {
+        Ok(command) => written(push_command(&command, out)),
+        Err(WordsRefusal::BadWords) => written(out.push_str("bad")),
         Err(WordsRefusal::Memory) => Err(Stop::Memory),
     }
 }
@@ -27,11 +32,7 @@ fn push_command(command: &Command, out: &mut String) -> Result<(), AllocError> {
             connections,
             secret,
             unauthorized,
-        } => {
-            write!(out, "serve {} at {port} for {connections}", dir.as_str())?;
-            push_text("secret", secret, out)?;
-            push_text("unauthorized", unauthorized, out)
-        }
+        } => push_serve(dir, *port, *connections, secret, unauthorized, out),
     }
 }
 
@@ -46,6 +47,19 @@ fn push_request(
         write!(out, " {}={}", header.name.as_str(), header.value.as_str())?;
     }
     Ok(())
+}
+
+fn push_serve(
+    dir: &Txt,
+    port: u16,
+    connections: u32,
+    secret: &Option<Txt>,
+    unauthorized: &Option<Txt>,
+    out: &mut String,
+) -> Result<(), AllocError> {
+    write!(out, "serve {} at {port} for {connections}", dir.as_str())?;
+    push_text("secret", secret, out)?;
+    push_text("unauthorized", unauthorized, out)
 }
 
 fn push_text(word: &str, text: &Option<Txt>, out: &mut String) -> Result<(), AllocError> {

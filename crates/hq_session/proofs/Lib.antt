@@ -1,3 +1,4 @@
 mod Ends
 mod Tokens
 mod Passed
+mod Added

@@ -1,8 +1,8 @@
-ghost use Rattle.std.specs.Prelude.{◌≡◌, ◌∷◌, [], length, IfOk, codes};
+ghost use Rattle.std.specs.Prelude.{◌≡◌, ◌∷◌, [], length, IfOk};
 ghost use Rattle.std.specs.Str.{bytes_eq};
-ghost use Rattle.hq_session.specs.Secret.{AllowedBySecret, secret_name, session_by_role, answer_with};
+ghost use Rattle.hq_session.specs.Secret.{AllowedBySecret, session_by_role, answer_with};
 
-use crate::session::role_variable;
+use crate::session::{first_named, role_variable};
 use crate::{Headers, HookAnswer, HookRule};
 use hq_base::{Memory, Txt};
 use hq_terms::Session;
@@ -43,15 +43,6 @@ fn is_same(given: &[u8], secret: &[u8]) -> bool
     same
 }
 
-// The name of the secret's header.
-fn secret_name(alloc: Global) -> Result<Txt, Memory>
-    ensures { IfOk result (λ name. name ≡ secret_name) }
-{
-    let mut name = Txt::new(alloc);
-    name.push_str("x-hasura-admin-secret")?;
-    Ok(name)
-}
-
 // The session of a role that has no other variable.
 fn session_by_role(alloc: Global, role: &Txt) -> Result<Session, Memory>
     ensures { IfOk result (λ session. session ≡ session_by_role role.now) }
@@ -83,10 +74,10 @@ impl SecretRule {
         let Some(secret) = &self.secret else {
             return answer_of(headers.session(alloc));
         };
-        let Ok(name) = secret_name(alloc) else {
+        let Ok(given) = first_named(alloc, headers, "x-hasura-admin-secret") else {
             return HookAnswer::Memory;
         };
-        match (headers.first(&name), &self.unauthorized) {
+        match (given, &self.unauthorized) {
             (Some(given), _) if is_same(given.as_bytes(), secret.as_bytes()) => {
                 answer_of(headers.session(alloc))
             }

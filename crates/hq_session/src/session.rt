@@ -1,6 +1,7 @@
-ghost use Rattle.std.specs.Prelude.{◌≡◌, ◌++◌, ◌∷◌, [], List as Items, IfOk, OnOk, map, filter, cond, codes};
+ghost use Rattle.std.specs.Prelude.{◌≡◌, ◌++◌, ◌∷◌, [], List as Items, false, IfOk, OnOk, map, filter, cond, codes, option_copied};
+ghost use Rattle.hq_base.specs.Text.{has_zero};
 ghost use Rattle.hq_terms.specs.declared.session.Var.{Var};
-ghost use Rattle.hq_session.specs.Sessions.{role_in, role_name, role_variable, is_variable, variable_of, has_variable, new_variables, variables_in, session_of};
+ghost use Rattle.hq_session.specs.Sessions.{value_of, role_in, role_variable, is_variable, variable_of, has_variable, new_variables, variables_in, session_of};
 
 use crate::{Header, Headers};
 use hq_base::{List, Memory, Txt};
@@ -8,31 +9,38 @@ use hq_terms::{Session, Var, VarList};
 use std::alloc::Global;
 
 // The name of the role's header.
-fn role_name(alloc: Global) -> Result<Txt, Memory>
-    ensures { IfOk result (λ name. name ≡ role_name) }
+const ROLE_NAME: &str = "x-hasura-role";
+
+// A text that is written here.
+fn text(alloc: Global, piece: &str) -> Result<Txt, Memory>
+    requires { has_zero piece.now ≡ false }
+    ensures { IfOk result (λ text. text ≡ piece.now) }
 {
-    let mut name = Txt::new(alloc);
-    name.push_str("x-hasura-role")?;
-    Ok(name)
+    let mut text = Txt::new(alloc);
+    text.push_str(piece)?;
+    Ok(text)
 }
 
-// The name of the role that may see everything.
-fn admin(alloc: Global) -> Result<Txt, Memory>
-    ensures { IfOk result (λ name. name ≡ codes "admin") }
+/// The value of the first header of this name, which is in lower case.
+pub fn first_named<'a>(
+    alloc: Global,
+    headers: &'a Headers,
+    name: &str,
+) -> Result<Option<&'a Txt>, Memory>
+    requires { has_zero name.now ≡ false }
+    ensures { IfOk result (λ value. option_copied value ≡ value_of headers.now name.now) }
 {
-    let mut name = Txt::new(alloc);
-    name.push_str("admin")?;
-    Ok(name)
+    let name = text(alloc, name)?;
+    Ok(headers.first(&name))
 }
 
 // The role that the headers name.
 fn role_in(alloc: Global, headers: &Headers) -> Result<Txt, Memory>
     ensures { IfOk result (λ role. role ≡ role_in headers.now) }
 {
-    let name = role_name(alloc)?;
-    match headers.first(&name) {
+    match first_named(alloc, headers, ROLE_NAME)? {
         Some(role) => role.copy(alloc),
-        None => admin(alloc),
+        None => text(alloc, "admin"),
     }
 }
 
@@ -47,7 +55,23 @@ fn is_variable(name: &Txt) -> bool
 fn has_variable(vars: &VarList, name: &Txt) -> bool
     ensures { result ≡ has_variable vars.now name.now }
 {
-    vars.as_slice().iter().any(|var| var.name == *name)
+    for var in vars.as_slice() {
+        if var.name == *name {
+            return true;
+        }
+    }
+    false
+}
+
+// A variable of this name and value.
+fn variable(alloc: Global, name: &Txt, value: &Txt) -> Result<Var, Memory>
+    ensures { IfOk result (λ var. var ≡ record { name = name.now; value = value.now }) }
+{
+    let name = name.copy(alloc)?;
+    Ok(Var {
+        name,
+        value: value.copy(alloc)?,
+    })
 }
 
 // Adds the variable that a header is, unless its name is there.
@@ -55,24 +79,20 @@ fn add_variable(alloc: Global, vars: &mut VarList, header: &Header) -> Result<()
     ensures { OnOk result ((rest : Items Var) → vars.new ++ new_variables vars.new rest
         ≡ vars.old ++ new_variables vars.old (cond (is_variable header.now.name) (variable_of header.now ∷ rest) rest)) }
 {
-    if is_variable(&header.name) && !has_variable(vars, &header.name) {
-        vars.push(Var {
-            name: header.name.copy(alloc)?,
-            value: header.value.copy(alloc)?,
-        })?;
+    if !is_variable(&header.name) || has_variable(vars, &header.name) {
+        return Ok(());
     }
-    Ok(())
+    vars.push(variable(alloc, &header.name, &header.value)?)
 }
 
 /// The variable that a role is, alone.
 pub fn role_variable(alloc: Global, role: &Txt) -> Result<VarList, Memory>
     ensures { IfOk result (λ vars. vars ≡ role_variable role.now ∷ []) }
 {
+    let name = text(alloc, ROLE_NAME)?;
+    let var = variable(alloc, &name, role)?;
     let mut vars = List::new(alloc);
-    vars.push(Var {
-        name: role_name(alloc)?,
-        value: role.copy(alloc)?,
-    })?;
+    vars.push(var)?;
     Ok(vars)
 }
 

@@ -1,7 +1,7 @@
 //! What the evaluator does with cells. The text `{}` stands for an empty JSON object.
 
-use hq_base::{Json, Val};
-use hq_case::{Case, Stop, push_json, value};
+use hq_base::{Json, Memory, Val};
+use hq_case::{Case, Stop, push_json, value, written};
 use hq_sql_cells::{Cell, among, compared, counted, greatest, least, matched, summed};
 use hq_terms::{Op, Truth};
 use std::alloc::Global;
@@ -40,17 +40,17 @@ fn truth(alloc: Global, op: &str, cells: &[Cell<'_>]) -> Result<Truth, Stop> {
     }
 }
 
-fn truth_of(alloc: Global, op: &str, values: &[Val]) -> Result<Truth, Stop> {
-    let cells = cells(alloc, values)?;
+fn truth_of(alloc: Global, case: &Case, op: &str) -> Result<Truth, Stop> {
+    let values = values(alloc, case.list("in")?)?;
+    let cells = cells(alloc, &values)?;
     truth(alloc, op, &cells)
 }
 
 /// A comparison of two cells, whether the first is among those behind it, or is like the second.
 pub fn tell_test(alloc: Global, case: &Case, out: &mut String) -> Result<(), Stop> {
     let op = case.text(alloc, "op")?;
-    let values = values(alloc, case.list("in")?)?;
-    let truth = truth_of(alloc, op.as_str(), &values)?;
-    Ok(write!(out, "{truth:?}")?)
+    let truth = truth_of(alloc, case, op.as_str())?;
+    written(write!(out, "{truth:?}"))
 }
 
 fn is_among(cells: &[Cell<'_>]) -> Result<Truth, Stop> {
@@ -88,7 +88,7 @@ fn op_of(op: &str) -> Result<Op, Stop> {
 
 fn push_told(alloc: Global, json: &Json, out: &mut String) -> Result<(), Stop> {
     push_json(alloc, json, out)?;
-    Ok(out.push_str(" ")?)
+    written(out.push_str(" "))
 }
 
 fn push_cell(alloc: Global, cell: Cell<'_>, out: &mut String) -> Result<(), Stop> {
@@ -109,39 +109,46 @@ pub fn tell_json(alloc: Global, case: &Case, out: &mut String) -> Result<(), Sto
     push_copies(alloc, &cells(alloc, &values)?, out)
 }
 
-fn push_count(alloc: Global, distinct: bool, values: &[Val], out: &mut String) -> Result<(), Stop> {
+/// What an aggregate function makes of cells.
+#[derive(Clone, Copy)]
+pub enum Aggregate {
+    Count,
+    CountDistinct,
+    Least,
+    Greatest,
+    Sum,
+}
+
+fn made_of<'d>(aggregate: Aggregate, cells: Vec<Cell<'d>>) -> Result<Cell<'d>, Memory> {
+    match aggregate {
+        Aggregate::Count => counted(false, cells),
+        Aggregate::CountDistinct => counted(true, cells),
+        Aggregate::Least => Ok(least(cells)),
+        Aggregate::Greatest => Ok(greatest(cells)),
+        Aggregate::Sum => summed(&cells),
+    }
+}
+
+fn push_aggregate(
+    alloc: Global,
+    aggregate: Aggregate,
+    values: &[Val],
+    out: &mut String,
+) -> Result<(), Stop> {
     let cells = cells(alloc, values)?;
-    push_cell(alloc, counted(distinct, cells)?, out)
+    push_cell(alloc, made_of(aggregate, cells)?, out)
 }
 
-fn push_least(alloc: Global, values: &[Val], out: &mut String) -> Result<(), Stop> {
-    let cells = cells(alloc, values)?;
-    push_cell(alloc, least(cells), out)
-}
-
-fn push_greatest(alloc: Global, values: &[Val], out: &mut String) -> Result<(), Stop> {
-    let cells = cells(alloc, values)?;
-    push_cell(alloc, greatest(cells), out)
-}
-
-fn push_aggregates(alloc: Global, values: &[Val], out: &mut String) -> Result<(), Stop> {
-    push_count(alloc, false, values, out)?;
-    push_count(alloc, true, values, out)?;
-    push_least(alloc, values, out)?;
-    push_greatest(alloc, values, out)
-}
-
-/// How many cells are not NULL, how many different ones are compared, the least and the greatest.
-pub fn tell_aggregates(alloc: Global, case: &Case, out: &mut String) -> Result<(), Stop> {
-    push_aggregates(alloc, &values(alloc, case.list("in")?)?, out)
-}
-
-fn push_sum(alloc: Global, values: &[Val], out: &mut String) -> Result<(), Stop> {
-    let cells = cells(alloc, values)?;
-    push_cell(alloc, summed(&cells)?, out)
-}
-
-/// The sum of whole numbers.
-pub fn tell_sum(alloc: Global, case: &Case, out: &mut String) -> Result<(), Stop> {
-    push_sum(alloc, &values(alloc, case.list("in")?)?, out)
+/// What these aggregate functions make of the cells of a case.
+pub fn tell_aggregates(
+    alloc: Global,
+    aggregates: &[Aggregate],
+    case: &Case,
+    out: &mut String,
+) -> Result<(), Stop> {
+    let values = values(alloc, case.list("in")?)?;
+    for aggregate in aggregates {
+        push_aggregate(alloc, *aggregate, &values, out)?;
+    }
+    Ok(())
 }

@@ -2,7 +2,7 @@
 
 use crate::cells::{cells, values};
 use hq_base::{Json, Val};
-use hq_case::{Case, Stop};
+use hq_case::{Case, Stop, written};
 use hq_sql_cells::{Direction, Kept, first_kept, paged, rows_of, sort_kept};
 use std::alloc::{AllocError, Global};
 
@@ -15,7 +15,8 @@ fn page_of(alloc: Global, offset: Option<u64>, limit: Option<u64>) -> Result<Vec
 pub fn tell_page(alloc: Global, case: &Case, out: &mut String) -> Result<(), Stop> {
     let offset = case.number("offset")?;
     let limit = case.number("limit")?;
-    Ok(push_places(&page_of(alloc, offset, limit)?, out)?)
+    let places = page_of(alloc, offset, limit)?;
+    written(push_places(&places, out))
 }
 
 fn push_places(places: &[usize], out: &mut String) -> Result<(), AllocError> {
@@ -60,11 +61,6 @@ fn kept<'d>(alloc: Global, rows: &'d [Vec<Val>]) -> Result<Vec<Kept<'d, usize>>,
     Ok(kept)
 }
 
-fn direction_of(word: &str) -> Result<Direction, Stop> {
-    let (desc, nulls_first) = flags_of(word)?;
-    Ok(Direction { desc, nulls_first })
-}
-
 // Whether a direction descends, and whether NULLs come first.
 fn flags_of(word: &str) -> Result<(bool, bool), Stop> {
     match word {
@@ -77,10 +73,11 @@ fn flags_of(word: &str) -> Result<(bool, bool), Stop> {
 }
 
 fn direction(json: &Json) -> Result<Direction, Stop> {
-    match json {
-        Json::Str(word) => direction_of(word.as_str()),
-        _ => Err(Stop::Shape),
-    }
+    let Json::Str(word) = json else {
+        return Err(Stop::Shape);
+    };
+    let (desc, nulls_first) = flags_of(word.as_str())?;
+    Ok(Direction { desc, nulls_first })
 }
 
 fn directions(alloc: Global, case: &Case) -> Result<Vec<Direction>, Stop> {
@@ -97,11 +94,16 @@ fn sorted(alloc: Global, order: &[Direction], values: &[Vec<Val>]) -> Result<Vec
     Ok(rows_of(alloc, kept)?)
 }
 
-/// The rows in their order.
-pub fn tell_sort(alloc: Global, case: &Case, out: &mut String) -> Result<(), Stop> {
+fn places_in_order(alloc: Global, case: &Case) -> Result<Vec<usize>, Stop> {
     let order = directions(alloc, case)?;
     let values = rows_of_values(alloc, case)?;
-    Ok(push_places(&sorted(alloc, &order, &values)?, out)?)
+    sorted(alloc, &order, &values)
+}
+
+/// The rows in their order.
+pub fn tell_sort(alloc: Global, case: &Case, out: &mut String) -> Result<(), Stop> {
+    let places = places_in_order(alloc, case)?;
+    written(push_places(&places, out))
 }
 
 fn firsts(alloc: Global, values: &[Vec<Val>]) -> Result<Vec<usize>, Stop> {
@@ -113,5 +115,6 @@ fn firsts(alloc: Global, values: &[Vec<Val>]) -> Result<Vec<usize>, Stop> {
 /// The first rows of their groups.
 pub fn tell_groups(alloc: Global, case: &Case, out: &mut String) -> Result<(), Stop> {
     let values = rows_of_values(alloc, case)?;
-    Ok(push_places(&firsts(alloc, &values)?, out)?)
+    let places = firsts(alloc, &values)?;
+    written(push_places(&places, out))
 }

@@ -1,3 +1,5 @@
+use crate::cells::Aggregate;
+use crate::texts::Look;
 use crate::{cells, rows, texts};
 use hq_case::{Case, Stop, Subject};
 
@@ -15,6 +17,16 @@ pub enum About {
     Sorts,
     Groups,
 }
+
+// What is told of cells, in the order of the words.
+static AGGREGATES: [Aggregate; 4] = [
+    Aggregate::Count,
+    Aggregate::CountDistinct,
+    Aggregate::Least,
+    Aggregate::Greatest,
+];
+
+static SUM: [Aggregate; 1] = [Aggregate::Sum];
 
 impl About {
     /// Each subject, in the order of its line.
@@ -51,13 +63,13 @@ impl Subject for About {
     fn tell(self, rt: &HostRuntime, case: &Case, out: &mut String) -> Result<(), Stop> {
         let alloc = rt.alloc();
         match self {
-            About::SqlTexts => texts::tell_text(alloc, case, out),
-            About::WellFormed => texts::tell_well_formed(alloc, case, out),
-            About::Scans => texts::tell_scans(alloc, case, out),
+            About::SqlTexts => texts::tell(alloc, Look::Printed, case, out),
+            About::WellFormed => texts::tell(alloc, Look::WellFormed, case, out),
+            About::Scans => texts::tell(alloc, Look::Scans, case, out),
             About::Tests => cells::tell_test(alloc, case, out),
             About::Cells => cells::tell_json(alloc, case, out),
-            About::AggregateFunctions => cells::tell_aggregates(alloc, case, out),
-            About::Sums => cells::tell_sum(alloc, case, out),
+            About::AggregateFunctions => cells::tell_aggregates(alloc, &AGGREGATES, case, out),
+            About::Sums => cells::tell_aggregates(alloc, &SUM, case, out),
             About::Pages => rows::tell_page(alloc, case, out),
             About::Sorts => rows::tell_sort(alloc, case, out),
             About::Groups => rows::tell_groups(alloc, case, out),

@@ -1,6 +1,6 @@
 //! Texts of SQL: read and printed again, well-formed or not, and the tables that they scan.
 
-use hq_case::{Case, Stop, given_catalog, push_bytes};
+use hq_case::{Case, Stop, given_catalog, push_bytes, written};
 use hq_sql_check::{scanned, well_formed};
 use hq_sql_text::{ReadRefusal, print, read};
 use hq_sql_tree::Select;
@@ -19,7 +19,7 @@ fn statement(alloc: Global, case: &Case) -> Result<Option<Box<Select>>, Stop> {
 // `read` where what was read is printed as it stood, and else what is printed.
 fn push_compared(alloc: Global, printed: &[u8], text: &[u8], out: &mut String) -> Result<(), Stop> {
     if printed == text {
-        return Ok(out.push_str("read")?);
+        return written(out.push_str("read"));
     }
     push_bytes(alloc, printed, out)
 }
@@ -30,30 +30,15 @@ fn push_printed(alloc: Global, case: &Case, select: &Select, out: &mut String) -
     push_compared(alloc, printed.as_slice(), text.as_slice(), out)
 }
 
-/// `read` where what was read is printed as it stood, and else what is printed; or that the text is no SQL.
-pub fn tell_text(alloc: Global, case: &Case, out: &mut String) -> Result<(), Stop> {
-    match statement(alloc, case)? {
-        Some(select) => push_printed(alloc, case, &select, out),
-        None => Ok(out.push_str("NotSql")?),
-    }
-}
-
 fn push_well_formed(
     alloc: Global,
     case: &Case,
     select: &Select,
     out: &mut String,
 ) -> Result<(), Stop> {
-    let well = well_formed(alloc, select, &given_catalog(alloc, case)?)?;
-    Ok(write!(out, "{well}")?)
-}
-
-/// Whether a text of SQL is a statement that is well-formed for the catalog.
-pub fn tell_well_formed(alloc: Global, case: &Case, out: &mut String) -> Result<(), Stop> {
-    match statement(alloc, case)? {
-        Some(select) => push_well_formed(alloc, case, &select, out),
-        None => Err(Stop::Shape),
-    }
+    let catalog = given_catalog(alloc, case)?;
+    let well = well_formed(alloc, select, &catalog)?;
+    written(write!(out, "{well}"))
 }
 
 fn push_marked(tables: &[Table], marks: &[bool], out: &mut String) -> Result<(), AllocError> {
@@ -68,13 +53,38 @@ fn push_marked(tables: &[Table], marks: &[bool], out: &mut String) -> Result<(),
 fn push_scans(alloc: Global, case: &Case, select: &Select, out: &mut String) -> Result<(), Stop> {
     let catalog = given_catalog(alloc, case)?;
     let marks = scanned(alloc, select, catalog.tables.as_slice())?;
-    Ok(push_marked(catalog.tables.as_slice(), &marks, out)?)
+    written(push_marked(catalog.tables.as_slice(), &marks, out))
 }
 
-/// The tables of the catalog that a statement takes rows from.
-pub fn tell_scans(alloc: Global, case: &Case, out: &mut String) -> Result<(), Stop> {
+/// What is told of a statement.
+#[derive(Clone, Copy)]
+pub enum Look {
+    /// How it is printed.
+    Printed,
+    /// Whether it is well-formed for the catalog.
+    WellFormed,
+    /// The tables of the catalog that it takes rows from.
+    Scans,
+}
+
+fn push_look(
+    alloc: Global,
+    look: Look,
+    case: &Case,
+    select: &Select,
+    out: &mut String,
+) -> Result<(), Stop> {
+    match look {
+        Look::Printed => push_printed(alloc, case, select, out),
+        Look::WellFormed => push_well_formed(alloc, case, select, out),
+        Look::Scans => push_scans(alloc, case, select, out),
+    }
+}
+
+/// What is told of a text of SQL; or that it is none.
+pub fn tell(alloc: Global, look: Look, case: &Case, out: &mut String) -> Result<(), Stop> {
     match statement(alloc, case)? {
-        Some(select) => push_scans(alloc, case, &select, out),
-        None => Err(Stop::Shape),
+        Some(select) => push_look(alloc, look, case, &select, out),
+        None => written(out.push_str("NotSql")),
     }
 }

@@ -1,7 +1,7 @@
 //! Tokens and documents.
 
 use crate::printer::push_document;
-use hq_case::{Case, Stop};
+use hq_case::{Case, Stop, written};
 use hq_gql_lexer::{Token, TokenKind, lex};
 use hq_gql_parser::parse;
 use std::alloc::{AllocError, Global};
@@ -9,7 +9,7 @@ use std::alloc::{AllocError, Global};
 /// The tokens of a text, or its refusal.
 pub fn tell_tokens(alloc: Global, case: &Case, out: &mut String) -> Result<(), Stop> {
     let text = case.bytes(alloc, "in")?;
-    Ok(push_lexed(alloc, text.as_slice(), out)?)
+    written(push_lexed(alloc, text.as_slice(), out))
 }
 
 fn push_lexed(alloc: Global, text: &[u8], out: &mut String) -> Result<(), AllocError> {
@@ -29,19 +29,20 @@ fn push_tokens(tokens: &[Token], out: &mut String) -> Result<(), AllocError> {
 
 // The kind of a token, and its text.
 fn push_kind(kind: &TokenKind, out: &mut String) -> Result<(), AllocError> {
-    match kind {
-        TokenKind::Punct(punct) => write!(out, "{punct:?}"),
-        TokenKind::Name(text) => write!(out, "Name {}", text.as_str()),
-        TokenKind::Int(text) => write!(out, "Int {}", text.as_str()),
-        TokenKind::Float(text) => write!(out, "Float {}", text.as_str()),
-        TokenKind::Str(text) => write!(out, "Str {}", text.as_str()),
-    }
+    let (word, text) = match kind {
+        TokenKind::Punct(punct) => return write!(out, "{punct:?}"),
+        TokenKind::Name(text) => ("Name", text),
+        TokenKind::Int(text) => ("Int", text),
+        TokenKind::Float(text) => ("Float", text),
+        TokenKind::Str(text) => ("Str", text),
+    };
+    write!(out, "{word} {}", text.as_str())
 }
 
 /// The document of a text, or its refusal.
 pub fn tell_document(alloc: Global, case: &Case, out: &mut String) -> Result<(), Stop> {
     let text = case.bytes(alloc, "in")?;
-    Ok(push_parsed(alloc, text.as_slice(), out)?)
+    written(push_parsed(alloc, text.as_slice(), out))
 }
 
 fn push_parsed(alloc: Global, text: &[u8], out: &mut String) -> Result<(), AllocError> {

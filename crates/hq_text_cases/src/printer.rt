@@ -10,12 +10,16 @@ use std::alloc::AllocError;
 /// Adds the words of a document.
 pub fn push_document(document: &Document, out: &mut String) -> Result<(), AllocError> {
     for definition in &document.definitions {
-        match definition {
-            Definition::Operation(operation) => push_operation(operation, out)?,
-            Definition::Fragment(fragment) => push_fragment(fragment, out)?,
-        }
+        push_definition(definition, out)?;
     }
     Ok(())
+}
+
+fn push_definition(definition: &Definition, out: &mut String) -> Result<(), AllocError> {
+    match definition {
+        Definition::Operation(operation) => push_operation(operation, out),
+        Definition::Fragment(fragment) => push_fragment(fragment, out),
+    }
 }
 
 fn push_operation(operation: &Operation, out: &mut String) -> Result<(), AllocError> {
@@ -39,10 +43,10 @@ fn push_name(
     after: &str,
     out: &mut String,
 ) -> Result<(), AllocError> {
-    if let Some(name) = name {
-        write!(out, "{before}{}{after}", name.as_str())?;
+    match name {
+        Some(name) => write!(out, "{before}{}{after}", name.as_str()),
+        None => Ok(()),
     }
-    Ok(())
 }
 
 fn push_variable(var: &VarDef, out: &mut String) -> Result<(), AllocError> {
@@ -72,19 +76,25 @@ fn push_type(ty: &TypeRefTree, out: &mut String) -> Result<(), AllocError> {
     }
 }
 
+// A value that holds no others.
+fn push_scalar(value: &Value, out: &mut String) -> Result<(), AllocError> {
+    match value {
+        Value::Int(text) | Value::Float(text) | Value::Enum(text) => out.push_str(text.as_str()),
+        Value::Str(text) => write!(out, "\"{}\"", text.as_str()),
+        Value::Bool(b) => write!(out, "{b}"),
+        Value::Null => out.push_str("null"),
+        Value::Variable(name) => write!(out, "${}", name.as_str()),
+        Value::List(_) | Value::Object(_) => Ok(()),
+    }
+}
+
 #[cycle(value)]
 fn push_value(placed: &Placed, out: &mut String) -> Result<(), AllocError> {
     write!(out, "{} ", placed.at)?;
     match &placed.value {
-        Value::Int(text) => out.push_str(text.as_str()),
-        Value::Float(text) => out.push_str(text.as_str()),
-        Value::Str(text) => write!(out, "\"{}\"", text.as_str()),
-        Value::Bool(b) => write!(out, "{b}"),
-        Value::Null => out.push_str("null"),
-        Value::Enum(text) => out.push_str(text.as_str()),
         Value::List(values) => push_list(values, out),
         Value::Object(members) => push_arguments("{", members, "}", out),
-        Value::Variable(name) => write!(out, "${}", name.as_str()),
+        value => push_scalar(value, out),
     }
 }
 
@@ -122,28 +132,35 @@ fn push_directives(directives: &Vec<Directive>, out: &mut String) -> Result<(), 
     Ok(())
 }
 
-#[cycle(selection)]
 fn push_selections(selections: &Vec<Selection>, out: &mut String) -> Result<(), AllocError> {
     out.push_str(" {")?;
     for selection in selections {
+        push_front(selection, out)?;
         match selection {
-            Selection::Field(field) => push_field(field, out)?,
-            Selection::Spread(spread) => push_spread(spread, out)?,
-            Selection::Inline(inline) => push_inline(inline, out)?,
+            Selection::Field(field) => push_selections(&field.selections, out)?,
+            Selection::Inline(inline) => push_selections(&inline.selections, out)?,
+            Selection::Spread(_) => {}
         }
         out.push_str(",")?;
     }
     out.push_str("}")
 }
 
-#[cycle(selection)]
+// What stands before the selections in a selection.
+fn push_front(selection: &Selection, out: &mut String) -> Result<(), AllocError> {
+    match selection {
+        Selection::Field(field) => push_field(field, out),
+        Selection::Spread(spread) => push_spread(spread, out),
+        Selection::Inline(inline) => push_inline(inline, out),
+    }
+}
+
 fn push_field(field: &Field, out: &mut String) -> Result<(), AllocError> {
     write!(out, "{} ", field.at)?;
     push_name("", &field.alias, ": ", out)?;
     out.push_str(field.name.as_str())?;
     push_arguments("(", &field.args, ")", out)?;
-    push_directives(&field.directives, out)?;
-    push_selections(&field.selections, out)
+    push_directives(&field.directives, out)
 }
 
 fn push_spread(spread: &Spread, out: &mut String) -> Result<(), AllocError> {
@@ -151,14 +168,12 @@ fn push_spread(spread: &Spread, out: &mut String) -> Result<(), AllocError> {
     push_directives(&spread.directives, out)
 }
 
-#[cycle(selection)]
 fn push_inline(inline: &Inline, out: &mut String) -> Result<(), AllocError> {
     write!(out, "{} ...", inline.at)?;
     if let Some(cond) = &inline.cond {
         push_condition(cond, out)?;
     }
-    push_directives(&inline.directives, out)?;
-    push_selections(&inline.selections, out)
+    push_directives(&inline.directives, out)
 }
 
 fn push_condition(cond: &TypeCond, out: &mut String) -> Result<(), AllocError> {

@@ -1,14 +1,14 @@
 //! Names, numbers and truth values as texts write them, and truth in three values.
 
 use hq_base::{Json, Ty};
-use hq_case::{Case, Stop};
+use hq_case::{Case, Stop, written};
 use hq_terms::{Truth, is_free_name, truth_value, whole_number};
-use std::alloc::Global;
+use std::alloc::{AllocError, Global};
 
 /// Whether a text is a name that does not begin with two underscores.
 pub fn tell_name(alloc: Global, case: &Case, out: &mut String) -> Result<(), Stop> {
     let is_free = is_free_name(&case.text(alloc, "in")?);
-    Ok(write!(out, "{is_free}")?)
+    written(write!(out, "{is_free}"))
 }
 
 // The type that a case names.
@@ -28,13 +28,13 @@ fn type_of(case: &Case) -> Result<Ty, Stop> {
 /// The whole number of a type that a text is.
 pub fn tell_number(alloc: Global, case: &Case, out: &mut String) -> Result<(), Stop> {
     let number = whole_number(type_of(case)?, case.text(alloc, "in")?.as_str());
-    Ok(write!(out, "{number:?}")?)
+    written(write!(out, "{number:?}"))
 }
 
 /// The truth value that a text is.
 pub fn tell_truth_value(alloc: Global, case: &Case, out: &mut String) -> Result<(), Stop> {
     let value = truth_value(case.text(alloc, "in")?.as_str());
-    Ok(write!(out, "{value:?}")?)
+    written(write!(out, "{value:?}"))
 }
 
 // The truth that a member names.
@@ -50,7 +50,11 @@ fn truth(case: &Case, member: &str) -> Result<Truth, Stop> {
 pub fn tell_truths(case: &Case, out: &mut String) -> Result<(), Stop> {
     let left = truth(case, "left")?;
     let right = truth(case, "right")?;
+    written(push_truths(left, right, out))
+}
+
+fn push_truths(left: Truth, right: Truth, out: &mut String) -> Result<(), AllocError> {
     let (and, or, not) = (left.and(right), left.or(right), left.negated());
     let kept = left.is_yes();
-    Ok(write!(out, "and {and:?}, or {or:?}, not {not:?}, kept {kept}")?)
+    write!(out, "and {and:?}, or {or:?}, not {not:?}, kept {kept}")
 }
