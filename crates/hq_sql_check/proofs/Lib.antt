@@ -7,3 +7,4 @@ pub mod JoinSteps
 pub mod NamedRows
 pub mod Alike
 pub mod Within
+pub mod Keys

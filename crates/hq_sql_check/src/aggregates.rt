@@ -1,28 +1,17 @@
 //! Outputs of a fold: where aggregates stand, and what they take.
 ghost use Rattle.std.specs.Prelude.{◌≡◌, IfOk, map};
-ghost use Rattle.hq_sql_tree.specs.Tree.{pairs_of, orders_of};
-ghost use Rattle.hq_sql_tree.specs.View.{agg_view, expr_view, pair_view, order_view};
-ghost use Rattle.hq_sql_tree.specs.WellFormed.{are_keys, is_taken, is_folded, are_folded};
+ghost use Rattle.hq_sql_tree.specs.Tree.{pairs_of};
+ghost use Rattle.hq_sql_tree.specs.View.{agg_view, expr_view, pair_view};
+ghost use Rattle.hq_sql_tree.specs.WellFormed.{is_taken, is_folded, are_folded};
 ghost use Rattle.hq_sql_check.specs.Scopes.{scope_view};
 
 use crate::differ::pairs_differ;
+use crate::parts::are_keys;
 use crate::scope::Scope;
 use crate::values::{has_extremes, is_collated, is_compared, is_summed, is_value, kind};
 use hq_base::Memory;
-use hq_sql_tree::{Agg, Expr, ExprPairList, OrderList};
+use hq_sql_tree::{Agg, Expr, ExprPairList};
 use std::alloc::Global;
-
-// The sort keys of json_agg.
-fn are_keys(alloc: Global, scope: &Scope<'_, '_>, orders: &OrderList) -> Result<bool, Memory>
-    ensures { IfOk result (λ well. well ≡ are_keys (scope_view scope.now) (orders_of (map order_view orders.now.items))) }
-{
-    for order in orders {
-        if !is_compared(alloc, scope, &order.value)? {
-            return Ok(false);
-        }
-    }
-    Ok(true)
-}
 
 // Whether an aggregate takes what it is given, in which no aggregate stands.
 fn is_taken(alloc: Global, scope: &Scope<'_, '_>, agg: &Agg) -> Result<bool, Memory>

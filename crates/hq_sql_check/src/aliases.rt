@@ -32,13 +32,11 @@ fn push_aliases<'d>(aliases: &mut Vec<&'d str>, select: &'d Select) -> Result<()
         } => {
             push_of_from(aliases, from)?;
             push_of_joins(aliases, joins)?;
-            push_of_filter(aliases, filter)?;
-            Ok(())
+            push_of_filter(aliases, filter)
         }
         Select::Fold { rows, alias, .. } => {
             push_alias(aliases, alias)?;
-            push_aliases(aliases, rows)?;
-            Ok(())
+            push_aliases(aliases, rows)
         }
     }
 }
@@ -48,14 +46,10 @@ fn push_of_from<'d>(aliases: &mut Vec<&'d str>, from: &'d From) -> Result<(), Me
     ensures { OnOk result (texts aliases.new.items ≡ texts aliases.old.items ++ aliases_in_from (from_view from.now) []) }
 {
     match from {
-        From::Table { alias, .. } | From::One { alias } => {
-            push_alias(aliases, alias)?;
-            Ok(())
-        }
+        From::Table { alias, .. } | From::One { alias } => push_alias(aliases, alias),
         From::Sub { select, alias } => {
             push_alias(aliases, alias)?;
-            push_aliases(aliases, select)?;
-            Ok(())
+            push_aliases(aliases, select)
         }
     }
 }

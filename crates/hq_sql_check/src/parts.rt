@@ -24,7 +24,12 @@ fn are_compared(alloc: Global, scope: &Scope<'_, '_>, exprs: &ExprList) -> Resul
     Ok(true)
 }
 
-fn are_keys(alloc: Global, scope: &Scope<'_, '_>, keys: &OrderList) -> Result<bool, Memory>
+/// Whether all sort keys are compared.
+pub(crate) fn are_keys(
+    alloc: Global,
+    scope: &Scope<'_, '_>,
+    keys: &OrderList,
+) -> Result<bool, Memory>
     ensures { IfOk result (λ well. well ≡ list_all (λ k. is_compared (scope_view scope.now) k.value) (map order_view keys.now.items)) }
 {
     for key in keys {

@@ -1,4 +1,5 @@
 use Rattle.std.proofs.Common.{◌∙◌, refl, sym, ap, List, ◌+◌, ◌<◌, ◌++◌, [], map, drop, length, arith}
+use Rattle.std.proofs.lemmas.Result.{on_ok_weaker}
 use Rattle.hq_sql_tree.specs.declared.select.Join.{Join}
 use Rattle.hq_sql_tree.specs.declared.select.Pred.{Pred}
 use Rattle.hq_sql_tree.specs.Tree.{joins_of, preds_of}
@@ -11,20 +12,24 @@ use Rattle.hq_sql_check.proofs.Next.{piece_end}
 use Rattle.hq_sql_tree.proofs.Views.{view_rows, view_fold}
 use Rattle.hq_sql_check.proofs.aliases.+push_aliases.Goals as goal
 
-pub push_aliases-returns-in_ok-push_of_filter-in-Rows : goal.push_aliases-returns-in_ok-push_of_filter-in-Rows
-push_aliases-returns-in_ok-push_of_filter-in-Rows t c =
+pub push_aliases-returns-in_ok-push_of_joins-in-Rows : goal.push_aliases-returns-in_ok-push_of_joins-in-Rows
+push_aliases-returns-in_ok-push_of_joins-in-Rows t c =
     let r = c.in-Rows in
     let seen = ap select_view c.in-Rows.is ∙ view_rows r.distinct r.outs r.from r.joins r.filter r.order r.limit r.offset in
-    pieces (texts c.args.aliases.now.items) (texts c.push_of_from.new.aliases.items) (texts c.push_of_joins.new.aliases.items) (texts c.push_of_filter.new.aliases.items) (from_view r.from) (joins_of (map join_view r.joins.items)) (filter_view r.filter)
-    c.in_ok-push_of_from-in-Rows.ensures c.in_ok-push_of_joins-in-Rows.ensures c.in_ok-push_of_filter-in-Rows.ensures ∙ ap (λ s. texts c.args.aliases.now.items ++ aliases_in s []) (sym seen)
+    on_ok_weaker c.push_of_filter.result
+    (λ e. pieces (texts c.args.aliases.now.items) (texts c.push_of_from.new.aliases.items) (texts c.push_of_joins.new.aliases.items) (texts c.push_of_filter.new.aliases.items) (from_view r.from) (joins_of (map join_view r.joins.items)) (filter_view r.filter)
+    c.in_ok-push_of_from-in-Rows.ensures c.in_ok-push_of_joins-in-Rows.ensures e ∙ ap (λ s. texts c.args.aliases.now.items ++ aliases_in s []) (sym seen))
+    c.push_of_filter.ensures
 
-pub push_aliases-returns-in_ok-push_aliases-in-Fold : goal.push_aliases-returns-in_ok-push_aliases-in-Fold
-push_aliases-returns-in_ok-push_aliases-in-Fold t c =
+pub push_aliases-returns-in_ok-push_alias-in-Fold : goal.push_aliases-returns-in_ok-push_alias-in-Fold
+push_aliases-returns-in_ok-push_alias-in-Fold t c =
     let f = c.in-Fold in
     let seen = ap select_view c.in-Fold.is ∙ view_fold f.out f.rows f.alias in
-    beside_end (texts c.args.aliases.now.items) (texts c.push_alias.new.aliases.items) (texts c.push_aliases.new.aliases.items) f.alias (select_view f.rows.value) c.in_ok-push_alias-in-Fold.ensures
-    (c.in_ok-push_aliases-in-Fold.ensures ∙ ap (λ s. texts c.push_alias.new.aliases.items ++ aliases_in (select_view s) []) c.deref.ensures)
-    ∙ ap (λ s. texts c.args.aliases.now.items ++ aliases_in s []) (sym seen)
+    on_ok_weaker c.push_aliases.result
+    (λ e. beside_end (texts c.args.aliases.now.items) (texts c.push_alias.new.aliases.items) (texts c.push_aliases.new.aliases.items) f.alias (select_view f.rows.value) c.in_ok-push_alias-in-Fold.ensures
+    (e ∙ ap (λ s. texts c.push_alias.new.aliases.items ++ aliases_in (select_view s) []) c.deref.ensures)
+    ∙ ap (λ s. texts c.args.aliases.now.items ++ aliases_in s []) (sym seen))
+    c.push_aliases.ensures
 
 pub push_of_joins-loop-join-preserved : goal.push_of_joins-loop-join-preserved
 push_of_joins-loop-join-preserved t c =

@@ -1,12 +1,24 @@
-use Rattle.std.proofs.Common.{◌∙◌, refl, ap, List, ◌+◌, ◌<◌, ◌++◌, map, drop, length, arith}
+use Rattle.std.proofs.Common.{◌∙◌, refl, sym, ap, List, ◌+◌, ◌<◌, ◌++◌, map, drop, length, arith}
+use Rattle.std.proofs.lemmas.Result.{on_ok_weaker}
 use Rattle.hq_sql_tree.specs.declared.select.Join.{Join}
 use Rattle.hq_sql_tree.specs.declared.select.Pred.{Pred}
 use Rattle.hq_sql_tree.specs.Tree.{joins_of, preds_of}
-use Rattle.hq_sql_tree.specs.View.{select_view, join_view, pred_view}
-use Rattle.hq_sql_check.specs.Scans.{places, places_of_joins, places_of_pred, places_of_preds}
+use Rattle.hq_sql_tree.specs.View.{select_view, from_view, join_view, filter_view, pred_view}
+use Rattle.hq_sql_check.specs.Scans.{places, places_of_from, places_of_joins, places_of_filter, places_of_pred, places_of_preds}
 use Rattle.hq_sql_tree.proofs.Next.{next_join, next_pred}
-use Rattle.hq_sql_check.proofs.Next.{piece_more, piece_end}
+use Rattle.hq_sql_tree.proofs.Views.{view_rows}
+use Rattle.hq_sql_check.proofs.Next.{piece_more, piece_end, three_pieces}
 use Rattle.hq_sql_check.proofs.places.+places.Goals as goal
+
+pub add_places-returns-in_ok-add_joins-in-Rows : goal.add_places-returns-in_ok-add_joins-in-Rows
+add_places-returns-in_ok-add_joins-in-Rows t c =
+    let r = c.in-Rows in
+    let tables = c.args.tables.now in
+    let seen = ap select_view c.in-Rows.is ∙ view_rows r.distinct r.outs r.from r.joins r.filter r.order r.limit r.offset in
+    on_ok_weaker c.add_filter.result
+    (λ e. three_pieces c.args.found.now.items c.add_from.new.found.items c.add_joins.new.found.items c.add_filter.new.found.items (places_of_from (from_view r.from) tables) (places_of_joins (joins_of (map join_view r.joins.items)) tables) (places_of_filter (filter_view r.filter) tables)
+    c.in_ok-add_from-in-Rows.ensures c.in_ok-add_joins-in-Rows.ensures e ∙ ap (λ s. c.args.found.now.items ++ places s tables) (sym seen))
+    c.add_filter.ensures
 
 pub add_joins-loop-join-preserved : goal.add_joins-loop-join-preserved
 add_joins-loop-join-preserved t c =
