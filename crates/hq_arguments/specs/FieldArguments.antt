@@ -18,7 +18,7 @@ pub data FieldArguments : Type 0 where
 
 -- what they are seen as
 abbrev pub field_args_view : FieldArgs → FieldArguments
-field_args_view (rust.Rows a) = rows (arguments_view a)
+field_args_view (rust.Rows a) = rows (arguments_view a.value)
 field_args_view (rust.Key vs) = key vs
 field_args_view (rust.Count c distinct) = count c distinct
 field_args_view (rust.TypeName name) = type_name name

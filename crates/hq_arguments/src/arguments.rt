@@ -89,28 +89,29 @@ fn distinct_on_of(
     distinct_on(alloc, context, sorts, given)
 }
 
-// The arguments of a list of rows of a table.
+// The arguments of a list of rows of a table, in a box.
 fn list(
     alloc: Global,
     context: &Context<'_>,
     args: &ArgDefList,
     arguments: &[Argument],
     t: TableId,
-) -> Result<Args, ArgRefusal>
-    ensures { Gives arguments_view refusal.Memory (list_due (context_view context.now) (map arg_view args.now) (map argument_view arguments.now) t) result }
+) -> Result<Box<Args>, ArgRefusal>
+    ensures { Gives (λ a. arguments_view a.value) refusal.Memory (list_due (context_view context.now) (map arg_view args.now) (map argument_view arguments.now) t) result }
 {
     let filter = where_of(alloc, context, args, arguments, t)?;
     let sorts = order_by_of(alloc, context, args, arguments, t)?;
     let limit = rows_of(alloc, context, args, arguments, "limit")?;
     let offset = rows_of(alloc, context, args, arguments, "offset")?;
     let distinct = distinct_on_of(alloc, context, args, arguments, sorts.as_slice())?;
-    Ok(Args {
+    let args = Args {
         filter: Box::into_inner(filter),
         sorts,
         limit,
         offset,
         distinct,
-    })
+    };
+    Ok(Box::new(alloc, args)?)
 }
 
 // The argument `columns` of `count`.

@@ -2,11 +2,11 @@ use hq_ask_tree::{Args, ValList};
 use hq_base::Txt;
 use hq_terms::ColId;
 
-/// The coerced arguments of a field.
+/// The coerced arguments of a field. Those of a list lie in a box, so that they are let go in one step.
 #[derive(Drop)]
 pub enum FieldArgs {
     /// Of a list of rows, or of the aggregates over one.
-    Rows(Args),
+    Rows(Box<Args>),
     /// The values of the columns of a key, in the key's order.
     Key(ValList),
     /// Of `count`.

@@ -258,7 +258,8 @@ fn ask_field(
 {
     let known = known_field_of(alloc, context, place, t, field)?;
     let to = known.def.ty.base();
-    let head = head_of(alloc, context, place, t, known, field)?;
+    let origin = known.def.origin;
+    let head = head_of(alloc, context, place, t, origin, known, field)?;
     with_below(alloc, context, to, t, field, head)
 }
 

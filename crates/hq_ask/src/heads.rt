@@ -2,12 +2,9 @@
 ghost use Rattle.std.specs.Prelude.{◌≡◌};
 ghost use Rattle.hq_base.specs.Due.{Gives};
 ghost use Rattle.hq_arguments.specs.Context.{context_view};
-ghost use Rattle.hq_arguments.specs.FieldArguments.{field_args_view};
 ghost use Rattle.hq_ask.specs.Heads.{leaf, list_head_due, aggregate_head_due, head_by};
 ghost use Rattle.hq_ask.specs.HeadSeen.{head_view};
-ghost use Rattle.hq_ask.specs.Known.{rows_of};
 ghost use Rattle.hq_ask.specs.Seen.{known_view};
-ghost use Rattle.hq_ask_tree.specs.Arguments.{arguments_view};
 ghost use Rattle.hq_ask_tree.specs.Fields.{field_view};
 ghost use Rattle.hq_collect.specs.TreeSeen.{parts_seen};
 ghost use Rattle.hq_coerce.specs.declared.refusal.CoerceRefusal.TheVariants as refusal;
@@ -52,21 +49,8 @@ pub enum Head {
     },
 }
 
-// The arguments of a list, in a box.
-fn boxed_rows(
-    alloc: Global,
-    known: Known<'_>,
-    field: &CollectedField<'_>,
-) -> Result<Box<Args>, CoerceRefusal>
-    ensures { Gives (λ args. arguments_view args.value) refusal.Memory (rows_of (parts_seen field.now).head (known_view known.entry).1) result }
-{
-    let args = rows_of(Box::into_inner(known.args), field)?;
-    Ok(Box::new(alloc, args)?)
-}
-
 // A list of a table.
 fn list_head(
-    alloc: Global,
     table: TableId,
     rel: Option<RelId>,
     known: Known<'_>,
@@ -74,13 +58,12 @@ fn list_head(
 ) -> Result<Head, CoerceRefusal>
     ensures { Gives head_view refusal.Memory (list_head_due table rel (parts_seen field.now).head (known_view known.entry)) result }
 {
-    let args = boxed_rows(alloc, known, field)?;
+    let args = rows_of(Box::into_inner(known.args), field)?;
     Ok(Head::List { table, rel, args })
 }
 
 // The aggregates over a list of a table.
 fn aggregate_head(
-    alloc: Global,
     table: TableId,
     rel: Option<RelId>,
     known: Known<'_>,
@@ -88,7 +71,7 @@ fn aggregate_head(
 ) -> Result<Head, CoerceRefusal>
     ensures { Gives head_view refusal.Memory (aggregate_head_due table rel (parts_seen field.now).head (known_view known.entry)) result }
 {
-    let args = boxed_rows(alloc, known, field)?;
+    let args = rows_of(Box::into_inner(known.args), field)?;
     Ok(Head::Aggregate { table, rel, args })
 }
 
@@ -98,18 +81,19 @@ fn leaf(field: AskField) -> Head
     Head::Leaf(field)
 }
 
-/// What stands at a field of the root, or at a row of a table.
+/// What stands at a field of the root, or at a row of a table, by what the field stands for.
 pub fn head_of(
     alloc: Global,
     context: &Context<'_>,
     place: TypeId,
     t: TableId,
+    origin: FieldOrigin,
     known: Known<'_>,
     field: &CollectedField<'_>,
 ) -> Result<Head, CoerceRefusal>
-    ensures { let k = known_view known.entry in Gives head_view refusal.Memory (head_by (context_view context.now) place t (parts_seen field.now).head k k.0.origin) result }
+    ensures { Gives head_view refusal.Memory (head_by (context_view context.now) place t (parts_seen field.now).head (known_view known.entry) origin) result }
 {
-    match known.def.origin {
+    match origin {
         FieldOrigin::Column(col) => Ok(leaf(AskField::Column { col })),
         FieldOrigin::TypeName => {
             let name = type_name_at(alloc, context.schema, place, field)?;
@@ -121,13 +105,13 @@ pub fn head_of(
             Ok(Head::Object { rel, table })
         }
         FieldOrigin::List(rel) => {
-            list_head(alloc, context.scope.remote(t, rel), Some(rel), known, field)
+            list_head(context.scope.remote(t, rel), Some(rel), known, field)
         }
         FieldOrigin::ListAggregate(rel) => {
-            aggregate_head(alloc, context.scope.remote(t, rel), Some(rel), known, field)
+            aggregate_head(context.scope.remote(t, rel), Some(rel), known, field)
         }
-        FieldOrigin::Rows(table) => list_head(alloc, table, None, known, field),
-        FieldOrigin::RowsAggregate(table) => aggregate_head(alloc, table, None, known, field),
+        FieldOrigin::Rows(table) => list_head(table, None, known, field),
+        FieldOrigin::RowsAggregate(table) => aggregate_head(table, None, known, field),
         FieldOrigin::RowByKey(table) => {
             let key = key_of(Box::into_inner(known.args), field)?;
             Ok(Head::Key { table, key })

@@ -134,8 +134,8 @@ pub fn type_name_at(
 }
 
 /// The arguments of a list.
-pub fn rows_of(args: FieldArgs, field: &CollectedField<'_>) -> Result<Args, CoerceRefusal>
-    ensures { Gives arguments_view refusal.Memory (rows_of (parts_seen field.now).head (field_args_view args)) result }
+pub fn rows_of(args: FieldArgs, field: &CollectedField<'_>) -> Result<Box<Args>, CoerceRefusal>
+    ensures { Gives (λ a. arguments_view a.value) refusal.Memory (rows_of (parts_seen field.now).head (field_args_view args)) result }
 {
     match args {
         FieldArgs::Rows(args) => Ok(args),

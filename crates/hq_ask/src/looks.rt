@@ -53,8 +53,8 @@ pub fn look_of(
     type_name: Option<Txt>,
     deprecated: bool,
     fields: IntroFields,
-) -> Result<IntroField, Memory>
-    ensures { IfOk result (λ l. introspection_view l ≡ look (parts_seen field.now).head.name type_name deprecated (looks_of (map keyed_introspection_view fields.items))) }
+) -> Result<IntroField, CoerceRefusal>
+    ensures { Gives introspection_view refusal.Memory (Ok (look (parts_seen field.now).head.name type_name deprecated (looks_of (map keyed_introspection_view fields.items)))) result }
 {
     let name = name_of(alloc, field.first())?;
     Ok(intro_field(name, type_name, deprecated, fields))
@@ -91,7 +91,7 @@ fn ask_look(
     let to = known.def.ty.base();
     let deprecated = flag_of(known, field)?;
     let fields = ask_looks(alloc, context, to, t, &field.below)?;
-    Ok(look_of(alloc, field, None, deprecated, fields)?)
+    look_of(alloc, field, None, deprecated, fields)
 }
 
 /// The fields of introspection that collected fields ask for in the type of a place.

@@ -1,9 +1,9 @@
 -- One step of a loop that makes a list of what each item gives.
-use Rattle.std.proofs.Common.{◌≡◌, ◌∙◌, ℕ, ◌+◌, ◌<◌, List, [], ◌∷◌, ◌++◌, length, map, take, drop, get_or, refl, sym, ap, append_assoc, Option, Some, None}
+use Rattle.std.proofs.Common.{◌≡◌, ◌∙◌, ℕ, ◌+◌, ◌<◌, ◌≤◌, List, [], ◌∷◌, ◌++◌, length, map, take, drop, get_or, refl, sym, ap, append_assoc, Option, Some, None}
 use Rattle.std.specs.Prelude.{flat_map}
 use Rattle.std.specs.List.{filter_map}
 use Rattle.std.specs.Option.{option_to_list}
-use Rattle.std.proofs.lemmas.List.{take_more, drop_more, map-append}
+use Rattle.std.proofs.lemmas.List.{take_more, drop_more, map-append, append-nil, at_drop_all}
 
 -- the values of the items so far, and that of the next
 pub map_take-more : {A V : Type 0} (f : A → V) (xs : List A) (i : ℕ) (d : A) (done more : List V) → done ≡ map f (take i xs) → i < length xs → more ≡ done ++ f (get_or xs i d) ∷ [] → more ≡ map f (take (i + 1) xs)
@@ -41,4 +41,12 @@ filter_map_drop-more f xs i x o done more whole so_far below is gives grows =
     ∙ append_assoc done (option_to_list o) (filter_map f (drop (i + 1) xs))
     ∙ ap (λ vs. done ++ vs) (sym (filter_map-first f o x (drop (i + 1) xs) gives))
     ∙ ap (λ zs. done ++ filter_map f zs) (sym (drop_more xs i x below ∙ ap (λ y. y ∷ drop (i + 1) xs) (sym is)))
+    ∙ so_far
+
+-- nothing is left
+pub all_done : {A V : Type 0} (F : List A → List V) (xs : List A) (i : ℕ) (done whole : List V) → done ++ F (drop i xs) ≡ whole → length xs ≤ i → F [] ≡ [] → done ≡ whole
+all_done F xs i done whole so_far over none =
+    sym (append-nil done)
+    ∙ ap (λ vs. done ++ vs) (sym none)
+    ∙ sym (at_drop_all (λ ys. done ++ F ys) xs i over)
     ∙ so_far

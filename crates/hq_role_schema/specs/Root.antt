@@ -16,11 +16,14 @@ use Rattle.hq_role_schema.specs.declared.shown.PlacedTable.{PlacedTable}
 abbrev pub key_arg : ShownColumn → ArgTree
 key_arg c = arg c.name (non_null (fixed (scalar_of c.ty))) (arg_origin.Column c.col)
 
--- the look-up by the columns of the key, where they are all permitted
+-- the look-up by the columns of the key
+abbrev pub key_field : PlacedTable → List ShownColumn → FieldTree
+key_field p key = record { name = p.shown.roots.select_by_pk; args = map key_arg key; ty = part p.first Rows; origin = origin.RowByKey p.shown.table }
+
+-- where they are all permitted
 abbrev pub key_fields : PlacedTable → Option (List ShownColumn) → List FieldTree
 key_fields p None = []
-key_fields p (Some key) =
-    record { name = p.shown.roots.select_by_pk; args = map key_arg key; ty = part p.first Rows; origin = origin.RowByKey p.shown.table } ∷ []
+key_fields p (Some key) = key_field p key ∷ []
 
 -- the aggregates over a table's rows, where those are allowed
 abbrev pub aggregate_root : PlacedTable → List FieldTree

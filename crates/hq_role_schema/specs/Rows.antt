@@ -2,12 +2,13 @@
 use Rattle.std.specs.Prelude.{ℕ, List, [], ◌∷◌, Bool, true, not, codes}
 use Rattle.std.specs.Borrow.{Bor}
 use Rattle.hq_base.specs.Text.{has_zero}
-use Rattle.hq_schema.specs.Schema.{TypeRefTree, non_null, ArgTree, FieldTree}
+use Rattle.hq_schema.specs.Schema.{TypeRefTree, named, non_null, ArgTree, FieldTree}
 use Rattle.hq_schema.specs.declared.fixed.Fixed.{Fixed}
 use Rattle.hq_schema.specs.declared.fixed.Fixed.TheVariants.{Boolean}
+use Rattle.hq_schema.specs.declared.origin.ArgOrigin.{ArgOrigin}
 use Rattle.hq_schema.specs.declared.origin.ArgOrigin.TheVariants.{IncludeDeprecated}
 use Rattle.hq_schema.specs.declared.origin.FieldOrigin.TheVariants.{Introspection}
-use Rattle.hq_role_schema.specs.References.{fixed, items, all_items}
+use Rattle.hq_role_schema.specs.References.{fixed, items, all_items, arg}
 use Rattle.hq_role_schema.specs.declared.rows.Shape.{Shape}
 use Rattle.hq_role_schema.specs.declared.rows.Shape.TheVariants.{One, Required, Items, AllItems, Deprecable}
 
@@ -19,12 +20,16 @@ abbrev pub is_clean : Bor (List ℕ) → Bool
 is_clean piece = not (has_zero piece.now)
 
 -- R, R!, [R!] and [R!]!; what may be deprecated is a list
+abbrev pub wrapped : Shape → TypeRefTree → TypeRefTree
+wrapped One r = r
+wrapped Required r = non_null r
+wrapped Items r = items r
+wrapped AllItems r = all_items r
+wrapped Deprecable r = items r
+
+-- the same of a type that each schema has
 abbrev pub shaped : Shape → Fixed → TypeRefTree
-shaped One f = fixed f
-shaped Required f = non_null (fixed f)
-shaped Items f = items (fixed f)
-shaped AllItems f = all_items (fixed f)
-shaped Deprecable f = items (fixed f)
+shaped shape f = wrapped shape (fixed f)
 
 -- includeDeprecated: Boolean = false
 abbrev pub include_deprecated : ArgTree
@@ -42,3 +47,11 @@ clean_row row = is_clean row.0
 -- a row as a field of introspection
 abbrev pub row_field : Bor (List ℕ) × Shape × Fixed → FieldTree
 row_field row = record { name = row.0.now; args = shape_args row.1; ty = shaped row.1 row.2; origin = Introspection }
+
+-- the name of an argument is without zero bytes
+abbrev pub clean_arg : Bor (List ℕ) × Shape × ℕ × ArgOrigin → Bool
+clean_arg row = is_clean row.0
+
+-- a row as an argument
+abbrev pub row_arg : Bor (List ℕ) × Shape × ℕ × ArgOrigin → ArgTree
+row_arg row = arg row.0.now (wrapped row.1 (named row.2)) row.3

@@ -2,8 +2,8 @@ ghost use Rattle.std.specs.Prelude.{◌≡◌, IfOk, map};
 ghost use Rattle.hq_schema.specs.Schema.{arg_view, field_view};
 ghost use Rattle.hq_role_schema.specs.Fields.{list_args, list_field, aggregate_field, count_args};
 
-use crate::member::push_arg;
-use crate::reference::{all_items, fixed, items, non_null, part};
+use crate::reference::{all_items, non_null, part};
+use crate::rows::{Shape, row_args};
 use hq_base::{Memory, Txt};
 use hq_schema::{ArgDefList, ArgOrigin, FieldDef, FieldOrigin, Fixed, NamedList, Part};
 use std::alloc::Global;
@@ -13,39 +13,18 @@ use std::alloc::Global;
 pub fn list_args(alloc: Global, first: u32) -> Result<ArgDefList, Memory>
     ensures { IfOk result (λ args. map arg_view args ≡ list_args first) }
 {
-    let mut args = Vec::new(alloc);
-    let columns = items(alloc, part(first, Part::Columns))?;
-    push_arg(
-        alloc,
-        &mut args,
-        "distinct_on",
-        columns,
-        ArgOrigin::DistinctOn,
-    )?;
-    push_arg(
-        alloc,
-        &mut args,
-        "limit",
-        fixed(Fixed::Int),
-        ArgOrigin::Limit,
-    )?;
-    push_arg(
-        alloc,
-        &mut args,
-        "offset",
-        fixed(Fixed::Int),
-        ArgOrigin::Offset,
-    )?;
-    let sorts = items(alloc, part(first, Part::Sort))?;
-    push_arg(alloc, &mut args, "order_by", sorts, ArgOrigin::OrderBy)?;
-    push_arg(
-        alloc,
-        &mut args,
-        "where",
-        part(first, Part::Filter),
-        ArgOrigin::Where,
-    )?;
-    NamedList::new(alloc, args)
+    let columns = Part::Columns.place(first);
+    let sorts = Part::Sort.place(first);
+    let filter = Part::Filter.place(first);
+    let number = Fixed::Int.place();
+    let rows = [
+        ("distinct_on", Shape::Items, columns, ArgOrigin::DistinctOn),
+        ("limit", Shape::One, number, ArgOrigin::Limit),
+        ("offset", Shape::One, number, ArgOrigin::Offset),
+        ("order_by", Shape::Items, sorts, ArgOrigin::OrderBy),
+        ("where", Shape::One, filter, ArgOrigin::Where),
+    ];
+    NamedList::new(alloc, row_args(alloc, &rows)?)
 }
 
 /// A list of that table's rows.
@@ -87,15 +66,11 @@ pub fn aggregate_field(
 pub fn count_args(alloc: Global, first: u32) -> Result<ArgDefList, Memory>
     ensures { IfOk result (λ args. map arg_view args ≡ count_args first) }
 {
-    let mut args = Vec::new(alloc);
-    let columns = items(alloc, part(first, Part::Columns))?;
-    push_arg(alloc, &mut args, "columns", columns, ArgOrigin::Columns)?;
-    push_arg(
-        alloc,
-        &mut args,
-        "distinct",
-        fixed(Fixed::Boolean),
-        ArgOrigin::Distinct,
-    )?;
-    NamedList::new(alloc, args)
+    let columns = Part::Columns.place(first);
+    let flag = Fixed::Boolean.place();
+    let rows = [
+        ("columns", Shape::Items, columns, ArgOrigin::Columns),
+        ("distinct", Shape::One, flag, ArgOrigin::Distinct),
+    ];
+    NamedList::new(alloc, row_args(alloc, &rows)?)
 }

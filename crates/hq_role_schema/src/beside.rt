@@ -2,8 +2,9 @@ ghost use Rattle.std.specs.Prelude.{◌≡◌, ◌∷◌, [], IfOk, map};
 ghost use Rattle.hq_schema.specs.Schema.{arg_view, field_view};
 ghost use Rattle.hq_role_schema.specs.Root.{type_name_field, schema_field, type_field, condition};
 
-use crate::member::{arg, plain_field};
+use crate::member::plain_field;
 use crate::reference::{fixed, non_null};
+use crate::rows::{Shape, row_args};
 use crate::text::text;
 use hq_base::Memory;
 use hq_schema::{ArgDefList, ArgOrigin, FieldDef, FieldDefList, FieldOrigin, Fixed, NamedList};
@@ -27,11 +28,11 @@ fn schema_field(alloc: Global) -> Result<FieldDef, Memory>
 fn type_field(alloc: Global) -> Result<FieldDef, Memory>
     ensures { IfOk result (λ f. field_view f ≡ type_field) }
 {
-    let name = non_null(alloc, fixed(Fixed::String))?;
-    let args = vec![in alloc; arg(alloc, "name", name, ArgOrigin::TypeName)?]?;
+    let text_type = Fixed::String.place();
+    let rows = [("name", Shape::Required, text_type, ArgOrigin::TypeName)];
     Ok(FieldDef {
         name: text(alloc, "__type")?,
-        args: NamedList::new(alloc, args)?,
+        args: NamedList::new(alloc, row_args(alloc, &rows)?)?,
         ty: fixed(Fixed::Type),
         origin: FieldOrigin::Type,
     })
@@ -41,7 +42,9 @@ fn type_field(alloc: Global) -> Result<FieldDef, Memory>
 pub fn introspection(alloc: Global) -> Result<FieldDefList, Memory>
     ensures { IfOk result (λ fields. map field_view fields ≡ schema_field ∷ type_field ∷ []) }
 {
-    let fields = vec![in alloc; schema_field(alloc)?, type_field(alloc)?]?;
+    let mut fields = Vec::new(alloc);
+    fields.push(schema_field(alloc)?)?;
+    fields.push(type_field(alloc)?)?;
     NamedList::new(alloc, fields)
 }
 
@@ -49,7 +52,7 @@ pub fn introspection(alloc: Global) -> Result<FieldDefList, Memory>
 pub fn conditions(alloc: Global) -> Result<ArgDefList, Memory>
     ensures { IfOk result (λ args. map arg_view args ≡ condition ∷ []) }
 {
-    let ty = non_null(alloc, fixed(Fixed::Boolean))?;
-    let args = vec![in alloc; arg(alloc, "if", ty, ArgOrigin::Condition)?]?;
-    NamedList::new(alloc, args)
+    let flag = Fixed::Boolean.place();
+    let rows = [("if", Shape::Required, flag, ArgOrigin::Condition)];
+    NamedList::new(alloc, row_args(alloc, &rows)?)
 }

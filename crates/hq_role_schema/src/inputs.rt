@@ -3,8 +3,9 @@ ghost use Rattle.std.specs.List.{filter_map};
 ghost use Rattle.hq_schema.specs.Schema.{arg_view};
 ghost use Rattle.hq_role_schema.specs.Inputs.{connectives, input_type, column_input, is_filter, link_input, inputs_of, part_inputs, part_values, part_columns};
 
-use crate::member::{arg_of, push_arg};
-use crate::reference::{fixed, items, part};
+use crate::member::arg_of;
+use crate::reference::{fixed, part};
+use crate::rows::{Shape, row_args};
 use crate::shown::{Link, LinkList, ShownColumn, ShownColumnList};
 use hq_base::{List, Memory, Txt, Ty};
 use hq_schema::{ArgDef, ArgDefList, ArgOrigin, Fixed, NamedList, Part, TxtList};
@@ -14,19 +15,13 @@ use std::alloc::Global;
 fn connectives(alloc: Global, first: u32) -> Result<Vec<ArgDef>, Memory>
     ensures { IfOk result (λ inputs. map arg_view inputs.items ≡ connectives first) }
 {
-    let mut inputs = Vec::new(alloc);
-    let all = items(alloc, part(first, Part::Filter))?;
-    push_arg(alloc, &mut inputs, "_and", all, ArgOrigin::And)?;
-    push_arg(
-        alloc,
-        &mut inputs,
-        "_not",
-        part(first, Part::Filter),
-        ArgOrigin::Not,
-    )?;
-    let any = items(alloc, part(first, Part::Filter))?;
-    push_arg(alloc, &mut inputs, "_or", any, ArgOrigin::Or)?;
-    Ok(inputs)
+    let filter = Part::Filter.place(first);
+    let rows = [
+        ("_and", Shape::Items, filter, ArgOrigin::And),
+        ("_not", Shape::One, filter, ArgOrigin::Not),
+        ("_or", Shape::Items, filter, ArgOrigin::Or),
+    ];
+    row_args(alloc, &rows)
 }
 
 fn input_type(p: Part, ty: Ty) -> Fixed

@@ -1,4 +1,4 @@
-ghost use Rattle.std.specs.Prelude.{◌≡◌, ◌++◌, ◌∷◌, [], IfOk, OnOk, false, map};
+ghost use Rattle.std.specs.Prelude.{◌≡◌, IfOk, false};
 ghost use Rattle.hq_base.specs.Text.{has_zero};
 ghost use Rattle.hq_schema.specs.Schema.{type_ref_view, arg_view, field_view};
 ghost use Rattle.hq_role_schema.specs.References.{arg, plain_field};
@@ -7,34 +7,6 @@ use crate::text::text;
 use hq_base::{Memory, Txt};
 use hq_schema::{ArgDef, ArgOrigin, FieldDef, FieldOrigin, NamedList, TypeRef};
 use std::alloc::Global;
-
-/// An argument or an input field without a default.
-pub fn arg(alloc: Global, name: &str, ty: TypeRef, origin: ArgOrigin) -> Result<ArgDef, Memory>
-    requires { has_zero name.now ≡ false }
-    ensures { IfOk result (λ a. arg_view a ≡ arg name.now (type_ref_view ty) origin) }
-{
-    Ok(ArgDef {
-        name: text(alloc, name)?,
-        ty,
-        default_false: false,
-        origin,
-    })
-}
-
-/// Adds an argument or an input field without a default.
-pub fn push_arg(
-    alloc: Global,
-    args: &mut Vec<ArgDef>,
-    name: &str,
-    ty: TypeRef,
-    origin: ArgOrigin,
-) -> Result<(), Memory>
-    requires { has_zero name.now ≡ false }
-    ensures { OnOk result (map arg_view args.new.items ≡ map arg_view args.old.items ++ arg name.now (type_ref_view ty) origin ∷ []) }
-{
-    args.push(arg(alloc, name, ty, origin)?)?;
-    Ok(())
-}
 
 /// An argument, under the name of a column or a relationship.
 pub fn arg_of(alloc: Global, name: &Txt, ty: TypeRef, origin: ArgOrigin) -> Result<ArgDef, Memory>

@@ -1,12 +1,12 @@
 ghost use Rattle.std.specs.Prelude.{◌≡◌, IfOk, false, filter, map};
 ghost use Rattle.hq_base.specs.Text.{has_zero};
-ghost use Rattle.hq_schema.specs.Schema.{type_ref_view, arg_view};
+ghost use Rattle.hq_schema.specs.Schema.{arg_view};
 ghost use Rattle.hq_role_schema.specs.Operators.{all_operators, operator_name, operator_type, applies, operator_arg, operator_inputs};
+ghost use Rattle.hq_role_schema.specs.Rows.{shaped};
 
-use crate::member::arg;
-use crate::reference::{fixed, items};
+use crate::rows::{Shape, row_arg};
 use hq_base::{Memory, Ty};
-use hq_schema::{ArgDef, ArgOrigin, Fixed, Operator, TypeRef};
+use hq_schema::{ArgDef, ArgOrigin, Fixed, Operator};
 use hq_terms::Op;
 use std::alloc::Global;
 
@@ -76,13 +76,14 @@ fn operator_name(operator: Operator) -> &'static str
     }
 }
 
-fn operator_type(alloc: Global, operator: Operator, scalar: Ty) -> Result<TypeRef, Memory>
-    ensures { IfOk result (λ r. type_ref_view r ≡ operator_type scalar operator) }
+// How the type of an operator's value is wrapped, and that type.
+fn operator_type(operator: Operator, scalar: Ty) -> (Shape, Fixed)
+    ensures { shaped result.0 result.1 ≡ operator_type scalar operator }
 {
     match operator {
-        Operator::Within { .. } => items(alloc, fixed(Fixed::scalar_of(scalar))),
-        Operator::NullTest => Ok(fixed(Fixed::Boolean)),
-        _ => Ok(fixed(Fixed::scalar_of(scalar))),
+        Operator::Within { .. } => (Shape::Items, Fixed::scalar_of(scalar)),
+        Operator::NullTest => (Shape::One, Fixed::Boolean),
+        _ => (Shape::One, Fixed::scalar_of(scalar)),
     }
 }
 
@@ -99,13 +100,10 @@ fn applies(operator: Operator, scalar: Ty) -> bool
 fn operator_arg(alloc: Global, operator: Operator, scalar: Ty) -> Result<ArgDef, Memory>
     ensures { IfOk result (λ a. arg_view a ≡ operator_arg scalar operator) }
 {
-    let ty = operator_type(alloc, operator, scalar)?;
-    arg(
-        alloc,
-        operator_name(operator),
-        ty,
-        ArgOrigin::Operator(operator),
-    )
+    let (shape, of) = operator_type(operator, scalar);
+    let origin = ArgOrigin::Operator(operator);
+    let row = (operator_name(operator), shape, of.place(), origin);
+    row_arg(alloc, &row)
 }
 
 // Those of the operators that are ones of a scalar.

@@ -23,13 +23,19 @@ fn part_type(
     ensures { IfOk result (λ t. type_view t ≡ part_type placed.now links.now part) }
 {
     let shown = &placed.shown;
+    // what is let go in the fewest steps comes first
+    let columns = part_columns(alloc, &shown.columns, part)?;
+    let name = suffixed(alloc, &shown.name, part.suffix())?;
+    let values = part_values(alloc, &shown.columns, part)?;
+    let inputs = part_inputs(alloc, placed.first, &shown.columns, links, part)?;
+    let fields = part_fields(alloc, placed.first, &shown.columns, links, part)?;
     Ok(TypeDef {
-        name: suffixed(alloc, &shown.name, part.suffix())?,
+        name,
         kind: part.kind(),
-        fields: part_fields(alloc, placed.first, &shown.columns, links, part)?,
-        inputs: part_inputs(alloc, placed.first, &shown.columns, links, part)?,
-        values: part_values(alloc, &shown.columns, part)?,
-        columns: part_columns(alloc, &shown.columns, part)?,
+        fields,
+        inputs,
+        values,
+        columns,
         origin: part.origin(shown.table),
     })
 }

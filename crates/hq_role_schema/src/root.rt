@@ -1,6 +1,6 @@
 ghost use Rattle.std.specs.Prelude.{◌≡◌, ◌++◌, IfOk, OnOk, [], map, flat_map};
 ghost use Rattle.hq_schema.specs.Schema.{arg_view, field_view};
-ghost use Rattle.hq_role_schema.specs.Root.{key_arg, key_fields, aggregate_root, root_fields, query_fields};
+ghost use Rattle.hq_role_schema.specs.Root.{key_arg, key_field, key_fields, aggregate_root, root_fields, query_fields};
 
 use crate::arguments::{aggregate_field, list_field};
 use crate::member::{arg_of, plain_field};
@@ -27,7 +27,19 @@ fn key_args(alloc: Global, key: &ShownColumnList) -> Result<ArgDefList, Memory>
     NamedList::new(alloc, args)
 }
 
-// Adds the look-up by the columns of the key, where they are all permitted.
+// The look-up by the columns of the key.
+fn key_field(alloc: Global, placed: &PlacedTable, key: &ShownColumnList) -> Result<FieldDef, Memory>
+    ensures { IfOk result (λ f. field_view f ≡ key_field placed.now key.now) }
+{
+    Ok(FieldDef {
+        name: placed.shown.roots.select_by_pk.copy(alloc)?,
+        args: key_args(alloc, key)?,
+        ty: part(placed.first, Part::Rows),
+        origin: FieldOrigin::RowByKey(placed.shown.table),
+    })
+}
+
+// Adds it, where they are all permitted.
 fn push_by_key(
     alloc: Global,
     fields: &mut Vec<FieldDef>,
@@ -38,12 +50,7 @@ fn push_by_key(
     let Some(key) = &placed.shown.key else {
         return Ok(());
     };
-    fields.push(FieldDef {
-        name: placed.shown.roots.select_by_pk.copy(alloc)?,
-        args: key_args(alloc, key)?,
-        ty: part(placed.first, Part::Rows),
-        origin: FieldOrigin::RowByKey(placed.shown.table),
-    })?;
+    fields.push(key_field(alloc, placed, key)?)?;
     Ok(())
 }
 

@@ -8,6 +8,7 @@ use crate::shown::{ShownColumn, ShownColumnList, ShownTable, ShownTableList};
 use hq_base::{List, Memory, Txt};
 use hq_terms::{
     Catalog, ColId, ColList, Column, Meta, PermView, Role, Table, Tracked, TryCopy, copy_list,
+    has_column,
 };
 use std::alloc::Global;
 
@@ -50,17 +51,13 @@ fn shown_columns(
     Ok(columns)
 }
 
-fn has_column(cols: &ColList, col: ColId) -> bool
-    ensures { result ≡ list_any (λ d. d == col) cols.now }
-{
-    cols.as_slice().iter().any(|c| c.at() == col.at())
-}
-
 // Whether all columns of the key are permitted.
 fn has_key(key: &ColList, cols: &ColList) -> bool
     ensures { result ≡ list_all (λ c. list_any (λ d. d == c) cols.now) key.now }
 {
-    key.as_slice().iter().all(|c| has_column(cols, *c))
+    key.as_slice()
+        .iter()
+        .all(|c| has_column(cols.as_slice(), *c))
 }
 
 fn shown_key(

@@ -1,13 +1,13 @@
-use Rattle.std.proofs.Common.{◌∙◌, ap, refl, subst, List, map}
+use Rattle.std.proofs.Common.{◌∙◌, ap, refl, sym, subst, List, map}
 use Rattle.std.proofs.lemmas.List.{map-append}
-use Rattle.hq_base.specs.Due.{Gives}
+use Rattle.hq_base.specs.Due.{Gives, mapped}
 use Rattle.hq_base.specs.Json.{json_view, member_view, elements_of, members_of}
 use Rattle.hq_base.specs.declared.json.Json.{Json}
 use Rattle.hq_base.specs.declared.json.Member.{Member}
-use Rattle.hq_terms.specs.Bexp.{bexp_view}
+use Rattle.hq_terms.specs.Bexp.{bexp_view, and_of, or_of, not_of, bexps_of, through}
 use Rattle.hq_coerce.proofs.Refusals.{passed_up}
 use Rattle.hq_arguments.specs.Context.{context_view}
-use Rattle.hq_arguments.specs.Where.{elements_due, filter_due, members_due, named_due}
+use Rattle.hq_arguments.specs.Where.{by_origin, elements_due, filter_due, filters_due, members_due, named_due}
 use Rattle.hq_arguments.specs.declared.refusal.ArgRefusal.{ArgRefusal}
 use Rattle.hq_arguments.specs.declared.refusal.ArgRefusal.TheVariants.{Memory}
 use Rattle.hq_arguments.proofs.Named.{filter_named}
@@ -59,3 +59,39 @@ member_filter-returns-in-Some t c =
     subst (λ due. Gives bexp_view Memory due c.filter_by.result)
     (filter_named (context_view c.args.context.now) c.args.p c.args.t c.base.result c.args.member.now c.in-Some.arg.now c.in-Some.ensures c.base.ensures)
     c.filter_by.ensures
+
+pub filter_by-returns-in_err-filters-in-And : goal.filter_by-returns-in_err-filters-in-And
+filter_by-returns-in_err-filters-in-And t c =
+    let x = context_view c.args.context.now in
+    let j = json_view c.args.json.now in
+    let e : ArgRefusal = c.in_err-filters-in-And.field-0.0 in
+    passed_up bexp_view Memory e _ _ c.from_residual.result
+    (λ given. ap (by_origin (λ q u. filter_due j x q u) (λ q. filters_due j x q c.args.t) j x c.args.t c.args.p) c.in-And.is ∙ ap (mapped (λ bs. and_of (bexps_of bs))) given)
+    c.in_err-filters-in-And.ensures c.from_residual.ensures.1
+
+pub filter_by-returns-in_err-filters-in-Or : goal.filter_by-returns-in_err-filters-in-Or
+filter_by-returns-in_err-filters-in-Or t c =
+    let x = context_view c.args.context.now in
+    let j = json_view c.args.json.now in
+    let e : ArgRefusal = c.in_err-filters-in-Or.field-0.0 in
+    passed_up bexp_view Memory e _ _ c.from_residual-in_err-filters-in-Or.result
+    (λ given. ap (by_origin (λ q u. filter_due j x q u) (λ q. filters_due j x q c.args.t) j x c.args.t c.args.p) c.in-Or.is ∙ ap (mapped (λ bs. or_of (bexps_of bs))) given)
+    c.in_err-filters-in-Or.ensures c.from_residual-in_err-filters-in-Or.ensures.1
+
+pub filter_by-returns-in_err-inner-in-Not : goal.filter_by-returns-in_err-inner-in-Not
+filter_by-returns-in_err-inner-in-Not t c =
+    let x = context_view c.args.context.now in
+    let j = json_view c.args.json.now in
+    let e : ArgRefusal = c.in_err-inner-in-Not.field-0.0 in
+    passed_up bexp_view Memory e _ _ c.from_residual-in_err-inner-in-Not.result
+    (λ given. ap (by_origin (λ q u. filter_due j x q u) (λ q. filters_due j x q c.args.t) j x c.args.t c.args.p) c.in-Not.is ∙ ap (mapped not_of) given)
+    c.in_err-inner-in-Not.ensures c.from_residual-in_err-inner-in-Not.ensures.1
+
+pub filter_by-returns-in_err-inner-in-Relationship : goal.filter_by-returns-in_err-inner-in-Relationship
+filter_by-returns-in_err-inner-in-Relationship t c =
+    let x = context_view c.args.context.now in
+    let j = json_view c.args.json.now in
+    let e : ArgRefusal = c.in_err-inner-in-Relationship.field-0.0 in
+    passed_up bexp_view Memory e _ _ c.from_residual-in_err-inner-in-Relationship.result
+    (λ given. ap (by_origin (λ q u. filter_due j x q u) (λ q. filters_due j x q c.args.t) j x c.args.t c.args.p) c.in-Relationship.is ∙ ap (mapped (through c.in-Relationship.rel)) (ap (filter_due j x c.args.p) (sym c.remote-remote.ensures) ∙ given))
+    c.in_err-inner-in-Relationship.ensures c.from_residual-in_err-inner-in-Relationship.ensures.1

@@ -9,7 +9,7 @@ use Rattle.hq_arguments.specs.Sorts.{members_due, named_due}
 use Rattle.hq_arguments.specs.declared.refusal.ArgRefusal.{ArgRefusal}
 use Rattle.hq_arguments.specs.declared.refusal.ArgRefusal.TheVariants.{Memory}
 use Rattle.hq_arguments.proofs.Named.{sort_named}
-use Rattle.hq_arguments.proofs.Steps.{join_more, join_refused}
+use Rattle.hq_arguments.proofs.Steps.{join_more, join_refused, read_all}
 use Rattle.hq_arguments.proofs.sorts.+entry.Goals as goal
 
 pub with_members-loop-member-preserved : goal.with_members-loop-member-preserved
@@ -28,6 +28,11 @@ with_members-returns-in_err-next t c =
     (join_refused (λ (ms : List Member). members_due (members_of (map member_view ms)) x through c.args.p c.args.t) (λ (m : Member). named_due x through c.args.p c.args.t (member_view m).0 (member_view m).1) (λ m ms. refl)
     c.deref-member-items.result.now c.loop-member.member-index c.member-item.result (sorts_view c.loop-member.sorts) e _ c.loop-member.invariant c.loop-member-test.true c.member-item.is)
     c.in_err-next.ensures c.from_residual.ensures.1
+
+pub with_members-returns : goal.with_members-returns
+with_members-returns t c =
+    let x = context_view c.args.context.now in
+    read_all (λ (ms : List Member). members_due (members_of (map member_view ms)) x c.args.through.now c.args.p c.args.t) c.deref-member-items.result.now c.loop-member.member-index (sorts_view c.loop-member.sorts) _ c.loop-member.invariant c.loop-member-test.false refl
 
 pub with_member-returns-in-Some : goal.with_member-returns-in-Some
 with_member-returns-in-Some t c =

@@ -1,10 +1,10 @@
-use Rattle.std.proofs.Common.{◌≡◌, ◌∙◌, ap, sym, map, length, List, Ok, Err, inl, inr, rules}
-use Rattle.std.specs.Prelude.{◌⊎◌}
+use Rattle.std.proofs.Common.{◌≡◌, ◌∙◌, ap, sym, map, length, List, Ok}
 use Rattle.hq_ask.proofs.Steps.{first_stops, second_stops, third_stops, fourth_stops, all_given}
 use Rattle.hq_ask.specs.Due.{operation_of, collected_due, root_due, bound_in, build_due}
 use Rattle.hq_ask_tree.specs.Fields.{FieldTrees, fields_of, keyed_field_view}
-use Rattle.hq_ask_tree.specs.Request.{BoundTree, bound_view}
+use Rattle.hq_ask_tree.specs.Request.{BoundTree, bound_view, ask_view}
 use Rattle.hq_bound.specs.Laws.{request_of}
+use Rattle.hq_coerce.proofs.Refusals.{passed_up}
 use Rattle.hq_coerce.specs.Choice.{operation_at}
 use Rattle.hq_coerce.specs.Variables.{VarTree, var_view}
 use Rattle.hq_coerce.specs.declared.refusal.CoerceRefusal.{CoerceRefusal}
@@ -31,13 +31,10 @@ returns-in_err-operation c =
     let m : MetaTree = meta_view c.args.meta.now in
     let session : Session = c.args.session.now in
     let e : CoerceRefusal = c.in_err-operation.field-0.0 in
-    let refused : (e ≡ Memory) ⊎ (build_due d c.args.op vars schema tables m session ≡ Err e) =
-    elim c.in_err-operation.ensures [
-      | inl want ↦ inl want
-      | inr given ↦ inr (first_stops (operation_of (operation_at d c.args.op)) (collected_due d vars) (root_due vars schema (schema_of tables m) (length tables))
-          (bound_in m (schema_of tables m) session (length tables)) (request_of session) e given)
-    ] in
-    search rules
+    passed_up ask_view Memory e _ _ c.from_residual.result
+    (λ given. first_stops (operation_of (operation_at d c.args.op)) (collected_due d vars) (root_due vars schema (schema_of tables m) (length tables))
+    (bound_in m (schema_of tables m) session (length tables)) (request_of session) e given)
+    c.in_err-operation.ensures c.from_residual.ensures.1
 
 pub returns-in_err-collected : goal.returns-in_err-collected
 unfolding build_due
@@ -50,14 +47,11 @@ returns-in_err-collected c =
     let session : Session = c.args.session.now in
     let o : OperationTree = operation_view c.in_ok-operation.operation.now in
     let e : CoerceRefusal = c.in_err-collected.field-0.0 in
-    let refused : (e ≡ Memory) ⊎ (build_due d c.args.op vars schema tables m session ≡ Err e) =
-    elim c.in_err-collected.ensures.due [
-      | inl want ↦ inl want
-      | inr given ↦ inr (second_stops (operation_of (operation_at d c.args.op)) (collected_due d vars) (root_due vars schema (schema_of tables m) (length tables))
-          (bound_in m (schema_of tables m) session (length tables)) (request_of session) o e
-          c.in_ok-operation.ensures (ap (λ (x : DocumentTree). collected_due x vars o) (sym c.in_ok-fragments.ensures) ∙ given))
-    ] in
-    search rules
+    passed_up ask_view Memory e _ _ c.from_residual-in_err-collected.result
+    (λ given. second_stops (operation_of (operation_at d c.args.op)) (collected_due d vars) (root_due vars schema (schema_of tables m) (length tables))
+    (bound_in m (schema_of tables m) session (length tables)) (request_of session) o e
+    c.in_ok-operation.ensures (ap (λ (x : DocumentTree). collected_due x vars o) (sym c.in_ok-fragments.ensures) ∙ given))
+    c.in_err-collected.ensures.due c.from_residual-in_err-collected.ensures.1
 
 pub returns-in_err-fields : goal.returns-in_err-fields
 unfolding build_due
@@ -71,14 +65,11 @@ returns-in_err-fields c =
     let o : OperationTree = operation_view c.in_ok-operation.operation.now in
     let fs : CollectedTrees = trees_of (map collected_view c.in_ok-collected.collected.items) in
     let e : CoerceRefusal = c.in_err-fields.field-0.0 in
-    let refused : (e ≡ Memory) ⊎ (build_due d c.args.op vars schema tables m session ≡ Err e) =
-    elim c.in_err-fields.ensures [
-      | inl want ↦ inl want
-      | inr given ↦ inr (third_stops (operation_of (operation_at d c.args.op)) (collected_due d vars) (root_due vars schema (schema_of tables m) (length tables))
-          (bound_in m (schema_of tables m) session (length tables)) (request_of session) o fs e
-          c.in_ok-operation.ensures (ap (λ (x : DocumentTree). collected_due x vars o) (sym c.in_ok-fragments.ensures) ∙ c.in_ok-collected.ensures.due) given)
-    ] in
-    search rules
+    passed_up ask_view Memory e _ _ c.from_residual-in_err-fields.result
+    (λ given. third_stops (operation_of (operation_at d c.args.op)) (collected_due d vars) (root_due vars schema (schema_of tables m) (length tables))
+    (bound_in m (schema_of tables m) session (length tables)) (request_of session) o fs e
+    c.in_ok-operation.ensures (ap (λ (x : DocumentTree). collected_due x vars o) (sym c.in_ok-fragments.ensures) ∙ c.in_ok-collected.ensures.due) given)
+    c.in_err-fields.ensures c.from_residual-in_err-fields.ensures.1
 
 pub returns-in_err-bound : goal.returns-in_err-bound
 unfolding build_due
@@ -93,14 +84,11 @@ returns-in_err-bound c =
     let fs : CollectedTrees = trees_of (map collected_view c.in_ok-collected.collected.items) in
     let asks : FieldTrees = fields_of (map keyed_field_view c.in_ok-fields.fields.items) in
     let e : CoerceRefusal = c.in_err-bound.field-0.0 in
-    let refused : (e ≡ Memory) ⊎ (build_due d c.args.op vars schema tables m session ≡ Err e) =
-    elim c.in_err-bound.ensures [
-      | inl want ↦ inl want
-      | inr given ↦ inr (fourth_stops (operation_of (operation_at d c.args.op)) (collected_due d vars) (root_due vars schema (schema_of tables m) (length tables))
-          (bound_in m (schema_of tables m) session (length tables)) (request_of session) o fs asks e
-          c.in_ok-operation.ensures (ap (λ (x : DocumentTree). collected_due x vars o) (sym c.in_ok-fragments.ensures) ∙ c.in_ok-collected.ensures.due) c.in_ok-fields.ensures given)
-    ] in
-    search rules
+    passed_up ask_view Memory e _ _ c.from_residual-in_err-bound.result
+    (λ given. fourth_stops (operation_of (operation_at d c.args.op)) (collected_due d vars) (root_due vars schema (schema_of tables m) (length tables))
+    (bound_in m (schema_of tables m) session (length tables)) (request_of session) o fs asks e
+    c.in_ok-operation.ensures (ap (λ (x : DocumentTree). collected_due x vars o) (sym c.in_ok-fragments.ensures) ∙ c.in_ok-collected.ensures.due) c.in_ok-fields.ensures given)
+    c.in_err-bound.ensures c.from_residual-in_err-bound.ensures.1
 
 pub returns : goal.returns
 unfolding build_due

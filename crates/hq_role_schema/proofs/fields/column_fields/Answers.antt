@@ -1,10 +1,10 @@
-use Rattle.std.proofs.Common.{◌≡◌, ◌∙◌, ◌++◌, sym, ap, map, Option, Some, None, rules}
+use Rattle.std.proofs.Common.{◌≡◌, ◌∙◌, ◌++◌, refl, sym, ap, map, Option, Some, None, rules}
 use Rattle.std.specs.Prelude.{option_map}
 use Rattle.std.specs.Option.{option_to_list}
 use Rattle.std.proofs.lemmas.List.{map-append, append-nil}
 use Rattle.hq_schema.specs.Schema.{FieldTree, field_view}
-use Rattle.hq_role_schema.specs.Fields.{column_field}
-use Rattle.hq_role_schema.proofs.Loops.{filter_map_drop-more}
+use Rattle.hq_role_schema.specs.Fields.{column_field, column_fields}
+use Rattle.hq_role_schema.proofs.Loops.{filter_map_drop-more, all_done}
 use Rattle.hq_role_schema.proofs.fields.column_fields.Goals as goal
 use Rattle.hq_role_schema.proofs.fields.column_fields.Goals.{in-Some+in_ok-push, in_default}
 
@@ -18,3 +18,8 @@ loop-column-preserved c =
           let none : c.in_ok-field.field-0 ≡ None = search rules in
           step None (sym c.in_ok-field.ensures ∙ ap (option_map field_view) none) (ap (λ v. map field_view v.items) w.fields-is ∙ sym (append-nil _))
     ]
+
+pub returns : goal.returns
+returns c =
+    all_done (column_fields c.args.p) c.as_slice-column-items.result.now c.loop-column.column-index (map field_view c.loop-column.fields.items) _ c.loop-column.invariant c.loop-column-test.false refl
+    ∙ ap (column_fields c.args.p) c.as_slice-column-items.ensures

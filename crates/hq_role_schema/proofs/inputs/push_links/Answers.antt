@@ -1,10 +1,11 @@
-use Rattle.std.proofs.Common.{◌≡◌, ◌∙◌, ◌++◌, sym, ap, map, Option, Some, None, rules}
+use Rattle.std.proofs.Common.{◌≡◌, ◌∙◌, ◌++◌, refl, sym, ap, map, Option, Some, None, rules}
 use Rattle.std.specs.Prelude.{option_map}
+use Rattle.std.specs.List.{filter_map}
 use Rattle.std.specs.Option.{option_to_list}
 use Rattle.std.proofs.lemmas.List.{map-append, append-nil}
 use Rattle.hq_schema.specs.Schema.{ArgTree, arg_view}
 use Rattle.hq_role_schema.specs.Inputs.{link_input}
-use Rattle.hq_role_schema.proofs.Loops.{filter_map_drop-more}
+use Rattle.hq_role_schema.proofs.Loops.{filter_map_drop-more, all_done}
 use Rattle.hq_role_schema.proofs.inputs.push_links.Goals as goal
 use Rattle.hq_role_schema.proofs.inputs.push_links.Goals.{in-Some+in_ok-push, in_default}
 
@@ -18,3 +19,8 @@ loop-link-preserved c =
           let none : c.in_ok-input.field-0 ≡ None = search rules in
           step None (sym c.in_ok-input.ensures ∙ ap (option_map arg_view) none) (ap (λ v. map arg_view v.items) w.inputs-is ∙ sym (append-nil _))
     ]
+
+pub returns : goal.returns
+returns c =
+    all_done (filter_map (link_input c.args.p)) c.as_slice-link-items.result.now c.loop-link.link-index (map arg_view c.loop-link.inputs.items) _ c.loop-link.invariant c.loop-link-test.false refl
+    ∙ ap (λ ls. map arg_view c.args.inputs.now.items ++ filter_map (link_input c.args.p) ls) c.as_slice-link-items.ensures
