@@ -1,63 +1,66 @@
 //! The arguments of lists in words.
 
 use hq_ask_tree::{Args, Sort};
-use hq_case::push_bexp;
+use hq_case::{Words, push_bexp};
 use hq_terms::{Bexp, ColId, RelId};
-use std::alloc::AllocError;
 
-fn push_through(through: &[RelId], out: &mut String) -> Result<(), AllocError> {
+fn push_through(through: &[RelId], words: &mut Words) {
     for rel in through {
-        write!(out, "r{}.", rel.at())?;
+        words.push("r");
+        words.push_place(rel.at());
+        words.push(".");
     }
-    Ok(())
 }
 
 // A sort: its column, its direction, and the place of NULLs.
-fn push_sort(sort: &Sort, out: &mut String) -> Result<(), AllocError> {
-    push_through(sort.through.as_slice(), out)?;
-    let direction = if sort.desc { "desc" } else { "asc" };
-    let nulls = if sort.nulls_first { "first" } else { "last" };
-    write!(out, "c{} {direction} nulls {nulls}", sort.col.at())
+fn push_sort(sort: &Sort, words: &mut Words) {
+    push_through(sort.through.as_slice(), words);
+    words.push("c");
+    words.push_place(sort.col.at());
+    words.push(if sort.desc {
+        " desc nulls "
+    } else {
+        " asc nulls "
+    });
+    words.push(if sort.nulls_first { "first" } else { "last" });
 }
 
-fn push_sorts(sorts: &[Sort], out: &mut String) -> Result<(), AllocError> {
+fn push_sorts(sorts: &[Sort], words: &mut Words) {
     for (at, sort) in sorts.iter().enumerate() {
-        out.push_str(if at == 0 { " order " } else { ", " })?;
-        push_sort(sort, out)?;
+        words.push(if at == 0 { " order " } else { ", " });
+        push_sort(sort, words);
     }
-    Ok(())
 }
 
-fn push_distinct(cols: &[ColId], out: &mut String) -> Result<(), AllocError> {
+fn push_distinct(cols: &[ColId], words: &mut Words) {
     for (at, col) in cols.iter().enumerate() {
-        let before = if at == 0 { " distinct " } else { ", " };
-        write!(out, "{before}c{}", col.at())?;
+        words.push(if at == 0 { " distinct c" } else { ", c" });
+        words.push_place(col.at());
     }
-    Ok(())
 }
 
-fn push_where(filter: &Bexp, out: &mut String) -> Result<(), AllocError> {
+fn push_where(filter: &Bexp, words: &mut Words) {
     match filter {
-        Bexp::True => Ok(()),
+        Bexp::True => {}
         _ => {
-            out.push_str(" where ")?;
-            push_bexp(filter, out)
+            words.push(" where ");
+            push_bexp(filter, words);
         }
     }
 }
 
-fn push_rows(word: &str, rows: Option<u32>, out: &mut String) -> Result<(), AllocError> {
-    match rows {
-        Some(rows) => write!(out, " {word} {rows}"),
-        None => Ok(()),
+fn push_rows(word: &str, rows: Option<u32>, words: &mut Words) {
+    if let Some(rows) = rows {
+        words.push(word);
+        words.push_number(u64::from(rows));
     }
 }
 
 /// Adds the arguments of a list, each behind a blank; those that choose nothing are left out.
-pub fn push_args(args: &Args, out: &mut String) -> Result<(), AllocError> {
-    push_where(&args.filter, out)?;
-    push_sorts(args.sorts.as_slice(), out)?;
-    push_rows("limit", args.limit, out)?;
-    push_rows("offset", args.offset, out)?;
-    push_distinct(args.distinct.as_slice(), out)
+pub fn push_args(args: &Args, words: &mut Words) {
+    push_where(&args.filter, words);
+    push_sorts(args.sorts.as_slice(), words);
+    push_rows(" limit ", args.limit, words);
+    push_rows(" offset ", args.offset, words);
+    push_distinct(args.distinct.as_slice(), words);
 }

@@ -6,208 +6,191 @@ use hq_ask_tree::{
     IntroFields, KeyedAggCol, KeyedAggField,
 };
 use hq_base::{Txt, Val};
-use hq_case::{push_bexp, push_value};
+use hq_case::{Words, push_bexp, push_value};
 use hq_terms::{ColId, RelId, TableId};
-use std::alloc::AllocError;
 
-// What stands before the member at a place.
-fn before(at: usize) -> &'static str {
-    if at == 0 { "" } else { ", " }
+// The key of the field at a place, behind what parts it from the one before.
+fn push_key(at: usize, key: &Txt, words: &mut Words) {
+    words.push(if at == 0 { "" } else { ", " });
+    words.push_pair(key.as_str(), ": ");
 }
 
-// The key of the field at a place.
-fn push_key(at: usize, key: &Txt, out: &mut String) -> Result<(), AllocError> {
-    write!(out, "{}{}: ", before(at), key.as_str())
+fn push_type(name: &Txt, words: &mut Words) {
+    words.push_pair("'", name.as_str());
+    words.push("'");
 }
 
-fn push_type(name: &Txt, out: &mut String) -> Result<(), AllocError> {
-    write!(out, "'{}'", name.as_str())
+// A letter with a place.
+fn push_at(letter: &str, at: usize, words: &mut Words) {
+    words.push(letter);
+    words.push_place(at);
 }
 
-fn push_count(col: Option<ColId>, distinct: bool, out: &mut String) -> Result<(), AllocError> {
-    out.push_str(if distinct { "count distinct" } else { "count" })?;
-    match col {
-        Some(col) => write!(out, " c{}", col.at()),
-        None => Ok(()),
+fn push_count(col: Option<ColId>, distinct: bool, words: &mut Words) {
+    words.push(if distinct { "count distinct" } else { "count" });
+    if let Some(col) = col {
+        push_at(" c", col.at(), words);
     }
 }
 
-fn push_taken(word: &str, taken: &[KeyedAggCol], out: &mut String) -> Result<(), AllocError> {
-    write!(out, "{word} {{")?;
+fn push_taken(word: &str, taken: &[KeyedAggCol], words: &mut Words) {
+    words.push_pair(word, " {");
     for (at, one) in taken.iter().enumerate() {
-        push_key(at, &one.key, out)?;
+        push_key(at, &one.key, words);
         match &one.field {
-            AggCol::Column { col } => write!(out, "c{}", col.at())?,
-            AggCol::Typename { name } => push_type(name, out)?,
+            AggCol::Column { col } => push_at("c", col.at(), words),
+            AggCol::Typename { name } => push_type(name, words),
         }
     }
-    out.push_str("}")
+    words.push("}");
 }
 
-fn push_summary(field: &AggField, out: &mut String) -> Result<(), AllocError> {
+fn push_summary(field: &AggField, words: &mut Words) {
     match field {
-        AggField::Count { col, distinct } => push_count(*col, *distinct, out),
-        AggField::Sum(taken) => push_taken("sum", taken.as_slice(), out),
-        AggField::Min(taken) => push_taken("min", taken.as_slice(), out),
-        AggField::Max(taken) => push_taken("max", taken.as_slice(), out),
-        AggField::Typename { name } => push_type(name, out),
+        AggField::Count { col, distinct } => push_count(*col, *distinct, words),
+        AggField::Sum(taken) => push_taken("sum", taken.as_slice(), words),
+        AggField::Min(taken) => push_taken("min", taken.as_slice(), words),
+        AggField::Max(taken) => push_taken("max", taken.as_slice(), words),
+        AggField::Typename { name } => push_type(name, words),
     }
 }
 
-fn push_summaries(fields: &[KeyedAggField], out: &mut String) -> Result<(), AllocError> {
-    out.push_str("of {")?;
+fn push_summaries(fields: &[KeyedAggField], words: &mut Words) {
+    words.push("of {");
     for (at, one) in fields.iter().enumerate() {
-        push_key(at, &one.key, out)?;
-        push_summary(&one.field, out)?;
+        push_key(at, &one.key, words);
+        push_summary(&one.field, words);
     }
-    out.push_str("}")
+    words.push("}");
 }
 
 // The name of a field of introspection, with its arguments.
-fn push_look_head(field: &IntroField, out: &mut String) -> Result<(), AllocError> {
-    out.push_str(field.name.as_str())?;
+fn push_look_head(field: &IntroField, words: &mut Words) {
+    words.push(field.name.as_str());
     if let Some(name) = &field.type_name {
-        write!(out, " '{}'", name.as_str())?;
+        words.push(" ");
+        push_type(name, words);
     }
-    out.push_str(if field.deprecated { " deprecated" } else { "" })
+    words.push(if field.deprecated { " deprecated" } else { "" });
 }
 
 #[cycle(look)]
-fn push_look(field: &IntroField, out: &mut String) -> Result<(), AllocError> {
-    push_look_head(field, out)?;
-    if field.fields.is_empty() {
-        return Ok(());
+fn push_look(field: &IntroField, words: &mut Words) {
+    push_look_head(field, words);
+    if !field.fields.is_empty() {
+        push_looks(&field.fields, words);
     }
-    push_looks(&field.fields, out)
 }
 
 #[cycle(look)]
-fn push_looks(fields: &IntroFields, out: &mut String) -> Result<(), AllocError> {
-    out.push_str(" {")?;
+fn push_looks(fields: &IntroFields, words: &mut Words) {
+    words.push(" {");
     for (at, one) in fields.iter().enumerate() {
-        push_key(at, &one.key, out)?;
-        push_look(&one.field, out)?;
+        push_key(at, &one.key, words);
+        push_look(&one.field, words);
     }
-    out.push_str("}")
+    words.push("}");
 }
 
-// The rows of a list: the relationship, if there is one, and the table.
-fn push_rows(table: TableId, rel: Option<RelId>, out: &mut String) -> Result<(), AllocError> {
-    match rel {
-        Some(rel) => write!(out, "r{} t{}", rel.at(), table.at()),
-        None => write!(out, "t{}", table.at()),
-    }
-}
-
-fn push_values(values: &[Val], out: &mut String) -> Result<(), AllocError> {
+fn push_values(values: &[Val], words: &mut Words) {
     for (at, value) in values.iter().enumerate() {
-        out.push_str(before(at))?;
-        push_value(value, out)?;
+        words.push(if at == 0 { "" } else { ", " });
+        push_value(value, words);
     }
-    Ok(())
 }
 
-fn push_object(rel: RelId, out: &mut String) -> Result<(), AllocError> {
-    write!(out, "r{} ", rel.at())
+// The rows of a list: the relationship, if there is one, the table, and the arguments.
+fn push_list(table: TableId, rel: Option<RelId>, args: &Args, words: &mut Words) {
+    if let Some(rel) = rel {
+        push_at("r", rel.at(), words);
+        words.push(" ");
+    }
+    push_at("t", table.at(), words);
+    push_args(args, words);
 }
 
-fn push_list(
-    table: TableId,
-    rel: Option<RelId>,
-    args: &Args,
-    out: &mut String,
-) -> Result<(), AllocError> {
-    push_rows(table, rel, out)?;
-    push_args(args, out)
-}
-
-fn push_by_key(table: TableId, key: &[Val], out: &mut String) -> Result<(), AllocError> {
-    write!(out, "t{} key ", table.at())?;
-    push_values(key, out)?;
-    out.push_str(" ")
+fn push_by_key(table: TableId, key: &[Val], words: &mut Words) {
+    push_at("t", table.at(), words);
+    words.push(" key ");
+    push_values(key, words);
 }
 
 // What stands at a field, before the fields below it.
-fn push_head(field: &AskField, out: &mut String) -> Result<(), AllocError> {
+fn push_head(field: &AskField, words: &mut Words) {
     match field {
-        AskField::Column { col } => write!(out, "c{}", col.at()),
-        AskField::Typename { name } => push_type(name, out),
-        AskField::NoQueries => out.push_str("no queries"),
-        AskField::Object { rel, .. } => push_object(*rel, out),
+        AskField::Column { col } => push_at("c", col.at(), words),
+        AskField::Typename { name } => push_type(name, words),
+        AskField::NoQueries => words.push("no queries"),
+        AskField::Object { rel, .. } => push_at("r", rel.at(), words),
         AskField::List {
             table,
             rel,
             args,
             ..
-        } => push_list(*table, *rel, args, out),
-        AskField::ByPk { table, key, .. } => push_by_key(*table, key.as_slice(), out),
+        } => push_list(*table, *rel, args, words),
+        AskField::ByPk { table, key, .. } => push_by_key(*table, key.as_slice(), words),
         AskField::Aggregate {
             table,
             rel,
             args,
             ..
-        } => push_list(*table, *rel, args, out),
-        AskField::Introspect { field } => push_look(field, out),
+        } => push_list(*table, *rel, args, words),
+        AskField::Introspect { field } => push_look(field, words),
     }
 }
 
 // The fields below a field.
 #[cycle(ask)]
-fn push_below(field: &AskField, out: &mut String) -> Result<(), AllocError> {
+fn push_below(field: &AskField, words: &mut Words) {
     match field {
-        AskField::Object { fields, .. } => push_fields("{", fields, out),
-        AskField::List { fields, .. } => push_fields(" {", fields, out),
-        AskField::ByPk { fields, .. } => push_fields("{", fields, out),
-        AskField::Aggregate { parts, .. } => push_parts(parts, out),
-        _ => Ok(()),
+        AskField::Object { fields, .. }
+        | AskField::List { fields, .. }
+        | AskField::ByPk { fields, .. } => push_fields(" {", fields, words),
+        AskField::Aggregate { parts, .. } => push_parts(parts, words),
+        _ => {}
     }
 }
 
 #[cycle(ask)]
-fn push_field(field: &AskField, out: &mut String) -> Result<(), AllocError> {
-    push_head(field, out)?;
-    push_below(field, out)
-}
-
-#[cycle(ask)]
-fn push_fields(opening: &str, fields: &AskFields, out: &mut String) -> Result<(), AllocError> {
-    out.push_str(opening)?;
+fn push_fields(opening: &str, fields: &AskFields, words: &mut Words) {
+    words.push(opening);
     for (at, one) in fields.iter().enumerate() {
-        push_key(at, &one.key, out)?;
-        push_field(&one.field, out)?;
+        push_key(at, &one.key, words);
+        push_head(&one.field, words);
+        push_below(&one.field, words);
     }
-    out.push_str("}")
+    words.push("}");
 }
 
 #[cycle(ask)]
-fn push_part(part: &AggPart, out: &mut String) -> Result<(), AllocError> {
+fn push_part(part: &AggPart, words: &mut Words) {
     match part {
-        AggPart::Fields(fields) => push_summaries(fields.as_slice(), out),
-        AggPart::Nodes(fields) => push_fields("nodes {", fields, out),
-        AggPart::Typename { name } => push_type(name, out),
+        AggPart::Fields(fields) => push_summaries(fields.as_slice(), words),
+        AggPart::Nodes(fields) => push_fields("nodes {", fields, words),
+        AggPart::Typename { name } => push_type(name, words),
     }
 }
 
 #[cycle(ask)]
-fn push_parts(parts: &AggParts, out: &mut String) -> Result<(), AllocError> {
-    out.push_str(" aggregate {")?;
+fn push_parts(parts: &AggParts, words: &mut Words) {
+    words.push(" aggregate {");
     for (at, one) in parts.iter().enumerate() {
-        push_key(at, &one.key, out)?;
-        push_part(&one.part, out)?;
+        push_key(at, &one.key, words);
+        push_part(&one.part, words);
     }
-    out.push_str("}")
+    words.push("}");
 }
 
-fn push_bound(bound: &[Bound], out: &mut String) -> Result<(), AllocError> {
+fn push_bound(bound: &[Bound], words: &mut Words) {
     for one in bound {
-        write!(out, "; t{} where ", one.table.at())?;
-        push_bexp(&one.filter, out)?;
+        push_at("; t", one.table.at(), words);
+        words.push(" where ");
+        push_bexp(&one.filter, words);
     }
-    Ok(())
 }
 
 /// Adds a typed request: its fields, and each touched table with its bound filter.
-pub fn push_ask(ask: &Ask, out: &mut String) -> Result<(), AllocError> {
-    push_fields("{", &ask.fields, out)?;
-    push_bound(ask.bound.as_slice(), out)
+pub fn push_ask(ask: &Ask, words: &mut Words) {
+    push_fields("{", &ask.fields, words);
+    push_bound(ask.bound.as_slice(), words);
 }

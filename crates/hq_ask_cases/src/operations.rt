@@ -2,25 +2,24 @@
 
 use crate::given::{given_document, given_name, push_fault};
 use hq_base::Txt;
-use hq_case::{Case, Stop};
+use hq_case::{Case, Stop, Words};
 use hq_coerce::choose;
 use hq_gql_tree::Document;
-use std::alloc::{AllocError, Global};
+use std::alloc::Global;
 
-fn push_choice(
-    document: &Document,
-    name: Option<&Txt>,
-    out: &mut String,
-) -> Result<(), AllocError> {
+fn push_choice(document: &Document, name: Option<&Txt>, words: &mut Words) {
     match choose(document, name) {
-        Ok(op) => write!(out, "definition {}", op.at()),
-        Err(fault) => push_fault(&fault, out),
+        Ok(op) => {
+            words.push("definition ");
+            words.push_place(op.at());
+        }
+        Err(fault) => push_fault(&fault, words),
     }
 }
 
 /// The place of the chosen operation among the definitions, or the fault.
-pub fn tell_operation(alloc: Global, case: &Case, out: &mut String) -> Result<(), Stop> {
+pub fn tell_operation(alloc: Global, case: &Case, words: &mut Words) -> Result<(), Stop> {
     let name = given_name(alloc, case)?;
-    let document = given_document(alloc, case)?;
-    Ok(push_choice(&document, name.as_ref(), out)?)
+    push_choice(&given_document(alloc, case)?, name.as_ref(), words);
+    Ok(())
 }

@@ -8,6 +8,7 @@ mod input;
 mod stop;
 mod table;
 mod values;
+mod words;
 
 pub use bexp::push_bexp;
 pub use case::Case;
@@ -16,3 +17,4 @@ pub use input::bytes as input_bytes;
 pub use stop::{Stop, written};
 pub use table::{Subject, run_all};
 pub use values::{push_bytes, push_json, push_session, push_value, value};
+pub use words::Words;

@@ -1,6 +1,6 @@
 //! Values, JSON and sessions in words.
 
-use crate::{Stop, written};
+use crate::{Stop, Words, written};
 use hq_base::{Bytes, Json, Txt, Val};
 use hq_terms::Session;
 use std::alloc::{AllocError, Global};
@@ -20,12 +20,15 @@ pub fn value(alloc: Global, json: &Json) -> Result<Val, Stop> {
 }
 
 /// Adds a value: texts stand in quotes.
-pub fn push_value(value: &Val, out: &mut String) -> Result<(), AllocError> {
+pub fn push_value(value: &Val, words: &mut Words) {
     match value {
-        Val::Null => out.push_str("NULL"),
-        Val::Int(n) => write!(out, "{n}"),
-        Val::Text(text) => write!(out, "'{}'", text.as_str()),
-        Val::Bool(b) => write!(out, "{b}"),
+        Val::Null => words.push("NULL"),
+        Val::Int(n) => words.push_shown(n),
+        Val::Text(text) => {
+            words.push_pair("'", text.as_str());
+            words.push("'");
+        }
+        Val::Bool(b) => words.push_shown(b),
     }
 }
 

@@ -1,77 +1,86 @@
 //! Catalogs, read from their bytes.
 
-use hq_case::{Case, Stop};
+use hq_case::{Case, Stop, Words};
 use hq_catalog_read::{CatalogRefusal, read_catalog};
 use hq_terms::{ColId, Column, ForeignKey, Table};
-use std::alloc::{AllocError, Global};
+use std::alloc::Global;
 
-fn push_columns(columns: &[Column], out: &mut String) -> Result<(), AllocError> {
+fn push_columns(columns: &[Column], words: &mut Words) {
     for column in columns {
-        let null = if column.nullable { "?" } else { "" };
-        write!(out, " {} {:?}{null}", column.name.as_str(), column.ty)?;
+        words.push_pair(" ", column.name.as_str());
+        words.push(" ");
+        words.push_debug(&column.ty);
+        words.push(if column.nullable { "?" } else { "" });
     }
-    Ok(())
 }
 
-fn push_key(key: &[ColId], out: &mut String) -> Result<(), AllocError> {
+fn push_key(key: &[ColId], words: &mut Words) {
     for column in key {
-        write!(out, " key {}", column.at())?;
+        words.push(" key ");
+        words.push_place(column.at());
     }
-    Ok(())
 }
 
-fn push_pairs(own: &[ColId], remote: &[ColId], out: &mut String) -> Result<(), AllocError> {
+fn push_pairs(own: &[ColId], remote: &[ColId], words: &mut Words) {
     for (column, reference) in own.iter().zip(remote) {
-        write!(out, " {}={}", column.at(), reference.at())?;
+        words.push(" ");
+        words.push_place(column.at());
+        words.push("=");
+        words.push_place(reference.at());
     }
-    Ok(())
 }
 
-fn push_foreign(keys: &[ForeignKey], out: &mut String) -> Result<(), AllocError> {
+fn push_foreign(keys: &[ForeignKey], words: &mut Words) {
     for key in keys {
-        write!(out, " foreign {}", key.remote.at())?;
-        push_pairs(key.columns.as_slice(), key.references.as_slice(), out)?;
+        words.push(" foreign ");
+        words.push_place(key.remote.at());
+        push_pairs(key.columns.as_slice(), key.references.as_slice(), words);
     }
-    Ok(())
 }
 
 // A table's name, its columns, the places of its key's columns, and its foreign keys with their pairs.
-fn push_table(table: &Table, out: &mut String) -> Result<(), AllocError> {
-    write!(out, "{}.{}", table.schema.as_str(), table.name.as_str())?;
-    push_columns(table.columns.as_slice(), out)?;
-    push_key(table.key.as_slice(), out)?;
-    push_foreign(table.foreign.as_slice(), out)?;
-    out.push_str(";")
+fn push_table(table: &Table, words: &mut Words) {
+    words.push(table.schema.as_str());
+    words.push(".");
+    words.push(table.name.as_str());
+    push_columns(table.columns.as_slice(), words);
+    push_key(table.key.as_slice(), words);
+    push_foreign(table.foreign.as_slice(), words);
+    words.push(";");
 }
 
-fn push_tables(tables: &[Table], out: &mut String) -> Result<(), AllocError> {
+fn push_tables(tables: &[Table], words: &mut Words) {
     for table in tables {
-        push_table(table, out)?;
+        push_table(table, words);
     }
-    Ok(())
 }
 
-fn push_refusal(refusal: &CatalogRefusal, out: &mut String) -> Result<(), AllocError> {
+fn push_refusal(refusal: &CatalogRefusal, words: &mut Words) {
     match refusal {
-        CatalogRefusal::NotJson => out.push_str("NotJson"),
-        CatalogRefusal::Shape { path } => write!(out, "Shape {}", path.as_str()),
-        CatalogRefusal::Repeated { name } => write!(out, "Repeated {}", name.as_str()),
-        CatalogRefusal::NoKey { table } => write!(out, "NoKey {}", table.as_str()),
-        CatalogRefusal::NameLength { name } => write!(out, "NameLength {}", name.as_str()),
-        CatalogRefusal::TooMany { what, count } => write!(out, "TooMany {} {count}", what.as_str()),
-        CatalogRefusal::Memory => out.push_str("Memory"),
+        CatalogRefusal::NotJson => words.push("NotJson"),
+        CatalogRefusal::Shape { path } => words.push_pair("Shape ", path.as_str()),
+        CatalogRefusal::Repeated { name } => words.push_pair("Repeated ", name.as_str()),
+        CatalogRefusal::NoKey { table } => words.push_pair("NoKey ", table.as_str()),
+        CatalogRefusal::NameLength { name } => words.push_pair("NameLength ", name.as_str()),
+        CatalogRefusal::TooMany { what, count } => {
+            words.push_pair("TooMany ", what.as_str());
+            words.push(" ");
+            words.push_number(*count);
+        }
+        CatalogRefusal::Memory => words.push("Memory"),
     }
 }
 
-fn push_read(alloc: Global, bytes: &[u8], out: &mut String) -> Result<(), AllocError> {
+fn push_read(alloc: Global, bytes: &[u8], words: &mut Words) {
     match read_catalog(alloc, bytes) {
-        Ok(catalog) => push_tables(catalog.tables.as_slice(), out),
-        Err(refusal) => push_refusal(&refusal, out),
+        Ok(catalog) => push_tables(catalog.tables.as_slice(), words),
+        Err(refusal) => push_refusal(&refusal, words),
     }
 }
 
 /// The tables of the catalog that bytes write, or its refusal.
-pub fn tell_catalog(alloc: Global, case: &Case, out: &mut String) -> Result<(), Stop> {
+pub fn tell_catalog(alloc: Global, case: &Case, words: &mut Words) -> Result<(), Stop> {
     let bytes = case.bytes(alloc, "in")?;
-    Ok(push_read(alloc, bytes.as_slice(), out)?)
+    push_read(alloc, bytes.as_slice(), words);
+    Ok(())
 }

@@ -1,114 +1,125 @@
 //! Filters of permissions, read and bound.
 
 use crate::given::{given_meta, given_table};
-use hq_base::{Json, top_path};
-use hq_case::{Case, Stop, given_catalog, given_session, push_bexp};
+use hq_base::{Json, Txt, top_path};
+use hq_case::{Case, Stop, Words, given_catalog, given_session, push_bexp};
 use hq_filter_read::{FilterRefusal, read_filter};
-use hq_terms::{Bexp, BindRefusal, Catalog, Meta};
-use std::alloc::{AllocError, Global};
+use hq_terms::{Bexp, BindRefusal, Catalog, Meta, Session, TableId};
+use std::alloc::Global;
 
-fn push_refusal(refusal: &FilterRefusal, out: &mut String) -> Result<(), AllocError> {
+fn push_refusal(refusal: &FilterRefusal, words: &mut Words) {
     match refusal {
-        FilterRefusal::Shape { path } => write!(out, "Shape {}", path.as_str()),
-        FilterRefusal::UnknownColumn { path } => write!(out, "UnknownColumn {}", path.as_str()),
-        FilterRefusal::BadOperand { path } => write!(out, "BadOperand {}", path.as_str()),
-        FilterRefusal::Memory => out.push_str("Memory"),
+        FilterRefusal::Shape { path } => words.push_pair("Shape ", path.as_str()),
+        FilterRefusal::UnknownColumn { path } => words.push_pair("UnknownColumn ", path.as_str()),
+        FilterRefusal::BadOperand { path } => words.push_pair("BadOperand ", path.as_str()),
+        FilterRefusal::Memory => words.push("Memory"),
     }
 }
 
-// What a filter over the table of a case gives.
-fn filter_of(
+// The filter of a case.
+fn given_filter(alloc: Global, case: &Case) -> Result<Json, Stop> {
+    Ok(Json::from_body(alloc, case.bytes(alloc, "in")?.as_slice())?)
+}
+
+// Adds the expression of a filter, or its refusal.
+fn push_read(
     alloc: Global,
-    case: &Case,
     catalog: &Catalog,
     meta: &Meta,
+    table: TableId,
     json: &Json,
-) -> Result<Result<Bexp, FilterRefusal>, Stop> {
-    let table = given_table(case)?;
-    let top = top_path(alloc)?;
-    Ok(read_filter(alloc, json, &top, catalog, meta, table))
-}
-
-// What the text of a filter over the table of a case gives.
-fn read(
-    alloc: Global,
-    case: &Case,
-    catalog: &Catalog,
-    meta: &Meta,
-) -> Result<Result<Bexp, FilterRefusal>, Stop> {
-    let json = Json::from_body(alloc, case.bytes(alloc, "in")?.as_slice())?;
-    filter_of(alloc, case, catalog, meta, &json)
-}
-
-fn push_read(read: Result<Bexp, FilterRefusal>, out: &mut String) -> Result<(), AllocError> {
-    match read {
-        Ok(bexp) => push_bexp(&bexp, out),
-        Err(refusal) => push_refusal(&refusal, out),
+    top: &Txt,
+    words: &mut Words,
+) {
+    match read_filter(alloc, json, top, catalog, meta, table) {
+        Ok(bexp) => push_bexp(&bexp, words),
+        Err(refusal) => push_refusal(&refusal, words),
     }
 }
 
+// The same of the filter of a case, over a table of a database.
 fn push_filter(
     alloc: Global,
     case: &Case,
     catalog: &Catalog,
     meta: &Meta,
-    out: &mut String,
+    words: &mut Words,
 ) -> Result<(), Stop> {
-    Ok(push_read(read(alloc, case, catalog, meta)?, out)?)
+    let table = given_table(case)?;
+    let top = top_path(alloc)?;
+    let json = given_filter(alloc, case)?;
+    push_read(alloc, catalog, meta, table, &json, &top, words);
+    Ok(())
 }
 
 /// The expression of a filter over a table, or its refusal.
-pub fn tell_filter(alloc: Global, case: &Case, out: &mut String) -> Result<(), Stop> {
+pub fn tell_filter(alloc: Global, case: &Case, words: &mut Words) -> Result<(), Stop> {
     let catalog = given_catalog(alloc, case)?;
     let meta = given_meta(alloc, case, &catalog)?;
-    push_filter(alloc, case, &catalog, &meta, out)
+    push_filter(alloc, case, &catalog, &meta, words)
 }
 
-fn push_fault(refusal: &BindRefusal, out: &mut String) -> Result<(), AllocError> {
-    match refusal {
-        BindRefusal::NoVariable { name } => write!(out, "no {}", name.as_str()),
-        BindRefusal::BadVariable { name, want } => write!(out, "{} is not {want:?}", name.as_str()),
-        BindRefusal::Memory => out.push_str("Memory"),
-    }
-}
-
-fn push_bind(bound: Result<Bexp, BindRefusal>, out: &mut String) -> Result<(), AllocError> {
-    match bound {
-        Ok(bexp) => push_bexp(&bexp, out),
-        Err(refusal) => push_fault(&refusal, out),
-    }
-}
-
-// Adds an expression with the values of the case's session in place of its variables, or the first fault.
-fn push_bound(
+// The expression of the filter of a case over a table, in a box.
+fn bexp_of(
     alloc: Global,
     case: &Case,
     catalog: &Catalog,
     meta: &Meta,
-    bexp: &Bexp,
-    out: &mut String,
-) -> Result<(), Stop> {
-    let table = given_table(case)?;
-    let session = given_session(alloc, case)?;
-    Ok(push_bind(bexp.bind(alloc, &session, catalog, meta, table), out)?)
+    table: TableId,
+) -> Result<Box<Bexp>, Stop> {
+    let top = top_path(alloc)?;
+    let json = given_filter(alloc, case)?;
+    match read_filter(alloc, &json, &top, catalog, meta, table) {
+        Ok(bexp) => Ok(Box::new(alloc, bexp)?),
+        Err(_) => Err(Stop::Shape),
+    }
 }
 
+fn push_fault(refusal: &BindRefusal, words: &mut Words) {
+    match refusal {
+        BindRefusal::NoVariable { name } => words.push_pair("no ", name.as_str()),
+        BindRefusal::BadVariable { name, want } => {
+            words.push_pair(name.as_str(), " is not ");
+            words.push_debug(want);
+        }
+        BindRefusal::Memory => words.push("Memory"),
+    }
+}
+
+// Adds an expression with the values of a session in place of its variables, or the first fault.
+fn push_bound(
+    alloc: Global,
+    session: &Session,
+    catalog: &Catalog,
+    meta: &Meta,
+    table: TableId,
+    bexp: &Bexp,
+    words: &mut Words,
+) {
+    match bexp.bind(alloc, session, catalog, meta, table) {
+        Ok(bexp) => push_bexp(&bexp, words),
+        Err(refusal) => push_fault(&refusal, words),
+    }
+}
+
+// The same of the filter of a case, by the case's session.
 fn push_binding(
     alloc: Global,
     case: &Case,
     catalog: &Catalog,
     meta: &Meta,
-    out: &mut String,
+    words: &mut Words,
 ) -> Result<(), Stop> {
-    match read(alloc, case, catalog, meta)? {
-        Ok(bexp) => push_bound(alloc, case, catalog, meta, &bexp, out),
-        Err(_) => Err(Stop::Shape),
-    }
+    let table = given_table(case)?;
+    let bexp = bexp_of(alloc, case, catalog, meta, table)?;
+    let session = given_session(alloc, case)?;
+    push_bound(alloc, &session, catalog, meta, table, &bexp, words);
+    Ok(())
 }
 
 /// The expression of a filter with the values of a session in place of its variables, or the first fault.
-pub fn tell_binding(alloc: Global, case: &Case, out: &mut String) -> Result<(), Stop> {
+pub fn tell_binding(alloc: Global, case: &Case, words: &mut Words) -> Result<(), Stop> {
     let catalog = given_catalog(alloc, case)?;
     let meta = given_meta(alloc, case, &catalog)?;
-    push_binding(alloc, case, &catalog, &meta, out)
+    push_binding(alloc, case, &catalog, &meta, words)
 }

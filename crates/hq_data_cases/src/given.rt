@@ -12,13 +12,17 @@ fn stop_of(refusal: &MetaRefusal) -> Stop {
     }
 }
 
-/// The metadata over a catalog that the value of the member `metadata` writes.
-pub fn given_meta(alloc: Global, case: &Case, catalog: &Catalog) -> Result<Meta, Stop> {
-    let text = case.json_text(alloc, "metadata")?;
-    match read_meta(alloc, text.as_slice(), catalog) {
+fn meta_of(alloc: Global, bytes: &[u8], catalog: &Catalog) -> Result<Meta, Stop> {
+    match read_meta(alloc, bytes, catalog) {
         Ok(meta) => Ok(meta),
         Err(refusal) => Err(stop_of(&refusal)),
     }
+}
+
+/// The metadata over a catalog that the value of the member `metadata` writes.
+pub fn given_meta(alloc: Global, case: &Case, catalog: &Catalog) -> Result<Meta, Stop> {
+    let text = case.json_text(alloc, "metadata")?;
+    meta_of(alloc, text.as_slice(), catalog)
 }
 
 /// The role of the name that the member `role` writes.

@@ -1,26 +1,25 @@
 //! Files of tables, read over the first table of a catalog.
 
 use hq_base::Val;
-use hq_case::{Case, Stop, given_catalog, push_value};
+use hq_case::{Case, Stop, Words, given_catalog, push_value};
 use hq_outside::LARGEST_FILE;
 use hq_tables::{LoadRefusal, Rows, load_table};
 use hq_terms::Catalog;
-use std::alloc::{AllocError, Global};
+use std::alloc::Global;
 
-fn push_row(row: &[Val], out: &mut String) -> Result<(), AllocError> {
+fn push_row(row: &[Val], words: &mut Words) {
     for value in row {
-        push_value(value, out)?;
-        out.push_str(" ")?;
+        push_value(value, words);
+        words.push(" ");
     }
-    out.push_str(";")
+    words.push(";");
 }
 
 // The values of the rows, a space behind each and a semicolon behind each row.
-fn push_rows(rows: &Rows, out: &mut String) -> Result<(), AllocError> {
+fn push_rows(rows: &Rows, words: &mut Words) {
     for at in 0..rows.len() {
-        push_row(rows.row(at), out)?;
+        push_row(rows.row(at), words);
     }
-    Ok(())
 }
 
 // The rows that a file gives for the first table of a catalog.
@@ -38,20 +37,27 @@ fn loaded(
     Ok(load_table(alloc, bytes, table))
 }
 
+fn push_refusal(refusal: LoadRefusal, words: &mut Words) {
+    words.push_debug(&refusal);
+    words.push(": ");
+    words.push_shown(&refusal);
+}
+
 fn push_loaded(
     alloc: Global,
     bytes: &[u8],
     catalog: &Catalog,
-    out: &mut String,
+    words: &mut Words,
 ) -> Result<(), Stop> {
     match loaded(alloc, bytes, catalog)? {
-        Ok(rows) => Ok(push_rows(&rows, out)?),
-        Err(refusal) => Ok(write!(out, "{refusal:?}: {refusal}")?),
+        Ok(rows) => push_rows(&rows, words),
+        Err(refusal) => push_refusal(refusal, words),
     }
+    Ok(())
 }
 
 /// The rows of a table's file, or its first refusal as it is told.
-pub fn tell_table_file(alloc: Global, case: &Case, out: &mut String) -> Result<(), Stop> {
+pub fn tell_table_file(alloc: Global, case: &Case, words: &mut Words) -> Result<(), Stop> {
     let bytes = case.bytes(alloc, "in")?;
-    push_loaded(alloc, bytes.as_slice(), &given_catalog(alloc, case)?, out)
+    push_loaded(alloc, bytes.as_slice(), &given_catalog(alloc, case)?, words)
 }

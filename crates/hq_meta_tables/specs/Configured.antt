@@ -60,6 +60,11 @@ column_text_at columns path name j = do
   _ ← text_at path j
   mapped (λ c. tt) (column_named columns path name)
 
+-- a member of either is named for a column
+abbrev pub column_due : Field → List Column → (path name : List ℕ) → JsonTree → Result (Unit {0}) MetaRefusal
+column_due field.ColumnConfig = column_config_at
+column_due _ = column_text_at
+
 -- a member that is not null, of the object at a path
 abbrev pub member_due : (test : (path name : List ℕ) → JsonTree → Result (Unit {0}) MetaRefusal) → (path name : List ℕ) → Option JsonTree → Result (Unit {0}) MetaRefusal
 member_due test path name None = Ok tt

@@ -87,12 +87,17 @@ source_tables j = do
   _ ← plain_in (at source_path Customization) (value_of source Customization)
   list_member source_path source Tables
 
--- the entries of the tables of the one source
-unfoldable pub table_entries : JsonTree → Result (List JsonTree) MetaRefusal
-table_entries j = do
-  _ ← version_due (value_of j Version)
+-- the entries of the tables of the one source of the object at the top
+abbrev pub top_entries : JsonTree → Result (List JsonTree) MetaRefusal
+top_entries j = do
   top ← object_at top_path j
   sources ← list_member top_path top Sources
   _ ← roles_due top
   source ← sole sources
   source_tables source
+
+-- the entries of the tables of the one source
+unfoldable pub table_entries : JsonTree → Result (List JsonTree) MetaRefusal
+table_entries j = do
+  _ ← version_due (value_of j Version)
+  top_entries j

@@ -1,6 +1,7 @@
 ghost use Rattle.std.specs.Prelude.{◌≡◌, ◌&&◌, map, position, option_map, option_copied, bytes_eq};
 ghost use Rattle.hq_base.specs.Due.{Gives};
 ghost use Rattle.hq_base.specs.Json.{json_view};
+ghost use Rattle.hq_base.specs.Path.{item_path};
 ghost use Rattle.hq_terms.specs.Meta.{meta_view};
 ghost use Rattle.hq_meta_tables.specs.Each.{each};
 ghost use Rattle.hq_meta_tables.specs.Found.{table_named, qualified_table, table_at, tracked_due, remote_at, columns_of, column_named, column_at};
@@ -151,6 +152,19 @@ pub fn column_at(
     column_named(alloc, columns, path, name)
 }
 
+// The column that the element at a place of the list at a path names.
+fn listed_column(
+    alloc: Global,
+    columns: &[Column],
+    path: &Txt,
+    place: usize,
+    json: &Json,
+) -> Result<ColId, MetaRefusal>
+    ensures { Gives (λ column. column) MetaRefusal.Memory (column_at columns.now (item_path path.now place) (json_view json.now)) result }
+{
+    column_at(alloc, columns, &item_path(alloc, path, place)?, json)
+}
+
 /// The columns that the elements of the list at a path name.
 pub fn listed_columns(
     alloc: Global,
@@ -162,7 +176,7 @@ pub fn listed_columns(
 {
     let mut found = List::new(alloc);
     for (place, json) in list.iter().enumerate() {
-        let column = column_at(alloc, columns, &item_path(alloc, path, place)?, json)?;
+        let column = listed_column(alloc, columns, path, place, json)?;
         found.push(column)?;
     }
     Ok(found)

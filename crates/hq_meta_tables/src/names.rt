@@ -2,9 +2,9 @@ ghost use Rattle.std.specs.Prelude.{◌≡◌, ◌++◌, map, option_map, option
 ghost use Rattle.hq_base.specs.Due.{Gives};
 ghost use Rattle.hq_base.specs.Json.{json_view, member_view};
 ghost use Rattle.hq_base.specs.Text.{has_zero};
-ghost use Rattle.hq_meta_tables.specs.Configured.{is_table_name, own_name, own_name_due, table_name_at, table_name_due, given_text_due, column_config_at, column_text_at, member_due, members_due, text_or, column_name_of, column_names_due, root_text_due, root_in, root_due, roots_due};
+ghost use Rattle.hq_meta_tables.specs.Configured.{is_table_name, own_name, own_name_due, table_name_at, table_name_due, given_text_due, column_config_at, column_text_at, column_due, member_due, members_due, text_or, column_name_of, column_names_due, root_text_due, root_in, root_due, roots_due};
 ghost use Rattle.hq_meta_tables.specs.Each.{all_pass};
-ghost use Rattle.hq_meta_tables.specs.Node.{unless_null, named_value};
+ghost use Rattle.hq_meta_tables.specs.Node.{at, checked, given_value, unless_null, named_value};
 
 use crate::MetaRefusal;
 use crate::field::Field;
@@ -37,6 +37,18 @@ fn own_name(alloc: Global, table: &Table) -> Result<Txt, Memory>
     Ok(name)
 }
 
+// A name at a path must be one that a table may have.
+fn check_table_name(alloc: Global, path: &Txt, name: &Txt) -> Result<(), MetaRefusal>
+    ensures { Gives (λ done. done) MetaRefusal.Memory (checked path.now (is_table_name name.now)) result }
+{
+    if is_table_name(name) {
+        return Ok(());
+    }
+    Err(MetaRefusal::Shape {
+        path: path.copy(alloc)?,
+    })
+}
+
 /// A table's own name is tested where no other is given.
 pub fn check_own_name(
     alloc: Global,
@@ -46,12 +58,10 @@ pub fn check_own_name(
 ) -> Result<(), MetaRefusal>
     ensures { Gives (λ done. done) MetaRefusal.Memory (own_name_due path.now (option_map (λ j. json_view j.now) custom.entry) table.now) result }
 {
-    if custom.is_none() && !is_table_name(&own_name(alloc, table)?) {
-        return Err(MetaRefusal::Shape {
-            path: path.copy(alloc)?,
-        });
+    match custom {
+        Some(_) => Ok(()),
+        None => check_table_name(alloc, path, &own_name(alloc, table)?),
     }
-    Ok(())
 }
 
 // A table's name that is given at a path.
@@ -60,11 +70,7 @@ fn table_name_at<'a>(alloc: Global, path: &Txt, json: &'a Json) -> Result<&'a Tx
     ensures { Gives (λ name. name.now) MetaRefusal.Memory (table_name_at path.now (json_view json.now)) result }
 {
     let name = text_at(alloc, path, json)?;
-    if !is_table_name(name) {
-        return Err(MetaRefusal::Shape {
-            path: path.copy(alloc)?,
-        });
-    }
+    check_table_name(alloc, path, name)?;
     Ok(name)
 }
 
@@ -113,59 +119,6 @@ fn check_column_config(
     )
 }
 
-// A member of `column_config` of the object at a path.
-fn check_config_member(
-    alloc: Global,
-    columns: &[Column],
-    path: &Txt,
-    member: &Member,
-) -> Result<(), MetaRefusal>
-    ensures { Gives (λ done. done) MetaRefusal.Memory (member_due (column_config_at columns.now) path.now (member_view member.now).0 (unless_null (member_view member.now).1)) result }
-{
-    match unless_null(&member.value) {
-        Some(json) => {
-            let path = named_path(alloc, path, &member.name)?;
-            check_column_config(alloc, columns, &path, &member.name, json)
-        }
-        None => Ok(()),
-    }
-}
-
-// The members of `column_config`.
-fn check_config_members(
-    alloc: Global,
-    columns: &[Column],
-    path: &Txt,
-    members: &[Member],
-) -> Result<(), MetaRefusal>
-    ensures { Gives (λ done. done) MetaRefusal.Memory (all_pass (λ m. member_due (column_config_at columns.now) path.now m.0 (unless_null m.1)) (map member_view members.now)) result }
-{
-    for member in members {
-        check_config_member(alloc, columns, path, member)?;
-    }
-    Ok(())
-}
-
-// `column_config` at a path, where it is given.
-fn check_config(
-    alloc: Global,
-    columns: &[Column],
-    path: &Txt,
-    given: Option<&Json>,
-) -> Result<(), MetaRefusal>
-    ensures { Gives (λ done. done) MetaRefusal.Memory (members_due (column_config_at columns.now) path.now (option_map (λ j. json_view j.now) given.entry)) result }
-{
-    let Some(json) = given else {
-        return Ok(());
-    };
-    match json.as_object() {
-        Some(members) => check_config_members(alloc, columns, path, members),
-        None => Err(MetaRefusal::Shape {
-            path: path.copy(alloc)?,
-        }),
-    }
-}
-
 // A member of `custom_column_names`, a text at a path, is named for a column.
 #[tactic(auto, unfolding(crate::specs::Configured::column_text_at))]
 fn check_column_text(
@@ -182,57 +135,91 @@ fn check_column_text(
     Ok(())
 }
 
-// A member of `custom_column_names` of the object at a path.
-fn check_text_member(
+// A member of `column_config`, or of `custom_column_names`, is named for a column.
+fn check_column(
     alloc: Global,
     columns: &[Column],
+    which: Field,
+    path: &Txt,
+    name: &Txt,
+    json: &Json,
+) -> Result<(), MetaRefusal>
+    ensures { Gives (λ done. done) MetaRefusal.Memory (column_due which columns.now path.now name.now (json_view json.now)) result }
+{
+    match which {
+        Field::ColumnConfig => check_column_config(alloc, columns, path, name, json),
+        _ => check_column_text(alloc, columns, path, name, json),
+    }
+}
+
+// A member of the object at a path.
+fn check_member(
+    alloc: Global,
+    columns: &[Column],
+    which: Field,
     path: &Txt,
     member: &Member,
 ) -> Result<(), MetaRefusal>
-    ensures { Gives (λ done. done) MetaRefusal.Memory (member_due (column_text_at columns.now) path.now (member_view member.now).0 (unless_null (member_view member.now).1)) result }
+    ensures { Gives (λ done. done) MetaRefusal.Memory (member_due (column_due which columns.now) path.now (member_view member.now).0 (unless_null (member_view member.now).1)) result }
 {
     match unless_null(&member.value) {
         Some(json) => {
             let path = named_path(alloc, path, &member.name)?;
-            check_column_text(alloc, columns, &path, &member.name, json)
+            check_column(alloc, columns, which, &path, &member.name, json)
         }
         None => Ok(()),
     }
 }
 
-// The members of `custom_column_names`.
-fn check_text_members(
+// The members of the object at a path.
+fn check_members(
     alloc: Global,
     columns: &[Column],
+    which: Field,
     path: &Txt,
     members: &[Member],
 ) -> Result<(), MetaRefusal>
-    ensures { Gives (λ done. done) MetaRefusal.Memory (all_pass (λ m. member_due (column_text_at columns.now) path.now m.0 (unless_null m.1)) (map member_view members.now)) result }
+    ensures { Gives (λ done. done) MetaRefusal.Memory (all_pass (λ m. member_due (column_due which columns.now) path.now m.0 (unless_null m.1)) (map member_view members.now)) result }
 {
     for member in members {
-        check_text_member(alloc, columns, path, member)?;
+        check_member(alloc, columns, which, path, member)?;
     }
     Ok(())
 }
 
-// `custom_column_names` at a path, where it is given.
-fn check_texts(
+// What stands at a path, where it is given.
+fn check_named(
     alloc: Global,
     columns: &[Column],
+    which: Field,
     path: &Txt,
     given: Option<&Json>,
 ) -> Result<(), MetaRefusal>
-    ensures { Gives (λ done. done) MetaRefusal.Memory (members_due (column_text_at columns.now) path.now (option_map (λ j. json_view j.now) given.entry)) result }
+    ensures { Gives (λ done. done) MetaRefusal.Memory (members_due (column_due which columns.now) path.now (option_map (λ j. json_view j.now) given.entry)) result }
 {
     let Some(json) = given else {
         return Ok(());
     };
     match json.as_object() {
-        Some(members) => check_text_members(alloc, columns, path, members),
+        Some(members) => check_members(alloc, columns, which, path, members),
         None => Err(MetaRefusal::Shape {
             path: path.copy(alloc)?,
         }),
     }
+}
+
+// `column_config` or `custom_column_names` of the configuration at a path.
+fn check_columns(
+    alloc: Global,
+    columns: &[Column],
+    which: Field,
+    path: &Txt,
+    given: Option<&Json>,
+) -> Result<(), MetaRefusal>
+    ensures { Gives (λ done. done) MetaRefusal.Memory (members_due (column_due which columns.now) (at path.now which) (given_value (option_map (λ j. json_view j.now) given.entry) which)) result }
+{
+    let named = given_value(given, which);
+    check_named(alloc, columns, which, &at(alloc, path, which)?, named)
 }
 
 // A text that is given, else the other one.
@@ -286,20 +273,10 @@ pub fn column_names(
 ) -> Result<TxtList, MetaRefusal>
     ensures { Gives (λ names. names) MetaRefusal.Memory (column_names_due columns.now path.now (option_map (λ j. json_view j.now) given.entry)) result }
 {
+    check_columns(alloc, columns, Field::ColumnConfig, path, given)?;
+    check_columns(alloc, columns, Field::CustomColumnNames, path, given)?;
     let config = given_value(given, Field::ColumnConfig);
     let texts = given_value(given, Field::CustomColumnNames);
-    check_config(
-        alloc,
-        columns,
-        &at(alloc, path, Field::ColumnConfig)?,
-        config,
-    )?;
-    check_texts(
-        alloc,
-        columns,
-        &at(alloc, path, Field::CustomColumnNames)?,
-        texts,
-    )?;
     Ok(listed_names(alloc, config, texts, columns)?)
 }
 
@@ -339,6 +316,28 @@ fn root_in<'a>(
     )
 }
 
+// The name of a root field that the object at a path gives.
+fn given_root<'a>(
+    alloc: Global,
+    path: &Txt,
+    custom: Option<&'a Json>,
+    which: Field,
+) -> Result<Option<&'a Txt>, MetaRefusal>
+    ensures { Gives option_copied MetaRefusal.Memory (root_in (at path.now which) (given_value (option_map (λ j. json_view j.now) custom.entry) which)) result }
+{
+    root_in(alloc, &at(alloc, path, which)?, given_value(custom, which))
+}
+
+// A table's name with an end.
+fn ended(alloc: Global, name: &Txt, end: &str) -> Result<Txt, Memory>
+    requires { has_zero end.now ≡ false }
+    ensures { IfOk result (λ ended. ended ≡ name.now ++ end.now) }
+{
+    let mut ended = name.copy(alloc)?;
+    ended.push_str(end)?;
+    Ok(ended)
+}
+
 // The name of a root field that the object at a path gives, or else a table's name with an end.
 #[tactic(auto, unfolding(crate::specs::Configured::root_due))]
 fn root(
@@ -352,13 +351,9 @@ fn root(
     requires { has_zero end.now ≡ false }
     ensures { Gives (λ name. name) MetaRefusal.Memory (root_due path.now (option_map (λ j. json_view j.now) custom.entry) which name.now end.now) result }
 {
-    match root_in(alloc, &at(alloc, path, which)?, given_value(custom, which))? {
+    match given_root(alloc, path, custom, which)? {
         Some(given) => Ok(given.copy(alloc)?),
-        None => {
-            let mut other = name.copy(alloc)?;
-            other.push_str(end)?;
-            Ok(other)
-        }
+        None => Ok(ended(alloc, name, end)?),
     }
 }
 

@@ -2,8 +2,10 @@ ghost use Rattle.std.specs.Prelude.{◌≡◌, map, option_map, option_copied, I
 ghost use Rattle.hq_base.specs.Compact.{compact};
 ghost use Rattle.hq_base.specs.Due.{Gives};
 ghost use Rattle.hq_base.specs.Json.{json_view};
-ghost use Rattle.hq_meta_tables.specs.Node.{value_of};
-ghost use Rattle.hq_meta_tables.specs.Top.{unwrapped, is_three, version_due, sole, is_empty, no_entries, open_in, roles_due, source_path, tables_path, kind_due, plain_in, source_tables, table_entries};
+ghost use Rattle.hq_base.specs.Path.{top_path};
+ghost use Rattle.hq_meta_tables.specs.declared.field.Field.TheVariants.{Customization};
+ghost use Rattle.hq_meta_tables.specs.Node.{at, value_of};
+ghost use Rattle.hq_meta_tables.specs.Top.{unwrapped, is_three, version_due, sole, is_empty, no_entries, open_in, roles_due, source_path, tables_path, kind_due, plain_in, source_tables, top_entries, table_entries};
 
 use crate::MetaRefusal;
 use crate::field::Field;
@@ -172,21 +174,51 @@ fn check_plain(alloc: Global, path: &Txt, customization: Option<&Json>) -> Resul
     }
 }
 
-// The entries of the tables of a source.
+// The customization of the source at a path must be plain.
+fn check_customization(alloc: Global, path: &Txt, source: &Json) -> Result<(), MetaRefusal>
+    ensures { Gives (λ done. done) MetaRefusal.Memory (plain_in (at path.now Customization) (value_of (json_view source.now) Customization)) result }
+{
+    let customization = source.member(Field::Customization.name());
+    check_plain(
+        alloc,
+        &at(alloc, path, Field::Customization)?,
+        customization,
+    )
+}
+
+// The entries of the tables of a source, whose path this is.
 #[tactic(auto, unfolding(crate::specs::Top::source_tables))]
+fn tables_of_source<'a>(
+    alloc: Global,
+    path: &Txt,
+    json: &'a Json,
+) -> Result<&'a [Json], MetaRefusal>
+    requires { path.now ≡ source_path }
+    ensures { Gives (λ js. map json_view js.now) MetaRefusal.Memory (source_tables (json_view json.now)) result }
+{
+    let source = object_at(alloc, path, json)?;
+    text_member(alloc, path, source, Field::Name)?;
+    check_kind(alloc, path, source)?;
+    check_customization(alloc, path, source)?;
+    list_member(alloc, path, source, Field::Tables)
+}
+
+// The entries of the tables of a source.
 fn source_tables(alloc: Global, json: &Json) -> Result<&[Json], MetaRefusal>
     ensures { Gives (λ js. map json_view js.now) MetaRefusal.Memory (source_tables (json_view json.now)) result }
 {
-    let path = source_path(alloc)?;
-    let source = object_at(alloc, &path, json)?;
-    text_member(alloc, &path, source, Field::Name)?;
-    check_kind(alloc, &path, source)?;
-    check_plain(
-        alloc,
-        &at(alloc, &path, Field::Customization)?,
-        source.member(Field::Customization.name()),
-    )?;
-    list_member(alloc, &path, source, Field::Tables)
+    tables_of_source(alloc, &source_path(alloc)?, json)
+}
+
+// The entries of the tables of the one source of the object at the top, whose path this is.
+fn entries_of_top<'a>(alloc: Global, path: &Txt, json: &'a Json) -> Result<&'a [Json], MetaRefusal>
+    requires { path.now ≡ top_path }
+    ensures { Gives (λ js. map json_view js.now) MetaRefusal.Memory (top_entries (json_view json.now)) result }
+{
+    let top = object_at(alloc, path, json)?;
+    let sources = list_member(alloc, path, top, Field::Sources)?;
+    check_roles(alloc, top)?;
+    source_tables(alloc, sole(sources)?)
 }
 
 /// The entries of the tables of the one source, in order.
@@ -195,9 +227,5 @@ pub fn table_entries(alloc: Global, json: &Json) -> Result<&[Json], MetaRefusal>
     ensures { Gives (λ js. map json_view js.now) MetaRefusal.Memory (table_entries (json_view json.now)) result }
 {
     check_version(alloc, json.member(Field::Version.name()))?;
-    let path = top_path(alloc)?;
-    let top = object_at(alloc, &path, json)?;
-    let sources = list_member(alloc, &path, top, Field::Sources)?;
-    check_roles(alloc, top)?;
-    source_tables(alloc, sole(sources)?)
+    entries_of_top(alloc, &top_path(alloc)?, json)
 }

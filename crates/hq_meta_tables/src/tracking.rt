@@ -3,7 +3,10 @@ ghost use Rattle.std.specs.List.{list_any};
 ghost use Rattle.hq_base.specs.Due.{Gives};
 ghost use Rattle.hq_base.specs.Json.{json_view};
 ghost use Rattle.hq_terms.specs.Meta.{tracked_view, meta_view};
+ghost use Rattle.hq_meta_tables.specs.declared.field.Field.TheVariants.{CustomName, CustomRootFields};
+ghost use Rattle.hq_meta_tables.specs.Configured.{table_name_due, roots_due};
 ghost use Rattle.hq_meta_tables.specs.Each.{each_after};
+ghost use Rattle.hq_meta_tables.specs.Node.{at, given_value};
 ghost use Rattle.hq_meta_tables.specs.Tracked.{tables_of, new_table, table_of, entry_table, configured, tracked_at};
 
 use crate::MetaRefusal;
@@ -12,7 +15,7 @@ use crate::found::table_at;
 use crate::names::{check_own_name, column_names, roots, table_name};
 use crate::node::{at, given_object, given_value, member_at, object_at};
 use hq_base::{Json, List, Memory, Txt, item_path};
-use hq_terms::{Catalog, Meta, Table, TableId, Tracked, TrackedList};
+use hq_terms::{Catalog, Meta, RootNames, Table, TableId, Tracked, TrackedList};
 use std::alloc::Global;
 
 // Whether one of these is of the table.
@@ -82,6 +85,37 @@ fn entry_table<'a>(
     Ok((place, table))
 }
 
+// The name of a table, which its configuration at a path may give.
+fn name_in(
+    alloc: Global,
+    path: &Txt,
+    configuration: Option<&Json>,
+    table: &Table,
+) -> Result<Txt, MetaRefusal>
+    ensures { Gives (λ name. name) MetaRefusal.Memory (table_name_due (at path.now CustomName) (given_value (option_map (λ j. json_view j.now) configuration.entry) CustomName) table.now) result }
+{
+    let custom = given_value(configuration, Field::CustomName);
+    table_name(alloc, &at(alloc, path, Field::CustomName)?, custom, table)
+}
+
+// The names of the root fields of a table of this name, of which its configuration at a path may give some.
+fn roots_in(
+    alloc: Global,
+    path: &Txt,
+    configuration: Option<&Json>,
+    name: &Txt,
+) -> Result<RootNames, MetaRefusal>
+    ensures { Gives (λ names. names) MetaRefusal.Memory (roots_due (at path.now CustomRootFields) name.now (given_value (option_map (λ j. json_view j.now) configuration.entry) CustomRootFields)) result }
+{
+    let custom = given_value(configuration, Field::CustomRootFields);
+    roots(
+        alloc,
+        &at(alloc, path, Field::CustomRootFields)?,
+        name,
+        custom,
+    )
+}
+
 // A table with the names that its configuration, which stands at a path, gives.
 #[tactic(auto, unfolding(crate::specs::Tracked::configured))]
 fn configured(
@@ -94,19 +128,9 @@ fn configured(
     ensures { Gives tracked_view MetaRefusal.Memory (configured path.now (option_map (λ j. json_view j.now) given.entry) place table.now) result }
 {
     let configuration = given_object(alloc, path, given)?;
-    let name = table_name(
-        alloc,
-        &at(alloc, path, Field::CustomName)?,
-        given_value(configuration, Field::CustomName),
-        table,
-    )?;
+    let name = name_in(alloc, path, configuration, table)?;
     let column_names = column_names(alloc, table.columns.as_slice(), path, configuration)?;
-    let roots = roots(
-        alloc,
-        &at(alloc, path, Field::CustomRootFields)?,
-        &name,
-        given_value(configuration, Field::CustomRootFields),
-    )?;
+    let roots = roots_in(alloc, path, configuration, &name)?;
     Ok(Tracked {
         table: place,
         name,
