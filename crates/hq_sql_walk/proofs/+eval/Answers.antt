@@ -1,5 +1,6 @@
 use Rattle.std.proofs.Common.{rules, ◌≡◌, ◌==◌, ◌≤◌, ◌+◌, ◌<◌, ◌∷◌, [], Some, None, true, IfOk, option_map, map, length, ◌++◌, filter as kept_items, flat_map, take, drop, get_or, refl, subst, sym, ap, ap₂, ◌∙◌, arith}
 use Rattle.std.proofs.lemmas.List.{map-append, length-map, take_all}
+use Rattle.std.proofs.lemmas.Option.{IfSome_then}
 use Rattle.std.proofs.lemmas.Result.{IfOk-weaker}
 use Rattle.std.specs.Vec.Iter.{into_iter_items}
 use Rattle.hq_base.specs.Cells as cell
@@ -39,7 +40,7 @@ use Rattle.hq_sql_walk.proofs.Conjunctions.{and3_yes, all_is, all_more}
 use Rattle.hq_sql_walk.proofs.Ordered.{elements_are, arranged_is}
 use Rattle.hq_sql_walk.proofs.Evaluated.{members_mapped, outputs_all, later_is, keys_is, spread_step, any_found, any_passed, scan_step, rows_are, exists_is, paged_map, scan_all, page_front, top_step, top_page}
 use Rattle.hq_sql_walk.proofs.Loops.{map_more, scope_more, value_more, holds_next, next_item, view_pair, view_key}
-use Rattle.hq_sql_walk.proofs.Told.{none_in}
+use Rattle.hq_sql_walk.proofs.Told.{none_in, tells_at}
 use Rattle.hq_terms.specs.declared.truth.Truth.TheVariants.{Yes}
 use Rattle.hq_sql_walk.proofs.+eval.Goals.{truths::all_true-in-Opened+in_ok-all-in-Opened, truths::all_true-in-Tried+in_ok-truth-in-Tried, truths::all_true-in-Other}
 use Rattle.hq_sql_walk.proofs.+eval.Goals as goal
@@ -274,6 +275,16 @@ joins::outputs_put_off-returns-then-eq t c =
     IfOk-weaker c.outputs_at.result _ _ (λ made h. h ∙ ap (outputs_of O) same) c.outputs_at.ensures
 
 -- ---- rows of FROM
+
+pub scans::any_row-keeps_some-requires : goal.scans::any_row-keeps_some-requires
+scans::any_row-keeps_some-requires t c =
+    let w = world_of c.args.world.now in
+    let n = names_of c.args.scope.now c.args.world.now in
+    let js = joins_of (map join_view c.args.joins.now) in
+    let f = filter_view c.args.filter.now in
+    let alone = IfSome_then c.args.known c.requires.known (λ k h. h.alone) in
+    let tells = IfSome_then c.args.known c.requires.known (λ k h lt. tells_at w c.args.source c.args.alias.now js f k.now n c.position_at-position.result (row_view c.row_at.result) h c.row_at.ensures lt) in
+    (omega arith, (alone, (tells, c.requires.lighter)))
 
 pub scans::any_row-returns-then-keeps : goal.scans::any_row-returns-then-keeps
 scans::any_row-returns-then-keeps t c =
