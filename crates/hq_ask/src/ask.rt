@@ -258,8 +258,7 @@ fn ask_field(
 {
     let known = known_field_of(alloc, context, place, t, field)?;
     let to = known.def.ty.base();
-    let origin = known.def.origin;
-    let head = head_of(alloc, context, place, t, origin, known, field)?;
+    let head = head_of(alloc, context, place, t, known, field)?;
     with_below(alloc, context, to, t, field, head)
 }
 

@@ -81,19 +81,18 @@ fn leaf(field: AskField) -> Head
     Head::Leaf(field)
 }
 
-/// What stands at a field of the root, or at a row of a table, by what the field stands for.
+/// What stands at a field of the root, or at a row of a table.
 pub fn head_of(
     alloc: Global,
     context: &Context<'_>,
     place: TypeId,
     t: TableId,
-    origin: FieldOrigin,
     known: Known<'_>,
     field: &CollectedField<'_>,
 ) -> Result<Head, CoerceRefusal>
-    ensures { Gives head_view refusal.Memory (head_by (context_view context.now) place t (parts_seen field.now).head (known_view known.entry) origin) result }
+    ensures { let k = known_view known.entry in Gives head_view refusal.Memory (head_by (context_view context.now) place t (parts_seen field.now).head k k.0.origin) result }
 {
-    match origin {
+    match known.def.origin {
         FieldOrigin::Column(col) => Ok(leaf(AskField::Column { col })),
         FieldOrigin::TypeName => {
             let name = type_name_at(alloc, context.schema, place, field)?;
