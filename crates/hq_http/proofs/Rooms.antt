@@ -3,6 +3,7 @@ use Rattle.std.proofs.Common.{◌≡◌, ◌≤◌, ◌<◌, ◌+◌, ◌-◌, �
 use Rattle.std.proofs.Math.ListN.{set}
 use Rattle.std.proofs.Math.Seq.{take-add, take-suc}
 use Rattle.std.proofs.lemmas.List.{drop-take, take_more_set, drop-set-lt, get_or-drop, take_all, take-append-le, drop-drop}
+use Rattle.std.specs.Prelude.{Result, Ok, Err, OnErr}
 use Rattle.std.specs.declared.option.Option.{Option}
 use Rattle.std.specs.Io.KnownBytes.{Consumes, IsAtEnd}
 use Rattle.hq_http.specs.Pending.{Fills}
@@ -52,6 +53,12 @@ pub filled_room : (left left' : Option (List ℕ)) (at_hand items room room' : L
     → Fills left left' at_hand (take (end + n) (take len (room' ++ drop (length room') (take len (room ++ drop (length room) items))))) n
 filled_room left left' at_hand items room room' len end n l l' e f fits consumed over =
     subst (λ (x : List ℕ). Fills left left' at_hand (take (end + n) x) n) (sym (written_whole room' _ len l')) (filled left left' at_hand room room' end n e f fits consumed over)
+
+-- what is at hand stays where a read failed behind it
+pub kept_room : {T E : Type 0} (r : Result T E) (at_hand items room room' : List ℕ) (len end : ℕ) → length room' ≡ len → take end room ≡ at_hand → take end room' ≡ take end room
+    → OnErr r (take end (take len (room' ++ drop (length room') (take len (room ++ drop (length room) items)))) ≡ at_hand)
+kept_room (Ok x) at_hand items room room' len end l' e f = tt
+kept_room (Err x) at_hand items room room' len end l' e f = ap (take end) (written_whole room' _ len l') ∙ f ∙ e
 
 pub slid : (room old : List ℕ) (start end i : ℕ) → start ≤ end → start + i ≤ end → end ≤ start + i → take i room ≡ take i (drop start old) → take (end - start) room ≡ drop start (take end old)
 slid room old start end i le under over front =

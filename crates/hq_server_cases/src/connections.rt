@@ -23,8 +23,9 @@ fn number(json: &Json) -> Result<u64, Stop> {
 
 // The numbers of the calls of a link that fail.
 fn failing(alloc: Global, case: &Case, member: &str) -> Result<NumList, Stop> {
+    let list = case.list(member)?;
     let mut numbers = List::new(alloc);
-    for json in case.list(member)? {
+    for json in list {
         numbers.push(number(json)?)?;
     }
     Ok(numbers)

@@ -45,8 +45,9 @@ fn reply(alloc: Global, json: &Json) -> Result<Answer, Stop> {
 impl Replies {
     /// The answers of a case.
     pub fn given(alloc: Global, case: &Case) -> Result<Replies, Stop> {
+        let replies = case.list("replies")?;
         let mut left = Vec::new(alloc);
-        for json in case.list("replies")?.iter().rev() {
+        for json in replies.iter().rev() {
             left.push(answer(alloc, json)?)?;
         }
         Ok(Replies { left, faults: 0 })

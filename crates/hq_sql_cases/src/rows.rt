@@ -35,8 +35,9 @@ fn row_of(alloc: Global, json: &Json) -> Result<Vec<Val>, Stop> {
 
 // The values of the rows of a case.
 fn rows_of_values(alloc: Global, case: &Case) -> Result<Vec<Vec<Val>>, Stop> {
+    let list = case.list("rows")?;
     let mut rows = Vec::new(alloc);
-    for row in case.list("rows")? {
+    for row in list {
         rows.push(row_of(alloc, row)?)?;
     }
     Ok(rows)
@@ -81,8 +82,9 @@ fn direction(json: &Json) -> Result<Direction, Stop> {
 }
 
 fn directions(alloc: Global, case: &Case) -> Result<Vec<Direction>, Stop> {
+    let list = case.list("order")?;
     let mut directions = Vec::new(alloc);
-    for json in case.list("order")? {
+    for json in list {
         directions.push(direction(json)?)?;
     }
     Ok(directions)
