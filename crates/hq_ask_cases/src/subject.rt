@@ -1,6 +1,5 @@
 use crate::{operations, requests, rules, variables};
 use hq_case::{Case, Stop, Subject, Words};
-use std::alloc::Global;
 
 /// What cases are about: a file of cases, and the public calls that these go through.
 #[derive(Clone, Copy)]
@@ -25,17 +24,6 @@ impl About {
         About::Arguments,
         About::TypedRequests,
     ];
-
-    // Adds what comes of a case.
-    fn add(self, alloc: Global, case: &Case, words: &mut Words) -> Result<(), Stop> {
-        match self {
-            About::DocumentRules => rules::tell_of_document(alloc, case, words),
-            About::FieldRules | About::MergingRule => rules::tell_of_fields(alloc, case, words),
-            About::Operations => operations::tell_operation(alloc, case, words),
-            About::Variables => variables::tell_values(alloc, case, words),
-            About::Arguments | About::TypedRequests => requests::tell_request(alloc, case, words),
-        }
-    }
 }
 
 impl Subject for About {
@@ -51,9 +39,14 @@ impl Subject for About {
         }
     }
 
-    fn tell(self, rt: &HostRuntime, case: &Case, out: &mut String) -> Result<(), Stop> {
-        let mut words = Words::new(rt.alloc());
-        self.add(rt.alloc(), case, &mut words)?;
-        Ok(words.add_to(out)?)
+    fn tell(self, rt: &HostRuntime, case: &Case, words: &mut Words) -> Result<(), Stop> {
+        let alloc = rt.alloc();
+        match self {
+            About::DocumentRules => rules::tell_of_document(alloc, case, words),
+            About::FieldRules | About::MergingRule => rules::tell_of_fields(alloc, case, words),
+            About::Operations => operations::tell_operation(alloc, case, words),
+            About::Variables => variables::tell_values(alloc, case, words),
+            About::Arguments | About::TypedRequests => requests::tell_request(alloc, case, words),
+        }
     }
 }

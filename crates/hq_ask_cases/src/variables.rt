@@ -8,27 +8,19 @@ use hq_schema::Schema;
 use std::alloc::Global;
 
 // Each variable with its value, in words.
-fn push_values(alloc: Global, values: &[VarValue], words: &mut Words) -> Result<(), Stop> {
+fn push_values(alloc: Global, values: &[VarValue], words: &mut Words) {
     for (at, var) in values.iter().enumerate() {
         words.push(if at == 0 { "" } else { ", " });
         words.push_pair(var.name.as_str(), " = ");
-        push_json(alloc, &var.value, &mut words.text)?;
+        push_json(alloc, &var.value, words);
     }
-    Ok(())
 }
 
 // Adds the variables that have values, or the fault.
-fn push_coerced(
-    alloc: Global,
-    values: &Result<VarValues, CoerceRefusal>,
-    words: &mut Words,
-) -> Result<(), Stop> {
+fn push_coerced(alloc: Global, values: &Result<VarValues, CoerceRefusal>, words: &mut Words) {
     match values {
         Ok(values) => push_values(alloc, values.as_slice(), words),
-        Err(refusal) => {
-            push_refusal(refusal, words);
-            Ok(())
-        }
+        Err(refusal) => push_refusal(refusal, words),
     }
 }
 
@@ -43,7 +35,8 @@ fn push_variables(
     let op = given_operation(alloc, case, document)?;
     let given = given_variables(alloc, case)?;
     let values = coerce_variables(alloc, document, op, schema, given.as_ref());
-    push_coerced(alloc, &values, words)
+    push_coerced(alloc, &values, words);
+    Ok(())
 }
 
 /// The variables that have values, or the fault.

@@ -14,7 +14,7 @@ pub use bexp::push_bexp;
 pub use case::Case;
 pub use given::{given_catalog, given_headers, given_session};
 pub use input::bytes as input_bytes;
-pub use stop::{Stop, written};
+pub use stop::Stop;
 pub use table::{Subject, run_all};
 pub use values::{push_bytes, push_json, push_session, push_value, value};
 pub use words::Words;

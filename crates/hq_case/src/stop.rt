@@ -17,14 +17,6 @@ pub enum Stop {
     Memory,
 }
 
-/// What comes of words that were to be added: nothing but memory can have lacked.
-pub fn written(added: Result<(), AllocError>) -> Result<(), Stop> {
-    match added {
-        Ok(()) => Ok(()),
-        Err(_) => Err(Stop::Memory),
-    }
-}
-
 impl From<Memory> for Stop {
     fn from(_: Memory) -> Self {
         Stop::Memory

@@ -1,9 +1,9 @@
 //! Values, JSON and sessions in words.
 
-use crate::{Stop, Words, written};
+use crate::{Stop, Words};
 use hq_base::{Bytes, Json, Txt, Val};
 use hq_terms::Session;
-use std::alloc::{AllocError, Global};
+use std::alloc::Global;
 
 /// The value of a table that a JSON value writes.
 pub fn value(alloc: Global, json: &Json) -> Result<Val, Stop> {
@@ -33,23 +33,27 @@ pub fn push_value(value: &Val, words: &mut Words) {
 }
 
 /// Adds bytes, which are to be a text.
-pub fn push_bytes(alloc: Global, bytes: &[u8], out: &mut String) -> Result<(), Stop> {
-    let text = Txt::of(alloc, bytes)?;
-    written(out.push_str(text.as_str()))
+pub fn push_bytes(alloc: Global, bytes: &[u8], words: &mut Words) {
+    match Txt::of(alloc, bytes) {
+        Ok(text) => words.push(text.as_str()),
+        Err(refusal) => words.stop(Stop::from(refusal)),
+    }
 }
 
 /// Adds the compact text of a JSON value.
-pub fn push_json(alloc: Global, json: &Json, out: &mut String) -> Result<(), Stop> {
+pub fn push_json(alloc: Global, json: &Json, words: &mut Words) {
     let mut bytes = Bytes::new(alloc);
-    json.write_to(alloc, &mut bytes)?;
-    push_bytes(alloc, bytes.as_slice(), out)
+    match json.write_to(alloc, &mut bytes) {
+        Ok(()) => push_bytes(alloc, bytes.as_slice(), words),
+        Err(memory) => words.stop(Stop::from(memory)),
+    }
 }
 
 /// Adds the role and the variables of a session.
-pub fn push_session(session: &Session, out: &mut String) -> Result<(), AllocError> {
-    write!(out, "{}:", session.role.as_str())?;
+pub fn push_session(session: &Session, words: &mut Words) {
+    words.push_pair(session.role.as_str(), ":");
     for var in session.vars.as_slice() {
-        write!(out, " {}={}", var.name.as_str(), var.value.as_str())?;
+        words.push_pair(" ", var.name.as_str());
+        words.push_pair("=", var.value.as_str());
     }
-    Ok(())
 }

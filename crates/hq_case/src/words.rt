@@ -1,11 +1,12 @@
+use crate::Stop;
 use std::alloc::{AllocError, Global};
 use std::fmt::{Debug, Display};
 
-/// A text to which pieces are added. That memory was wanting for one of them is told at its end, so that none is asked after.
+/// A text to which pieces are added. What stops one of them is told at the text's end, so that none is asked after.
 #[derive(Drop)]
 pub struct Words {
-    pub text: String,
-    wanting: bool,
+    text: String,
+    stopped: Option<Stop>,
 }
 
 impl Words {
@@ -13,14 +14,21 @@ impl Words {
     pub fn new(alloc: Global) -> Words {
         Words {
             text: String::new(alloc),
-            wanting: false,
+            stopped: None,
+        }
+    }
+
+    /// Takes note of what stops the text, unless something did before.
+    pub fn stop(&mut self, stop: Stop) {
+        if self.stopped.is_none() {
+            self.stopped = Some(stop);
         }
     }
 
     // Takes note of whether a piece was added.
     fn note(&mut self, added: Result<(), AllocError>) {
         if added.is_err() {
-            self.wanting = true;
+            self.stop(Stop::Memory);
         }
     }
 
@@ -58,11 +66,20 @@ impl Words {
         self.push_shown(&place);
     }
 
-    /// Adds this text to another.
-    pub fn add_to(self, out: &mut String) -> Result<(), AllocError> {
-        if self.wanting {
-            return Err(AllocError);
+    /// Adds another text, and what stopped it.
+    pub fn push_words(&mut self, other: &Words) {
+        self.push(other.text.as_str());
+        if let Some(stop) = other.stopped {
+            self.stop(stop);
         }
-        out.push_str(self.text.as_str())
+    }
+
+    /// The text, or what stopped it.
+    pub fn told(self) -> Result<String, Stop> {
+        let Words { text, stopped } = self;
+        match stopped {
+            None => Ok(text),
+            Some(stop) => Err(stop),
+        }
     }
 }

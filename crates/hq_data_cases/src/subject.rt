@@ -1,6 +1,5 @@
 use crate::{catalogs, filters, metadata, rows, schemas};
 use hq_case::{Case, Stop, Subject, Words};
-use std::alloc::Global;
 
 /// What cases are about: a file of cases, and the public calls that these go through.
 #[derive(Clone, Copy)]
@@ -29,21 +28,6 @@ impl About {
         About::RoleSchemas,
         About::LookUps,
     ];
-
-    // Adds what comes of a case.
-    fn add(self, alloc: Global, case: &Case, words: &mut Words) -> Result<(), Stop> {
-        match self {
-            About::Catalogs => catalogs::tell_catalog(alloc, case, words),
-            About::TableFiles => rows::tell_table_file(alloc, case, words),
-            About::Filters => filters::tell_filter(alloc, case, words),
-            About::Bindings => filters::tell_binding(alloc, case, words),
-            About::Metadata => metadata::tell_verdict(alloc, case, words),
-            About::Exports => metadata::tell_export(alloc, case, words),
-            About::Permissions => metadata::tell_permission(alloc, case, words),
-            About::RoleSchemas => schemas::tell_role_schema(alloc, case, words),
-            About::LookUps => schemas::tell_look_ups(alloc, case, words),
-        }
-    }
 }
 
 impl Subject for About {
@@ -61,9 +45,18 @@ impl Subject for About {
         }
     }
 
-    fn tell(self, rt: &HostRuntime, case: &Case, out: &mut String) -> Result<(), Stop> {
-        let mut words = Words::new(rt.alloc());
-        self.add(rt.alloc(), case, &mut words)?;
-        Ok(words.add_to(out)?)
+    fn tell(self, rt: &HostRuntime, case: &Case, words: &mut Words) -> Result<(), Stop> {
+        let alloc = rt.alloc();
+        match self {
+            About::Catalogs => catalogs::tell_catalog(alloc, case, words),
+            About::TableFiles => rows::tell_table_file(alloc, case, words),
+            About::Filters => filters::tell_filter(alloc, case, words),
+            About::Bindings => filters::tell_binding(alloc, case, words),
+            About::Metadata => metadata::tell_verdict(alloc, case, words),
+            About::Exports => metadata::tell_export(alloc, case, words),
+            About::Permissions => metadata::tell_permission(alloc, case, words),
+            About::RoleSchemas => schemas::tell_role_schema(alloc, case, words),
+            About::LookUps => schemas::tell_look_ups(alloc, case, words),
+        }
     }
 }

@@ -2,7 +2,7 @@
 
 use crate::directory::{failing, numbers};
 use hq_base::{Bytes, Json, List};
-use hq_case::{Case, Stop, input_bytes, push_bytes};
+use hq_case::{Case, Stop, Words, input_bytes, push_bytes};
 use hq_memory::{MemDoor, MemLink, MemLinkList};
 use hq_outside::NumList;
 use std::alloc::Global;
@@ -62,17 +62,11 @@ fn count(case: &Case) -> usize {
 }
 
 /// Adds what was written to each link, behind a bar.
-pub fn push_links(
-    alloc: Global,
-    case: &Case,
-    door: &MemDoor,
-    out: &mut String,
-) -> Result<(), Stop> {
+pub fn push_links(alloc: Global, case: &Case, door: &MemDoor, words: &mut Words) {
     for at in 0..count(case) {
         if let Some(link) = door.link_at(at) {
-            out.push_str(" | ")?;
-            push_bytes(alloc, link.out.bytes(), out)?;
+            words.push(" | ");
+            push_bytes(alloc, link.out.bytes(), words);
         }
     }
-    Ok(())
 }

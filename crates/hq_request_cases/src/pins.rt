@@ -6,7 +6,7 @@ ghost use Rattle.hq_terms.specs.Meta.{meta_view};
 use crate::loaded::loaded;
 use hq_app::answer_one;
 use hq_base::List;
-use hq_case::{Case, Stop, given_session, push_bytes};
+use hq_case::{Case, Stop, Words, given_session, push_bytes};
 use hq_db::SqlDb;
 use hq_engine::Engine;
 use hq_link::Database;
@@ -37,16 +37,11 @@ fn outputs(alloc: Global) -> Result<(MemSink, MemSink), Stop> {
     Ok((written, output(alloc)?))
 }
 
-fn push_outcome(
-    alloc: Global,
-    status: u8,
-    written: &MemSink,
-    told: &MemSink,
-    out: &mut String,
-) -> Result<(), Stop> {
-    write!(out, "{status}: ")?;
-    push_bytes(alloc, written.bytes(), out)?;
-    push_bytes(alloc, told.bytes(), out)
+fn push_outcome(alloc: Global, status: u8, written: &MemSink, told: &MemSink, words: &mut Words) {
+    words.push_number(u64::from(status));
+    words.push(": ");
+    push_bytes(alloc, written.bytes(), words);
+    push_bytes(alloc, told.bytes(), words);
 }
 
 // Adds what comes of the request.
@@ -56,7 +51,7 @@ fn push_answer(
     engine: &Engine,
     session: &Session,
     db: &mut Failing,
-    out: &mut String,
+    words: &mut Words,
 ) -> Result<(), Stop>
     requires { ⟦<Failing as Database>⟧.tables db.old ≡ engine.now.catalog.tables }
     ensures { ⟦<Failing as Database>⟧.tables db.new ≡ ⟦<Failing as Database>⟧.tables db.old }
@@ -72,7 +67,8 @@ fn push_answer(
         &mut written,
         &mut told,
     );
-    push_outcome(alloc, status, &written, &told, out)
+    push_outcome(alloc, status, &written, &told, words);
+    Ok(())
 }
 
 // Adds what comes of the request, and of the same request again.
@@ -82,13 +78,13 @@ fn push_both(
     engine: &Engine,
     session: &Session,
     db: &mut Failing,
-    out: &mut String,
+    words: &mut Words,
 ) -> Result<(), Stop>
     requires { ⟦<Failing as Database>⟧.tables db.old ≡ engine.now.catalog.tables }
 {
-    push_answer(alloc, case, engine, session, db, out)?;
-    out.push_str(" | ")?;
-    push_answer(alloc, case, engine, session, db, out)
+    push_answer(alloc, case, engine, session, db, words)?;
+    words.push(" | ");
+    push_answer(alloc, case, engine, session, db, words)
 }
 
 // An engine over a copy of the catalog.
@@ -107,7 +103,7 @@ fn push_answers(
     session: &Session,
     loaded: Loaded,
     failing: u64,
-    out: &mut String,
+    words: &mut Words,
 ) -> Result<(), Stop> {
     let Loaded {
         catalog,
@@ -116,12 +112,19 @@ fn push_answers(
     } = loaded;
     let engine = engine_over(alloc, &catalog, meta)?;
     let mut db = SqlDb::new(FlakyTables::new(MemTables::new(catalog, rows), failing));
-    push_both(alloc, case, &engine, session, &mut db, out)
+    push_both(alloc, case, &engine, session, &mut db, words)
 }
 
 /// The status of the request, what was written and what was told, and then those of the same request again.
-pub fn tell_outcomes(rt: &HostRuntime, case: &Case, out: &mut String) -> Result<(), Stop> {
+pub fn tell_outcomes(rt: &HostRuntime, case: &Case, words: &mut Words) -> Result<(), Stop> {
     let failing = case.number("failing")?.unwrap_or(0);
     let session = given_session(rt.alloc(), case)?;
-    push_answers(rt.alloc(), case, &session, loaded(rt, case)?, failing, out)
+    push_answers(
+        rt.alloc(),
+        case,
+        &session,
+        loaded(rt, case)?,
+        failing,
+        words,
+    )
 }

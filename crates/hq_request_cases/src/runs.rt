@@ -4,7 +4,7 @@ use crate::directory::{failing, folder};
 use crate::links::{door, push_links};
 use hq_app::{Ran, World, run};
 use hq_base::Txt;
-use hq_case::{Case, Stop, push_bytes};
+use hq_case::{Case, Stop, Words, push_bytes};
 use hq_memory::{MemDoor, MemFiles, MemSink, MemSource};
 use std::alloc::Global;
 
@@ -53,26 +53,22 @@ fn world(rt: &HostRuntime, case: &Case) -> Result<Inside, Stop> {
     })
 }
 
-fn push_left(alloc: Global, case: &Case, left: &Left, out: &mut String) -> Result<(), Stop> {
-    write!(out, "{}: ", left.status)?;
-    push_bytes(alloc, left.world.out.bytes(), out)?;
-    push_bytes(alloc, left.world.err.bytes(), out)?;
-    push_links(alloc, case, &left.world.door, out)
+fn push_left(alloc: Global, case: &Case, left: &Left, out: &mut Words) {
+    out.push_number(u64::from(left.status));
+    out.push(": ");
+    push_bytes(alloc, left.world.out.bytes(), out);
+    push_bytes(alloc, left.world.err.bytes(), out);
+    push_links(alloc, case, &left.world.door, out);
 }
 
-fn push_run(
-    alloc: Global,
-    case: &Case,
-    words: &[Txt],
-    world: Inside,
-    out: &mut String,
-) -> Result<(), Stop> {
+fn push_run(alloc: Global, case: &Case, words: &[Txt], world: Inside, out: &mut Words) {
     let left = run(alloc, words, world);
-    push_left(alloc, case, &left, out)
+    push_left(alloc, case, &left, out);
 }
 
 /// The status of a run, what it wrote, the line that it told, and what each link got.
-pub fn tell_outcome(rt: &HostRuntime, case: &Case, out: &mut String) -> Result<(), Stop> {
+pub fn tell_outcome(rt: &HostRuntime, case: &Case, out: &mut Words) -> Result<(), Stop> {
     let words = case.texts(rt.alloc(), "words")?;
-    push_run(rt.alloc(), case, words.as_slice(), world(rt, case)?, out)
+    push_run(rt.alloc(), case, words.as_slice(), world(rt, case)?, out);
+    Ok(())
 }

@@ -3,7 +3,7 @@
 use crate::loaded::loaded;
 use hq_answer::Answer;
 use hq_base::Bytes;
-use hq_case::{Case, Stop, push_bytes};
+use hq_case::{Case, Stop, Words, push_bytes};
 use hq_db::SqlDb;
 use hq_link::{Database, DbRefusal};
 use hq_loading::Loaded;
@@ -25,21 +25,24 @@ fn answered(alloc: Global, loaded: Loaded, text: &[u8]) -> Result<Answer, DbRefu
     database.run(alloc, text)
 }
 
-fn push_text(alloc: Global, answer: &Answer, out: &mut String) -> Result<(), Stop> {
+fn push_text(alloc: Global, answer: &Answer, words: &mut Words) {
     let mut text = Bytes::new(alloc);
-    answer.write_to(&mut text)?;
-    push_bytes(alloc, text.as_slice(), out)
+    match answer.write_to(&mut text) {
+        Ok(()) => push_bytes(alloc, text.as_slice(), words),
+        Err(memory) => words.stop(Stop::from(memory)),
+    }
 }
 
-fn push_answered(alloc: Global, loaded: Loaded, text: &[u8], out: &mut String) -> Result<(), Stop> {
+fn push_answered(alloc: Global, loaded: Loaded, text: &[u8], words: &mut Words) {
     match answered(alloc, loaded, text) {
-        Ok(answer) => push_text(alloc, &answer, out),
-        Err(refusal) => Ok(write!(out, "{refusal:?}")?),
+        Ok(answer) => push_text(alloc, &answer, words),
+        Err(refusal) => words.push_debug(&refusal),
     }
 }
 
 /// The JSON that a statement is answered with, or its refusal.
-pub fn tell_answer(rt: &HostRuntime, case: &Case, out: &mut String) -> Result<(), Stop> {
+pub fn tell_answer(rt: &HostRuntime, case: &Case, words: &mut Words) -> Result<(), Stop> {
     let text = case.bytes(rt.alloc(), "in")?;
-    push_answered(rt.alloc(), loaded(rt, case)?, text.as_slice(), out)
+    push_answered(rt.alloc(), loaded(rt, case)?, text.as_slice(), words);
+    Ok(())
 }

@@ -1,5 +1,5 @@
 use crate::{pins, runs, statements};
-use hq_case::{Case, Stop, Subject};
+use hq_case::{Case, Stop, Subject, Words};
 
 /// What cases are about: a file of cases, and the public calls that these go through.
 #[derive(Clone, Copy)]
@@ -60,11 +60,11 @@ impl Subject for About {
         }
     }
 
-    fn tell(self, rt: &HostRuntime, case: &Case, out: &mut String) -> Result<(), Stop> {
+    fn tell(self, rt: &HostRuntime, case: &Case, words: &mut Words) -> Result<(), Stop> {
         match self {
-            About::Statements => statements::tell_answer(rt, case, out),
-            About::Pins => pins::tell_outcomes(rt, case, out),
-            _ => runs::tell_outcome(rt, case, out),
+            About::Statements => statements::tell_answer(rt, case, words),
+            About::Pins => pins::tell_outcomes(rt, case, words),
+            _ => runs::tell_outcome(rt, case, words),
         }
     }
 }

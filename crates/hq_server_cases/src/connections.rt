@@ -2,7 +2,7 @@
 
 use crate::replies::Replies;
 use hq_base::{Json, List};
-use hq_case::{Case, Stop, push_bytes};
+use hq_case::{Case, Stop, Words, push_bytes};
 use hq_http::serve_connection;
 use hq_memory::MemLink;
 use hq_outside::NumList;
@@ -39,20 +39,16 @@ fn link(alloc: Global, case: &Case) -> Result<MemLink, Stop> {
     Ok(MemLink::new(alloc, input, ROOM, reads, writes)?)
 }
 
-fn push_served(
-    alloc: Global,
-    link: &mut MemLink,
-    replies: &mut Replies,
-    out: &mut String,
-) -> Result<(), Stop> {
-    let end = serve_connection(alloc, link, replies);
-    write!(out, "{end:?} | ")?;
-    push_bytes(alloc, link.out.bytes(), out)
+fn push_served(alloc: Global, link: &mut MemLink, replies: &mut Replies, out: &mut Words) {
+    out.push_debug(&serve_connection(alloc, link, replies));
+    out.push(" | ");
+    push_bytes(alloc, link.out.bytes(), out);
 }
 
 /// How a connection ends, and what is written to it.
-pub fn tell_connection(alloc: Global, case: &Case, out: &mut String) -> Result<(), Stop> {
+pub fn tell_connection(alloc: Global, case: &Case, out: &mut Words) -> Result<(), Stop> {
     let mut replies = Replies::given(alloc, case)?;
     let mut link = link(alloc, case)?;
-    push_served(alloc, &mut link, &mut replies, out)
+    push_served(alloc, &mut link, &mut replies, out);
+    Ok(())
 }

@@ -2,7 +2,7 @@
 
 use crate::replies::Replies;
 use hq_base::Bytes;
-use hq_case::{Case, Stop, push_bytes};
+use hq_case::{Case, Stop, Words, push_bytes};
 use hq_http::serve_connection;
 use hq_outside::Door;
 use hq_system::TcpDoor;
@@ -37,25 +37,26 @@ fn serve<D: Door>(
     door: &mut D,
     replies: &mut Replies,
     count: usize,
-    out: &mut String,
+    out: &mut Words,
 ) -> Result<(), Stop> {
     for _ in 0..count {
         if door.accept().is_err() {
             return Err(Stop::Unread);
         }
-        let end = serve_connection(alloc, door.link(), replies);
-        write!(out, "{end:?}; ")?;
+        out.push_debug(&serve_connection(alloc, door.link(), replies));
+        out.push("; ");
     }
     Ok(())
 }
 
 // What a peer gets.
-fn push_reply<S: Read>(alloc: Global, peer: &mut S, out: &mut String) -> Result<(), Stop> {
+fn push_reply<S: Read>(alloc: Global, peer: &mut S, out: &mut Words) -> Result<(), Stop> {
     let mut bytes = Vec::new(alloc);
     if peer.read_to_end(&mut bytes).is_err() {
         return Err(Stop::Unread);
     }
-    push_bytes(alloc, &bytes, out)
+    push_bytes(alloc, &bytes, out);
+    Ok(())
 }
 
 // The port at which a door listens.
@@ -72,7 +73,7 @@ fn served_at(
     door: &mut TcpDoor<HostRuntime>,
     replies: &mut Replies,
     case: &Case,
-    out: &mut String,
+    out: &mut Words,
 ) -> Result<Vec<TcpStream>, Stop> {
     let port = opened(door)?;
     let peers = peers(rt, rt.alloc(), case, port)?;
@@ -81,16 +82,16 @@ fn served_at(
 }
 
 // The same, once the door is gone.
-fn served(rt: &HostRuntime, case: &Case, out: &mut String) -> Result<Vec<TcpStream>, Stop> {
+fn served(rt: &HostRuntime, case: &Case, out: &mut Words) -> Result<Vec<TcpStream>, Stop> {
     let mut replies = Replies::given(rt.alloc(), case)?;
     let mut door = TcpDoor::new(*rt);
     served_at(rt, &mut door, &mut replies, case, out)
 }
 
 /// How the connections end, and what each peer gets.
-pub fn tell_connections(rt: &HostRuntime, case: &Case, out: &mut String) -> Result<(), Stop> {
+pub fn tell_connections(rt: &HostRuntime, case: &Case, out: &mut Words) -> Result<(), Stop> {
     for peer in &mut served(rt, case, out)? {
-        out.push_str("| ")?;
+        out.push("| ");
         push_reply(rt.alloc(), peer, out)?;
     }
     Ok(())

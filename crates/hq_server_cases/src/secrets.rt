@@ -1,7 +1,7 @@
 //! Who the caller is, by the rule of an admin secret.
 
 use hq_base::Txt;
-use hq_case::{Case, Stop, given_headers, push_session, written};
+use hq_case::{Case, Stop, Words, given_headers, push_session};
 use hq_session::{HookAnswer, SecretRule};
 use std::alloc::Global;
 
@@ -23,11 +23,11 @@ fn rule(alloc: Global, case: &Case) -> Result<SecretRule, Stop> {
     })
 }
 
-fn push_caller(answer: &HookAnswer, out: &mut String) -> Result<(), Stop> {
+fn push_caller(answer: &HookAnswer, out: &mut Words) {
     match answer {
-        HookAnswer::Session(session) => written(push_session(session, out)),
-        HookAnswer::Denied => written(out.push_str("denied")),
-        HookAnswer::Memory => Err(Stop::Memory),
+        HookAnswer::Session(session) => push_session(session, out),
+        HookAnswer::Denied => out.push("denied"),
+        HookAnswer::Memory => out.stop(Stop::Memory),
     }
 }
 
@@ -35,16 +35,17 @@ fn push_decided(
     alloc: Global,
     rule: &SecretRule,
     lines: &[Txt],
-    out: &mut String,
+    out: &mut Words,
 ) -> Result<(), Stop> {
     match given_headers(alloc, lines)? {
         Ok(headers) => push_caller(&rule.decide(alloc, &headers), out),
-        Err(_) => Err(Stop::Shape),
+        Err(_) => out.stop(Stop::Shape),
     }
+    Ok(())
 }
 
 /// The session of a caller with these headers, or that the caller is denied.
-pub fn tell_caller(alloc: Global, case: &Case, out: &mut String) -> Result<(), Stop> {
+pub fn tell_caller(alloc: Global, case: &Case, out: &mut Words) -> Result<(), Stop> {
     let rule = rule(alloc, case)?;
     let lines = case.texts(alloc, "in")?;
     push_decided(alloc, &rule, lines.as_slice(), out)

@@ -1,7 +1,7 @@
 //! What the evaluator does with cells. The text `{}` stands for an empty JSON object.
 
 use hq_base::{Json, Memory, Val};
-use hq_case::{Case, Stop, push_json, value, written};
+use hq_case::{Case, Stop, Words, push_json, value};
 use hq_sql_cells::{Cell, among, compared, counted, greatest, least, matched, summed};
 use hq_terms::{Op, Truth};
 use std::alloc::Global;
@@ -47,10 +47,11 @@ fn truth_of(alloc: Global, case: &Case, op: &str) -> Result<Truth, Stop> {
 }
 
 /// A comparison of two cells, whether the first is among those behind it, or is like the second.
-pub fn tell_test(alloc: Global, case: &Case, out: &mut String) -> Result<(), Stop> {
+pub fn tell_test(alloc: Global, case: &Case, words: &mut Words) -> Result<(), Stop> {
     let op = case.text(alloc, "op")?;
     let truth = truth_of(alloc, case, op.as_str())?;
-    written(write!(out, "{truth:?}"))
+    words.push_debug(&truth);
+    Ok(())
 }
 
 fn is_among(cells: &[Cell<'_>]) -> Result<Truth, Stop> {
@@ -86,27 +87,23 @@ fn op_of(op: &str) -> Result<Op, Stop> {
     }
 }
 
-fn push_told(alloc: Global, json: &Json, out: &mut String) -> Result<(), Stop> {
-    push_json(alloc, json, out)?;
-    written(out.push_str(" "))
+fn push_cell(alloc: Global, cell: Cell<'_>, words: &mut Words) -> Result<(), Stop> {
+    push_json(alloc, &cell.into_json(alloc)?, words);
+    words.push(" ");
+    Ok(())
 }
 
-fn push_cell(alloc: Global, cell: Cell<'_>, out: &mut String) -> Result<(), Stop> {
-    let json = cell.into_json(alloc)?;
-    push_told(alloc, &json, out)
-}
-
-fn push_copies(alloc: Global, cells: &[Cell<'_>], out: &mut String) -> Result<(), Stop> {
+fn push_copies(alloc: Global, cells: &[Cell<'_>], words: &mut Words) -> Result<(), Stop> {
     for cell in cells {
-        push_cell(alloc, cell.copy(alloc)?, out)?;
+        push_cell(alloc, cell.copy(alloc)?, words)?;
     }
     Ok(())
 }
 
 /// The JSON of copies of cells.
-pub fn tell_json(alloc: Global, case: &Case, out: &mut String) -> Result<(), Stop> {
+pub fn tell_json(alloc: Global, case: &Case, words: &mut Words) -> Result<(), Stop> {
     let values = values(alloc, case.list("in")?)?;
-    push_copies(alloc, &cells(alloc, &values)?, out)
+    push_copies(alloc, &cells(alloc, &values)?, words)
 }
 
 /// What an aggregate function makes of cells.
@@ -133,10 +130,10 @@ fn push_aggregate(
     alloc: Global,
     aggregate: Aggregate,
     values: &[Val],
-    out: &mut String,
+    words: &mut Words,
 ) -> Result<(), Stop> {
     let cells = cells(alloc, values)?;
-    push_cell(alloc, made_of(aggregate, cells)?, out)
+    push_cell(alloc, made_of(aggregate, cells)?, words)
 }
 
 /// What these aggregate functions make of the cells of a case.
@@ -144,11 +141,11 @@ pub fn tell_aggregates(
     alloc: Global,
     aggregates: &[Aggregate],
     case: &Case,
-    out: &mut String,
+    words: &mut Words,
 ) -> Result<(), Stop> {
     let values = values(alloc, case.list("in")?)?;
     for aggregate in aggregates {
-        push_aggregate(alloc, *aggregate, &values, out)?;
+        push_aggregate(alloc, *aggregate, &values, words)?;
     }
     Ok(())
 }

@@ -2,9 +2,9 @@
 
 use crate::cells::{cells, values};
 use hq_base::{Json, Val};
-use hq_case::{Case, Stop, written};
+use hq_case::{Case, Stop, Words};
 use hq_sql_cells::{Direction, Kept, first_kept, paged, rows_of, sort_kept};
-use std::alloc::{AllocError, Global};
+use std::alloc::Global;
 
 fn page_of(alloc: Global, offset: Option<u64>, limit: Option<u64>) -> Result<Vec<usize>, Stop> {
     let rows = vec![in alloc; 0, 1, 2, 3, 4]?;
@@ -12,18 +12,19 @@ fn page_of(alloc: Global, offset: Option<u64>, limit: Option<u64>) -> Result<Vec
 }
 
 /// What an offset and a limit leave of the rows 0 to 4.
-pub fn tell_page(alloc: Global, case: &Case, out: &mut String) -> Result<(), Stop> {
+pub fn tell_page(alloc: Global, case: &Case, words: &mut Words) -> Result<(), Stop> {
     let offset = case.number("offset")?;
     let limit = case.number("limit")?;
     let places = page_of(alloc, offset, limit)?;
-    written(push_places(&places, out))
+    push_places(&places, words);
+    Ok(())
 }
 
-fn push_places(places: &[usize], out: &mut String) -> Result<(), AllocError> {
+fn push_places(places: &[usize], words: &mut Words) {
     for place in places {
-        write!(out, " {place}")?;
+        words.push(" ");
+        words.push_place(*place);
     }
-    Ok(())
 }
 
 fn row_of(alloc: Global, json: &Json) -> Result<Vec<Val>, Stop> {
@@ -103,9 +104,10 @@ fn places_in_order(alloc: Global, case: &Case) -> Result<Vec<usize>, Stop> {
 }
 
 /// The rows in their order.
-pub fn tell_sort(alloc: Global, case: &Case, out: &mut String) -> Result<(), Stop> {
+pub fn tell_sort(alloc: Global, case: &Case, words: &mut Words) -> Result<(), Stop> {
     let places = places_in_order(alloc, case)?;
-    written(push_places(&places, out))
+    push_places(&places, words);
+    Ok(())
 }
 
 fn firsts(alloc: Global, values: &[Vec<Val>]) -> Result<Vec<usize>, Stop> {
@@ -115,8 +117,9 @@ fn firsts(alloc: Global, values: &[Vec<Val>]) -> Result<Vec<usize>, Stop> {
 }
 
 /// The first rows of their groups.
-pub fn tell_groups(alloc: Global, case: &Case, out: &mut String) -> Result<(), Stop> {
+pub fn tell_groups(alloc: Global, case: &Case, words: &mut Words) -> Result<(), Stop> {
     let values = rows_of_values(alloc, case)?;
     let places = firsts(alloc, &values)?;
-    written(push_places(&places, out))
+    push_places(&places, words);
+    Ok(())
 }

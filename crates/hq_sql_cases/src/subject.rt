@@ -1,7 +1,7 @@
 use crate::cells::Aggregate;
 use crate::texts::Look;
 use crate::{cells, rows, texts};
-use hq_case::{Case, Stop, Subject};
+use hq_case::{Case, Stop, Subject, Words};
 
 /// What cases are about: a file of cases, and the public calls that these go through.
 #[derive(Clone, Copy)]
@@ -60,19 +60,19 @@ impl Subject for About {
         }
     }
 
-    fn tell(self, rt: &HostRuntime, case: &Case, out: &mut String) -> Result<(), Stop> {
+    fn tell(self, rt: &HostRuntime, case: &Case, words: &mut Words) -> Result<(), Stop> {
         let alloc = rt.alloc();
         match self {
-            About::SqlTexts => texts::tell(alloc, Look::Printed, case, out),
-            About::WellFormed => texts::tell(alloc, Look::WellFormed, case, out),
-            About::Scans => texts::tell(alloc, Look::Scans, case, out),
-            About::Tests => cells::tell_test(alloc, case, out),
-            About::Cells => cells::tell_json(alloc, case, out),
-            About::AggregateFunctions => cells::tell_aggregates(alloc, &AGGREGATES, case, out),
-            About::Sums => cells::tell_aggregates(alloc, &SUM, case, out),
-            About::Pages => rows::tell_page(alloc, case, out),
-            About::Sorts => rows::tell_sort(alloc, case, out),
-            About::Groups => rows::tell_groups(alloc, case, out),
+            About::SqlTexts => texts::tell(alloc, Look::Printed, case, words),
+            About::WellFormed => texts::tell(alloc, Look::WellFormed, case, words),
+            About::Scans => texts::tell(alloc, Look::Scans, case, words),
+            About::Tests => cells::tell_test(alloc, case, words),
+            About::Cells => cells::tell_json(alloc, case, words),
+            About::AggregateFunctions => cells::tell_aggregates(alloc, &AGGREGATES, case, words),
+            About::Sums => cells::tell_aggregates(alloc, &SUM, case, words),
+            About::Pages => rows::tell_page(alloc, case, words),
+            About::Sorts => rows::tell_sort(alloc, case, words),
+            About::Groups => rows::tell_groups(alloc, case, words),
         }
     }
 }

@@ -1,52 +1,45 @@
 //! Headers, the sessions that they give, and the variables of these.
 
 use hq_base::{Memory, Txt};
-use hq_case::{Case, Stop, given_headers, given_session, push_session, written};
+use hq_case::{Case, Stop, Words, given_headers, given_session, push_session};
 use hq_session::{Header, Headers};
 use hq_terms::Session;
-use std::alloc::{AllocError, Global};
+use std::alloc::Global;
 
 /// The name and value of a header, or that it is none.
-pub fn tell_header(alloc: Global, case: &Case, out: &mut String) -> Result<(), Stop> {
+pub fn tell_header(alloc: Global, case: &Case, words: &mut Words) -> Result<(), Stop> {
     let line = case.text(alloc, "in")?;
-    push_line(alloc, &line, out)
+    words.push_shown(&Header::is_one(&line));
+    push_header(&Header::read(alloc, &line)?, words);
+    Ok(())
 }
 
-fn push_line(alloc: Global, line: &Txt, out: &mut String) -> Result<(), Stop> {
-    write!(out, "{}", Header::is_one(line))?;
-    let header = Header::read(alloc, line)?;
-    written(push_header(&header, out))
-}
-
-fn push_header(header: &Option<Header>, out: &mut String) -> Result<(), AllocError> {
-    match header {
-        Some(header) => write!(out, " {}={}", header.name.as_str(), header.value.as_str()),
-        None => Ok(()),
+fn push_header(header: &Option<Header>, words: &mut Words) {
+    if let Some(header) = header {
+        words.push_pair(" ", header.name.as_str());
+        words.push_pair("=", header.value.as_str());
     }
 }
 
 /// The role and the variables of the session that headers give, and the first value of the header `x`; or their refusal.
-pub fn tell_session(alloc: Global, case: &Case, out: &mut String) -> Result<(), Stop> {
+pub fn tell_session(alloc: Global, case: &Case, words: &mut Words) -> Result<(), Stop> {
     let lines = case.texts(alloc, "in")?;
-    push_lines(alloc, lines.as_slice(), out)
+    push_lines(alloc, lines.as_slice(), words)
 }
 
-fn push_lines(alloc: Global, lines: &[Txt], out: &mut String) -> Result<(), Stop> {
+fn push_lines(alloc: Global, lines: &[Txt], words: &mut Words) -> Result<(), Stop> {
     match given_headers(alloc, lines)? {
-        Ok(headers) => push_headers(alloc, &headers, out),
-        Err(refusal) => written(write!(out, "{refusal:?}")),
+        Ok(headers) => push_headers(alloc, &headers, words)?,
+        Err(refusal) => words.push_debug(&refusal),
     }
+    Ok(())
 }
 
-fn push_headers(alloc: Global, headers: &Headers, out: &mut String) -> Result<(), Stop> {
-    push_session_copy(alloc, headers, out)?;
+fn push_headers(alloc: Global, headers: &Headers, words: &mut Words) -> Result<(), Stop> {
     let name = Txt::of(alloc, b"x")?;
-    written(push_value("; the first x is", headers.first(&name), out))
-}
-
-fn push_session_copy(alloc: Global, headers: &Headers, out: &mut String) -> Result<(), Stop> {
-    let copy = session_copy(alloc, headers)?;
-    written(push_session(&copy, out))
+    push_session(&session_copy(alloc, headers)?, words);
+    push_value("; the first x is", headers.first(&name), words);
+    Ok(())
 }
 
 fn session_copy(alloc: Global, headers: &Headers) -> Result<Session, Memory> {
@@ -54,17 +47,21 @@ fn session_copy(alloc: Global, headers: &Headers) -> Result<Session, Memory> {
     session.copy(alloc)
 }
 
-fn push_value(before: &str, value: Option<&Txt>, out: &mut String) -> Result<(), AllocError> {
-    out.push_str(before)?;
+fn push_value(before: &str, value: Option<&Txt>, words: &mut Words) {
+    words.push(before);
     match value {
-        Some(value) => write!(out, " '{}'", value.as_str()),
-        None => out.push_str(" absent"),
+        Some(value) => {
+            words.push_pair(" '", value.as_str());
+            words.push("'");
+        }
+        None => words.push(" absent"),
     }
 }
 
 /// The value of a variable of a session.
-pub fn tell_variable(alloc: Global, case: &Case, out: &mut String) -> Result<(), Stop> {
+pub fn tell_variable(alloc: Global, case: &Case, words: &mut Words) -> Result<(), Stop> {
     let name = case.text(alloc, "in")?;
     let session = given_session(alloc, case)?;
-    written(push_value("is", session.var(&name), out))
+    push_value("is", session.var(&name), words);
+    Ok(())
 }

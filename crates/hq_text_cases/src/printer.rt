@@ -1,188 +1,196 @@
 //! A document in words: what it spells, each node behind its place.
 
 use hq_base::Txt;
+use hq_case::Words;
 use hq_gql_tree::{
     Argument, Definition, Directive, Document, Field, Fragment, Inline, OpKind, Operation, Placed,
     Selection, Spread, TypeCond, TypeRefTree, Value, VarDef,
 };
-use std::alloc::AllocError;
 
 /// Adds the words of a document.
-pub fn push_document(document: &Document, out: &mut String) -> Result<(), AllocError> {
+pub fn push_document(document: &Document, words: &mut Words) {
     for definition in &document.definitions {
-        push_definition(definition, out)?;
-    }
-    Ok(())
-}
-
-fn push_definition(definition: &Definition, out: &mut String) -> Result<(), AllocError> {
-    match definition {
-        Definition::Operation(operation) => push_operation(operation, out),
-        Definition::Fragment(fragment) => push_fragment(fragment, out),
+        match definition {
+            Definition::Operation(operation) => push_operation(operation, words),
+            Definition::Fragment(fragment) => push_fragment(fragment, words),
+        }
     }
 }
 
-fn push_operation(operation: &Operation, out: &mut String) -> Result<(), AllocError> {
-    let kind = match operation.kind {
-        OpKind::Query => "query",
-        OpKind::Mutation => "mutation",
-        OpKind::Subscription => "subscription",
-    };
-    write!(out, "{} {kind}", operation.at)?;
-    push_name(" ", &operation.name, "", out)?;
+// A place, and what stands at it.
+fn push_at(at: u64, said: &str, words: &mut Words) {
+    words.push_number(at);
+    words.push(said);
+}
+
+fn kind_of(kind: OpKind) -> &'static str {
+    match kind {
+        OpKind::Query => " query",
+        OpKind::Mutation => " mutation",
+        OpKind::Subscription => " subscription",
+    }
+}
+
+fn push_operation(operation: &Operation, words: &mut Words) {
+    push_at(operation.at, kind_of(operation.kind), words);
+    push_name(" ", &operation.name, "", words);
     for var in &operation.vars {
-        push_variable(var, out)?;
+        push_variable(var, words);
     }
-    push_directives(&operation.directives, out)?;
-    push_selections(&operation.selections, out)
+    push_directives(&operation.directives, words);
+    push_selections(&operation.selections, words);
 }
 
-fn push_name(
-    before: &str,
-    name: &Option<Txt>,
-    after: &str,
-    out: &mut String,
-) -> Result<(), AllocError> {
-    match name {
-        Some(name) => write!(out, "{before}{}{after}", name.as_str()),
-        None => Ok(()),
+fn push_name(before: &str, name: &Option<Txt>, after: &str, words: &mut Words) {
+    if let Some(name) = name {
+        words.push_pair(before, name.as_str());
+        words.push(after);
     }
 }
 
-fn push_variable(var: &VarDef, out: &mut String) -> Result<(), AllocError> {
-    write!(out, " ({} ${}: ", var.at, var.name.as_str())?;
-    push_type(&var.ty, out)?;
+fn push_variable(var: &VarDef, words: &mut Words) {
+    words.push(" (");
+    push_at(var.at, " $", words);
+    words.push_pair(var.name.as_str(), ": ");
+    push_type(&var.ty, words);
     if let Some(default) = &var.default {
-        out.push_str(" = ")?;
-        push_value(default, out)?;
+        words.push(" = ");
+        push_value(default, words);
     }
-    push_directives(&var.directives, out)?;
-    out.push_str(")")
+    push_directives(&var.directives, words);
+    words.push(")");
 }
 
-fn push_type(ty: &TypeRefTree, out: &mut String) -> Result<(), AllocError> {
+fn push_type(ty: &TypeRefTree, words: &mut Words) {
     match ty {
-        TypeRefTree::Named { at, name } => write!(out, "{at} {}", name.as_str()),
+        TypeRefTree::Named { at, name } => {
+            push_at(*at, " ", words);
+            words.push(name.as_str());
+        }
         TypeRefTree::List { at, of } => {
-            write!(out, "{at} [")?;
-            push_type(of, out)?;
-            out.push_str("]")
+            push_at(*at, " [", words);
+            push_type(of, words);
+            words.push("]");
         }
         TypeRefTree::NonNull { at, of } => {
-            write!(out, "{at} ")?;
-            push_type(of, out)?;
-            out.push_str("!")
+            push_at(*at, " ", words);
+            push_type(of, words);
+            words.push("!");
         }
     }
 }
 
 // A value that holds no others.
-fn push_scalar(value: &Value, out: &mut String) -> Result<(), AllocError> {
+fn push_scalar(value: &Value, words: &mut Words) {
     match value {
-        Value::Int(text) | Value::Float(text) | Value::Enum(text) => out.push_str(text.as_str()),
-        Value::Str(text) => write!(out, "\"{}\"", text.as_str()),
-        Value::Bool(b) => write!(out, "{b}"),
-        Value::Null => out.push_str("null"),
-        Value::Variable(name) => write!(out, "${}", name.as_str()),
-        Value::List(_) | Value::Object(_) => Ok(()),
+        Value::Int(text) | Value::Float(text) | Value::Enum(text) => words.push(text.as_str()),
+        Value::Str(text) => {
+            words.push_pair("\"", text.as_str());
+            words.push("\"");
+        }
+        Value::Bool(b) => words.push_shown(b),
+        Value::Null => words.push("null"),
+        Value::Variable(name) => words.push_pair("$", name.as_str()),
+        Value::List(_) | Value::Object(_) => {}
     }
 }
 
 #[cycle(value)]
-fn push_value(placed: &Placed, out: &mut String) -> Result<(), AllocError> {
-    write!(out, "{} ", placed.at)?;
+fn push_value(placed: &Placed, words: &mut Words) {
+    push_at(placed.at, " ", words);
     match &placed.value {
-        Value::List(values) => push_list(values, out),
-        Value::Object(members) => push_arguments("{", members, "}", out),
-        value => push_scalar(value, out),
+        Value::List(values) => push_list(values, words),
+        Value::Object(members) => push_arguments("{", members, "}", words),
+        value => push_scalar(value, words),
     }
 }
 
 #[cycle(value)]
-fn push_list(values: &Vec<Placed>, out: &mut String) -> Result<(), AllocError> {
-    out.push_str("[")?;
+fn push_list(values: &Vec<Placed>, words: &mut Words) {
+    words.push("[");
     for value in values {
-        push_value(value, out)?;
-        out.push_str(",")?;
+        push_value(value, words);
+        words.push(",");
     }
-    out.push_str("]")
+    words.push("]");
 }
 
 #[cycle(value)]
-fn push_arguments(
-    open: &str,
-    arguments: &Vec<Argument>,
-    close: &str,
-    out: &mut String,
-) -> Result<(), AllocError> {
-    out.push_str(open)?;
+fn push_arguments(open: &str, arguments: &Vec<Argument>, close: &str, words: &mut Words) {
+    words.push(open);
     for argument in arguments {
-        write!(out, "{} {}: ", argument.at, argument.name.as_str())?;
-        push_value(&argument.value, out)?;
-        out.push_str(",")?;
+        push_at(argument.at, " ", words);
+        words.push_pair(argument.name.as_str(), ": ");
+        push_value(&argument.value, words);
+        words.push(",");
     }
-    out.push_str(close)
+    words.push(close);
 }
 
-fn push_directives(directives: &Vec<Directive>, out: &mut String) -> Result<(), AllocError> {
+fn push_directives(directives: &Vec<Directive>, words: &mut Words) {
     for directive in directives {
-        write!(out, " {} @{}", directive.at, directive.name.as_str())?;
-        push_arguments("(", &directive.args, ")", out)?;
+        words.push(" ");
+        push_at(directive.at, " @", words);
+        words.push(directive.name.as_str());
+        push_arguments("(", &directive.args, ")", words);
     }
-    Ok(())
 }
 
-fn push_selections(selections: &Vec<Selection>, out: &mut String) -> Result<(), AllocError> {
-    out.push_str(" {")?;
+fn push_selections(selections: &Vec<Selection>, words: &mut Words) {
+    words.push(" {");
     for selection in selections {
-        push_front(selection, out)?;
+        push_front(selection, words);
         match selection {
-            Selection::Field(field) => push_selections(&field.selections, out)?,
-            Selection::Inline(inline) => push_selections(&inline.selections, out)?,
+            Selection::Field(field) => push_selections(&field.selections, words),
+            Selection::Inline(inline) => push_selections(&inline.selections, words),
             Selection::Spread(_) => {}
         }
-        out.push_str(",")?;
+        words.push(",");
     }
-    out.push_str("}")
+    words.push("}");
 }
 
 // What stands before the selections in a selection.
-fn push_front(selection: &Selection, out: &mut String) -> Result<(), AllocError> {
+fn push_front(selection: &Selection, words: &mut Words) {
     match selection {
-        Selection::Field(field) => push_field(field, out),
-        Selection::Spread(spread) => push_spread(spread, out),
-        Selection::Inline(inline) => push_inline(inline, out),
+        Selection::Field(field) => push_field(field, words),
+        Selection::Spread(spread) => push_spread(spread, words),
+        Selection::Inline(inline) => push_inline(inline, words),
     }
 }
 
-fn push_field(field: &Field, out: &mut String) -> Result<(), AllocError> {
-    write!(out, "{} ", field.at)?;
-    push_name("", &field.alias, ": ", out)?;
-    out.push_str(field.name.as_str())?;
-    push_arguments("(", &field.args, ")", out)?;
-    push_directives(&field.directives, out)
+fn push_field(field: &Field, words: &mut Words) {
+    push_at(field.at, " ", words);
+    push_name("", &field.alias, ": ", words);
+    words.push(field.name.as_str());
+    push_arguments("(", &field.args, ")", words);
+    push_directives(&field.directives, words);
 }
 
-fn push_spread(spread: &Spread, out: &mut String) -> Result<(), AllocError> {
-    write!(out, "{} ...{}", spread.at, spread.name.as_str())?;
-    push_directives(&spread.directives, out)
+fn push_spread(spread: &Spread, words: &mut Words) {
+    push_at(spread.at, " ...", words);
+    words.push(spread.name.as_str());
+    push_directives(&spread.directives, words);
 }
 
-fn push_inline(inline: &Inline, out: &mut String) -> Result<(), AllocError> {
-    write!(out, "{} ...", inline.at)?;
+fn push_inline(inline: &Inline, words: &mut Words) {
+    push_at(inline.at, " ...", words);
     if let Some(cond) = &inline.cond {
-        push_condition(cond, out)?;
+        push_condition(cond, words);
     }
-    push_directives(&inline.directives, out)
+    push_directives(&inline.directives, words);
 }
 
-fn push_condition(cond: &TypeCond, out: &mut String) -> Result<(), AllocError> {
-    write!(out, " {} on {}", cond.at, cond.name.as_str())
+fn push_condition(cond: &TypeCond, words: &mut Words) {
+    words.push(" ");
+    push_at(cond.at, " on ", words);
+    words.push(cond.name.as_str());
 }
 
-fn push_fragment(fragment: &Fragment, out: &mut String) -> Result<(), AllocError> {
-    write!(out, "{} fragment {}", fragment.at, fragment.name.as_str())?;
-    push_condition(&fragment.cond, out)?;
-    push_directives(&fragment.directives, out)?;
-    push_selections(&fragment.selections, out)
+fn push_fragment(fragment: &Fragment, words: &mut Words) {
+    push_at(fragment.at, " fragment ", words);
+    words.push(fragment.name.as_str());
+    push_condition(&fragment.cond, words);
+    push_directives(&fragment.directives, words);
+    push_selections(&fragment.selections, words);
 }

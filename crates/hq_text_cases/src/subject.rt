@@ -1,5 +1,5 @@
 use crate::{documents, headers, texts, words};
-use hq_case::{Case, Stop, Subject};
+use hq_case::{Case, Stop, Subject, Words};
 
 /// What cases are about: a file of cases, and the public calls that these go through.
 #[derive(Clone, Copy)]
@@ -57,7 +57,7 @@ impl Subject for About {
         }
     }
 
-    fn tell(self, rt: &HostRuntime, case: &Case, out: &mut String) -> Result<(), Stop> {
+    fn tell(self, rt: &HostRuntime, case: &Case, out: &mut Words) -> Result<(), Stop> {
         let alloc = rt.alloc();
         match self {
             About::Texts => texts::tell_text(alloc, case, out),

@@ -1,65 +1,63 @@
 //! Texts, bodies, the order of values, and patterns.
 
 use hq_base::{Json, Pattern, Txt, Val, compare};
-use hq_case::{Case, Stop, push_json, value, written};
-use std::alloc::{AllocError, Global};
+use hq_case::{Case, Stop, Words, push_json, value};
+use std::alloc::Global;
 use std::cmp::Ordering;
 
 /// A copy of the text that bytes are, or their refusal.
-pub fn tell_text(alloc: Global, case: &Case, out: &mut String) -> Result<(), Stop> {
+pub fn tell_text(alloc: Global, case: &Case, words: &mut Words) -> Result<(), Stop> {
     let bytes = case.bytes(alloc, "in")?;
-    push_text(alloc, bytes.as_slice(), out)
+    push_text(alloc, bytes.as_slice(), words)
 }
 
-fn push_text(alloc: Global, bytes: &[u8], out: &mut String) -> Result<(), Stop> {
+fn push_text(alloc: Global, bytes: &[u8], words: &mut Words) -> Result<(), Stop> {
     match Txt::of(alloc, bytes) {
-        Ok(text) => push_text_copy(alloc, &text, out),
-        Err(refusal) => written(write!(out, "{refusal:?}")),
+        Ok(text) => words.push(text.copy(alloc)?.as_str()),
+        Err(refusal) => words.push_debug(&refusal),
     }
-}
-
-fn push_text_copy(alloc: Global, text: &Txt, out: &mut String) -> Result<(), Stop> {
-    let copy = text.copy(alloc)?;
-    written(out.push_str(copy.as_str()))
+    Ok(())
 }
 
 /// The compact text of a copy of what a body reads as, or its refusal.
-pub fn tell_body(alloc: Global, case: &Case, out: &mut String) -> Result<(), Stop> {
+pub fn tell_body(alloc: Global, case: &Case, words: &mut Words) -> Result<(), Stop> {
     let bytes = case.bytes(alloc, "in")?;
-    push_body(alloc, bytes.as_slice(), out)
+    push_body(alloc, bytes.as_slice(), words)
 }
 
-fn push_body(alloc: Global, bytes: &[u8], out: &mut String) -> Result<(), Stop> {
+fn push_body(alloc: Global, bytes: &[u8], words: &mut Words) -> Result<(), Stop> {
     match Json::from_body(alloc, bytes) {
-        Ok(json) => push_copy(alloc, &json, out),
-        Err(refusal) => written(write!(out, "{refusal:?}")),
+        Ok(json) => push_copy(alloc, &json, words)?,
+        Err(refusal) => words.push_debug(&refusal),
     }
+    Ok(())
 }
 
-fn push_copy(alloc: Global, json: &Json, out: &mut String) -> Result<(), Stop> {
-    push_json(alloc, &json.copy(alloc)?, out)
+fn push_copy(alloc: Global, json: &Json, words: &mut Words) -> Result<(), Stop> {
+    push_json(alloc, &json.copy(alloc)?, words);
+    Ok(())
 }
 
 /// How the value `left` stands to each of the values `right`.
-pub fn tell_order(alloc: Global, case: &Case, out: &mut String) -> Result<(), Stop> {
+pub fn tell_order(alloc: Global, case: &Case, words: &mut Words) -> Result<(), Stop> {
     let right = case.list("right")?;
     let left = value(alloc, case.get("left")?)?;
-    push_order_of_copy(alloc, &left, right, out)
+    push_order_of_copy(alloc, &left, right, words)
 }
 
 fn push_order_of_copy(
     alloc: Global,
     left: &Val,
     right: &[Json],
-    out: &mut String,
+    words: &mut Words,
 ) -> Result<(), Stop> {
     let left = left.copy(alloc)?;
-    push_order(alloc, &left, right, out)
+    push_order(alloc, &left, right, words)
 }
 
-fn push_order(alloc: Global, left: &Val, right: &[Json], out: &mut String) -> Result<(), Stop> {
+fn push_order(alloc: Global, left: &Val, right: &[Json], words: &mut Words) -> Result<(), Stop> {
     for json in right {
-        out.push_str(sign_between(alloc, left, json)?)?;
+        words.push(sign_between(alloc, left, json)?);
     }
     Ok(())
 }
@@ -79,26 +77,22 @@ fn sign(order: Option<Ordering>) -> &'static str {
 }
 
 /// Whether a text is like a pattern, as it stands and under fold, or the refusal of the pattern.
-pub fn tell_pattern(alloc: Global, case: &Case, out: &mut String) -> Result<(), Stop> {
+pub fn tell_pattern(alloc: Global, case: &Case, words: &mut Words) -> Result<(), Stop> {
     let subject = case.text(alloc, "in")?;
     let pattern = case.text(alloc, "pattern")?;
-    written(push_pattern(alloc, &pattern, &subject, out))
+    push_pattern(alloc, &pattern, &subject, words);
+    Ok(())
 }
 
-fn push_pattern(
-    alloc: Global,
-    pattern: &Txt,
-    subject: &Txt,
-    out: &mut String,
-) -> Result<(), AllocError> {
+fn push_pattern(alloc: Global, pattern: &Txt, subject: &Txt, words: &mut Words) {
     match Pattern::new(alloc, pattern) {
-        Ok(pattern) => push_matches(&pattern, subject, out),
-        Err(refusal) => write!(out, "{refusal:?}"),
+        Ok(pattern) => push_matches(&pattern, subject, words),
+        Err(refusal) => words.push_debug(&refusal),
     }
 }
 
-fn push_matches(pattern: &Pattern, subject: &Txt, out: &mut String) -> Result<(), AllocError> {
-    let plain = pattern.matches(subject, false);
-    let folded = pattern.matches(subject, true);
-    write!(out, "{plain}, folded {folded}")
+fn push_matches(pattern: &Pattern, subject: &Txt, words: &mut Words) {
+    words.push_shown(&pattern.matches(subject, false));
+    words.push(", folded ");
+    words.push_shown(&pattern.matches(subject, true));
 }

@@ -1,14 +1,15 @@
 //! Names, numbers and truth values as texts write them, and truth in three values.
 
 use hq_base::{Json, Ty};
-use hq_case::{Case, Stop, written};
+use hq_case::{Case, Stop, Words};
 use hq_terms::{Truth, is_free_name, truth_value, whole_number};
-use std::alloc::{AllocError, Global};
+use std::alloc::Global;
 
 /// Whether a text is a name that does not begin with two underscores.
-pub fn tell_name(alloc: Global, case: &Case, out: &mut String) -> Result<(), Stop> {
+pub fn tell_name(alloc: Global, case: &Case, words: &mut Words) -> Result<(), Stop> {
     let is_free = is_free_name(&case.text(alloc, "in")?);
-    written(write!(out, "{is_free}"))
+    words.push_shown(&is_free);
+    Ok(())
 }
 
 // The type that a case names.
@@ -26,15 +27,17 @@ fn type_of(case: &Case) -> Result<Ty, Stop> {
 }
 
 /// The whole number of a type that a text is.
-pub fn tell_number(alloc: Global, case: &Case, out: &mut String) -> Result<(), Stop> {
+pub fn tell_number(alloc: Global, case: &Case, words: &mut Words) -> Result<(), Stop> {
     let number = whole_number(type_of(case)?, case.text(alloc, "in")?.as_str());
-    written(write!(out, "{number:?}"))
+    words.push_debug(&number);
+    Ok(())
 }
 
 /// The truth value that a text is.
-pub fn tell_truth_value(alloc: Global, case: &Case, out: &mut String) -> Result<(), Stop> {
+pub fn tell_truth_value(alloc: Global, case: &Case, words: &mut Words) -> Result<(), Stop> {
     let value = truth_value(case.text(alloc, "in")?.as_str());
-    written(write!(out, "{value:?}"))
+    words.push_debug(&value);
+    Ok(())
 }
 
 // The truth that a member names.
@@ -47,14 +50,20 @@ fn truth(case: &Case, member: &str) -> Result<Truth, Stop> {
 }
 
 /// Two truths joined by AND and by OR, the first one under NOT, and whether it keeps a row.
-pub fn tell_truths(case: &Case, out: &mut String) -> Result<(), Stop> {
+pub fn tell_truths(case: &Case, words: &mut Words) -> Result<(), Stop> {
     let left = truth(case, "left")?;
     let right = truth(case, "right")?;
-    written(push_truths(left, right, out))
+    push_truths(left, right, words);
+    Ok(())
 }
 
-fn push_truths(left: Truth, right: Truth, out: &mut String) -> Result<(), AllocError> {
-    let (and, or, not) = (left.and(right), left.or(right), left.negated());
-    let kept = left.is_yes();
-    write!(out, "and {and:?}, or {or:?}, not {not:?}, kept {kept}")
+fn push_truths(left: Truth, right: Truth, words: &mut Words) {
+    words.push("and ");
+    words.push_debug(&left.and(right));
+    words.push(", or ");
+    words.push_debug(&left.or(right));
+    words.push(", not ");
+    words.push_debug(&left.negated());
+    words.push(", kept ");
+    words.push_shown(&left.is_yes());
 }
