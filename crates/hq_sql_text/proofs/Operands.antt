@@ -65,7 +65,7 @@ arity_told One d (e ∷ []) h =
     let le : expr_depth e ≤ d = k.1 in
     (refl, refl, both_and (is_expr e) true k.0 refl, omega arith, both_and (expr_fits e) true k.2 refl)
 arity_told One d (e ∷ f ∷ es) h = absurd h
-arity_told Many d [] h = absurd (false≢true (sym (closed_told d [] h).0))
+arity_told Many d [] h = absurd (false≢true (closed_told d [] h).0)
 arity_told Many d (e ∷ es) h = let k = closed_told d (e ∷ es) h in (refl, refl, k.1, k.2, k.3)
 
 pub operands_told : (t : Test) (d : ℕ) (es : List ExprTree) → FitsOperands (arity t) d es → (takes t (length es) ≡ true) × (is_of_nothing t es ≡ false) × (list_all is_expr es ≡ true) × (list_parens t + greatest (map expr_depth es) ≤ d) × (list_all expr_fits es ≡ true)
