@@ -1,5 +1,5 @@
 -- The operands of a test, by how many it takes: their form, depth and values, and their text both ways.
-use Rattle.std.proofs.Common.{◌≡◌, ◌∙◌, sym, ap, ℕ, ◌+◌, ◌≤◌, Bool, true, false, ◌&&◌, not, List, [], ◌∷◌, ◌++◌, map, length, Some, refl, arith}
+use Rattle.std.proofs.Common.{◌≡◌, ◌∙◌, sym, ap, ℕ, ◌+◌, ◌≤◌, Bool, true, false, not, List, [], ◌∷◌, ◌++◌, map, length, Some, refl, arith}
 use Rattle.std.specs.List.{list_all}
 use Rattle.std.proofs.lemmas.Bool.{le-leb, ne_eqb, false≢true}
 use Rattle.std.proofs.lemmas.List.{append-nil}
@@ -13,7 +13,7 @@ use Rattle.hq_sql_tree.specs.Word.{word_text, arity_close}
 use Rattle.hq_sql_tree.specs.Tree.{ExprTree}
 use Rattle.hq_sql_tree.specs.Form.{is_expr, expr_depth, greatest, expr_fits, arity_parens, list_parens}
 use Rattle.hq_sql_tree.specs.Spelling.{expr_text}
-use Rattle.hq_sql_expr.specs.Reading.{◌>>=◌, expr_at, argument_with}
+use Rattle.hq_sql_expr.specs.Reading.{expr_at, argument_with}
 use Rattle.hq_sql_expr.proofs.Sound.{Sound, Spelled, sound_last, sound_end, after_again}
 use Rattle.hq_sql_expr.proofs.Fits.{FitsExpr}
 use Rattle.hq_sql_expr.proofs.Exprs.{closed_text}
