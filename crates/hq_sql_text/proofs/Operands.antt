@@ -5,7 +5,7 @@ use Rattle.std.proofs.lemmas.Bool.{le-leb, ne_eqb, false≢true}
 use Rattle.std.proofs.lemmas.List.{append-nil}
 use Rattle.hq_terms.specs.Tests.{arity, has_arity, takes, is_of_nothing}
 use Rattle.hq_terms.specs.declared.test.Test.{Test}
-use Rattle.hq_terms.specs.declared.test.Test.TheVariants.{Compare, Among, IsNull, Like}
+use Rattle.hq_terms.specs.declared.test.Test.TheVariants.{Among}
 use Rattle.hq_terms.specs.declared.test.Arity.{Arity}
 use Rattle.hq_terms.specs.declared.test.Arity.TheVariants.{Nothing, One, Many}
 use Rattle.hq_sql_tree.specs.declared.word.Word.TheVariants as word
@@ -38,11 +38,9 @@ is_none_of Many [] = true
 is_none_of _ _ = false
 
 nothing_is : (t : Test) (es : List ExprTree) → is_of_nothing t es ≡ is_none_of (arity t) es
-nothing_is (Compare op) es = refl
 nothing_is Among [] = refl
 nothing_is Among (e ∷ es) = refl
-nothing_is IsNull es = refl
-nothing_is (Like fold) es = refl
+nothing_is _ es = refl
 
 fits_arity : (a : Arity) (d : ℕ) (es : List ExprTree) → has_arity a (length es) ≡ true → is_none_of a es ≡ false → list_all is_expr es ≡ true → arity_parens a + greatest (map expr_depth es) ≤ d → list_all expr_fits es ≡ true → FitsOperands a d es
 fits_arity Nothing d [] as_many some form depth fits = tt
