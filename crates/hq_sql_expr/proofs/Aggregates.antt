@@ -20,7 +20,8 @@ unfolding head_at after word_text
 head_taken Max rest = refl
 head_taken _ rest = refl
 
-pub with_taken : (inside : Head → Reader ExprTree) (a : Aggregate) (rest : List ℕ) → expr_with inside (word_text (aggregate_word a) ++ rest) ≡ (head_at (word_text (aggregate_word a) ++ rest) >>= λ x. inside x.0 x.1)
+pub with_taken : (inside : Head → Reader ExprTree) (a : Aggregate) (rest : List ℕ)
+    → expr_with inside (word_text (aggregate_word a) ++ rest) ≡ (head_at (word_text (aggregate_word a) ++ rest) >>= λ x. inside x.0 x.1)
 unfolding expr_with after word_text
 with_taken inside Max rest = refl
 with_taken inside _ rest = refl
