@@ -87,10 +87,10 @@ fn first_or<'s, 'd>(cells: &'s [Cell<'d>], none: &'s Cell<'d>) -> &'s Cell<'d>
     requires { cell_view none.now ≡ null }
     ensures { cell_view result.now ≡ first_cell (map cell_view cells.now) }
 {
-    match cells.first() {
-        Some(cell) => cell,
-        None => none,
+    if cells.is_empty() {
+        return none;
     }
+    &cells[0]
 }
 
 /// What a test says of a cell beside its operands. One that takes a single operand looks at the first one, and at NULL where
