@@ -19,6 +19,7 @@ use Rattle.hq_sql_tree.specs.declared.select.Select.{the_lemmas as select_lemmas
 use Rattle.hq_sql_tree.specs.declared.select.Pred.{the_lemmas as pred_lemmas}
 use Rattle.hq_terms.specs.Logic.{and3, or3, is_true}
 use Rattle.hq_sql_cells.proofs.Truths.{or3_assoc}
+use Rattle.hq_sql_tree.specs.Tree as tree
 use Rattle.hq_sql_tree.specs.Tree.{pairs_of, orders_of, joins_of, preds_of, rows}
 use Rattle.hq_sql_tree.specs.View.{agg_view, expr_view, pair_view, order_view, out_view, pred_view, select_view, from_view, join_view, filter_view}
 use Rattle.hq_sql_tree.specs.Meaning.{with_alias, truth_at, all_true, value, members, taken, orders_cmp, order_cmp, distinct_on, limited, offset_by, outputs, has_rows, kept, rows_of, joined, any_true}
@@ -133,8 +134,8 @@ aggregates::taken-returns-in_ok-each_value-in-Take t c =
     let lent : c.deref-in-Take.result.now ≡ e = search rules in
     let cells : map cell_view c.in_ok-each_value-in-Take.field-0.items ≡ map (value (expr_view e) []) ns =
     subst (λ x. map cell_view c.in_ok-each_value-in-Take.field-0.items ≡ map (value (expr_view x) []) ns) lent c.in_ok-each_value-in-Take.ensures in
-    let rhs : taken (agg_view c.args.agg.now) ns ≡ aggregated a (map (value (expr_view e) []) ns) = search (rules, agg_lemmas) in
-    IfOk-weaker c.aggregated.result _ _ (λ cell h. h ∙ ap (aggregated a) cells ∙ sym rhs) c.aggregated.ensures.value
+    let is : agg_view c.args.agg.now ≡ tree.take a (expr_view e) = search (rules, agg_lemmas) in
+    IfOk-weaker c.aggregated.result _ _ (λ cell h. h ∙ ap (aggregated a) cells ∙ ap (λ g. taken g ns) (sym is)) c.aggregated.ensures.value
 
 -- ---- AND of a list
 
