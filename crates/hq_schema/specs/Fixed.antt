@@ -1,5 +1,5 @@
 -- The types that each schema has (GraphQL October 2021, 3.5 and 4.2; Hasura, API reference: GraphQL API).
-use Rattle.std.specs.Prelude.{ℕ, ◌+◌, List, [], ◌∷◌, ◌++◌, map, length, codes}
+use Rattle.std.specs.Prelude.{ℕ, ◌+◌, List, [], ◌∷◌, ◌++◌, map, codes}
 use Rattle.hq_base.specs.Types.{all_types, type_place, scalar_name, comparison_name}
 use Rattle.hq_base.specs.declared.value.Ty.TheVariants as ty
 use Rattle.hq_schema.specs.declared.fixed.Fixed.{Fixed}
