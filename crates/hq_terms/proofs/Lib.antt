@@ -1,5 +1,6 @@
 pub mod Numbers
 mod Lists
+pub mod Fitting
 pub mod Places
 pub mod Steps
 mod Worked
