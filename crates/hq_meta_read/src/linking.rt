@@ -15,7 +15,9 @@ use hq_meta_tables::found::{
     column_at, column_named, columns_of, listed_columns, remote_at, tracked_table,
 };
 use hq_meta_tables::node::{at, list_at, member_at, named_path, object_at, text_at};
-use hq_terms::{Catalog, ColId, ColList, Column, ForeignKey, Pair, PairList, Scope, TableId, can_pair};
+use hq_terms::{
+    Catalog, ColId, ColList, Column, ForeignKey, Pair, PairList, Scope, TableId, can_pair,
+};
 use std::alloc::Global;
 
 // Whether a column is among these.
