@@ -4,12 +4,13 @@ use Rattle.hq_outside.specs.Causes.{Rose}
 use Rattle.hq_outside.specs.declared.files.File.{File}
 use Rattle.hq_serve.specs.Serving.{Told}
 use Rattle.hq_words.specs.declared.command.Command.{Command}
-use Rattle.hq_words.specs.declared.command.Command.TheVariants.{Query, Sql, Check, Serve, Gen}
+use Rattle.hq_words.specs.declared.command.Command.TheVariants.{Query, Sql, Check, Serve, Gen, Show}
 use Rattle.hq_commands.specs.Ending.{Answer, Ends}
 use Rattle.hq_commands.specs.Generating.{GenEnds}
 use Rattle.hq_commands.specs.Output.{query_output, sql_output}
 use Rattle.hq_commands.specs.Check.{check_output}
 use Rattle.hq_commands.specs.Serving.{SeenDoor, ServeEnds}
+use Rattle.hq_commands.specs.Showing.{page_output}
 use Rattle.hq_commands.specs.declared.done.Done.TheVariants.{Faulty}
 use Rattle.hq_commands.specs.declared.refusal.Refusal.TheVariants.{BadWords, Memory}
 
@@ -41,6 +42,7 @@ reads_input (Some (Sql dir headers)) = true
 reads_input (Some (Check dir)) = false
 reads_input (Some (Serve dir port connections secret unauthorized)) = false
 reads_input (Some (Gen n)) = false
+reads_input (Some (Show page)) = false
 
 abbrev pub opens_door : Option Command → Bool
 opens_door None = false
@@ -49,10 +51,11 @@ opens_door (Some (Sql dir headers)) = false
 opens_door (Some (Check dir)) = false
 opens_door (Some (Serve dir port connections secret unauthorized)) = true
 opens_door (Some (Gen n)) = false
+opens_door (Some (Show page)) = false
 
 -- The answer is the due one, as far as it says what was due: of a query and of `sql` over told files and a told input, of a check
--- over told files, of `serve` over what the directory holds, and of `gen`. A check tells no fault. Words that ask for no command are bad,
--- unless memory is wanted.
+-- over told files, of `serve` over what the directory holds, of `gen`, and of a page. A check and a page tell
+-- no fault. Words that ask for no command are bad, unless memory is wanted.
 abbrev pub Runs : {L : Type 0} → Told L → Option Command → (before after : Outside L) → Answer → Type 0
 Runs t None before after answer = (answer ≡ Err BadWords) ⊎ (answer ≡ Err Memory)
 Runs t (Some (Query dir headers)) before after answer =
@@ -64,6 +67,7 @@ Runs t (Some (Check dir)) before after answer =
 Runs t (Some (Serve dir port connections secret unauthorized)) before after answer =
     ServeEnds t (record { secret = secret; unauthorized = unauthorized }) connections before.door after.door before.out.told after.out.told before.files.told dir answer
 Runs t (Some (Gen n)) before after answer = GenEnds n before.out.told after.out.told answer
+Runs t (Some (Show page)) before after answer = Ends before.out.told after.out.told (Ok (page_output page)) answer × (answer ≢ Ok Faulty)
 
 -- a load of files failed, before anything of the input was read, or else a read of the input did
 abbrev pub FilesThenInput : {L : Type 0} → (before after : Outside L) → Type 0
@@ -77,7 +81,7 @@ FilesThenDoor before after =
     ⊎ Rose before.door.faults after.door.faults
 
 -- Why a read failed: a query loads files before it reads its input, a check loads files alone, and `serve` loads files before it
--- opens its door. `gen` reads nothing.
+-- opens its door. `gen` and a page read nothing.
 abbrev pub ReadCause : {L : Type 0} → Option Command → (before after : Outside L) → Type 0
 ReadCause None before after = ⊥
 ReadCause (Some (Query dir headers)) before after = FilesThenInput before after
@@ -85,3 +89,4 @@ ReadCause (Some (Sql dir headers)) before after = FilesThenInput before after
 ReadCause (Some (Check dir)) before after = Rose before.files.faults after.files.faults
 ReadCause (Some (Serve dir port connections secret unauthorized)) before after = FilesThenDoor before after
 ReadCause (Some (Gen n)) before after = ⊥
+ReadCause (Some (Show page)) before after = ⊥

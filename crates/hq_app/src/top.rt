@@ -10,7 +10,7 @@ ghost use Rattle.hq_app.specs.Runs.{ReadCause, Runs, opens_door, outside, reads_
 use crate::laws::outputs_agree;
 use crate::{Ran, World};
 use hq_base::Txt;
-use hq_commands::{Done, Refusal, check, generate_and_answer, query, reply_to, serve, sql, tell};
+use hq_commands::{Done, Refusal, check, generate_and_answer, query, reply_to, serve, show, sql, tell};
 use hq_db::SqlDb;
 use hq_engine::Engine;
 use hq_link::Database;
@@ -66,6 +66,7 @@ fn answered<F: Files, D: Door, S: Source, K: Sink>(
             serve(alloc, &dir, &rule, port, connections, files, door, out)
         }
         Command::Gen { n } => generate_and_answer(alloc, n, out),
+        Command::Show { page } => show(page, out),
     }
 }
 
@@ -121,7 +122,9 @@ pub fn answer_one<T: Tables, S: Source, K: Sink, E: Sink>(
 /// headers; `sql DIR [HEADER]...` writes the text of SQL that is asked for it and a line end, or `none` and a line end where
 /// none is. `check DIR` loads the directory and writes `ok: T tables, R roles, N rows`. `serve DIR --port P --connections N`
 /// serves so many connections of HTTP at this machine's port, one after the other, and writes a line after each. `gen N` makes a
-/// database of N authors, answers five requests over it, and writes how long the replies are. Everything that it touches is handed in, and handed back with the status that the program ends with.
+/// database of N authors, answers five requests over it, and writes how long the replies are. `help`, `--help` or `-h` writes the
+/// commands and the statuses, and `--version` the program's line and the kit's. Everything that it touches is handed in, and handed back with
+/// the status that the program ends with.
 pub fn run<F: Files, D: Door, S: Source, K: Sink, E: Sink>(
     alloc: Global,
     words: &[Txt],

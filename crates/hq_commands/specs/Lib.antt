@@ -6,3 +6,4 @@ pub mod Ending
 pub mod Check
 pub mod Serving
 pub mod Generating
+pub mod Showing

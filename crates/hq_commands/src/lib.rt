@@ -1,4 +1,5 @@
-//! The commands: `query` and `sql`, which read a request; `check`, `serve` and `gen`, which read none; and how each ends.
+//! The commands: `query` and `sql`, which read a request; `check`, `serve` and `gen`, which read none; the pages in which the program
+//! tells of itself; and how each ends.
 #![tactic(auto)]
 
 mod caller;
@@ -9,6 +10,7 @@ mod instance;
 mod refusal;
 mod reply;
 mod serving;
+mod showing;
 mod stating;
 mod telling;
 
@@ -19,5 +21,6 @@ pub use instance::Instance;
 pub use refusal::Refusal;
 pub use reply::{INPUT_LIMIT, query, reply_to};
 pub use serving::serve;
+pub use showing::show;
 pub use stating::sql;
 pub use telling::tell;

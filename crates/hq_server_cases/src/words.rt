@@ -3,7 +3,7 @@
 use hq_base::Txt;
 use hq_case::{Case, Stop, Words};
 use hq_session::Headers;
-use hq_words::{Command, WordsRefusal};
+use hq_words::{Command, Page, WordsRefusal};
 use std::alloc::Global;
 
 /// What words ask, or that they are bad.
@@ -30,6 +30,8 @@ fn push_command(command: &Command, out: &mut Words) {
             out.push("gen ");
             out.push_shown(n);
         }
+        Command::Show { page: Page::Usage } => out.push("usage"),
+        Command::Show { page: Page::Version } => out.push("version"),
         Command::Serve {
             dir,
             port,

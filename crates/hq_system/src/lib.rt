@@ -3,9 +3,12 @@
 
 mod files;
 mod interrupted;
+mod link;
+mod silent;
 mod streams;
 mod tcp;
 
 pub use files::DirFiles;
+pub use link::TcpLink;
 pub use streams::{StdSink, StdSource};
-pub use tcp::{TcpDoor, TcpLink};
+pub use tcp::TcpDoor;

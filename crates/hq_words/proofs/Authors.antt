@@ -6,11 +6,12 @@ use Rattle.std.specs.Prelude.{[], ◌∷◌, Option, Some, None, IfSome, Result,
 use Rattle.clap.specs.Words.{Row, Text, first_of}
 use Rattle.hq_base.specs.Due.{Gives}
 use Rattle.hq_words.specs.declared.command.Command.{Command}
-use Rattle.hq_words.specs.declared.command.Command.TheVariants.{Query, Sql, Check, Gen}
+use Rattle.hq_words.specs.declared.command.Command.TheVariants.{Query, Sql, Check, Gen, Show}
 use Rattle.hq_words.specs.declared.refusal.WordsRefusal.{WordsRefusal}
 use Rattle.hq_words.specs.declared.refusal.WordsRefusal.TheVariants.{BadWords, Memory}
 use Rattle.hq_words.specs.Grammar.{check_faults, check_rows, serve_faults, serve_rows, gen_faults, gen_rows}
-use Rattle.hq_words.specs.Asked.{HasFewAuthors, are_few, are_taken, command_named, command_of, dir_in, filled, gen_in, gen_of, gen_with, number_in, request_of, serve_in}
+use Rattle.hq_words.specs.Asked.{HasFewAuthors, are_few, are_taken, command_named, command_of, dir_in, filled, gen_in, gen_of, gen_with, number_in, page_of, request_of, serve_in}
+use Rattle.hq_words.specs.Pages.{page_named}
 
 -- those of a command, where there is one
 pub record Few (command : Option Command) : Type 0 where
@@ -48,6 +49,10 @@ few_serve rows =
 few_none : (b : Bool) (o : Option Command) → Few o → Few (cond b o None)
 few_none b o h = few_cond b o None h none_few
 
+few_page : (name : Text) (words : List Text) → Few (page_of name words)
+few_page name [] = few_map Show (page_named name) (λ p. tt {0})
+few_page name (word ∷ words) = none_few
+
 -- those of a named command
 few_named : (name : Text) (words : List Text) → Few (command_named name words)
 few_named name words =
@@ -58,7 +63,7 @@ few_named name words =
     few_cond (bytes_eq name (codes "sql")) _ _ (few_map (λ r. Sql r.0 r.1) (request_of words) (λ r. tt {0})) (
     few_cond (bytes_eq name (codes "check")) _ _ check (
     few_cond (bytes_eq name (codes "serve")) _ _ serve (
-    few_none (bytes_eq name (codes "gen")) (gen_of words) gen))))
+    few_cond (bytes_eq name (codes "gen")) _ _ gen (few_page name words)))))
 
 -- those of the command that words ask for
 pub few_asked : (words : List Text) → Few (command_of words)

@@ -1,13 +1,15 @@
 -- What the words behind the program's name ask: the command's name, and words of its grammar. A header is `name: value`,
--- at most 64 are given, no secret and no role is empty, and a generated database has from 1 to 100,000 authors.
+-- at most 64 are given, no secret and no role is empty, and a generated database has from 1 to 100,000 authors. Or they ask
+-- for a page, by one word.
 use Rattle.std.specs.Prelude.{◌≤◌, ℕ, List, [], ◌∷◌, length, Bool, true, false, ◌&&◌, nat_le, Option, Some, None, option_and_then, option_map, unwrap_or, cond, bytes_eq, codes, ⊤}
 use Rattle.std.specs.Str.Parse.{digits_value, without_leading_plus}
 use Rattle.clap.specs.Words.{Kinds, Row, Text, first_of, all_of, one_of}
 use Rattle.hq_session.specs.Fields.{header_in}
 use Rattle.hq_session.specs.declared.header.Header.{Header}
 use Rattle.hq_words.specs.declared.command.Command.{Command}
-use Rattle.hq_words.specs.declared.command.Command.TheVariants.{Query, Sql, Check, Serve, Gen}
+use Rattle.hq_words.specs.declared.command.Command.TheVariants.{Query, Sql, Check, Serve, Gen, Show}
 use Rattle.hq_words.specs.Grammar.{request_faults, request_rows, check_faults, check_rows, serve_faults, serve_rows, gen_faults, gen_rows}
+use Rattle.hq_words.specs.Pages.{page_named}
 
 -- the words are in the grammar
 abbrev pub are_taken : Kinds → Bool
@@ -80,6 +82,11 @@ gen_in rows = option_and_then gen_with (number_in (codes "authors") rows)
 abbrev pub gen_of : List Text → Option Command
 gen_of words = cond (are_taken (gen_faults words)) (gen_in (gen_rows words)) None
 
+-- the page of this name, with no word behind it
+abbrev pub page_of : (name : Text) → List Text → Option Command
+page_of name [] = option_map Show (page_named name)
+page_of name (word ∷ words) = None
+
 -- the command of this name with these words
 abbrev pub command_named : (name : Text) → List Text → Option Command
 command_named name words =
@@ -87,7 +94,7 @@ command_named name words =
     cond (bytes_eq name (codes "sql")) (option_map (λ r. Sql r.0 r.1) (request_of words)) (
     cond (bytes_eq name (codes "check")) (check_of words) (
     cond (bytes_eq name (codes "serve")) (serve_of words) (
-    cond (bytes_eq name (codes "gen")) (gen_of words) None))))
+    cond (bytes_eq name (codes "gen")) (gen_of words) (page_of name words)))))
 
 -- the command that words ask for
 abbrev pub command_of : List Text → Option Command

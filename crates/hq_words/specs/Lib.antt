@@ -1,3 +1,4 @@
 pub mod Grammar
 pub mod Asked
 pub mod Parsing
+pub mod Pages

@@ -1,11 +1,11 @@
 ghost use Rattle.std.specs.Prelude.{◌≡◌, option_map, ok_or, IfOk};
 ghost use Rattle.clap.specs.Words.{found_of, rows_of};
 ghost use Rattle.hq_base.specs.Due.{Gives};
-ghost use Rattle.hq_words.specs.Asked.{HasFewAuthors, check_of, command_named, command_of, gen_in, gen_of, gen_with, request_in, request_of, serve_in, serve_of};
+ghost use Rattle.hq_words.specs.Asked.{HasFewAuthors, check_of, command_named, command_of, gen_in, gen_of, gen_with, page_of, request_in, request_of, serve_in, serve_of};
 
-use crate::WordsRefusal;
 use crate::parse::{check_matches, gen_matches, request_matches, serve_matches};
 use crate::values::{authors_of, connections_of, filled, given_headers, port_of, text_of};
+use crate::{Page, WordsRefusal};
 use clap::ArgMatches;
 use hq_base::Txt;
 use hq_session::Headers;
@@ -39,6 +39,10 @@ pub enum Command {
     /// To answer requests over a generated database of so many authors, from 1 to 100,000.
     Gen {
         n: u32,
+    },
+    /// To tell of the program.
+    Show {
+        page: Page,
     },
 }
 
@@ -140,6 +144,16 @@ fn generate(alloc: Global, words: &[Txt]) -> Result<Command, WordsRefusal>
     }
 }
 
+// The page that a word alone asks for.
+fn page(name: &str, words: &[Txt]) -> Result<Command, WordsRefusal>
+    ensures { result ≡ ok_or (page_of name.now words.now) WordsRefusal.BadWords }
+{
+    match Page::named(name) {
+        Some(page) if words.is_empty() => Ok(Command::Show { page }),
+        _ => Err(WordsRefusal::BadWords),
+    }
+}
+
 // What the words behind a command's name ask.
 fn command_named(alloc: Global, name: &str, words: &[Txt]) -> Result<Command, WordsRefusal>
     ensures { Gives (λ command. command) WordsRefusal.Memory (ok_or (command_named name.now words.now) WordsRefusal.BadWords) result }
@@ -156,7 +170,7 @@ fn command_named(alloc: Global, name: &str, words: &[Txt]) -> Result<Command, Wo
         "check" => check(alloc, words),
         "serve" => serve(alloc, words),
         "gen" => generate(alloc, words),
-        _ => Err(WordsRefusal::BadWords),
+        _ => page(name, words),
     }
 }
 

@@ -6,7 +6,7 @@ use hq_outside::{Door, Files, Link, Sink, Source, read_all, write_all};
 use hq_system::{DirFiles, StdSink, StdSource, TcpDoor};
 use std::alloc::Global;
 use std::io::{Read, Write};
-use std::net::TcpStream;
+use std::net::{Shutdown, TcpStream};
 use std::test::Fail;
 use std::{fs, io};
 
@@ -133,7 +133,7 @@ fn reads(stream: &mut TcpStream, want: &[u8; 3]) -> Result<bool, Fail> {
 
 #[test]
 fn a_connection_is_answered(rt: HostRuntime) -> Result<(), Fail> {
-    let mut door = TcpDoor::new(rt);
+    let mut door = TcpDoor::new(rt.alloc(), rt);
     assert!(rt; door.listen(0).is_ok());
     let port = door.port().ok_or("no port")?;
     let mut stream = TcpStream::connect(&rt, ("127.0.0.1", port))?;
@@ -144,8 +144,39 @@ fn a_connection_is_answered(rt: HostRuntime) -> Result<(), Fail> {
 }
 
 #[test]
+fn a_peer_that_sends_nothing_holds_nobody(rt: HostRuntime) -> Result<(), Fail> {
+    let mut door = TcpDoor::new(rt.alloc(), rt);
+    assert!(rt; door.listen(0).is_ok());
+    let port = door.port().ok_or("no port")?;
+    let mut silent = TcpStream::connect(&rt, ("127.0.0.1", port))?;
+    let mut stream = TcpStream::connect(&rt, ("127.0.0.1", port))?;
+    stream.write_all(b"two")?;
+    assert!(rt; serve(&mut door) == Some(3));
+    assert!(rt; reads(&mut stream, b"two")?);
+    silent.write_all(b"one")?;
+    assert!(rt; serve(&mut door) == Some(3));
+    assert!(rt; reads(&mut silent, b"one")?);
+    Ok(())
+}
+
+#[test]
+fn the_peer_of_a_closed_link_sees_its_end(rt: HostRuntime) -> Result<(), Fail> {
+    let mut door = TcpDoor::new(rt.alloc(), rt);
+    assert!(rt; door.listen(0).is_ok());
+    let port = door.port().ok_or("no port")?;
+    let mut stream = TcpStream::connect(&rt, ("127.0.0.1", port))?;
+    stream.write_all(b"one and more")?;
+    assert!(rt; serve(&mut door) == Some(4));
+    stream.shutdown(Shutdown::Write)?;
+    door.close(true);
+    let mut echoed = Vec::new(rt.alloc());
+    assert!(rt; stream.read_to_end(&mut echoed)? == 4);
+    Ok(())
+}
+
+#[test]
 fn a_door_that_does_not_listen_fails(rt: HostRuntime) -> Result<(), Fail> {
-    let mut door = TcpDoor::new(rt);
+    let mut door = TcpDoor::new(rt.alloc(), rt);
     assert!(rt; door.accept().is_err());
     assert!(rt; door.faults() == 1);
     Ok(())

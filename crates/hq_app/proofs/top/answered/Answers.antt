@@ -20,6 +20,10 @@ pub returns-in-Check-clause-runs : goal.returns-in-Check-clause-runs
 returns-in-Check-clause-runs g c =
     rw (asked (command_of c.args.words.now) _ _ c.in_ok-dir.ensures.asked ∙ ap (λ z. Some z) c.in-Check.is) (c.check.ensures.told, c.check.ensures.fault)
 
+pub returns-in-Show-clause-runs : goal.returns-in-Show-clause-runs
+returns-in-Show-clause-runs g c =
+    rw (asked (command_of c.args.words.now) _ _ c.in_ok-dir.ensures.asked ∙ ap (λ z. Some z) c.in-Show.is) (c.show.ensures.told, c.show.ensures.fault)
+
 pub returns-in-Serve-clause-read : goal.returns-in-Serve-clause-read
 returns-in-Serve-clause-read g c =
     rw (asked (command_of c.args.words.now) _ _ c.in_ok-dir.ensures.asked ∙ ap (λ z. Some z) c.in-Serve.is) c.serve.ensures.read
