@@ -4,12 +4,16 @@
 //! stands in a page of its own (`page`).
 #![tactic(auto)]
 
+mod cache;
 mod cell;
 mod due;
 mod page;
+mod pages;
 mod run;
 
+pub use cache::{Pieces, TouchRefusal, touch_page};
 pub use cell::{Cell, read_cell, write_cell};
 pub use due::Due;
 pub use page::{PAGE, page_with, piece_in};
+pub use pages::touch_run;
 pub use run::{read_run, write_run};

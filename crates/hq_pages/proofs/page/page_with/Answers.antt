@@ -1,5 +1,5 @@
 use Rattle.std.proofs.Common.{rules}
-use Rattle.hq_pages.proofs.Pages.{page_back}
+use Rattle.hq_pages.proofs.PageBytes.{page_back}
 use Rattle.hq_pages.proofs.page.page_with.Goals as goal
 
 -- the page gives its piece back
