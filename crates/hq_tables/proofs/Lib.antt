@@ -9,3 +9,4 @@ pub mod Keys
 pub mod NextRows
 pub mod Valid
 pub mod Indexed
+pub mod Apart

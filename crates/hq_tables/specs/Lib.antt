@@ -10,3 +10,4 @@ pub mod Keys
 pub mod Readers
 pub mod Layouts
 pub mod Indexed
+pub mod Tested

@@ -1,0 +1,6 @@
+pub mod Cells
+pub mod Keys
+pub mod PageReads
+pub mod PageRuns
+pub mod PageBytes
+pub mod Pieces

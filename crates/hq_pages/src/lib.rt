@@ -1,0 +1,19 @@
+//! The rows of tables on a disk, in pages.
+//!
+//! The rows of a table are one run of bytes, cell after cell (`cell`, `run`). The run is cut into pieces, each of which
+//! stands in a page of its own (`page`).
+#![tactic(auto)]
+
+mod cache;
+mod cell;
+mod due;
+mod page;
+mod pages;
+mod run;
+
+pub use cache::{Pieces, TouchRefusal, touch_page};
+pub use cell::{Cell, read_cell, write_cell};
+pub use due::Due;
+pub use page::{PAGE, page_with, piece_in};
+pub use pages::touch_run;
+pub use run::{read_run, write_run};
