@@ -13,3 +13,4 @@ pub mod Zips
 pub mod Sorts
 pub mod StableSorts
 pub mod Orders
+pub mod Refusals

@@ -7,6 +7,7 @@ pub mod Path
 pub mod Body
 pub mod Compact
 pub mod Values
+pub mod Types
 pub mod Cells
 pub mod Lists
 pub mod Aggregates

@@ -1,8 +1,10 @@
 //! Values, texts, lists and JSON: what every other crate of hq stands on.
 #![tactic(auto)]
 
+mod aggregate;
 mod body;
 mod bytes;
+mod column_type;
 mod compact;
 mod json;
 mod list;
@@ -16,6 +18,7 @@ mod stable_sort;
 mod txt;
 mod value;
 
+pub use aggregate::Aggregate;
 pub use body::JsonRefusal;
 pub use bytes::Bytes;
 pub use json::{Json, JsonList, Member, Members};
@@ -23,7 +26,7 @@ pub use list::List;
 pub use memory::Memory;
 pub use order::compare;
 pub use path::{item_path, member_path, top_path};
-pub use pattern::{Pattern, PatternRefusal};
+pub use pattern::{Pattern, PatternRefusal, is_pattern};
 pub use reply::Reply;
 pub use stable_sort::sort;
 pub use txt::{Txt, TxtRefusal};

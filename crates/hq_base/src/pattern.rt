@@ -1,4 +1,4 @@
-ghost use Rattle.std.specs.Prelude.{◌≡◌, ◌∷◌, ◌≤◌, [], length, MatchOption, IfSome, option_map, ok_or};
+ghost use Rattle.std.specs.Prelude.{◌≡◌, ◌∷◌, ◌≤◌, [], length, is_ok, IfOk, MatchOption, IfSome, option_map, ok_or};
 ghost use Rattle.std.specs.Str.{chars};
 ghost use Rattle.hq_base.specs.Due.{Gives};
 ghost use Rattle.hq_base.specs.declared.pattern.PatternRefusal.TheVariants as refusal;
@@ -205,5 +205,16 @@ fn finds(fold: bool, mut steps: &[Step], mut text: &str) -> bool
                 text = rest;
             }
         }
+    }
+}
+
+/// Whether a text is a pattern: it does not end in an escape.
+pub fn is_pattern(alloc: Global, text: &Txt) -> Result<bool, Memory>
+    ensures { IfOk result (λ b. b ≡ is_ok (pattern_of text.now)) }
+{
+    match Pattern::new(alloc, text) {
+        Ok(_) => Ok(true),
+        Err(PatternRefusal::EndsInEscape) => Ok(false),
+        Err(PatternRefusal::Memory) => Err(Memory),
     }
 }

@@ -26,15 +26,15 @@ impl Val {
     }
 }
 
-/// A column's type.
+/// A column's type, in ascending order of the names of their scalars.
 #[derive(Clone, Copy, Debug, PartialEq, Eq)]
 pub enum Ty {
+    Boolean,
     /// Whole numbers of 32 bits with sign.
     Integer,
+    Text,
     /// Whole numbers of 64 bits with sign.
     Bigint,
-    Text,
-    Boolean,
 }
 
 /// A cell of a statement's rows.

@@ -1,6 +1,7 @@
 -- Steps of a loop that reads or copies items one after the other.
-use Rattle.std.proofs.Common.{◌≡◌, ◌∙◌, refl, ap, sym, ℕ, ◌+◌, ◌<◌, List, [], ◌∷◌, ◌++◌, length, map, take, drop, get_or, Result, Ok, Err, append_assoc}
-use Rattle.std.proofs.lemmas.List.{take_more, drop_more, map-append}
+use Rattle.std.proofs.Common.{◌≡◌, ◌∙◌, refl, ap, sym, ℕ, ◌+◌, ◌<◌, ◌≤◌, List, [], ◌∷◌, ◌++◌, length, map, take, drop, get_or, Result, Ok, Err, append_assoc}
+use Rattle.std.proofs.lemmas.List.{append-nil, at_drop_all, take_more, drop_more, map-append}
+use Rattle.hq_base.proofs.Loops.{next_item}
 use Rattle.hq_base.specs.Due.{and_then, mapped}
 
 -- the value before the rest, and both behind what is done
@@ -29,6 +30,41 @@ pub read_refused : {X B E : Type 0} (F : List X → Result (List B) E) (D : X �
 read_refused F D reads xs i x done e whole so_far below is given =
     so_far
     ∙ ap (mapped (λ ys. done ++ ys)) (read_first F D reads xs i x below is ∙ ap (and_then (λ z. mapped (λ ys. z ∷ ys) (F (drop (i + 1) xs)))) given)
+
+-- all items are read
+pub read_all : {X B E : Type 0} (F : List X → Result (List B) E) (xs : List X) (i : ℕ) (done : List B) (whole : Result (List B) E) → whole ≡ mapped (λ ys. done ++ ys) (F (drop i xs)) → length xs ≤ i → F [] ≡ Ok [] → whole ≡ Ok done
+read_all F xs i done whole so_far over none =
+    so_far ∙ at_drop_all (λ ys. mapped (λ zs. done ++ zs) (F ys)) xs i over ∙ ap (mapped (λ zs. done ++ zs)) none ∙ ap Ok (append-nil done)
+
+-- values before the rest, and all behind what is done
+grown_by : {B E : Type 0} (done here : List B) (rest : Result (List B) E) → mapped (λ ys. done ++ ys) (mapped (λ ys. here ++ ys) rest) ≡ mapped (λ ys. (done ++ here) ++ ys) rest
+grown_by done here (Ok ys) = ap Ok (sym (append_assoc done here ys))
+grown_by done here (Err e) = refl
+
+-- F joins what D reads of each item
+abbrev pub JoinsBy : {X B E : Type 0} → (List X → Result (List B) E) → (X → Result (List B) E) → Type 0
+JoinsBy {X} F D = (x : X) (xs : List X) → F (x ∷ xs) ≡ and_then (λ here. mapped (λ more. here ++ more) (F xs)) (D x)
+
+-- what is read of an item is put behind what is done
+joined : {B E : Type 0} (done new : List B) (here rest : Result (List B) E) → mapped (λ more. done ++ more) here ≡ Ok new → mapped (λ more. done ++ more) (and_then (λ ys. mapped (λ more. ys ++ more) rest) here) ≡ mapped (λ more. new ++ more) rest
+joined done new (Ok ys) rest e = let is : done ++ ys ≡ new = cc in grown_by done ys rest ∙ ap (λ front. mapped (λ more. front ++ more) rest) is
+joined done new (Err x) rest e = cc
+
+joined_refused : {B E : Type 0} (done : List B) (here rest : Result (List B) E) (x : E) → mapped (λ more. done ++ more) here ≡ Err x → mapped (λ more. done ++ more) (and_then (λ ys. mapped (λ more. ys ++ more) rest) here) ≡ Err x
+joined_refused done (Ok ys) rest x e = cc
+joined_refused done (Err y) rest x e = e
+
+pub join_more : {X B E : Type 0} (F : List X → Result (List B) E) (D : X → Result (List B) E) → JoinsBy F D → (xs : List X) (i : ℕ) (x : X) (done new : List B) (whole : Result (List B) E) → whole ≡ mapped (λ more. done ++ more) (F (drop i xs)) → i < length xs → x ≡ get_or xs i x → mapped (λ more. done ++ more) (D x) ≡ Ok new → whole ≡ mapped (λ more. new ++ more) (F (drop (i + 1) xs))
+join_more F D joins xs i x done new whole so_far below is given =
+    so_far
+    ∙ ap (mapped (λ more. done ++ more)) (ap F (next_item xs i x below is) ∙ joins x (drop (i + 1) xs))
+    ∙ joined done new (D x) (F (drop (i + 1) xs)) given
+
+pub join_refused : {X B E : Type 0} (F : List X → Result (List B) E) (D : X → Result (List B) E) → JoinsBy F D → (xs : List X) (i : ℕ) (x : X) (done : List B) (e : E) (whole : Result (List B) E) → whole ≡ mapped (λ more. done ++ more) (F (drop i xs)) → i < length xs → x ≡ get_or xs i x → mapped (λ more. done ++ more) (D x) ≡ Err e → whole ≡ Err e
+join_refused F D joins xs i x done e whole so_far below is given =
+    so_far
+    ∙ ap (mapped (λ more. done ++ more)) (ap F (next_item xs i x below is) ∙ joins x (drop (i + 1) xs))
+    ∙ joined_refused done (D x) (F (drop (i + 1) xs)) e given
 
 -- a copy of the items so far, and that of the next
 pub taken_more : {A : Type 0} (xs : List A) (i : ℕ) (x : A) (done more : List A) (y : A) → done ≡ take i xs → i < length xs → x ≡ get_or xs i x → y ≡ x → more ≡ done ++ y ∷ [] → more ≡ take (i + 1) xs

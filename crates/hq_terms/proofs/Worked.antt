@@ -10,7 +10,7 @@ use Rattle.hq_terms.specs.declared.session.Session.{Session}
 use Rattle.hq_terms.specs.declared.bexp.Operand.TheVariants as operand
 use Rattle.hq_terms.specs.declared.bind.BindRefusal.TheVariants.{NoVariable, BadVariable}
 use Rattle.hq_terms.specs.declared.want.Want.TheVariants as want
-use Rattle.hq_terms.specs.Bexp.{BexpTree, always, or_of, not_of, comparison, is_null, through, no_bexp, bexp}
+use Rattle.hq_terms.specs.Bexp.{BexpTree, always, or_of, not_of, test, through, no_bexp, bexp}
 use Rattle.hq_terms.specs.Binding.{bound}
 use Rattle.hq_terms.specs.Catalog.{is_catalog}
 use Rattle.hq_terms.specs.Database.{Row, is_database}
@@ -22,6 +22,7 @@ use Rattle.hq_terms.specs.Related.{related}
 use Rattle.hq_terms.specs.Schema.{Schema, schema_of}
 use Rattle.hq_terms.specs.Seen.{row_cell}
 use Rattle.hq_terms.specs.Selected.{ListArguments, selected}
+use Rattle.hq_terms.specs.Tests.{Compare, IsNull}
 use Rattle.hq_terms.specs.View.{Agree, view, seen_in}
 
 -- the authors
@@ -71,8 +72,8 @@ database =
 -- the metadata: the role user may see all authors, and the articles that are published or the user's own
 abbrev own_or_published : BexpTree
 own_or_published =
-    or_of (bexp (comparison 3 Eq (operand.Const (val.Bool true)))
-    (bexp (comparison 1 Eq (operand.Session (codes "x-hasura-user-id"))) no_bexp))
+    or_of (bexp (test 3 (Compare Eq) (operand.Const (val.Bool true) ∷ []) false)
+    (bexp (test 1 (Compare Eq) (operand.Session (codes "x-hasura-user-id") ∷ []) false) no_bexp))
 
 -- the names of root fields
 abbrev roots_with : (select select_aggregate select_by_pk : List ℕ) → RootNames
@@ -196,10 +197,10 @@ one_a_rating_to_2 = refl
 
 -- the rating is 5
 abbrev rating_is : BexpTree
-rating_is = comparison 4 Eq (operand.Const (val.Int (pos 5)))
+rating_is = test 4 (Compare Eq) (operand.Const (val.Int (pos 5)) ∷ []) false
 
 -- a rating that is NULL is not different from 5
-rating_differs : listed (codes "1") (record plain { wanted = comparison 4 Ne (operand.Const (val.Int (pos 5))) }) ≡ numbers (13 ∷ [])
+rating_differs : listed (codes "1") (record plain { wanted = test 4 (Compare Ne) (operand.Const (val.Int (pos 5)) ∷ []) false }) ≡ numbers (13 ∷ [])
 rating_differs = refl
 
 -- a rating that is NULL is not unequal to 5 either
@@ -208,7 +209,7 @@ rating_is_not = refl
 
 -- by the name of the author, who is to be Ann
 by_ann : listed (codes "1") (record plain {
-  wanted = through 0 (comparison 1 Eq (operand.Const (val.Text (codes "Ann"))));
+  wanted = through 0 (test 1 (Compare Eq) (operand.Const (val.Text (codes "Ann")) ∷ []) false);
   sorts = record { through = 0 ∷ []; column = 1; desc = false; nulls_first = false } ∷ [];
 }) ≡ numbers (10 ∷ 11 ∷ [])
 by_ann = refl
@@ -231,7 +232,7 @@ bad_variable = refl
 
 -- the first operand from the left decides
 first_fault :
-    bound (or_of (bexp (comparison 1 Eq (operand.Session (codes "x-hasura-a"))) (bexp (comparison 1 Eq (operand.Session (codes "x-hasura-b"))) no_bexp))) schema [] 1
+    bound (or_of (bexp (test 1 (Compare Eq) (operand.Session (codes "x-hasura-a") ∷ []) false) (bexp (test 1 (Compare Eq) (operand.Session (codes "x-hasura-b") ∷ []) false) no_bexp))) schema [] 1
     ≡ Err (NoVariable (codes "x-hasura-a"))
 first_fault = refl
 
@@ -274,7 +275,7 @@ masked =
       filter = always;
       limit = None;
       aggregations = true;
-      masks = record { column = 4; shown = comparison 1 Eq (operand.Const (val.Int (pos 1))) } ∷ [];
+      masks = record { column = 4; shown = test 1 (Compare Eq) (operand.Const (val.Int (pos 1)) ∷ []) false } ∷ [];
     }) ∷ []
 
 -- the ids of a list under that grant
@@ -304,8 +305,8 @@ more_of perms tracked = record tracked { perms = perms }
 abbrev author_perms : List PermTree
 author_perms =
     perm_of (codes "user") (0 ∷ 1 ∷ []) always
-    ∷ perm_of (codes "finder") (0 ∷ []) (through 0 (is_null 4 true))
-    ∷ perm_of (codes "others") (0 ∷ []) (comparison 0 Ne (operand.Const (val.Int (pos 1)))) ∷ []
+    ∷ perm_of (codes "finder") (0 ∷ []) (through 0 (test 4 IsNull [] false))
+    ∷ perm_of (codes "others") (0 ∷ []) (test 0 (Compare Ne) (operand.Const (val.Int (pos 1)) ∷ []) false) ∷ []
 
 abbrev article_perms : List PermTree
 article_perms = perm_of (codes "user") (0 ∷ 2 ∷ 4 ∷ []) own_or_published ∷ perm_of (codes "others") (0 ∷ []) always ∷ []
@@ -370,7 +371,7 @@ authors_to_others = refl
 -- in where a relationship reaches permitted rows alone: of author 1's articles the one without a rating is hidden from user 2
 abbrev unrated_to : Grants → List CellTree
 unrated_to g =
-    ids (selected schema (seen_by schema g database) 0 (record plain { wanted = through 0 (is_null 4 true) }) None (permitted schema g database 0))
+    ids (selected schema (seen_by schema g database) 0 (record plain { wanted = through 0 (test 4 IsNull [] false) }) None (permitted schema g database 0))
 
 unrated : map unrated_to (granted (codes "admin") ∷ grants (codes "1") ∷ grants (codes "2") ∷ granted (codes "finder") ∷ []) ≡ numbers (1 ∷ []) ∷ numbers (1 ∷ []) ∷ [] ∷ [] ∷ []
 unrated = refl
@@ -385,7 +386,7 @@ by_author_to_others = refl
 
 -- a session name that is not bound stands for NULL, and its negation is unknown too
 abbrev own_name : BexpTree
-own_name = comparison 0 Eq (operand.Session (codes "x"))
+own_name = test 0 (Compare Eq) (operand.Session (codes "x") ∷ []) false
 
 unbound_name : map (λ b. listed (codes "1") (record plain { wanted = b })) (own_name ∷ not_of own_name ∷ []) ≡ [] ∷ [] ∷ []
 unbound_name = refl

@@ -1,9 +1,9 @@
 -- Boolean expressions without where they lie in memory.
 use Rattle.std.specs.Prelude.{ℕ, suc, max, Bool, List, [], ◌∷◌}
-use Rattle.hq_terms.specs.declared.op.Op.{Op}
 use Rattle.hq_terms.specs.declared.bexp.Operand.{Operand}
 use Rattle.hq_terms.specs.declared.bexp.Bexp.{Bexp, fold-Bexp}
 use Rattle.hq_terms.specs.declared.bexp.Bexp.TheOpen.{Bexp-F}
+use Rattle.hq_terms.specs.declared.test.Test.{Test}
 
 -- a boolean expression over a table's columns and relationships, each named by its place
 mutual
@@ -12,10 +12,7 @@ mutual
     and_of : BexpTrees → BexpTree
     or_of : BexpTrees → BexpTree
     not_of : BexpTree → BexpTree
-    comparison : (column : ℕ) → Op → Operand → BexpTree
-    within : (column : ℕ) → List Operand → (negated : Bool) → BexpTree
-    is_null : (column : ℕ) → (wanted : Bool) → BexpTree
-    like : (column : ℕ) → (fold negated : Bool) → Operand → BexpTree
+    test : (column : ℕ) → Test → (operands : List Operand) → (negated : Bool) → BexpTree
     through : (relationship : ℕ) → BexpTree → BexpTree
 
   pub data BexpTrees : Type 0 where
@@ -31,16 +28,19 @@ abbrev pub bexps_of : List BexpTree → BexpTrees
 bexps_of [] = no_bexp
 bexps_of (b ∷ bs) = bexp b (bexps_of bs)
 
+-- all of a list: nothing is asked where it is empty, and one expression stands for itself
+unfoldable pub conjunction : List BexpTree → BexpTree
+conjunction [] = always
+conjunction (b ∷ []) = b
+conjunction (b ∷ d ∷ bs) = and_of (bexps_of (b ∷ d ∷ bs))
+
 -- one level of an expression, whose parts are seen already
 abbrev pub bexp_step : Bexp-F BexpTree → BexpTree
 bexp_step Bexp-F.True = always
 bexp_step (Bexp-F.And bs) = and_of (bexps_of bs.items)
 bexp_step (Bexp-F.Or bs) = or_of (bexps_of bs.items)
 bexp_step (Bexp-F.Not b) = not_of b.value
-bexp_step (Bexp-F.Cmp column op operand) = comparison column op operand
-bexp_step (Bexp-F.Within column operands negated) = within column operands negated
-bexp_step (Bexp-F.IsNull column wanted) = is_null column wanted
-bexp_step (Bexp-F.Like column fold negated operand) = like column fold negated operand
+bexp_step (Bexp-F.Test column t operands negated) = test column t operands negated
 bexp_step (Bexp-F.Through relationship inner) = through relationship inner.value
 
 -- what an expression is seen as
@@ -54,10 +54,7 @@ abbrev mutual
   depth (and_of bs) = suc (depth_of_all bs)
   depth (or_of bs) = suc (depth_of_all bs)
   depth (not_of b) = suc (depth b)
-  depth (comparison column op operand) = 1
-  depth (within column operands negated) = 1
-  depth (is_null column wanted) = 1
-  depth (like column fold negated operand) = 1
+  depth (test column t operands negated) = 1
   depth (through relationship b) = suc (depth b)
 
   pub depth_of_all : BexpTrees → ℕ

@@ -3,10 +3,10 @@
 use Rattle.std.specs.Prelude.{ℕ, List, [], ◌∷◌, find, Option, Some, None, option_map, Result, Ok, Err, bytes_eq}
 use Rattle.hq_base.specs.Due.{and_then, mapped}
 use Rattle.hq_base.specs.declared.value.Val.{Val}
-use Rattle.hq_terms.specs.Bexp.{BexpTree, always, and_of, or_of, not_of, comparison, within, is_null, like, through, BexpTrees, no_bexp, bexp, bexps_of}
+use Rattle.hq_terms.specs.Bexp.{BexpTree, always, and_of, or_of, not_of, test, through, BexpTrees, no_bexp, bexp, bexps_of}
 use Rattle.hq_terms.specs.Permission.{Mask, Permission}
-use Rattle.hq_terms.specs.Reading.{read_as, read_pattern}
 use Rattle.hq_terms.specs.Schema.{Schema, column, rel}
+use Rattle.hq_terms.specs.Tests.{reads}
 use Rattle.hq_terms.specs.declared.bexp.Operand.{Operand}
 use Rattle.hq_terms.specs.declared.bexp.Operand.TheVariants.{Const, Session}
 use Rattle.hq_terms.specs.declared.bind.BindRefusal.{BindRefusal}
@@ -45,10 +45,7 @@ abbrev mutual
   bound (and_of bs) s vars t = mapped (λ xs. and_of (bexps_of xs)) (bound_all bs s vars t)
   bound (or_of bs) s vars t = mapped (λ xs. or_of (bexps_of xs)) (bound_all bs s vars t)
   bound (not_of b) s vars t = mapped not_of (bound b s vars t)
-  bound (comparison c op v) s vars t = mapped (comparison c op) (bound_operand (read_as (column s t c).ty) vars v)
-  bound (within c vs negated) s vars t = mapped (λ os. within c os negated) (bound_operands (read_as (column s t c).ty) vars vs)
-  bound (is_null c wanted) s vars t = Ok (is_null c wanted)
-  bound (like c fold negated v) s vars t = mapped (like c fold negated) (bound_operand read_pattern vars v)
+  bound (test c tested vs negated) s vars t = mapped (λ os. test c tested os negated) (bound_operands (reads tested (column s t c).ty) vars vs)
   bound (through r b) s vars t = mapped (through r) (bound b s vars (rel s t r).remote)
 
   pub bound_all : BexpTrees → Schema → List Var → ℕ → Result (List BexpTree) BindRefusal

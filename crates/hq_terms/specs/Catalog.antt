@@ -4,20 +4,10 @@ use Rattle.std.specs.Prelude.{ℕ, List, [], ◌∷◌, ◌++◌, length, Bool, 
 use Rattle.std.specs.List.{list_all}
 use Rattle.hq_base.specs.Lists.{all_differ}
 use Rattle.hq_base.specs.declared.value.Ty.{Ty}
-use Rattle.hq_base.specs.declared.value.Ty.TheVariants.{Integer, Bigint, Text, Boolean}
+pub use Rattle.hq_base.specs.Types.{comparable}
 use Rattle.hq_terms.specs.declared.table.Column.{Column}
 use Rattle.hq_terms.specs.declared.table.ForeignKey.{ForeignKey}
 use Rattle.hq_terms.specs.declared.table.Table.{Table}
-
--- two types whose values can be compared: both whole numbers, both text, or both boolean
-abbrev pub comparable : Ty → Ty → Bool
-comparable Integer Integer = true
-comparable Integer Bigint = true
-comparable Bigint Integer = true
-comparable Bigint Bigint = true
-comparable Text Text = true
-comparable Boolean Boolean = true
-comparable _ _ = false
 
 -- the type of a column, where there is one
 abbrev pub type_of : Option Column → Option Ty

@@ -5,6 +5,7 @@ use Rattle.std.specs.List.{list_all}
 use Rattle.hq_base.specs.Lists.{all_differ}
 use Rattle.hq_base.specs.Cells.{same_cell, cell_of}
 use Rattle.hq_base.specs.declared.value.Ty.{Ty}
+pub use Rattle.hq_base.specs.Types.{is_text, is_boolean}
 use Rattle.hq_base.specs.declared.value.Ty.TheVariants.{Integer, Bigint, Text, Boolean}
 use Rattle.hq_base.specs.declared.value.Val.{Val}
 use Rattle.hq_base.specs.declared.value.Val.TheVariants as val
@@ -26,16 +27,6 @@ int_fits Integer n = fits_bits 32 n
 int_fits Bigint n = fits_bits 64 n
 int_fits Text n = false
 int_fits Boolean n = false
-
--- the type text
-abbrev pub is_text : Ty → Bool
-is_text Text = true
-is_text _ = false
-
--- the type boolean
-abbrev pub is_boolean : Ty → Bool
-is_boolean Boolean = true
-is_boolean _ = false
 
 -- a value that the column may hold
 abbrev pub value_fits : Column → Val → Bool

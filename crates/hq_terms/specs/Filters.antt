@@ -1,14 +1,15 @@
 -- When an expression is one over a table: its columns and relationships are there, and operators and operands are of the
 -- column's type (Hasura, boolean expressions: operators).
-use Rattle.std.specs.Prelude.{ℕ, Bool, true, false, is_ok, ◌&&◌, Option, Some, None, option_map, is_some, slice_get}
+use Rattle.std.specs.Prelude.{ℕ, List, length, Bool, true, false, is_ok, ◌&&◌, Option, Some, None, option_map, is_some, slice_get}
 use Rattle.std.specs.List.{list_all}
 use Rattle.hq_base.specs.Patterns.{pattern_of}
 use Rattle.hq_base.specs.declared.value.Ty.{Ty}
 use Rattle.hq_base.specs.declared.value.Val.{Val}
 use Rattle.hq_base.specs.declared.value.Val.TheVariants as val
-use Rattle.hq_terms.specs.Bexp.{BexpTree, always, and_of, or_of, not_of, comparison, within, is_null, like, through, BexpTrees, no_bexp, bexp}
+use Rattle.hq_terms.specs.Bexp.{BexpTree, always, and_of, or_of, not_of, test, through, BexpTrees, no_bexp, bexp}
 use Rattle.hq_terms.specs.Database.{int_fits, is_text, is_boolean}
 use Rattle.hq_terms.specs.Schema.{Schema, table, rel}
+use Rattle.hq_terms.specs.Tests.{Test, Compare, Among, IsNull, Like, takes, applies}
 use Rattle.hq_terms.specs.declared.bexp.Operand.{Operand}
 use Rattle.hq_terms.specs.declared.bexp.Operand.TheVariants.{Const, Session}
 
@@ -23,25 +24,31 @@ constant_fits ty (val.Int n) = int_fits ty n
 constant_fits ty (val.Text s) = is_text ty
 constant_fits ty (val.Bool b) = is_boolean ty
 
--- an operand for a column of a type: a constant of it, or any session name
-abbrev pub operand_fits : Ty → Operand → Bool
-operand_fits ty (Const v) = constant_fits ty v
-operand_fits ty (Session name) = true
-
 -- a pattern is a text that does not end in an escape
 abbrev pub is_pattern : Val → Bool
 is_pattern (val.Text s) = is_ok (pattern_of s)
 is_pattern _ = false
 
--- an operand of LIKE: a pattern, or any session name
-abbrev pub pattern_fits : Operand → Bool
-pattern_fits (Const v) = is_pattern v
-pattern_fits (Session name) = true
+-- a constant for a test of a column of a type: one of that type, of LIKE a pattern
+abbrev pub test_fits : Test → Ty → Val → Bool
+test_fits (Compare op) ty = constant_fits ty
+test_fits Among ty = constant_fits ty
+test_fits IsNull ty = constant_fits ty
+test_fits (Like fold) ty = is_pattern
+
+-- an operand for a test of a column of a type: such a constant, or any session name
+abbrev pub operand_fits : Test → Ty → Operand → Bool
+operand_fits t ty (Const v) = test_fits t ty v
+operand_fits t ty (Session name) = true
+
+-- a test of a column of a type, of as many operands as it takes, each of which fits
+abbrev pub is_test : Test → List Operand → Ty → Bool
+is_test t vs ty = takes t (length vs) && applies t ty && list_all (operand_fits t ty) vs
 
 -- a test of the column's type; false where there is no such column
 abbrev pub of_type : (Ty → Bool) → Option Ty → Bool
-of_type test None = false
-of_type test (Some ty) = test ty
+of_type holds None = false
+of_type holds (Some ty) = holds ty
 
 abbrev mutual
   pub is_filter : BexpTree → Schema → ℕ → Bool
@@ -49,10 +56,7 @@ abbrev mutual
   is_filter (and_of bs) s t = are_filters bs s t
   is_filter (or_of bs) s t = are_filters bs s t
   is_filter (not_of b) s t = is_filter b s t
-  is_filter (comparison c op v) s t = of_type (λ ty. operand_fits ty v) (column_ty s t c)
-  is_filter (within c vs negated) s t = of_type (λ ty. list_all (operand_fits ty) vs) (column_ty s t c)
-  is_filter (is_null c wanted) s t = is_some (column_ty s t c)
-  is_filter (like c fold negated v) s t = of_type is_text (column_ty s t c) && pattern_fits v
+  is_filter (test c tested vs negated) s t = of_type (is_test tested vs) (column_ty s t c)
   is_filter (through r b) s t = is_some (slice_get (table s t).rels r) && is_filter b s (rel s t r).remote
 
   pub are_filters : BexpTrees → Schema → ℕ → Bool

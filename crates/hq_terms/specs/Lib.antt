@@ -1,6 +1,9 @@
 pub mod Catalog
 pub mod Database
 pub mod Names
+pub mod Tests
+pub mod Operators
+pub mod Constants
 pub mod Bexp
 pub mod Meta
 pub mod Schema

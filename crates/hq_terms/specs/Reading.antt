@@ -31,12 +31,19 @@ truth_value s =
     cond (bytes_eq s (codes "t") || bytes_eq s (codes "true")) (Some true)
     (cond (bytes_eq s (codes "f") || bytes_eq s (codes "false")) (Some false) None)
 
+-- the whole number that a text spells, or the truth value; else what it is not
+abbrev pub whole_read : Ty → Want → List ℕ → Result Val Want
+whole_read ty wanted s = ok_or (option_map val.Int (whole_number ty s)) wanted
+
+abbrev pub truth_read : List ℕ → Result Val Want
+truth_read s = ok_or (option_map val.Bool (truth_value s)) want.Boolean
+
 -- a text as a value of this type: a text as it stands. Else what it is not
 abbrev pub read_as : Ty → List ℕ → Result Val Want
-read_as Integer s = ok_or (option_map val.Int (whole_number Integer s)) want.Integer
-read_as Bigint s = ok_or (option_map val.Int (whole_number Bigint s)) want.Bigint
+read_as Integer s = whole_read Integer want.Integer s
+read_as Bigint s = whole_read Bigint want.Bigint s
 read_as Text s = Ok (val.Text s)
-read_as Boolean s = ok_or (option_map val.Bool (truth_value s)) want.Boolean
+read_as Boolean s = truth_read s
 
 -- a text as a pattern, which must not end in an escape
 abbrev pub read_pattern : List ℕ → Result Val Want

@@ -1,10 +1,10 @@
 -- The names that a metadata gives in the schema of admin, the widest of all roles (Hasura, API reference: GraphQL API).
-use Rattle.std.specs.Prelude.{ℕ, List, [], ◌∷◌, ◌++◌, map, filter, flat_map, Bool, true, false, not, cond, ◌&&◌, ◌==◌, bytes_eq, codes, slice_index_or, Option, Some, None}
+use Rattle.std.specs.Prelude.{ℕ, List, [], ◌∷◌, ◌++◌, map, filter, flat_map, Bool, true, false, cond, ◌&&◌, ◌==◌, bytes_eq, codes, slice_index_or, Option, Some, None}
 use Rattle.std.specs.List.{list_all, list_any}
+use Rattle.hq_base.specs.Aggregates.{all_aggregates, aggregate_suffix, is_aggregate_of}
 use Rattle.hq_base.specs.Lists.{all_differ}
+use Rattle.hq_base.specs.declared.aggregate.Aggregate.{Aggregate}
 use Rattle.hq_base.specs.declared.value.Ty.{Ty}
-use Rattle.hq_base.specs.declared.value.Ty.TheVariants.{Integer, Bigint}
-use Rattle.hq_terms.specs.Database.{is_boolean}
 use Rattle.hq_terms.specs.Meta.{TrackedTree, MetaTree, tracked_table}
 use Rattle.hq_terms.specs.Permission.{named_columns}
 use Rattle.hq_terms.specs.Schema.{Schema, table, column}
@@ -21,12 +21,6 @@ fixed_types =
 -- the inputs that each boolean expression has
 abbrev pub fixed_inputs : List (List ℕ)
 fixed_inputs = codes "_and" ∷ codes "_not" ∷ codes "_or" ∷ []
-
--- the types of whole numbers
-abbrev pub is_whole : Ty → Bool
-is_whole Integer = true
-is_whole Bigint = true
-is_whole _ = false
 
 -- whether some column with a GraphQL name is of such a type
 abbrev pub some_column : (Ty → Bool) → Schema → TrackedTree → Bool
@@ -45,13 +39,16 @@ in_schema (Some k) = has_columns k
 abbrev pub is_in_schema : MetaTree → ℕ → Bool
 is_in_schema m t = in_schema (tracked_table m t)
 
--- the types of a table
+-- whether an aggregate is one of the values of some column
+abbrev pub is_aggregated : Schema → TrackedTree → Aggregate → Bool
+is_aggregated s k a = some_column (is_aggregate_of a) s k
+
+-- the types of a table; an aggregate that is one of no column has none
 abbrev pub table_types : Schema → TrackedTree → List (List ℕ)
 table_types s k =
     k.name ∷ (k.name ++ codes "_bool_exp") ∷ (k.name ++ codes "_order_by") ∷ (k.name ++ codes "_select_column")
     ∷ (k.name ++ codes "_aggregate") ∷ (k.name ++ codes "_aggregate_fields")
-    ∷ cond (some_column (λ ty. not (is_boolean ty)) s k) ((k.name ++ codes "_max_fields") ∷ (k.name ++ codes "_min_fields") ∷ []) []
-    ++ cond (some_column is_whole s k) ((k.name ++ codes "_sum_fields") ∷ []) []
+    ∷ map (λ a. k.name ++ aggregate_suffix a) (filter (is_aggregated s k) all_aggregates)
 
 -- the types of a table, none where it stands in no schema
 abbrev pub types_of : Schema → TrackedTree → List (List ℕ)

@@ -1,22 +1,19 @@
 -- The truth of a boolean expression at a row (Hasura, Filter query results: boolean expressions; PostgreSQL, logical and comparison operators).
-use Rattle.std.specs.Prelude.{ℕ, map, ◌&&◌, not, cond, Bool}
+use Rattle.std.specs.Prelude.{ℕ, map, ◌&&◌, Bool}
 use Rattle.std.specs.List.{list_any}
 use Rattle.hq_base.specs.Cells.{CellTree, null, cell_of}
 use Rattle.hq_terms.specs.declared.bexp.Operand.{Operand}
 use Rattle.hq_terms.specs.declared.bexp.Operand.TheVariants.{Const, Session}
-use Rattle.hq_terms.specs.Bexp.{BexpTree, always, and_of, or_of, not_of, comparison, within, is_null, like, through, BexpTrees, no_bexp, bexp}
-use Rattle.hq_terms.specs.Logic.{Truth, Yes, No, is_true, truth_of, not3, and3, or3, negated_if, compared, among, null_test, matched}
+use Rattle.hq_terms.specs.Bexp.{BexpTree, always, and_of, or_of, not_of, test, through, BexpTrees, no_bexp, bexp}
+use Rattle.hq_terms.specs.Logic.{Truth, Yes, No, is_true, truth_of, not3, and3, or3, negated_if}
 use Rattle.hq_terms.specs.Schema.{Schema, rel}
 use Rattle.hq_terms.specs.Seen.{Sees}
+use Rattle.hq_terms.specs.Tests.{test_truth}
 
 -- the cell of an operand; a session variable that is not bound is NULL
 abbrev pub operand_cell : Operand → CellTree
 operand_cell (Const v) = cell_of v
 operand_cell (Session name) = null
-
--- IS NULL, or IS NOT NULL where wanted is false
-abbrev pub null_test_as : Bool → CellTree → Truth
-null_test_as wanted c = truth_of (cond wanted (null_test c) (not (null_test c)))
 
 -- the truth at a row x of table t, over what is seen
 abbrev mutual
@@ -25,10 +22,7 @@ abbrev mutual
   truth (and_of bs) s S t x = truth_of_all bs s S t x
   truth (or_of bs) s S t x = truth_of_any bs s S t x
   truth (not_of b) s S t x = not3 (truth b s S t x)
-  truth (comparison c op v) s S t x = compared op (S.cell t x c) (operand_cell v)
-  truth (within c vs negated) s S t x = negated_if negated (among (map operand_cell vs) (S.cell t x c))
-  truth (is_null c wanted) s S t x = null_test_as wanted (S.cell t x c)
-  truth (like c fold negated v) s S t x = negated_if negated (matched fold (S.cell t x c) (operand_cell v))
+  truth (test c tested vs negated) s S t x = negated_if negated (test_truth tested (S.cell t x c) (map operand_cell vs))
   truth (through r b) s S t x =
       truth_of (list_any (λ far. S.linked t r x far && is_true (truth b s S (rel s t r).remote far)) (S.rows (rel s t r).remote))
 

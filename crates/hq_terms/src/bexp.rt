@@ -1,4 +1,7 @@
-use crate::{ColId, Op, RelId};
+ghost use Rattle.std.specs.Prelude.{◌≡◌, map};
+ghost use Rattle.hq_terms.specs.Bexp.{bexp_view, conjunction};
+
+use crate::{ColId, RelId, Test};
 use hq_base::{List, Txt, Val};
 
 /// What a column is compared with: a constant, which is never NULL, or the value of a session variable.
@@ -8,7 +11,7 @@ pub enum Operand {
     Session(Txt),
 }
 
-/// The list of an `_in` or `_nin`.
+/// The operands of a test, in order.
 pub type Operands = List<Operand>;
 
 /// Boolean expressions, in order.
@@ -23,32 +26,33 @@ pub enum Bexp {
     And(BexpList),
     Or(BexpList),
     Not(Box<Bexp>),
-    Cmp {
+    /// A test of a column against operands, as many as the test takes; the opposite where `negated`.
+    Test {
         col: ColId,
-        op: Op,
-        operand: Operand,
-    },
-    /// `_in`, or `_nin` where negated.
-    Within {
-        col: ColId,
+        test: Test,
         operands: Operands,
         negated: bool,
-    },
-    /// Whether the column is NULL, or is not where `yes` is false.
-    IsNull {
-        col: ColId,
-        yes: bool,
-    },
-    /// `_like`; without regard to the case of A to Z where `fold`, and the opposite where negated.
-    Like {
-        col: ColId,
-        fold: bool,
-        negated: bool,
-        operand: Operand,
     },
     /// Some row behind the relationship meets the inner expression.
     Through {
         rel: RelId,
         inner: Box<Bexp>,
     },
+}
+
+impl Bexp {
+    /// All of a list: True where it is empty, and one expression for itself.
+    #[tactic(auto, unfolding(crate::specs::Bexp::conjunction))]
+    pub fn all_of(bexps: BexpList) -> Bexp
+        ensures { bexp_view result ≡ conjunction (map bexp_view bexps.items) }
+    {
+        let mut bexps = bexps;
+        if bexps.len() > 1 {
+            return Bexp::And(bexps);
+        }
+        match bexps.pop() {
+            Some(bexp) => bexp,
+            None => Bexp::True,
+        }
+    }
 }

@@ -7,7 +7,7 @@ ghost use Rattle.hq_terms.specs.Schema.{schema_of};
 ghost use Rattle.hq_terms.specs.Scope.{scope_schema};
 ghost use Rattle.hq_terms.specs.declared.bind.BindRefusal.TheVariants as refusal;
 
-use crate::operand::{bind_operand, bind_operands, bind_pattern};
+use crate::operand::bind_operands;
 use crate::{Bexp, BexpList, BindRefusal, Catalog, Meta, Scope, Session, TableId};
 use std::alloc::Global;
 
@@ -47,35 +47,20 @@ fn bind_bexp(
             let inner = bind_bexp(alloc, session, scope, t, inner)?;
             Ok(Bexp::Not(Box::new(alloc, inner)?))
         }
-        Bexp::Cmp { col, op, operand } => Ok(Bexp::Cmp {
-            col: *col,
-            op: *op,
-            operand: bind_operand(alloc, session, scope.column_type(t, *col), operand)?,
-        }),
-        Bexp::Within {
+        Bexp::Test {
             col,
+            test,
             operands,
             negated,
-        } => Ok(Bexp::Within {
-            col: *col,
-            operands: bind_operands(alloc, session, scope.column_type(t, *col), operands)?,
-            negated: *negated,
-        }),
-        Bexp::IsNull { col, yes } => Ok(Bexp::IsNull {
-            col: *col,
-            yes: *yes,
-        }),
-        Bexp::Like {
-            col,
-            fold,
-            negated,
-            operand,
-        } => Ok(Bexp::Like {
-            col: *col,
-            fold: *fold,
-            negated: *negated,
-            operand: bind_pattern(alloc, session, operand)?,
-        }),
+        } => {
+            let ty = scope.column_type(t, *col);
+            Ok(Bexp::Test {
+                col: *col,
+                test: *test,
+                operands: bind_operands(alloc, session, *test, ty, operands)?,
+                negated: *negated,
+            })
+        }
         Bexp::Through { rel, inner } => {
             let inner = bind_bexp(alloc, session, scope, scope.remote(t, *rel), inner)?;
             Ok(Bexp::Through {

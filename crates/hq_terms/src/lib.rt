@@ -5,12 +5,14 @@ mod bexp;
 mod bind;
 mod binding;
 mod catalog;
+mod constant;
 mod copy;
 mod ids;
 mod meta;
 mod name;
 mod op;
 mod operand;
+mod operator;
 mod perm;
 mod permission;
 mod reading;
@@ -18,12 +20,14 @@ mod role;
 mod scope;
 mod session;
 mod table;
+mod test;
 mod truth;
 mod want;
 
 pub use bexp::{Bexp, BexpList, Operand, Operands};
 pub use bind::BindRefusal;
 pub use catalog::Catalog;
+pub use constant::{constant_in, read_as, read_operand, read_pattern, whole_value};
 pub use copy::{TryCopy, copy_list};
 pub use ids::{ColId, ColList, RelId, TableId, has_column};
 pub use meta::{
@@ -31,14 +35,15 @@ pub use meta::{
 };
 pub use name::is_free_name;
 pub use op::Op;
+pub use operator::Operator;
 pub use perm::PermView;
 pub use reading::{truth_value, whole_number};
 pub use role::Role;
 pub use scope::Scope;
 pub use session::{Session, Var, VarList};
 pub use table::{
-    Column, ColumnList, ForeignKey, ForeignKeyList, Table, TableList, are_comparable, can_pair,
-    table_place,
+    Column, ColumnList, ForeignKey, ForeignKeyList, Table, TableList, can_pair, table_place,
 };
+pub use test::{Arity, Test};
 pub use truth::Truth;
 pub use want::Want;

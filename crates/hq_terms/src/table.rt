@@ -1,5 +1,5 @@
 ghost use Rattle.std.specs.Prelude.{◌≡◌, ◌&&◌, bytes_eq, option_copied, position, slice_get};
-ghost use Rattle.hq_terms.specs.Catalog.{comparable, can_pair, type_of};
+ghost use Rattle.hq_terms.specs.Catalog.{can_pair, type_of};
 
 use crate::{ColId, ColList, TableId};
 use hq_base::{List, Txt, Ty};
@@ -56,24 +56,12 @@ pub fn table_place(tables: &[Table], schema: &str, name: &str) -> Option<usize>
     tables.iter().position(|table| table.schema.as_str() == schema && table.name.as_str() == name)
 }
 
-/// Whether values of the two types can be compared: both whole numbers, both text, or both boolean.
-pub fn are_comparable(a: Ty, b: Ty) -> bool
-    ensures { result ≡ comparable a b }
-{
-    match (a, b) {
-        (Ty::Integer | Ty::Bigint, Ty::Integer | Ty::Bigint) => true,
-        (Ty::Text, Ty::Text) => true,
-        (Ty::Boolean, Ty::Boolean) => true,
-        _ => false,
-    }
-}
-
 /// Whether a column of one table and a column of another are there, and their values can be compared.
 pub fn can_pair(own: &[Column], remote: &[Column], column: ColId, reference: ColId) -> bool
     ensures { result ≡ can_pair (type_of (slice_get own.now column)) (type_of (slice_get remote.now reference)) }
 {
     match (own.get(column.at()), remote.get(reference.at())) {
-        (Some(column), Some(reference)) => are_comparable(column.ty, reference.ty),
+        (Some(column), Some(reference)) => column.ty.is_comparable(reference.ty),
         _ => false,
     }
 }

@@ -1,7 +1,7 @@
 ghost use Rattle.std.specs.Prelude.{◌≡◌, IfOk, map};
 ghost use Rattle.hq_terms.specs.Bexp.{bexp_view};
 
-use crate::copy::{TryCopy, copy_list};
+use crate::copy::copy_list;
 use crate::{Bexp, BexpList};
 use hq_base::Memory;
 use std::alloc::Global;
@@ -24,34 +24,16 @@ fn copy_bexp(alloc: Global, bexp: &Bexp) -> Result<Bexp, Memory>
         Bexp::And(bexps) => Ok(Bexp::And(copy_bexps(alloc, bexps)?)),
         Bexp::Or(bexps) => Ok(Bexp::Or(copy_bexps(alloc, bexps)?)),
         Bexp::Not(inner) => Ok(Bexp::Not(Box::new(alloc, copy_bexp(alloc, inner)?)?)),
-        Bexp::Cmp { col, op, operand } => Ok(Bexp::Cmp {
-            col: *col,
-            op: *op,
-            operand: operand.try_copy(alloc)?,
-        }),
-        Bexp::Within {
+        Bexp::Test {
             col,
+            test,
             operands,
             negated,
-        } => Ok(Bexp::Within {
+        } => Ok(Bexp::Test {
             col: *col,
+            test: *test,
             operands: copy_list(alloc, operands)?,
             negated: *negated,
-        }),
-        Bexp::IsNull { col, yes } => Ok(Bexp::IsNull {
-            col: *col,
-            yes: *yes,
-        }),
-        Bexp::Like {
-            col,
-            fold,
-            negated,
-            operand,
-        } => Ok(Bexp::Like {
-            col: *col,
-            fold: *fold,
-            negated: *negated,
-            operand: operand.try_copy(alloc)?,
         }),
         Bexp::Through { rel, inner } => Ok(Bexp::Through {
             rel: *rel,

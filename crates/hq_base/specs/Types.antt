@@ -1,0 +1,67 @@
+-- The table of column types (PostgreSQL, data types: numeric, character and boolean types; Hasura, GraphQL types of
+-- PostgreSQL's).
+use Rattle.std.specs.Prelude.{ℕ, List, [], ◌∷◌, find, Bool, true, false, Option, bytes_eq, codes}
+use Rattle.hq_base.specs.declared.value.Ty.{Ty}
+use Rattle.hq_base.specs.declared.value.Ty.TheVariants.{Integer, Bigint, Text, Boolean}
+
+-- all types, in ascending order of the bytes of their scalars' names
+abbrev pub all_types : List Ty
+all_types = Boolean ∷ Integer ∷ Text ∷ Bigint ∷ []
+
+-- the place of each among them
+abbrev pub type_place : Ty → ℕ
+type_place Boolean = 0
+type_place Integer = 1
+type_place Text = 2
+type_place Bigint = 3
+
+-- the name of each in a catalog
+abbrev pub catalog_name : Ty → List ℕ
+catalog_name Integer = codes "integer"
+catalog_name Bigint = codes "bigint"
+catalog_name Text = codes "text"
+catalog_name Boolean = codes "boolean"
+
+-- the type of this name in a catalog, where there is one
+abbrev pub type_named : List ℕ → Option Ty
+type_named name = find (λ ty. bytes_eq (catalog_name ty) name) all_types
+
+-- the name of its scalar in a GraphQL schema
+abbrev pub scalar_name : Ty → List ℕ
+scalar_name Integer = codes "Int"
+scalar_name Bigint = codes "bigint"
+scalar_name Text = codes "String"
+scalar_name Boolean = codes "Boolean"
+
+-- the name of the input of its comparisons
+abbrev pub comparison_name : Ty → List ℕ
+comparison_name Integer = codes "Int_comparison_exp"
+comparison_name Bigint = codes "bigint_comparison_exp"
+comparison_name Text = codes "String_comparison_exp"
+comparison_name Boolean = codes "Boolean_comparison_exp"
+
+-- the types of whole numbers
+abbrev pub is_whole : Ty → Bool
+is_whole Integer = true
+is_whole Bigint = true
+is_whole _ = false
+
+-- the type text
+abbrev pub is_text : Ty → Bool
+is_text Text = true
+is_text _ = false
+
+-- the type boolean
+abbrev pub is_boolean : Ty → Bool
+is_boolean Boolean = true
+is_boolean _ = false
+
+-- two types whose values can be compared: both whole numbers, both text, or both boolean
+abbrev pub comparable : Ty → Ty → Bool
+comparable Integer Integer = true
+comparable Integer Bigint = true
+comparable Bigint Integer = true
+comparable Bigint Bigint = true
+comparable Text Text = true
+comparable Boolean Boolean = true
+comparable _ _ = false

@@ -1,0 +1,98 @@
+//! The table of column types: each type's names, and what its values are.
+ghost use Rattle.std.specs.Prelude.{◌≡◌, false, find, bytes_eq};
+ghost use Rattle.hq_base.specs.Text.{has_zero};
+ghost use Rattle.hq_base.specs.Types.{all_types, type_place, catalog_name, scalar_name, comparison_name, type_named, comparable, is_whole};
+
+use crate::Ty;
+
+impl Ty {
+    /// All types, in ascending order of the bytes of their scalars' names.
+    pub fn all() -> [Ty; 4]
+        ensures { result ≡ all_types }
+    {
+        [Ty::Boolean, Ty::Integer, Ty::Text, Ty::Bigint]
+    }
+
+    /// Its place among them.
+    pub fn place(self) -> usize
+        ensures { result ≡ type_place self }
+    {
+        self as usize
+    }
+
+    /// Its name in a catalog, which is PostgreSQL's.
+    pub fn catalog_name(self) -> &'static str
+        ensures { result.now ≡ catalog_name self }
+    {
+        match self {
+            Ty::Integer => "integer",
+            Ty::Bigint => "bigint",
+            Ty::Text => "text",
+            Ty::Boolean => "boolean",
+        }
+    }
+
+    /// The type of this name in a catalog, where there is one.
+    pub fn named(name: &str) -> Option<Ty>
+        ensures { result ≡ type_named name.now }
+    {
+        type_named(&Ty::all(), name)
+    }
+
+    /// The name of its scalar in a GraphQL schema.
+    pub fn scalar_name(self) -> &'static str
+        ensures name { result.now ≡ scalar_name self }
+        ensures clean { has_zero result.now ≡ false }
+    {
+        match self {
+            Ty::Integer => "Int",
+            Ty::Bigint => "bigint",
+            Ty::Text => "String",
+            Ty::Boolean => "Boolean",
+        }
+    }
+
+    /// The name of the input of its comparisons.
+    pub fn comparison_name(self) -> &'static str
+        ensures name { result.now ≡ comparison_name self }
+        ensures clean { has_zero result.now ≡ false }
+    {
+        match self {
+            Ty::Integer => "Int_comparison_exp",
+            Ty::Bigint => "bigint_comparison_exp",
+            Ty::Text => "String_comparison_exp",
+            Ty::Boolean => "Boolean_comparison_exp",
+        }
+    }
+
+    /// Whether its values are whole numbers.
+    pub fn is_whole(self) -> bool
+        ensures { result ≡ is_whole self }
+    {
+        matches!(self, Ty::Integer | Ty::Bigint)
+    }
+
+    /// Whether its values can be compared with those of another type: both whole numbers, or both of one type.
+    pub fn is_comparable(self, other: Ty) -> bool
+        ensures { result ≡ comparable self other }
+    {
+        match (self, other) {
+            (Ty::Integer | Ty::Bigint, Ty::Integer | Ty::Bigint) => true,
+            (Ty::Text, Ty::Text) => true,
+            (Ty::Boolean, Ty::Boolean) => true,
+            _ => false,
+        }
+    }
+}
+
+// The first type of this name.
+fn type_named(types: &[Ty], name: &str) -> Option<Ty>
+    ensures { result ≡ find (λ ty. bytes_eq (catalog_name ty) name.now) types.now }
+{
+    for ty in types {
+        if ty.catalog_name() == name {
+            return Some(*ty);
+        }
+    }
+    None
+}
