@@ -16,7 +16,7 @@ use Rattle.hq_terms.specs.Related.{related}
 use Rattle.hq_terms.specs.Schema.{Schema, table, rel}
 use Rattle.hq_terms.specs.Seen.{Sees}
 use Rattle.hq_terms.specs.Selected.{SortKey, ListArguments, sort_cell, sorts_cmp, ascending, sorts_or, entries, same_cells, distinct_rows, offset_by, limited, smaller, selected}
-use Rattle.hq_terms.specs.Test.{test_truth}
+use Rattle.hq_terms.specs.Tests.{test_truth}
 use Rattle.hq_terms.specs.Truth.{operand_cell, truth, truth_of_all, truth_of_any, keeps}
 use Rattle.hq_ask_tree.specs.Allowed.{Allowed}
 use Rattle.hq_ask_tree.specs.Everywhere.{Below, EveryPart, BelowPart}
@@ -65,7 +65,7 @@ module _ {R S : Type 0} {s : Schema} {A : Sees R} {B : Sees S} {ok : Allowed} {Q
     truth_alike (and_of es) t x y u q = all_true_alike es t x y u q
     truth_alike (or_of es) t x y u q = any_true_alike es t x y u q
     truth_alike (not_of e) t x y u q = ap not3 (truth_alike e t x y u q)
-    truth_alike (test c op vs negated) t x y u q = ap (λ d. negated_if negated (test_truth op d (map operand_cell vs))) (a.cells t c x y u q)
+    truth_alike (test c tested vs negated) t x y u q = ap (λ d. negated_if negated (test_truth tested d (map operand_cell vs))) (a.cells t c x y u q)
     truth_alike (through r e) t x y u q =
         ap truth_of (zip_any (Q (rel s t r).remote) (λ far. A.linked t r x far && is_true (truth e s A (rel s t r).remote far)) (λ far. B.linked t r y far && is_true (truth e s B (rel s t r).remote far))
         (λ far near h. ap₂ (λ b c. b && c) (a.links t r x y far near u.0 q h) (ap is_true (truth_alike e (rel s t r).remote far near u.1 h)))

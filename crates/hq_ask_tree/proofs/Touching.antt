@@ -62,7 +62,7 @@ module _ (s : Schema) (is : ℕ → Bool) where
     condition_used (and_of bs) t h = conditions_used bs t h
     condition_used (or_of bs) t h = conditions_used bs t h
     condition_used (not_of b) t h = condition_used b t h
-    condition_used (test c op vs negated) t h = refl
+    condition_used (test c tested vs negated) t h = refl
     condition_used (through r b) t h = (h.0, condition_used b (rel s t r).remote h.1)
 
     conditions_used : (bs : BexpTrees) (t : ℕ) → Are (conditions_tables bs s t) → UsesConditions bs s ok t

@@ -59,7 +59,7 @@ module _ (s : Schema) (ok more : Allowed) (wider : Wider ok more) where
     condition_weaken (and_of bs) t u = conditions_weaken bs t u
     condition_weaken (or_of bs) t u = conditions_weaken bs t u
     condition_weaken (not_of b) t u = condition_weaken b t u
-    condition_weaken (test c op vs negated) t u = wider.column t c u
+    condition_weaken (test c tested vs negated) t u = wider.column t c u
     condition_weaken (through r b) t u = (wider.relationship t r u.0, condition_weaken b (rel s t r).remote u.1)
 
     conditions_weaken : (bs : BexpTrees) (t : ℕ) → UsesConditions bs s ok t → UsesConditions bs s more t

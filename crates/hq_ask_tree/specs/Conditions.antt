@@ -2,7 +2,7 @@
 -- expressions, order_by, distinct_on, aggregates).
 use Rattle.std.specs.Prelude.{◌≡◌, ℕ, List, [], ◌∷◌, take, length, Bool, true, false, ◌&&◌, ◌==◌, nat_le}
 use Rattle.std.specs.List.{list_all, list_any}
-use Rattle.hq_base.specs.Aggregates.{aggregate_of}
+use Rattle.hq_base.specs.Aggregates.{is_aggregate_of}
 use Rattle.hq_base.specs.Lists.{firsts}
 use Rattle.hq_base.specs.declared.aggregate.Aggregate.{Aggregate}
 use Rattle.hq_base.specs.declared.value.Val.{Val}
@@ -32,7 +32,7 @@ abbrev mutual
   is_bound (and_of bs) = are_bound bs
   is_bound (or_of bs) = are_bound bs
   is_bound (not_of b) = is_bound b
-  is_bound (test c op vs negated) = list_all is_constant vs
+  is_bound (test c tested vs negated) = list_all is_constant vs
   is_bound (through r b) = is_bound b
 
   pub are_bound : BexpTrees → Bool
@@ -80,7 +80,7 @@ is_key s t _ _ = false
 
 -- a column of an aggregate is of a type that this is of
 abbrev pub is_taken : Schema → ℕ → Aggregate → AggCol → Bool
-is_taken s t a (of.Column c) = of_type (aggregate_of a) (column_ty s t c)
+is_taken s t a (of.Column c) = of_type (is_aggregate_of a) (column_ty s t c)
 is_taken s t a (of.Typename name) = true
 
 -- a field of aggregate over rows of table t

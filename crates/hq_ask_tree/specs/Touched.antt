@@ -15,7 +15,7 @@ abbrev mutual
   condition_tables (and_of bs) s t = conditions_tables bs s t
   condition_tables (or_of bs) s t = conditions_tables bs s t
   condition_tables (not_of b) s t = condition_tables b s t
-  condition_tables (test c op vs negated) s t = []
+  condition_tables (test c tested vs negated) s t = []
   condition_tables (through r b) s t = (rel s t r).remote ∷ condition_tables b s (rel s t r).remote
 
   pub conditions_tables : BexpTrees → Schema → ℕ → List ℕ

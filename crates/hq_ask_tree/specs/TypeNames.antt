@@ -1,9 +1,9 @@
 -- A `__typename` has the name of the type that it stands in (GraphQL October 2021, 4.4: type name introspection; Hasura, API
 -- reference: GraphQL API).
 use Rattle.std.specs.Prelude.{◌≡◌, ℕ, List, [], ◌∷◌, ◌++◌, true, bytes_eq, codes, option_map, unwrap_or}
+use Rattle.hq_base.specs.Aggregates.{aggregate_suffix}
 use Rattle.hq_terms.specs.Meta.{MetaTree, tracked_table}
 use Rattle.hq_terms.specs.Schema.{Schema}
-use Rattle.hq_terms.specs.SchemaNames.{aggregate_type}
 use Rattle.hq_ask_tree.specs.Everywhere.{FromRoot}
 use Rattle.hq_ask_tree.specs.Fields.{FieldTrees, FieldTree, column, typename, no_queries, object, list, by_key, aggregate, introspect, PartTree, summary, nodes, part_typename}
 use Rattle.hq_ask_tree.specs.declared.aggregate.AggCol.{AggCol}
@@ -33,7 +33,7 @@ TakenNamed type (c ∷ cs) = OneTakenNamed type c.field × TakenNamed type cs
 -- the fields of aggregate, where the table's type has this name
 abbrev pub OneSummaryNamed : (row_type : List ℕ) → AggField → Type 0
 OneSummaryNamed n (take.Count c distinct) = Unit {0}
-OneSummaryNamed n (take.Columns a cs) = TakenNamed (aggregate_type n a) cs
+OneSummaryNamed n (take.Columns a cs) = TakenNamed (n ++ aggregate_suffix a) cs
 OneSummaryNamed n (take.Typename name) = SameName name (n ++ codes "_aggregate_fields")
 
 abbrev pub SummaryNamed : (row_type : List ℕ) → List KeyedAggField → Type 0

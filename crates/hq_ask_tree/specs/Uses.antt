@@ -27,7 +27,7 @@ abbrev mutual
   UsesCondition (and_of bs) s ok t = UsesConditions bs s ok t
   UsesCondition (or_of bs) s ok t = UsesConditions bs s ok t
   UsesCondition (not_of b) s ok t = UsesCondition b s ok t
-  UsesCondition (test c op vs negated) s ok t = ok.column t c ≡ true
+  UsesCondition (test c tested vs negated) s ok t = ok.column t c ≡ true
   UsesCondition (through r b) s ok t = (ok.relationship t r ≡ true) × UsesCondition b s ok (rel s t r).remote
 
   pub UsesConditions : BexpTrees → Schema → Allowed → ℕ → Type 0
