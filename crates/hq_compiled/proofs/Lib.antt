@@ -1,6 +1,6 @@
 mod Relationships
 mod FineConditions
-mod Once
+pub mod Once
 mod Distinct
 mod FineRequests
 mod LowRequests
