@@ -37,6 +37,7 @@ use Rattle.hq_compiled.specs.Fine.{Has, kind_of, OperandFits, FineRel, FineChain
 use Rattle.hq_compiled.specs.Lists.{list_sorts}
 use Rattle.hq_compiled.proofs.Relationships.{less, column_is, column_there, fitting_rel, rel_fine}
 use Rattle.hq_compiled.proofs.FineConditions.{constant_fine, of_column, condition_fine}
+use Rattle.hq_compiled.proofs.Once.{each_once}
 use Rattle.hq_compiled.proofs.Distinct.{entries_begin}
 
 -- ---- kinds of columns that are taken
@@ -107,7 +108,7 @@ module _ (tables : List Table) (m : MetaTree) (fitting : fits tables m ≡ true)
       record {
         wanted = condition_fine s (rel_fine tables m fitting) 400 a.wanted t many.0;
         sorts = sorts;
-        distinct = distinct;
+        distinct = each_once (Has s t) a.distinct distinct;
         begins = entries_begin a.distinct a.sorts last.1;
         few = few;
       }

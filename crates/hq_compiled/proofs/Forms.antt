@@ -33,7 +33,7 @@ use Rattle.hq_compiled.specs.Predicates.{link_members, link, Mode, columns_in, g
 use Rattle.hq_compiled.specs.Masks.{mask_joins, used_masks, masks, filter_predicate, shown_look, where_mode}
 use Rattle.hq_compiled.specs.Selects.{key_orders, filter_from, behind_filter, first_select}
 use Rattle.hq_compiled.specs.Sorts.{Sort, shown_sorts, own_sorts, last_used, sort_place, sort_numbers, sort_joins, sorts_joins, orders, key_outputs, output_orders}
-use Rattle.hq_compiled.specs.Lists.{list_sorts, list_used, sorts_from, children_from, distinct_columns, list_rows, list_outputs, list_select}
+use Rattle.hq_compiled.specs.Lists.{once, list_sorts, list_used, sorts_from, children_from, distinct_columns, list_rows, list_outputs, list_select}
 use Rattle.hq_compiled.specs.Aggregates.{is_taken, some_taken, is_aggregate, some_aggregate, taken_value, taken_pairs, count_value, summary_value, summary_pairs, needed, needed_columns, needed_outputs, summary_used, folded_select, plain_select, summary_select}
 use Rattle.hq_compiled.specs.Fields.{fields_used, key_used, origin_tie, key_members, field_value, fields_values, part_value, parts_values, field_numbers, part_numbers, fields_joins, field_joins, parts_joins, part_joins}
 use Rattle.hq_compiled.specs.Statement.{statement}
@@ -368,8 +368,8 @@ module _ (s : Schema) (g : Rights) where
       let A : PredTree = filter_predicate s g t n from in
       let B : PredTree = predicate a.wanted s (where_mode s g) look t n next in
       let js : List JoinTree = masks s g t cs n ++ (sorts_joins ks s g t n first ++ children) in
-      rows_form (distinct_columns (table s t).columns look a.distinct) outs (table s t).schema (table s t).name (table_alias n) (joins_of js) (where_of (with_member tie (with_member A (with_member B []))))
-      (orders ks s g look t n first) limit a.offset (distinct_form (table s t).columns look a.distinct) some v
+      rows_form (distinct_columns (table s t).columns look (once a).distinct) outs (table s t).schema (table s t).name (table_alias n) (joins_of js) (where_of (with_member tie (with_member A (with_member B []))))
+      (orders ks s g look t n first) limit a.offset (distinct_form (table s t).columns look (once a).distinct) some v
       (joins_form js (append_form (masks s g t cs n) (sorts_joins ks s g t n first ++ children) (masks_form (used_masks g t cs) s t n (n + 1)) (append_form (sorts_joins ks s g t n first) children (sorts_form ks t n first) j)))
       (three_form tie A B e (own_form (g.filter t) s t n from) (predicate_form s (where_mode s g) where_forms a.wanted look t n next)) (orders_form ks s g look t n first)
 
@@ -377,7 +377,7 @@ module _ (s : Schema) (g : Rights) where
       → is_select (list_select s g t cs a n tie values children) ≡ true
   list_form t cs a n tie values children key e v j =
       rw (
-        array_form (list_sorts s t a) s t n (fold_alias n) value_name (sorts_count (entries a) (table s t).key key),
+        array_form (list_sorts s t a) s t n (fold_alias n) value_name (sorts_count (entries (once a)) (table s t).key key),
         list_rows_form t cs a n tie (smaller a.limit (g.limit t)) (list_outputs s g t cs a n values) children e (some_of 1 (length (list_outputs s g t cs a n values)) (omega arith)) (rw v (outputs_form (list_sorts s t a) s g (shown_look s g t cs n) t n (sorts_from s g t cs a n) 0)) j,
       ) refl
 

@@ -33,7 +33,7 @@ use Rattle.hq_compiled.specs.Predicates.{link_members, link, Mode, columns_in, g
 use Rattle.hq_compiled.specs.Masks.{mask_joins, mask_select, used_masks, masks, filter_predicate, shown_look, where_mode}
 use Rattle.hq_compiled.specs.Selects.{filter_from, behind_filter, key_orders, first_select}
 use Rattle.hq_compiled.specs.Sorts.{Sort, shown_sorts, own_sorts, last_used, sort_place, sort_numbers, sort_joins, sorts_joins, orders, key_outputs, output_orders}
-use Rattle.hq_compiled.specs.Lists.{list_sorts, list_used, sorts_from, children_from, distinct_columns, list_outputs, list_rows, list_select}
+use Rattle.hq_compiled.specs.Lists.{once, list_sorts, list_used, sorts_from, children_from, distinct_columns, list_outputs, list_rows, list_select}
 use Rattle.hq_compiled.specs.Aggregates.{some_aggregate, needed_cell, taken_value, taken_pairs, count_value, summary_value, summary_pairs, needed, needed_columns, needed_outputs, summary_used, folded_select, plain_select, summary_select}
 use Rattle.hq_compiled.specs.Fields.{fields_used, key_used, origin_tie, empty_select, key_members, field_value, fields_values, part_value, parts_values, field_numbers, part_numbers, fields_joins, field_joins, parts_joins, part_joins}
 use Rattle.hq_compiled.specs.Shallow.{LowRights, AreShort, fields_height, field_height, parts_height, part_height, AreLow, IsLow, AreLowParts, IsLowPart, IsShallow}
@@ -397,11 +397,11 @@ module _ (s : Schema) (g : Rights) (F : ℕ) (low : LowRights g F) where
         let condition : filter_depth (where_of (with_member tie (with_member A (with_member B [])))) ≤ k = let q = three_low c tie A B d e f in omega (arith, q, le) in
         let later : List JoinTree = sorts_joins (list_sorts s t a) s g t n (sorts_from s g t cs a n) ++ children in
         let all = append_low k (masks s g t cs n) later (higher_joins (2 * F + 3) k (masks s g t cs n) (omega (arith, le)) (used_low t cs n (n + 1)))
-        (append_low k (sorts_joins (list_sorts s t a) s g t n (sorts_from s g t cs a n)) children (sorts_low (list_sorts s t a) t n (sorts_from s g t cs a n) k C (sorts_short (entries a) (table s t).key C (entries_short a.sorts a.distinct C short.1)) (omega (arith, le))) joins) in
+        (append_low k (sorts_joins (list_sorts s t a) s g t n (sorts_from s g t cs a n)) children (sorts_low (list_sorts s t a) t n (sorts_from s g t cs a n) k C (sorts_short (entries (once a)) (table s t).key C (entries_short a.sorts (once a).distinct C short.1)) (omega (arith, le))) joins) in
         let z : 0 ≤ k = omega arith in
         let keys : greatest (map (λ o. expr_depth o.value) (orders (list_sorts s t a) s g (shown_look s g t cs n) t n (sorts_from s g t cs a n))) ≤ k = rw (orders_flat (list_sorts s t a) s g (shown_look s g t cs n) t n (sorts_from s g t cs a n)) z in
-        let distinct : distinct_depth (distinct_columns (table s t).columns (shown_look s g t cs n) a.distinct) ≤ k = let q = distinct_low (table s t).columns (shown_look s g t cs n) a.distinct in omega (arith, q, le) in
-        rows_low k (distinct_columns (table s t).columns (shown_look s g t cs n) a.distinct) outs (tree.table (table s t).schema (table s t).name (table_alias n)) (joins_of (masks s g t cs n ++ later)) (where_of (with_member tie (with_member A (with_member B []))))
+        let distinct : distinct_depth (distinct_columns (table s t).columns (shown_look s g t cs n) (once a).distinct) ≤ k = let q = distinct_low (table s t).columns (shown_look s g t cs n) (once a).distinct in omega (arith, q, le) in
+        rows_low k (distinct_columns (table s t).columns (shown_look s g t cs n) (once a).distinct) outs (tree.table (table s t).schema (table s t).name (table_alias n)) (joins_of (masks s g t cs n ++ later)) (where_of (with_member tie (with_member A (with_member B []))))
         (orders (list_sorts s t a) s g (shown_look s g t cs n) t n (sorts_from s g t cs a n)) limit a.offset distinct values z (joins_low k (masks s g t cs n ++ later) all) condition keys
 
     list_select_low : (t : ℕ) (cs : List ℕ) (a : ListArguments) (n k : ℕ) (tie : PredTree) (values : List PairTree) (children : List JoinTree) → AreShort a X C → base ≤ k → pred_depth tie ≤ 2 → pairs_depth (pairs_of values) ≡ 0

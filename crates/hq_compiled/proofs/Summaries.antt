@@ -26,9 +26,9 @@ use Rattle.hq_sql_tree.specs.Tree.{ExprTree, AggTree, OutTree, pairs_of, PredTre
 use Rattle.hq_sql_tree.specs.Meaning.{NamedRow, cell_named, Scope, with_alias, World, value, members, taken, outputs, rows_of, truth_at}
 use Rattle.hq_compiled.specs.Rights.{rights_of}
 use Rattle.hq_compiled.specs.Names.{fold_alias, value_name, needed_name}
-use Rattle.hq_compiled.specs.Looks.{Look, is_used, is_text_column}
+use Rattle.hq_compiled.specs.Looks.{Look, is_used, add_new, is_text_column}
 use Rattle.hq_compiled.specs.Lists.{children_from, list_numbers}
-use Rattle.hq_compiled.specs.Aggregates.{add_new, add_column, add_columns, add_field, needed, place_of, is_taken, some_taken, is_aggregate, some_aggregate, needed_cell, taken_value, taken_pairs, summary_value, summary_pairs, needed_columns, needed_outputs, summary_used, folded_select}
+use Rattle.hq_compiled.specs.Aggregates.{add_column, add_columns, add_field, needed, place_of, is_taken, some_taken, is_aggregate, some_aggregate, needed_cell, taken_value, taken_pairs, summary_value, summary_pairs, needed_columns, needed_outputs, summary_used, folded_select}
 use Rattle.hq_compiled.proofs.Names.{Narrow, Looks, looks_right, used_left, used_one, same_text, with_alias_same, needed_names_differ}
 use Rattle.hq_compiled.proofs.Sound.{Sound}
 use Rattle.hq_compiled.proofs.Extends.{extends_none}

@@ -23,7 +23,7 @@ use Rattle.hq_compiled.specs.Predicates.{columns_in, link}
 use Rattle.hq_compiled.specs.Masks.{value_place, extra, masks, shown_look, filter_predicate}
 use Rattle.hq_compiled.specs.Selects.{filter_from, behind_filter, first_select}
 use Rattle.hq_compiled.specs.Sorts.{used_sorts}
-use Rattle.hq_compiled.specs.Lists.{list_sorts, list_used, list_numbers, children_from, list_select}
+use Rattle.hq_compiled.specs.Lists.{once, list_sorts, list_used, list_numbers, children_from, list_select}
 use Rattle.hq_compiled.specs.Aggregates.{some_aggregate, summary_select, summary_used, summary_numbers}
 use Rattle.hq_compiled.specs.Fields.{field_used, fields_used, key_used, origin_tie, key_members, field_numbers, fields_numbers, part_numbers, parts_numbers, field_value, fields_values, part_value, parts_values, empty_select, parts_select, field_joins, fields_joins, part_joins, parts_joins}
 use Rattle.hq_compiled.specs.Fine.{Has, kind_of, Known, FineArguments, FineOrigin, FineKey, keys_of, part_keys_of, Apart, FineFields, FineField, FineParts, FinePart, IsTyped}
@@ -102,7 +102,7 @@ module _ (s : Schema) (g : Rights) (tables : List Table) (ok : FineTables s g ta
       let sorts : List ℕ = used_sorts (list_sorts s u a) in
       let kids : (here : Aliases) → Behind s g tables ok scope u n cs here → Joined tables here kid m (fields_joins fs s g u n kid) (λ final. are_values final (pairs_of (fields_values fs s g look u kid)) ≡ true) =
       λ here behind.
-      let shown : Knows s here u look more = knows_right s here u look a.distinct more (knows_right s here u look sorts (a.distinct ++ more) (knows_right s here u look (columns_in a.wanted) (sorts ++ (a.distinct ++ more)) behind.shown)) in
+      let shown : Knows s here u look more = knows_right s here u look (once a).distinct more (knows_right s here u look sorts ((once a).distinct ++ more) (knows_right s here u look (columns_in a.wanted) (sorts ++ ((once a).distinct ++ more)) behind.shown)) in
       children here kid look behind.own (omega arith) shown (looks_under_later (n + 1 + extra s g u cs) kid look (omega arith) (shown_under s g tables ok u n cs (omega arith))) (omega arith) in
       list_typed s g tables ok scope u n m more a (origin_tie o s t p n) (fields_values fs s g look u kid) (fields_joins fs s g u n kid) (known_of o t fo) fa (omega arith) (omega arith) (apart_of fs look u kid d)
       (origin_typed o scope t p n cs fo own lt) kids

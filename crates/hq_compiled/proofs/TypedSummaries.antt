@@ -27,12 +27,13 @@ use Rattle.hq_compiled.specs.Rights.{Rights}
 use Rattle.hq_compiled.specs.Masks.{shown_look}
 use Rattle.hq_compiled.specs.Sorts.{used_sorts}
 use Rattle.hq_compiled.specs.Predicates.{columns_in}
-use Rattle.hq_compiled.specs.Lists.{list_sorts, list_numbers, children_from, list_rows}
-use Rattle.hq_compiled.specs.Aggregates.{add_new, add_column, add_columns, add_field, needed, place_of, some_taken, is_aggregate, some_aggregate, needed_cell, taken_value, taken_pairs, count_value, summary_value, summary_pairs, needed_columns, needed_outputs, summary_used, summary_numbers, folded_select, plain_select, summary_select}
+use Rattle.hq_compiled.specs.Lists.{once, list_sorts, list_numbers, children_from, list_rows}
+use Rattle.hq_compiled.specs.Aggregates.{add_column, add_columns, add_field, needed, place_of, some_taken, is_aggregate, some_aggregate, needed_cell, taken_value, taken_pairs, count_value, summary_value, summary_pairs, needed_columns, needed_outputs, summary_used, summary_numbers, folded_select, plain_select, summary_select}
 use Rattle.hq_compiled.specs.Aggregates as sums
 use Rattle.hq_compiled.specs.Fine.{Has, kind_of, Known, FineArguments, FineTaken, FineSummary, FineSummaries}
 use Rattle.hq_compiled.proofs.CatalogTables.{FineTables}
 use Rattle.hq_compiled.proofs.Names.{same_text, used_one, used_left, used_right, needed_names_differ}
+use Rattle.hq_compiled.proofs.Once.{each_new}
 use Rattle.hq_compiled.proofs.Summaries.{CoversColumn, CoversColumns, CoversField, Covers, covers, place_range}
 use Rattle.hq_compiled.proofs.Scopes.{Knows, knows_right, value_of, compared_of}
 use Rattle.hq_compiled.proofs.TypedConditions.{two, joined_none}
@@ -41,18 +42,9 @@ use Rattle.hq_compiled.proofs.TypedLists.{rows_typed}
 
 -- ---- the needed columns
 
-each_append : (P : ℕ → Type 0) (c : ℕ) (cs : List ℕ) → Each P cs → P c → Each P (cs ++ c ∷ [])
-each_append P c [] h p = (p, tt)
-each_append P c (d ∷ ds) h p = (h.0, each_append P c ds h.1 p)
-
-has_new : (P : ℕ → Type 0) (c : ℕ) (cs : List ℕ) → Each P cs → P c → Each P (add_new c cs)
-has_new P c cs h p =
-    let go : (b : Bool) → Each P (cond b cs (cs ++ c ∷ [])) = elim [ true ↦ h | false ↦ each_append P c cs h p ] in
-    go (is_used c cs)
-
 module _ (s : Schema) (u : ℕ) where
   has_column : (test : Option Kind → Bool) (a : AggCol) (cs : List ℕ) → FineTaken test s u a → Each (Has s u) cs → Each (Has s u) (add_column a cs)
-  has_column test (of.Column c) cs f h = has_new (Has s u) c cs h f.0
+  has_column test (of.Column c) cs f h = each_new (Has s u) c cs h f.0
   has_column test (of.Typename name) cs f h = h
 
   has_columns : (test : Option Kind → Bool) (ks : List KeyedAggCol) (cs : List ℕ) → Each (λ k. FineTaken test s u k.field) ks → Each (Has s u) cs → Each (Has s u) (add_columns ks cs)
@@ -61,7 +53,7 @@ module _ (s : Schema) (u : ℕ) where
 
   has_field : (a : AggField) (cs : List ℕ) → FineSummary s u a → Each (Has s u) cs → Each (Has s u) (add_field a cs)
   has_field (take.Count None distinct) cs f h = h
-  has_field (take.Count (Some c) distinct) cs f h = has_new (Has s u) c cs h f
+  has_field (take.Count (Some c) distinct) cs f h = each_new (Has s u) c cs h f
   has_field (take.Sum ks) cs f h = has_columns is_summed ks cs f.0 h
   has_field (take.Min ks) cs f h = has_columns has_extremes ks cs f.0 h
   has_field (take.Max ks) cs f h = has_columns has_extremes ks cs f.0 h
@@ -216,7 +208,7 @@ module _ (s : Schema) (g : Rights) (tables : List Table) (ok : FineTables s g ta
       let r = rows_typed s g tables ok scope u n m need a tie [] (λ final. Unit {0}) known fine (omega arith) (omega arith) tied (λ here behind. joined_none tables here m m (λ final. Unit {0}) (λ final grown. tt)) in
       let final : Aliases = r.final in
       let sorts : List ℕ = used_sorts (list_sorts s u a) in
-      let shown : Knows s final u look need = knows_right s final u look a.distinct need (knows_right s final u look sorts (a.distinct ++ need) (knows_right s final u look (columns_in a.wanted) (sorts ++ (a.distinct ++ need)) r.behind.shown)) in
+      let shown : Knows s final u look need = knows_right s final u look (once a).distinct need (knows_right s final u look sorts ((once a).distinct ++ need) (knows_right s final u look (columns_in a.wanted) (sorts ++ ((once a).distinct ++ need)) r.behind.shown)) in
       let has : Each (Has s u) need = has_needed s u fs [] each.0 tt in
       let outs : List OutTree = needed_outputs look need in
       let inner : SelectTree = list_rows s g u cs a n tie a.limit outs [] in

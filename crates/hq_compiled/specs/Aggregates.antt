@@ -1,5 +1,5 @@
 -- The select of an aggregate: over the selected rows, whose outputs are the columns that its fields need.
-use Rattle.std.specs.Prelude.{ℕ, ◌+◌, List, [], ◌∷◌, ◌++◌, Bool, true, false, cond, ◌&&◌, ◌||◌, ◌==◌, Option, Some, None}
+use Rattle.std.specs.Prelude.{ℕ, ◌+◌, List, [], ◌∷◌, Bool, true, false, cond, ◌&&◌, ◌||◌, ◌==◌, Option, Some, None}
 use Rattle.hq_compiled.specs.Rights.{Rights}
 use Rattle.hq_terms.specs.Schema.{Schema, table}
 use Rattle.hq_terms.specs.Selected.{ListArguments}
@@ -13,14 +13,11 @@ use Rattle.hq_ask_tree.specs.declared.aggregate.KeyedAggField.{KeyedAggField}
 use Rattle.hq_sql_tree.specs.Tree as tree
 use Rattle.hq_sql_tree.specs.Tree.{ExprTree, AggTree, PairTree, pairs_of, OutTree, SelectTree, PredTree}
 use Rattle.hq_compiled.specs.Names.{table_alias, fold_alias, value_name, needed_name, unit_name}
-use Rattle.hq_compiled.specs.Looks.{Look, is_used, is_text_column, cell_at}
+use Rattle.hq_compiled.specs.Looks.{Look, add_new, is_text_column, cell_at}
 use Rattle.hq_compiled.specs.Masks.{value_output, shown_look}
 use Rattle.hq_compiled.specs.Lists.{list_used, list_numbers, list_rows}
 
 -- ---- the columns that are needed, each once, in order of first need
-
-abbrev pub add_new : ℕ → List ℕ → List ℕ
-add_new c cs = cond (is_used c cs) cs (cs ++ c ∷ [])
 
 abbrev pub add_column : AggCol → List ℕ → List ℕ
 add_column (of.Column c) cs = add_new c cs

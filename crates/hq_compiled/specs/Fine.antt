@@ -28,7 +28,7 @@ use Rattle.hq_sql_tree.specs.WellFormed as well
 use Rattle.hq_sql_tree.specs.WellFormed.{Kind, Names, kind_of_type, compare_kinds, is_text_kind, has_extremes, is_summed, is_typed}
 use Rattle.hq_compiled.specs.Looks.{is_used}
 use Rattle.hq_compiled.specs.Rights.{Rights}
-use Rattle.hq_compiled.specs.Lists.{list_sorts}
+use Rattle.hq_compiled.specs.Lists.{once, list_sorts}
 use Rattle.hq_compiled.specs.Aggregates.{needed}
 use Rattle.hq_compiled.specs.Fields.{fields_numbers}
 use Rattle.hq_compiled.specs.Statement.{statement}
@@ -111,8 +111,8 @@ begin_columns distinct front (k ∷ ks) =
 pub record FineArguments (s : Schema) (t : ℕ) (a : ListArguments) : Type 0 where
   pub wanted : FineBexp a.wanted s t
   pub sorts : Each (λ k. FineChain k.through s t k.column) a.sorts
-  pub distinct : Each (Has s t) a.distinct
-  pub begins : begin_columns a.distinct [] (entries a) ≡ true
+  pub distinct : Each (Has s t) (once a).distinct
+  pub begins : begin_columns (once a).distinct [] (entries (once a)) ≡ true
   pub few : length (list_sorts s t a) ≤ 2 ^ 64
 
 abbrev pub FineOrigin : Origin → Schema → (t : ℕ) → Type 0

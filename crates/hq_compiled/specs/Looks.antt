@@ -1,5 +1,5 @@
 -- How the columns of a row are looked at in SQL: each by an alias and a name there.
-use Rattle.std.specs.Prelude.{ℕ, List, Bool, false, ◌==◌, slice_index_or}
+use Rattle.std.specs.Prelude.{ℕ, List, [], ◌∷◌, ◌++◌, Bool, false, cond, ◌==◌, slice_index_or}
 use Rattle.std.specs.List.{list_any}
 use Rattle.hq_terms.specs.Database.{is_text}
 use Rattle.hq_terms.specs.Schema.{no_column}
@@ -38,3 +38,11 @@ compared_at columns p c = column p.alias p.name (is_text_column columns c)
 -- whether a column is among those that are used
 abbrev pub is_used : ℕ → List ℕ → Bool
 is_used c cs = list_any (λ d. c == d) cs
+
+-- a column, and columns, behind others, each once, in order of first occurrence
+abbrev pub add_new : ℕ → List ℕ → List ℕ
+add_new c cs = cond (is_used c cs) cs (cs ++ c ∷ [])
+
+abbrev pub add_all : List ℕ → List ℕ → List ℕ
+add_all [] cs = cs
+add_all (d ∷ ds) cs = add_all ds (add_new d cs)
