@@ -5,7 +5,7 @@ use Rattle.std.specs.List.{list_all}
 use Rattle.std.proofs.lemmas.Bool.{le-leb}
 use Rattle.hq_base.specs.declared.value.Val.{Val}
 use Rattle.hq_base.specs.declared.value.Val.TheVariants as val
-use Rattle.hq_terms.specs.Bexp.{BexpTree, always, and_of, or_of, not_of, comparison, within, is_null, like, through, BexpTrees, no_bexp, bexp}
+use Rattle.hq_terms.specs.Bexp.{BexpTree, always, and_of, or_of, not_of, test, through, BexpTrees, no_bexp, bexp}
 use Rattle.hq_terms.specs.Permission.{Mask}
 use Rattle.hq_terms.specs.Schema.{Schema, table, rel}
 use Rattle.hq_terms.specs.Selected.{SortKey, ListArguments, entries, smaller}
@@ -28,7 +28,7 @@ use Rattle.hq_sql_tree.specs.Form.{is_expr, are_pairs, is_agg, are_orders, holds
 use Rattle.hq_compiled.specs.Names.{table_alias, fold_alias, value_name, unit_name}
 use Rattle.hq_compiled.specs.Looks.{Look, own_look, cell_at}
 use Rattle.hq_compiled.specs.Rights.{Rights}
-use Rattle.hq_compiled.specs.Conditions.{literal, operand_literal, joined_by_and, joined_by_or, with_member, where_of, negation_if, within_list}
+use Rattle.hq_compiled.specs.Conditions.{literal, operand_literal, joined_by_and, joined_by_or, with_member, where_of, negation_if, first_literal, literals_for, test_of}
 use Rattle.hq_compiled.specs.Predicates.{link_members, link, Mode, columns_in, guard_from, inner_from, numbers, predicate, predicates, filter_mode, own_numbers, own_predicate}
 use Rattle.hq_compiled.specs.Masks.{mask_joins, used_masks, masks, filter_predicate, shown_look, where_mode}
 use Rattle.hq_compiled.specs.Selects.{key_orders, filter_from, behind_filter, first_select}
@@ -74,10 +74,7 @@ where_form (p ∷ ps) h = and_form (p ∷ ps) h
 member_form : (p : PredTree) (ps : List PredTree) → is_pred p ≡ true → Forms ps → Forms (with_member p ps)
 member_form tree.always ps e h = h
 member_form tree.never ps e h = (e, h)
-member_form (tree.compare l o r) ps e h = (e, h)
-member_form (tree.like l r fold) ps e h = (e, h)
-member_form (tree.within x xs) ps e h = (e, h)
-member_form (tree.is_null x) ps e h = (e, h)
+member_form (tree.test x t xs) ps e h = (e, h)
 member_form (tree.negation p) ps e h = (e, h)
 member_form (tree.all_of qs) ps e h = (e, h)
 member_form (tree.any_of qs) ps e h = (e, h)
@@ -109,12 +106,38 @@ negation_form : (b : Bool) (p : PredTree) → is_pred p ≡ true → is_pred (ne
 negation_form true p e = e
 negation_form false p e = e
 
-within_form : (alias name : List ℕ) (collate : Bool) (os : List Operand) (b : Bool) → is_pred (within_list (tree.column alias name collate) os b) ≡ true
-within_form alias name collate [] true = refl
-within_form alias name collate [] false = refl
-within_form alias name collate (o ∷ os) b =
-    let some : nat_le 1 (length (map operand_literal (o ∷ os))) ≡ true = some_of 1 _ (omega arith) in
-    negation_form b (tree.within (tree.column alias name collate) (map operand_literal (o ∷ os))) (rw some (operands_form (o ∷ os)))
+first_form : (os : List Operand) → is_expr (first_literal os) ≡ true
+first_form [] = refl
+first_form (o ∷ os) = operand_form o
+
+-- as many literals as are taken, each an expression, and none only where there is no operand
+literals_form : (k : Arity) (os : List Operand) → list_all is_expr (literals_for k os) ≡ true
+literals_form Nothing os = refl
+literals_form One os = rw (first_form os) refl
+literals_form Many os = operands_form os
+
+literals_taken : (k : Arity) (os : List Operand) → has_arity k (length (literals_for k os)) ≡ true
+literals_taken Nothing os = refl
+literals_taken One os = refl
+literals_taken Many os = refl
+
+nothing_left : (t : Test) (os : List Operand) → is_of_nothing t (literals_for (arity t) os) ≡ is_of_nothing t os
+nothing_left Among [] = refl
+nothing_left Among (o ∷ os) = refl
+nothing_left _ os = refl
+
+nothing_form : (b : Bool) → is_pred (cond b tree.always tree.never) ≡ true
+nothing_form true = refl
+nothing_form false = refl
+
+test_form : (alias name : List ℕ) (collate : Bool) (t : Test) (os : List Operand) (negated : Bool) → is_pred (test_of (tree.column alias name collate) t os negated) ≡ true
+test_form alias name collate t os negated =
+    let p : PredTree = tree.test (tree.column alias name collate) t (literals_for (arity t) os) in
+    let go : (b : Bool) → is_of_nothing t os ≡ b → is_pred (cond b (cond negated tree.always tree.never) (negation_if negated p)) ≡ true = elim [
+      | true ↦ λ h. nothing_form negated
+      | false ↦ λ h. negation_form negated p (rw (literals_taken (arity t) os, nothing_left t os, h, literals_form (arity t) os) refl)
+    ] in
+    go (is_of_nothing t os) refl
 
 link_form : (columns remote : List Column) (p q : ℕ) (xs : List Pair) → Forms (link_members columns remote p q xs)
 link_form columns remote p q [] = tt
@@ -169,10 +192,7 @@ module _ (s : Schema) (m : Mode) (h : ModeForms m) where
     predicate_form (and_of bs) look t p n = and_form (predicates bs s m look t p n) (predicates_form bs look t p n)
     predicate_form (or_of bs) look t p n = or_form (predicates bs s m look t p n) (predicates_form bs look t p n)
     predicate_form (not_of b) look t p n = predicate_form b look t p n
-    predicate_form (comparison c op v) look t p n = operand_form v
-    predicate_form (within c vs negated) look t p n = within_form _ _ _ vs negated
-    predicate_form (is_null c wanted) look t p n = negation_form (not wanted) _ refl
-    predicate_form (like c fold negated v) look t p n = negation_form negated _ (operand_form v)
+    predicate_form (test c tested vs negated) look t p n = test_form _ _ _ tested vs negated
     predicate_form (through r b) look t p n =
         let u : ℕ = (rel s t r).remote in
         let cs : List ℕ = columns_in b in
@@ -261,15 +281,15 @@ parts_form (part key p ps) s g u a n = rw (part_form p n) (parts_form ps s g u a
 key_form : (columns : List Column) (look : Look) (cs : List ℕ) (vs : List Val) → Forms (key_members columns look cs vs)
 key_form columns look [] vs = tt
 key_form columns look (c ∷ cs) [] = tt
-key_form columns look (c ∷ cs) (v ∷ vs) = (literal_form v, key_form columns look cs vs)
+key_form columns look (c ∷ cs) (v ∷ vs) = (rw (literal_form v) refl, key_form columns look cs vs)
 
 -- ---- aggregates
 
-module _ (f : ExprTree → AggTree) (form : (e : ExprTree) → is_expr e ≡ true → is_agg (f e) ≡ true) where
+module _ (f : Aggregate) where
   taken_form : (columns : List Column) (n : ℕ) (cs : List ℕ) (ks : List KeyedAggCol) → are_pairs (pairs_of (taken_pairs f columns n cs ks)) ≡ true
   taken_form columns n cs [] = refl
   taken_form columns n cs (k ∷ ks) =
-      let go : (c : AggCol) → is_expr (taken_value f columns n cs c) ≡ true = elim [ of.Column c ↦ form _ refl | of.Typename name ↦ refl ] in
+      let go : (c : AggCol) → is_expr (taken_value f columns n cs c) ≡ true = elim [ of.Column c ↦ refl | of.Typename name ↦ refl ] in
       rw (go k.field) (taken_form columns n cs ks)
 
   taken_agg : (columns : List Column) (n : ℕ) (cs : List ℕ) (ks : List KeyedAggCol) → some_taken ks ≡ true → hold_agg (pairs_of (taken_pairs f columns n cs ks)) ≡ true
@@ -289,9 +309,7 @@ count_agg columns n cs (Some c) distinct = refl
 
 summary_form : (columns : List Column) (n : ℕ) (cs : List ℕ) (f : AggField) → is_expr (summary_value columns n cs f) ≡ true
 summary_form columns n cs (take.Count c distinct) = count_form columns n cs c distinct
-summary_form columns n cs (take.Sum ks) = taken_form tree.sum (λ e h. h) columns n cs ks
-summary_form columns n cs (take.Min ks) = taken_form tree.min (λ e h. h) columns n cs ks
-summary_form columns n cs (take.Max ks) = taken_form tree.max (λ e h. h) columns n cs ks
+summary_form columns n cs (take.Columns f ks) = taken_form f columns n cs ks
 summary_form columns n cs (take.Typename name) = refl
 
 summaries_form : (columns : List Column) (n : ℕ) (cs : List ℕ) (fs : List KeyedAggField) → are_pairs (pairs_of (summary_pairs columns n cs fs)) ≡ true
@@ -300,9 +318,7 @@ summaries_form columns n cs (f ∷ fs) = rw (summary_form columns n cs f.field) 
 
 summary_agg : (columns : List Column) (n : ℕ) (cs : List ℕ) (f : AggField) → is_aggregate f ≡ true → holds_agg (summary_value columns n cs f) ≡ true
 summary_agg columns n cs (take.Count c distinct) e = count_agg columns n cs c distinct
-summary_agg columns n cs (take.Sum ks) e = taken_agg tree.sum (λ e h. h) columns n cs ks e
-summary_agg columns n cs (take.Min ks) e = taken_agg tree.min (λ e h. h) columns n cs ks e
-summary_agg columns n cs (take.Max ks) e = taken_agg tree.max (λ e h. h) columns n cs ks e
+summary_agg columns n cs (take.Columns f ks) e = taken_agg f columns n cs ks e
 summary_agg columns n cs (take.Typename name) e = e
 
 summaries_agg : (columns : List Column) (n : ℕ) (cs : List ℕ) (fs : List KeyedAggField) → some_aggregate fs ≡ true → hold_agg (pairs_of (summary_pairs columns n cs fs)) ≡ true

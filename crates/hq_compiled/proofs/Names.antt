@@ -130,6 +130,11 @@ used_right c (x ∷ xs) ys h =
 pub used_one : (c : ℕ) → is_used c (c ∷ []) ≡ true
 used_one c = let e = eq-eqb c c refl in rw e refl
 
+-- a column that is used but in one case is used elsewhere
+pub used_else : (c : ℕ) (b : Bool) → b ≡ false → is_used c (cond b [] (c ∷ [])) ≡ true
+used_else c true e = absurd cc
+used_else c false e = used_one c
+
 -- The columns cs of a row are looked at so in the scope: each place has the cell.
 abbrev pub Looks : Look → List ℕ → Scope → (ℕ → CellTree) → Type 0
 Looks look cs scope cell = (c : ℕ) → is_used c cs ≡ true → cell_named (scope (look c).alias) (look c).name ≡ cell c

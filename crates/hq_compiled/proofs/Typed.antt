@@ -26,11 +26,11 @@ use Rattle.hq_compiled.specs.Sorts.{used_sorts}
 use Rattle.hq_compiled.specs.Lists.{once, list_sorts, list_used, list_numbers, children_from, list_select}
 use Rattle.hq_compiled.specs.Aggregates.{some_aggregate, summary_select, summary_used, summary_numbers}
 use Rattle.hq_compiled.specs.Fields.{field_used, fields_used, key_used, origin_tie, key_members, field_numbers, fields_numbers, part_numbers, parts_numbers, field_value, fields_values, part_value, parts_values, empty_select, parts_select, field_joins, fields_joins, part_joins, parts_joins}
-use Rattle.hq_compiled.specs.Fine.{Has, kind_of, Known, FineArguments, FineOrigin, FineKey, keys_of, part_keys_of, Apart, FineFields, FineField, FineParts, FinePart, IsTyped}
+use Rattle.hq_compiled.specs.Fine.{Has, type_of, kind_of, Known, FineArguments, FineOrigin, FineKey, keys_of, part_keys_of, Apart, FineFields, FineField, FineParts, FinePart, IsTyped}
 use Rattle.hq_compiled.proofs.CatalogTables.{FineTables, fine_tables}
 use Rattle.hq_compiled.proofs.Names.{same_text, used_one, used_left, used_right}
 use Rattle.hq_compiled.proofs.Scopes.{under_later, LooksUnder, looks_under_later, own_under, Knows, KnowsAll, knows_behind, all_behind, knows_left, knows_right, grows_table, value_of}
-use Rattle.hq_compiled.proofs.TypedConditions.{two, Preds, and_typed, operand_item, Joined, joined_none, joined_then, joined_one, joined_as, typed_last, joined_last, compared_typed}
+use Rattle.hq_compiled.proofs.TypedConditions.{two, Preds, and_typed, constant_item, Joined, joined_none, joined_then, joined_one, joined_as, typed_last, joined_last, compared_typed}
 use Rattle.hq_compiled.proofs.TypedJoins.{First, shown_under, Behind, first_typed, tie_typed}
 use Rattle.hq_compiled.proofs.TypedLists.{object_typed, list_typed}
 use Rattle.hq_compiled.proofs.TypedSummaries.{summary_typed}
@@ -66,7 +66,8 @@ module _ (s : Schema) (g : Rights) (tables : List Table) (ok : FineTables s g ta
   key_typed u look final (c ∷ cs) (v ∷ vs) h f k =
       let e : ExprTree = compared_at (table s u).columns (look c) c in
       let here = k c h.0 (used_left c (c ∷ []) cs (used_one c)) in (
-        two (is_compared final e) (is_item final e (literal v)) (compared_typed s g tables ok final u (look c) c here) (operand_item final e (kind_of s u c) (Const v) here f.0),
+        two (is_compared final e) (is_item final e (literal v) && true) (compared_typed s g tables ok final u (look c) c here)
+            (two (is_item final e (literal v)) true (constant_item final e (type_of s u c) v here f.0) refl),
         key_typed u look final cs vs h.1 f.1 (λ d has used. k d has (used_right d (c ∷ []) cs used)),
       )
 

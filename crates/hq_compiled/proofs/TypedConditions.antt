@@ -1,29 +1,38 @@
 -- Conditions have their types wherever the places of a row's columns show cells of the columns' kinds.
-use Rattle.std.proofs.Common.{◌≡◌, ℕ, ◌+◌, ◌<◌, ◌≤◌, ◌^◌, List, [], ◌∷◌, ◌++◌, map, Bool, true, false, not, ◌&&◌, Option, Some, None, bytes_eq, refl, ap, sym, ◌∙◌, arith, append-nil, append_assoc}
+use Rattle.std.proofs.Common.{◌≡◌, ℕ, ◌+◌, ◌<◌, ◌≤◌, ◌^◌, List, [], ◌∷◌, ◌++◌, length, map, Bool, true, false, cond, ◌&&◌, Option, Some, None, bytes_eq, refl, ap, sym, ◌∙◌, arith, append-nil, append_assoc}
 use Rattle.std.specs.List.{list_all}
+use Rattle.std.proofs.lemmas.Bool.{and_parts}
 use Rattle.hq_base.specs.Lists.{all_differ, Each}
+use Rattle.hq_base.specs.declared.value.Ty.{Ty}
+use Rattle.hq_base.specs.declared.value.Ty.TheVariants.{Integer, Bigint, Text, Boolean}
 use Rattle.hq_base.specs.declared.value.Val.{Val}
 use Rattle.hq_base.specs.declared.value.Val.TheVariants as val
-use Rattle.hq_terms.specs.Bexp.{BexpTree, always, and_of, or_of, not_of, comparison, within, is_null, like, through, BexpTrees, no_bexp, bexp}
+use Rattle.hq_terms.specs.Bexp.{BexpTree, always, and_of, or_of, not_of, test, through, BexpTrees, no_bexp, bexp}
+use Rattle.hq_terms.specs.Database.{is_text}
+use Rattle.hq_terms.specs.Filters.{constant_fits, is_pattern, test_fits, operand_fits, is_test}
 use Rattle.hq_terms.specs.Schema.{Schema, table, rel, no_column}
+use Rattle.hq_terms.specs.Tests.{Test, Compare, Among, IsNull, Like, arity, has_arity, takes, applies, is_of_nothing}
 use Rattle.std.specs.Prelude.{slice_index_or}
 use Rattle.hq_terms.specs.declared.bexp.Operand.{Operand}
 use Rattle.hq_terms.specs.declared.bexp.Operand.TheVariants.{Const, Session}
 use Rattle.hq_terms.specs.declared.meta.Pair.{Pair}
 use Rattle.hq_terms.specs.declared.meta.Rel.{Rel}
 use Rattle.hq_terms.specs.declared.table.Table.{Table}
+use Rattle.hq_terms.specs.declared.test.Arity.{Arity}
+use Rattle.hq_terms.specs.declared.test.Arity.TheVariants.{Nothing, One, Many}
+use Rattle.hq_ask_tree.specs.Conditions.{is_constant}
 use Rattle.hq_sql_tree.specs.Tree as tree
 use Rattle.hq_sql_tree.specs.Tree.{ExprTree, OrderTree, OutTree, SelectTree, JoinTree, JoinTrees, FilterTree, PredTree, preds_of, joins_of}
 use Rattle.hq_sql_tree.specs.WellFormed as well
-use Rattle.hq_sql_tree.specs.WellFormed.{Aliases, Kind, kind, kind_at, kind_named, compare_kinds, is_text_kind, is_value, is_compared, is_item, begin_with, are_parts, is_typed, are_typed_joins, joined_scope, select_names, is_typed_filter, is_typed_pred, are_typed_preds}
+use Rattle.hq_sql_tree.specs.WellFormed.{Aliases, Kind, kind_of_type, kind, kind_at, kind_named, compare_kinds, is_value, is_compared, is_item, is_tested, is_operand, is_typed_test, begin_with, are_parts, is_typed, are_typed_joins, joined_scope, select_names, is_typed_filter, is_typed_pred, are_typed_preds}
 use Rattle.hq_compiled.specs.Names.{table_alias, join_alias, value_name, unit_name}
-use Rattle.hq_compiled.specs.Looks.{Look, Place, own_look, cell_at, compared_at}
+use Rattle.hq_compiled.specs.Looks.{Look, Place, own_look, compared_at, compares, tested_at}
 use Rattle.hq_compiled.specs.Rights.{Rights}
-use Rattle.hq_compiled.specs.Conditions.{literal, operand_literal, joined_by_and, joined_by_or, with_member, where_of, negation_if, within_list}
+use Rattle.hq_compiled.specs.Conditions.{literal, operand_literal, joined_by_and, joined_by_or, with_member, where_of, negation_if, literals_for, test_of}
 use Rattle.hq_compiled.specs.Predicates.{link_members, link, Mode, columns_in, columns_in_all, guard_from, inner_from, numbers, numbers_all, predicate, predicates, filter_mode, own_numbers, own_predicate}
-use Rattle.hq_compiled.specs.Fine.{kind_of, Known, OperandFits, PatternFits, FinePair, FineBexp, FineBexps}
+use Rattle.hq_compiled.specs.Fine.{type_of, kind_of, Known, FinePair, FineBexp, FineBexps}
 use Rattle.hq_compiled.proofs.CatalogTables.{FineTables}
-use Rattle.hq_compiled.proofs.Names.{same_text, used_one}
+use Rattle.hq_compiled.proofs.Names.{same_text, used_else}
 use Rattle.hq_compiled.proofs.Scopes.{under_table, under_join, under_later, LooksUnder, looks_under_later, own_under, Grows, Knows, KnowsAll, all_behind, knows_left, knows_right, with_table, knows_here, grows_table, value_of, compared_of}
 
 pub three : (a b c : Bool) → a ≡ true → b ≡ true → c ≡ true → (a && (b && c)) ≡ true
@@ -58,10 +67,7 @@ where_typed tables scope (p ∷ ps) h = and_typed tables scope (p ∷ ps) h
 member_typed : (tables : List Table) (scope : Aliases) (p : PredTree) (ps : List PredTree) → is_typed_pred p tables scope ≡ true → Preds tables scope ps → Preds tables scope (with_member p ps)
 member_typed tables scope tree.always ps e h = h
 member_typed tables scope tree.never ps e h = (e, h)
-member_typed tables scope (tree.compare l o r) ps e h = (e, h)
-member_typed tables scope (tree.like l r fold) ps e h = (e, h)
-member_typed tables scope (tree.within x xs) ps e h = (e, h)
-member_typed tables scope (tree.is_null x) ps e h = (e, h)
+member_typed tables scope (tree.test x t xs) ps e h = (e, h)
 member_typed tables scope (tree.negation p) ps e h = (e, h)
 member_typed tables scope (tree.all_of qs) ps e h = (e, h)
 member_typed tables scope (tree.any_of qs) ps e h = (e, h)
@@ -79,39 +85,88 @@ three_typed tables scope a b c e f g =
     where_typed tables scope (with_member a (with_member b (with_member c [])))
     (member_typed tables scope a (with_member b (with_member c [])) e (member_typed tables scope b (with_member c []) f (member_typed tables scope c [] g tt)))
 
--- ---- operands
+-- ---- tests
 
-literal_item : (scope : Aliases) (e : ExprTree) (k : Kind) (v : Val) → kind scope e ≡ Some k → OperandFits k (Const v) → is_item scope e (literal v) ≡ true
-literal_item scope e k val.Null h f = absurd f
-literal_item scope e k (val.Int n) h f = rw h f
-literal_item scope e k (val.Text s) h f = rw h f
-literal_item scope e k (val.Bool b) h f = rw h f
+-- a constant is compared with a value of its type's kind
+pub constant_item : (scope : Aliases) (e : ExprTree) (ty : Ty) (v : Val) → kind scope e ≡ Some (kind_of_type ty) → constant_fits ty v ≡ true → is_item scope e (literal v) ≡ true
+constant_item scope e ty val.Null h f = cc
+constant_item scope e Integer (val.Int n) h f = rw h refl
+constant_item scope e Bigint (val.Int n) h f = rw h refl
+constant_item scope e Text (val.Int n) h f = cc
+constant_item scope e Boolean (val.Int n) h f = cc
+constant_item scope e Integer (val.Text s) h f = cc
+constant_item scope e Bigint (val.Text s) h f = cc
+constant_item scope e Text (val.Text s) h f = rw h refl
+constant_item scope e Boolean (val.Text s) h f = cc
+constant_item scope e Integer (val.Bool b) h f = cc
+constant_item scope e Bigint (val.Bool b) h f = cc
+constant_item scope e Text (val.Bool b) h f = cc
+constant_item scope e Boolean (val.Bool b) h f = rw h refl
 
-pub operand_item : (scope : Aliases) (e : ExprTree) (k : Kind) (o : Operand) → kind scope e ≡ Some k → OperandFits k o → is_item scope e (operand_literal o) ≡ true
-operand_item scope e k (Const v) h f = literal_item scope e k v h f
-operand_item scope e k (Session name) h f = absurd f
+pattern_item : (v : Val) → is_pattern v ≡ true → well.is_pattern (literal v) ≡ true
+pattern_item val.Null f = cc
+pattern_item (val.Int n) f = cc
+pattern_item (val.Text s) f = f
+pattern_item (val.Bool b) f = cc
 
-operands_item : (scope : Aliases) (e : ExprTree) (k : Kind) (os : List Operand) → kind scope e ≡ Some k → Each (OperandFits k) os → list_all (is_item scope e) (map operand_literal os) ≡ true
-operands_item scope e k [] h f = refl
-operands_item scope e k (o ∷ os) h f = two (is_item scope e (operand_literal o)) (list_all (is_item scope e) (map operand_literal os)) (operand_item scope e k o h f.0) (operands_item scope e k os h f.1)
+-- an operand that fits a test of a column is one of the test of a value of the column's kind
+module _ (scope : Aliases) (e : ExprTree) (ty : Ty) (t : Test) (h : kind scope e ≡ Some (kind_of_type ty)) where
+  operand_const : (t : Test) (v : Val) → test_fits t ty v ≡ true → is_operand scope t e (literal v) ≡ true
+  operand_const (Compare op) v f = constant_item scope e ty v h f
+  operand_const Among v f = constant_item scope e ty v h f
+  operand_const IsNull v f = constant_item scope e ty v h f
+  operand_const (Like fold) v f = pattern_item v f
+
+  operand_typed : (v : Operand) → operand_fits t ty v ≡ true → is_constant v ≡ true → is_operand scope t e (operand_literal v) ≡ true
+  operand_typed (Const v) f g = operand_const t v f
+  operand_typed (Session name) f g = cc
+
+  operands_typed : (vs : List Operand) → list_all (operand_fits t ty) vs ≡ true → list_all is_constant vs ≡ true → list_all (is_operand scope t e) (map operand_literal vs) ≡ true
+  operands_typed [] f g = refl
+  operands_typed (v ∷ vs) f g =
+      let a = and_parts (operand_fits t ty v) (list_all (operand_fits t ty) vs) f in
+      let b = and_parts (is_constant v) (list_all is_constant vs) g in
+      two (is_operand scope t e (operand_literal v)) (list_all (is_operand scope t e) (map operand_literal vs)) (operand_typed v a.0 b.0) (operands_typed vs a.1 b.1)
+
+  literals_typed : (k : Arity) (vs : List Operand) → has_arity k (length vs) ≡ true → list_all (operand_fits t ty) vs ≡ true → list_all is_constant vs ≡ true → list_all (is_operand scope t e) (literals_for k vs) ≡ true
+  literals_typed Nothing vs n f g = refl
+  literals_typed One [] n f g = cc
+  literals_typed One (v ∷ vs) n f g =
+      two (is_operand scope t e (operand_literal v)) true
+      (operand_typed v (and_parts (operand_fits t ty v) (list_all (operand_fits t ty) vs) f).0 (and_parts (is_constant v) (list_all is_constant vs) g).0) refl
+  literals_typed Many vs n f g = operands_typed vs f g
+
+-- a column of a type that a test applies to, as the test looks at it
+value_typed : (scope : Aliases) (alias name : List ℕ) (ty : Ty) (t : Test) → kind_at scope alias name ≡ Some (kind_of_type ty) → applies t ty ≡ true → is_tested scope t (tree.column alias name (compares t && is_text ty)) ≡ true
+value_typed scope alias name ty (Compare op) h f = compared_of scope alias name ty h
+value_typed scope alias name ty Among h f = compared_of scope alias name ty h
+value_typed scope alias name ty IsNull h f = value_of scope alias name (kind_of_type ty) h
+value_typed scope alias name Text (Like fold) h f = rw h refl
+value_typed scope alias name _ (Like fold) h f = cc
+
+test_typed : (scope : Aliases) (alias name : List ℕ) (ty : Ty) (t : Test) (vs : List Operand) → kind_at scope alias name ≡ Some (kind_of_type ty) → is_test t vs ty ≡ true → list_all is_constant vs ≡ true
+    → is_typed_test scope (tree.column alias name (compares t && is_text ty)) t (literals_for (arity t) vs) ≡ true
+test_typed scope alias name ty t vs h f g =
+    let e : ExprTree = tree.column alias name (compares t && is_text ty) in
+    let parts = and_parts (takes t (length vs) && applies t ty) (list_all (operand_fits t ty) vs) f in
+    let of = and_parts (takes t (length vs)) (applies t ty) parts.0 in
+    two (is_tested scope t e) (list_all (is_operand scope t e) (literals_for (arity t) vs)) (value_typed scope alias name ty t h of.1) (literals_typed scope e ty t h (arity t) vs of.0 parts.1 g)
 
 negation_typed : (tables : List Table) (scope : Aliases) (b : Bool) (p : PredTree) → is_typed_pred p tables scope ≡ true → is_typed_pred (negation_if b p) tables scope ≡ true
 negation_typed tables scope true p e = e
 negation_typed tables scope false p e = e
 
-within_typed : (tables : List Table) (scope : Aliases) (e : ExprTree) (k : Kind) (os : List Operand) (b : Bool) → is_compared scope e ≡ true → kind scope e ≡ Some k → Each (OperandFits k) os → is_typed_pred (within_list e os b) tables scope ≡ true
-within_typed tables scope e k [] true c h f = refl
-within_typed tables scope e k [] false c h f = refl
-within_typed tables scope e k (o ∷ os) b c h f =
-    negation_typed tables scope b (tree.within e (map operand_literal (o ∷ os)))
-    (two (is_compared scope e) (list_all (is_item scope e) (map operand_literal (o ∷ os))) c (operands_item scope e k (o ∷ os) h f))
+nothing_typed : (tables : List Table) (scope : Aliases) (b : Bool) → is_typed_pred (cond b tree.always tree.never) tables scope ≡ true
+nothing_typed tables scope true = refl
+nothing_typed tables scope false = refl
 
-like_typed : (tables : List Table) (scope : Aliases) (e : ExprTree) (o : Operand) (fold : Bool) → is_compared scope e ≡ true → kind scope e ≡ Some well.text → PatternFits o → is_typed_pred (tree.like e (operand_literal o) fold) tables scope ≡ true
-like_typed tables scope e (Const val.Null) fold c h f = absurd f
-like_typed tables scope e (Const (val.Int n)) fold c h f = absurd f
-like_typed tables scope e (Const (val.Text s)) fold c h f = rw (c, h, f) refl
-like_typed tables scope e (Const (val.Bool b)) fold c h f = absurd f
-like_typed tables scope e (Session name) fold c h f = absurd f
+-- a test of a value, which is to have its type only where it is looked at
+test_of_typed : (tables : List Table) (scope : Aliases) (e : ExprTree) (t : Test) (vs : List Operand) (negated : Bool) → (is_of_nothing t vs ≡ false → is_typed_test scope e t (literals_for (arity t) vs) ≡ true) → is_typed_pred (test_of e t vs negated) tables scope ≡ true
+test_of_typed tables scope e t vs negated typed =
+    let p : PredTree = tree.test e t (literals_for (arity t) vs) in
+    let go : (b : Bool) → is_of_nothing t vs ≡ b → is_typed_pred (cond b (cond negated tree.always tree.never) (negation_if negated p)) tables scope ≡ true =
+    elim [ true ↦ λ h. nothing_typed tables scope negated | false ↦ λ h. negation_typed tables scope negated p (typed h) ] in
+    go (is_of_nothing t vs) refl
 
 -- ---- rows
 
@@ -200,8 +255,8 @@ module _ (s : Schema) (g : Rights) (tables : List Table) (ok : FineTables s g ta
       let far : ExprTree = compared_at (table s u).columns (own_look (table s u).columns q x.remote) x.remote in
       let own : ExprTree = compared_at (table s t).columns (own_look (table s t).columns p x.own) x.own in
       let kinds : compare_kinds (kind scope far) (kind scope own) ≡ true = rw (l x.remote f.0.1, k x.own f.0.0) f.0.2 in (
-        three (is_compared scope far) (is_compared scope own) (compare_kinds (kind scope far) (kind scope own))
-            (compared_typed scope u (own_look (table s u).columns q x.remote) x.remote (l x.remote f.0.1)) (compared_typed scope t (own_look (table s t).columns p x.own) x.own (k x.own f.0.0)) kinds,
+        two (is_compared scope far) (is_item scope far own && true) (compared_typed scope u (own_look (table s u).columns q x.remote) x.remote (l x.remote f.0.1))
+            (three (is_compared scope own) (compare_kinds (kind scope far) (kind scope own)) true (compared_typed scope t (own_look (table s t).columns p x.own) x.own (k x.own f.0.0)) kinds refl),
         links_typed scope t u p q xs f.1 k l,
       )
 
@@ -230,21 +285,9 @@ module _ (s : Schema) (g : Rights) (tables : List Table) (ok : FineTables s g ta
       predicate_typed (and_of bs) look t p n scope f own lt k u bound = and_typed tables scope (predicates bs s m look t p n) (predicates_typed bs look t p n scope f own lt k u bound)
       predicate_typed (or_of bs) look t p n scope f own lt k u bound = or_typed tables scope (predicates bs s m look t p n) (predicates_typed bs look t p n scope f own lt k u bound)
       predicate_typed (not_of b) look t p n scope f own lt k u bound = predicate_typed b look t p n scope f own lt k u bound
-      predicate_typed (comparison c op v) look t p n scope f own lt k u bound =
-          let e : ExprTree = compared_at (table s t).columns (look c) c in
-          let here : kind_at scope (look c).alias (look c).name ≡ Some (kind_of s t c) = k c f.0 (used_one c) in
-          two (is_compared scope e) (is_item scope e (operand_literal v)) (compared_typed scope t (look c) c here) (operand_item scope e (kind_of s t c) v here f.1)
-      predicate_typed (within c [] true) look t p n scope f own lt k u bound = refl
-      predicate_typed (within c [] false) look t p n scope f own lt k u bound = refl
-      predicate_typed (within c (v ∷ vs) negated) look t p n scope f own lt k u bound =
-          let here : kind_at scope (look c).alias (look c).name ≡ Some (kind_of s t c) = k c f.0 (used_one c) in
-          within_typed tables scope (compared_at (table s t).columns (look c) c) (kind_of s t c) (v ∷ vs) negated (compared_typed scope t (look c) c here) here f.1
-      predicate_typed (is_null c wanted) look t p n scope f own lt k u bound =
-          negation_typed tables scope (not wanted) (tree.is_null (cell_at (look c))) (value_of scope (look c).alias (look c).name (kind_of s t c) (k c f (used_one c)))
-      predicate_typed (like c fold negated v) look t p n scope f own lt k u bound =
-          let e : ExprTree = compared_at (table s t).columns (look c) c in
-          let here : kind_at scope (look c).alias (look c).name ≡ Some (kind_of s t c) = k c f.0 (used_one c) in
-          negation_typed tables scope negated (tree.like e (operand_literal v) fold) (like_typed tables scope e v fold (compared_typed scope t (look c) c here) (here ∙ ap Some f.1) f.2)
+      predicate_typed (test c tested vs negated) look t p n scope f own lt k u bound =
+          test_of_typed tables scope (tested_at (table s t).columns (look c) c tested) tested vs negated
+          (λ some. test_typed scope (look c).alias (look c).name (type_of s t c) tested vs (k c f.0 (used_else c (is_of_nothing tested vs) some)) f.1 f.2)
       predicate_typed (through r b) look t p n scope f own lt k u bound =
           let far : ℕ = (rel s t r).remote in
           let cs : List ℕ = columns_in b in

@@ -4,6 +4,7 @@ use Rattle.hq_base.specs.declared.value.Val.{Val}
 use Rattle.hq_compiled.specs.Rights.{Rights}
 use Rattle.hq_terms.specs.Schema.{Schema, table, rel}
 use Rattle.hq_terms.specs.Selected.{ListArguments}
+use Rattle.hq_terms.specs.Tests.{Compare}
 use Rattle.hq_terms.specs.declared.op.Op.TheVariants.{Eq}
 use Rattle.hq_terms.specs.declared.table.Column.{Column}
 use Rattle.hq_ask_tree.specs.Fields.{Origin, from_table, along, FieldTrees, no_field, field, FieldTree, column, typename, no_queries, object, list, by_key, aggregate, introspect, PartTrees, no_part, part, PartTree, summary, nodes, part_typename}
@@ -41,7 +42,7 @@ origin_tie (along r) s t p n = link s t (rel s t r) p n
 abbrev pub key_members : List Column → Look → List ℕ → List Val → List PredTree
 key_members columns look [] vs = []
 key_members columns look (c ∷ cs) [] = []
-key_members columns look (c ∷ cs) (v ∷ vs) = tree.compare (compared_at columns (look c) c) Eq (literal v) ∷ key_members columns look cs vs
+key_members columns look (c ∷ cs) (v ∷ vs) = tree.test (compared_at columns (look c) c) (Compare Eq) (literal v ∷ []) ∷ key_members columns look cs vs
 
 -- how many numbers fields at a row of table t take, and those of an aggregate over a list of table u
 abbrev mutual

@@ -1,8 +1,9 @@
 -- How the columns of a row are looked at in SQL: each by an alias and a name there.
-use Rattle.std.specs.Prelude.{ℕ, List, [], ◌∷◌, ◌++◌, Bool, false, cond, ◌==◌, slice_index_or}
+use Rattle.std.specs.Prelude.{ℕ, List, [], ◌∷◌, ◌++◌, Bool, true, false, cond, ◌&&◌, ◌==◌, slice_index_or}
 use Rattle.std.specs.List.{list_any}
 use Rattle.hq_terms.specs.Database.{is_text}
 use Rattle.hq_terms.specs.Schema.{no_column}
+use Rattle.hq_terms.specs.Tests.{Test, IsNull}
 use Rattle.hq_terms.specs.declared.table.Column.{Column}
 use Rattle.hq_sql_tree.specs.Tree.{ExprTree, column}
 use Rattle.hq_compiled.specs.Names.{table_alias}
@@ -34,6 +35,15 @@ cell_at p = column p.alias p.name false
 
 abbrev pub compared_at : List Column → Place → ℕ → ExprTree
 compared_at columns p c = column p.alias p.name (is_text_column columns c)
+
+-- whether a test compares the value that it looks at
+abbrev pub compares : Test → Bool
+compares IsNull = false
+compares _ = true
+
+-- the cell as a test looks at it
+abbrev pub tested_at : List Column → Place → ℕ → Test → ExprTree
+tested_at columns p c t = column p.alias p.name (compares t && is_text_column columns c)
 
 -- whether a column is among those that are used
 abbrev pub is_used : ℕ → List ℕ → Bool
