@@ -88,7 +88,9 @@ pub fn is_closed(pred: &Pred, names: &Names<'_>) -> bool
     match pred {
         Pred::True | Pred::False => true,
         Pred::Test {
-            value, operands, ..
+            value,
+            operands,
+            ..
         } => is_bound(value, names) && are_bound(operands, names),
         Pred::Not(inner) => is_closed(inner, names),
         Pred::And(preds) | Pred::Or(preds) => are_closed(preds, names),

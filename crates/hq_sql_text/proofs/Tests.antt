@@ -1,7 +1,7 @@
 -- Tests by their operators.
 use Rattle.std.proofs.Common.{◌≡◌, ℕ, true, false, List, ◌++◌, Some, refl}
-use Rattle.hq_terms.specs.Tests as test
-use Rattle.hq_terms.specs.Tests.{Test}
+use Rattle.hq_terms.specs.declared.test.Test.{Test}
+use Rattle.hq_terms.specs.declared.test.Test.TheVariants as test
 use Rattle.hq_terms.specs.declared.op.Op.TheVariants as op
 use Rattle.hq_sql_tree.specs.Word.{word_text, all_tests, test_word}
 use Rattle.hq_sql_expr.specs.Reading.{after}

@@ -46,14 +46,20 @@ pub enum Agg {
     /// `count(*)`: the number of rows.
     CountAll,
     /// The number of values that are not NULL; with `distinct` of different ones.
-    Count { value: Box<Expr>, distinct: bool },
+    Count {
+        value: Box<Expr>,
+        distinct: bool,
+    },
     /// What this aggregate gives of the values.
     Take {
         aggregate: Aggregate,
         value: Box<Expr>,
     },
     /// `json_agg` in this order, and `'[]'::json` over no rows.
-    JsonAgg { value: Box<Expr>, order: OrderList },
+    JsonAgg {
+        value: Box<Expr>,
+        order: OrderList,
+    },
 }
 
 /// A sort key: an expression, its direction, and where NULLs stand.

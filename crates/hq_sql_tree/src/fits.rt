@@ -210,7 +210,9 @@ impl Pred {
         match self {
             Pred::True | Pred::False => {}
             Pred::Test {
-                value, operands, ..
+                value,
+                operands,
+                ..
             } => {
                 value.fits();
                 exprs_fit(operands);
