@@ -1,6 +1,5 @@
 pub mod Chunked
 pub mod Counted
-pub mod CellOrders
 pub mod Closures
 pub mod Sorted
 pub mod Spans

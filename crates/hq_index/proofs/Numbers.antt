@@ -10,7 +10,7 @@ use Rattle.hq_index.specs.Indexes.{by_key, counted, indexed_rows, key_at}
 use Rattle.hq_index.specs.Keys.{has_null, keys_cmp}
 use Rattle.hq_index.specs.Whole.{AreNumbered, HasNumber, row_of}
 use Rattle.hq_index.specs.declared.whole.Numbered.{Numbered}
-use Rattle.hq_index.proofs.CellOrders.{then_equal}
+use Rattle.hq_terms.proofs.CellOrders.{then_equal}
 use Rattle.hq_index.proofs.Sorted.{by_key_total}
 
 each_push : {A : Type 0} (P : A → Type 0) (xs : List A) (x : A) → Each P xs → P x → Each P (xs ++ x ∷ [])

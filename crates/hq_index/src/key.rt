@@ -67,7 +67,7 @@ fn order_between(left: KeyCell<'_>, right: KeyCell<'_>) -> Option<Ordering>
 }
 
 // The order of cells, by kind and then by value.
-#[tactic(auto, using(crate::proofs::CellOrders::cell_cmp_between, crate::proofs::CellOrders::cell_cmp_kinds))]
+#[tactic(auto, using(hq_terms::proofs::CellOrders::cell_cmp_between, hq_terms::proofs::CellOrders::cell_cmp_kinds))]
 fn cell_cmp(left: KeyCell<'_>, right: KeyCell<'_>) -> Ordering
     ensures { result ≡ cell_cmp (cell_view left.entry) (cell_view right.entry) }
 {

@@ -1,4 +1,5 @@
 pub mod Numbers
+pub mod CellOrders
 mod Lists
 pub mod Places
 pub mod Steps
