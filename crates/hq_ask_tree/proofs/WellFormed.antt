@@ -6,7 +6,7 @@ use Rattle.hq_base.specs.declared.value.Val.TheVariants as val
 use Rattle.hq_terms.specs.Bexp.{BexpTree, always, or_of, test, no_bexp, bexp}
 use Rattle.hq_terms.specs.declared.bexp.Operand.TheVariants.{Const}
 use Rattle.hq_terms.specs.declared.op.Op.TheVariants.{Eq}
-use Rattle.hq_terms.specs.Tests.{Compare}
+use Rattle.hq_terms.specs.declared.test.Test.TheVariants.{Compare}
 use Rattle.hq_terms.specs.declared.role.Role.TheVariants.{Named}
 use Rattle.hq_ask_tree.specs.Conditions.{fits_distinct}
 use Rattle.hq_ask_tree.specs.Fields.{from_table, column, list}

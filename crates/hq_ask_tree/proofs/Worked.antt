@@ -11,7 +11,7 @@ use Rattle.hq_terms.specs.Schema.{Schema}
 use Rattle.hq_terms.specs.Selected.{SortKey, ListArguments}
 use Rattle.hq_terms.specs.declared.bexp.Operand.TheVariants.{Const}
 use Rattle.hq_terms.specs.declared.op.Op.TheVariants.{Eq, Ne}
-use Rattle.hq_terms.specs.Tests.{Compare, Among}
+use Rattle.hq_terms.specs.declared.test.Test.TheVariants.{Compare, Among}
 use Rattle.hq_ask_tree.specs.Fields.{from_table, along, FieldTrees, field, column, typename, object, list, by_key, aggregate, PartTrees, no_part, part, summary, nodes}
 use Rattle.hq_ask_tree.specs.Resolve.{resolved}
 use Rattle.hq_ask_tree.specs.declared.aggregate.AggCol.TheVariants as of

@@ -5,10 +5,18 @@ use hq_terms::ColId;
 #[derive(Drop)]
 pub enum AggField {
     /// The number of rows, or of the values of a column that are not NULL; of different ones where `distinct`.
-    Count { col: Option<ColId>, distinct: bool },
+    Count {
+        col: Option<ColId>,
+        distinct: bool,
+    },
     /// An aggregate of each of these columns.
-    Columns { aggregate: Aggregate, columns: AggCols },
-    Typename { name: Txt },
+    Columns {
+        aggregate: Aggregate,
+        columns: AggCols,
+    },
+    Typename {
+        name: Txt,
+    },
 }
 
 /// A field of `aggregate` under its response key.
