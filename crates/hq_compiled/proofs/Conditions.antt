@@ -7,7 +7,9 @@ use Rattle.hq_terms.specs.declared.truth.Truth.{Truth}
 use Rattle.hq_terms.specs.declared.truth.Truth.TheVariants.{Yes, No, Unknown}
 use Rattle.hq_terms.specs.declared.op.Op.TheVariants.{Eq}
 use Rattle.hq_terms.specs.Logic.{is_true, and3, or3, negated_if, compared, among, matched}
-use Rattle.hq_terms.specs.Tests.{Test, Compare, Among, IsNull, Like, arity, is_of_nothing, test_truth}
+use Rattle.hq_terms.specs.Tests.{arity, is_of_nothing, test_truth}
+use Rattle.hq_terms.specs.declared.test.Test.{Test}
+use Rattle.hq_terms.specs.declared.test.Test.TheVariants.{Compare, Among, IsNull, Like}
 use Rattle.hq_terms.specs.Truth.{operand_cell}
 use Rattle.hq_terms.specs.declared.bexp.Operand.{Operand}
 use Rattle.hq_terms.specs.declared.bexp.Operand.TheVariants.{Const, Session}

@@ -1,19 +1,25 @@
 -- The statement is a tree of the grammar: no list that must not be empty is so, and aggregates stand in folds.
-use Rattle.std.proofs.Common.{◌≡◌, ℕ, suc, ◌+◌, ◌<◌, ◌≤◌, List, [], ◌∷◌, ◌++◌, length, Bool, true, false, cond, ◌&&◌, ◌||◌, not, Option, Some, None, map, refl, ap, arith}
+use Rattle.std.proofs.Common.{◌≡◌, ℕ, suc, ◌+◌, ◌<◌, ◌≤◌, List, [], ◌∷◌, ◌++◌, length, Bool, true, false, cond, ◌&&◌, ◌||◌, Option, Some, None, map, refl, ap, arith}
 use Rattle.std.specs.Prelude.{nat_le}
 use Rattle.std.specs.List.{list_all}
 use Rattle.std.proofs.lemmas.Bool.{le-leb}
+use Rattle.hq_base.specs.declared.aggregate.Aggregate.{Aggregate}
 use Rattle.hq_base.specs.declared.value.Val.{Val}
 use Rattle.hq_base.specs.declared.value.Val.TheVariants as val
 use Rattle.hq_terms.specs.Bexp.{BexpTree, always, and_of, or_of, not_of, test, through, BexpTrees, no_bexp, bexp}
 use Rattle.hq_terms.specs.Permission.{Mask}
 use Rattle.hq_terms.specs.Schema.{Schema, table, rel}
+use Rattle.hq_terms.specs.Tests.{arity, has_arity, is_of_nothing}
 use Rattle.hq_terms.specs.Selected.{SortKey, ListArguments, entries, smaller}
 use Rattle.hq_terms.specs.declared.bexp.Operand.{Operand}
 use Rattle.hq_terms.specs.declared.bexp.Operand.TheVariants.{Const, Session}
 use Rattle.hq_terms.specs.declared.meta.Pair.{Pair}
 use Rattle.hq_terms.specs.declared.meta.Rel.{Rel}
 use Rattle.hq_terms.specs.declared.table.Column.{Column}
+use Rattle.hq_terms.specs.declared.test.Arity.{Arity}
+use Rattle.hq_terms.specs.declared.test.Arity.TheVariants.{Nothing, One, Many}
+use Rattle.hq_terms.specs.declared.test.Test.{Test}
+use Rattle.hq_terms.specs.declared.test.Test.TheVariants.{Among}
 use Rattle.hq_ask_tree.specs.Fields.{Origin, from_table, along, FieldTrees, no_field, field, FieldTree, column, typename, no_queries, object, list, by_key, aggregate, introspect, PartTrees, no_part, part, PartTree, summary, nodes, part_typename}
 use Rattle.hq_ask_tree.specs.Resolve.{origin_table}
 use Rattle.hq_ask_tree.specs.declared.aggregate.AggCol.{AggCol}
@@ -106,14 +112,14 @@ negation_form : (b : Bool) (p : PredTree) → is_pred p ≡ true → is_pred (ne
 negation_form true p e = e
 negation_form false p e = e
 
-first_form : (os : List Operand) → is_expr (first_literal os) ≡ true
-first_form [] = refl
-first_form (o ∷ os) = operand_form o
+first_literal_form : (os : List Operand) → is_expr (first_literal os) ≡ true
+first_literal_form [] = refl
+first_literal_form (o ∷ os) = operand_form o
 
 -- as many literals as are taken, each an expression, and none only where there is no operand
 literals_form : (k : Arity) (os : List Operand) → list_all is_expr (literals_for k os) ≡ true
 literals_form Nothing os = refl
-literals_form One os = rw (first_form os) refl
+literals_form One os = rw (first_literal_form os) refl
 literals_form Many os = operands_form os
 
 literals_taken : (k : Arity) (os : List Operand) → has_arity k (length (literals_for k os)) ≡ true

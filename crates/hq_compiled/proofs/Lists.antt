@@ -1,5 +1,5 @@
 -- The select of a list.
-use Rattle.std.proofs.Common.{◌≡◌, ℕ, ◌+◌, ◌≤◌, ◌^◌, List, [], ◌∷◌, ◌++◌, length, map, filter, Bool, true, false, ◌&&◌, Option, None, Some, refl, sym, ap, ap₂, ◌∙◌, arith, Ordering, Equal}
+use Rattle.std.proofs.Common.{◌≡◌, ℕ, ◌+◌, ◌≤◌, ◌^◌, List, [], ◌∷◌, ◌++◌, length, map, filter, Bool, true, false, ◌&&◌, Option, None, Some, refl, sym, ap, ap₂, ◌∙◌, arith, Ordering}
 use Rattle.std.specs.Ordering.{then_cmp, ordering_then}
 use Rattle.hq_base.specs.Cells.{json, json_of, key_cmp}
 use Rattle.hq_base.specs.Json.{arr, obj, elements_of, MemberTrees}

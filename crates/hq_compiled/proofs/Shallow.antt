@@ -1,19 +1,24 @@
 -- The statement opens few parentheses at once.
-use Rattle.std.proofs.Common.{◌≡◌, ℕ, ◌+◌, ◌*◌, ◌≤◌, List, [], ◌∷◌, ◌++◌, length, Bool, true, false, cond, filter, not, Option, Some, None, map, refl, arith}
+use Rattle.std.proofs.Common.{◌≡◌, ℕ, ◌+◌, ◌*◌, ◌≤◌, List, [], ◌∷◌, ◌++◌, length, Bool, true, false, cond, filter, ◌&&◌, Option, Some, None, map, refl, arith}
 use Rattle.std.specs.Prelude.{max}
 use Rattle.std.proofs.Math.Nat.{max-le, le-max_left, le-max_right}
 use Rattle.hq_base.specs.Lists.{Each}
+use Rattle.hq_base.specs.declared.aggregate.Aggregate.{Aggregate}
 use Rattle.hq_base.specs.declared.value.Val.{Val}
 use Rattle.hq_base.specs.declared.value.Val.TheVariants as val
 use Rattle.hq_terms.specs.Bexp.{BexpTree, always, and_of, or_of, not_of, test, through, BexpTrees, no_bexp, bexp, depth, depth_of_all}
 use Rattle.hq_terms.specs.Permission.{Mask}
 use Rattle.hq_terms.specs.Schema.{Schema, table, rel}
+use Rattle.hq_terms.specs.Tests.{arity, is_of_nothing}
 use Rattle.hq_terms.specs.Selected.{SortKey, ListArguments, ascending, sorts_or, entries, smaller}
 use Rattle.hq_terms.specs.declared.bexp.Operand.{Operand}
 use Rattle.hq_terms.specs.declared.bexp.Operand.TheVariants.{Const, Session}
 use Rattle.hq_terms.specs.declared.meta.Pair.{Pair}
 use Rattle.hq_terms.specs.declared.meta.Rel.{Rel}
 use Rattle.hq_terms.specs.declared.table.Column.{Column}
+use Rattle.hq_terms.specs.declared.test.Arity.{Arity}
+use Rattle.hq_terms.specs.declared.test.Arity.TheVariants.{Nothing, One, Many}
+use Rattle.hq_terms.specs.declared.test.Test.{Test}
 use Rattle.hq_ask_tree.specs.Fields.{Origin, from_table, along, FieldTrees, no_field, field, FieldTree, column, typename, no_queries, object, list, by_key, aggregate, introspect, PartTrees, no_part, part, PartTree, summary, nodes, part_typename}
 use Rattle.hq_ask_tree.specs.Resolve.{origin_table}
 use Rattle.hq_ask_tree.specs.declared.aggregate.AggCol.{AggCol}
@@ -24,9 +29,9 @@ use Rattle.hq_ask_tree.specs.declared.aggregate.KeyedAggCol.{KeyedAggCol}
 use Rattle.hq_ask_tree.specs.declared.aggregate.KeyedAggField.{KeyedAggField}
 use Rattle.hq_sql_tree.specs.Tree as tree
 use Rattle.hq_sql_tree.specs.Tree.{ExprTree, AggTree, PairTree, OrderTree, OutTree, SelectTree, FromTree, JoinTree, JoinTrees, FilterTree, PredTree, preds_of, joins_of, pairs_of, orders_of}
-use Rattle.hq_sql_tree.specs.Form.{greatest, expr_depth, pairs_depth, agg_depth, orders_depth, distinct_depth, select_depth, from_depth, joins_depth, filter_depth, pred_depth, preds_depth}
+use Rattle.hq_sql_tree.specs.Form.{greatest, arity_parens, expr_depth, pairs_depth, orders_depth, distinct_depth, select_depth, from_depth, joins_depth, filter_depth, pred_depth, preds_depth}
 use Rattle.hq_compiled.specs.Names.{table_alias, value_name, unit_name}
-use Rattle.hq_compiled.specs.Looks.{Look, is_text_column, is_used, own_look, cell_at}
+use Rattle.hq_compiled.specs.Looks.{Look, is_text_column, compares, is_used, own_look, cell_at}
 use Rattle.hq_compiled.specs.Rights.{Rights}
 use Rattle.hq_compiled.specs.Conditions.{literal, operand_literal, joined_by_and, joined_by_or, with_member, where_of, negation_if, first_literal, literals_for, test_of}
 use Rattle.hq_compiled.specs.Predicates.{link_members, link, Mode, columns_in, guard_from, inner_from, numbers, predicate, predicates, filter_mode, own_numbers, own_predicate}
@@ -34,7 +39,7 @@ use Rattle.hq_compiled.specs.Masks.{mask_joins, mask_select, used_masks, masks, 
 use Rattle.hq_compiled.specs.Selects.{filter_from, behind_filter, key_orders, first_select}
 use Rattle.hq_compiled.specs.Sorts.{Sort, shown_sorts, own_sorts, last_used, sort_place, sort_numbers, sort_joins, sorts_joins, orders, key_outputs, output_orders}
 use Rattle.hq_compiled.specs.Lists.{once, list_sorts, list_used, sorts_from, children_from, distinct_columns, list_outputs, list_rows, list_select}
-use Rattle.hq_compiled.specs.Aggregates.{some_aggregate, needed_cell, taken_value, taken_pairs, count_value, summary_value, summary_pairs, needed, needed_columns, needed_outputs, summary_used, folded_select, plain_select, summary_select}
+use Rattle.hq_compiled.specs.Aggregates.{some_aggregate, taken_value, taken_pairs, count_value, summary_value, summary_pairs, needed, needed_columns, needed_outputs, summary_used, folded_select, plain_select, summary_select}
 use Rattle.hq_compiled.specs.Fields.{fields_used, key_used, origin_tie, empty_select, key_members, field_value, fields_values, part_value, parts_values, field_numbers, part_numbers, fields_joins, field_joins, parts_joins, part_joins}
 use Rattle.hq_compiled.specs.Shallow.{LowRights, AreShort, fields_height, field_height, parts_height, part_height, AreLow, IsLow, AreLowParts, IsLowPart, IsShallow}
 
@@ -107,14 +112,14 @@ negation_low : (b : Bool) (p : PredTree) (k : ℕ) → pred_depth p ≤ k → pr
 negation_low true p k e = omega (arith, e)
 negation_low false p k e = omega (arith, e)
 
-first_low : (os : List Operand) → expr_depth (first_literal os) ≤ 1
-first_low [] = omega arith
-first_low (o ∷ os) = operand_low o
+first_literal_low : (os : List Operand) → expr_depth (first_literal os) ≤ 1
+first_literal_low [] = omega arith
+first_literal_low (o ∷ os) = operand_low o
 
 -- the literals of a test, with the parentheses around a list of them
 literals_low : (k : Arity) (os : List Operand) → arity_parens k + greatest (map expr_depth (literals_for k os)) ≤ 2
 literals_low Nothing os = omega arith
-literals_low One os = let z : 0 ≤ 1 = omega arith in let one : max (expr_depth (first_literal os)) 0 ≤ 1 = max-le (first_low os) z in omega (arith, one)
+literals_low One os = let z : 0 ≤ 1 = omega arith in let one : max (expr_depth (first_literal os)) 0 ≤ 1 = max-le (first_literal_low os) z in omega (arith, one)
 literals_low Many os = omega (arith, operands_low os)
 
 nothing_low : (b : Bool) → pred_depth (cond b tree.always tree.never) ≤ 4

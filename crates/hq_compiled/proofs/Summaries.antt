@@ -22,7 +22,6 @@ use Rattle.hq_ask_tree.specs.declared.aggregate.AggField.{AggField}
 use Rattle.hq_ask_tree.specs.declared.aggregate.AggField.TheVariants as take
 use Rattle.hq_ask_tree.specs.declared.aggregate.KeyedAggCol.{KeyedAggCol}
 use Rattle.hq_ask_tree.specs.declared.aggregate.KeyedAggField.{KeyedAggField}
-use Rattle.hq_sql_tree.specs.Tree as tree
 use Rattle.hq_sql_tree.specs.Tree.{OutTree, pairs_of, PredTree}
 use Rattle.hq_sql_tree.specs.Meaning.{NamedRow, cell_named, Scope, with_alias, World, value, members, outputs, rows_of, truth_at}
 use Rattle.hq_compiled.specs.Rights.{rights_of}

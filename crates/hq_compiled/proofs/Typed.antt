@@ -1,12 +1,11 @@
 -- Each part of the statement has its type in scope.
-use Rattle.std.proofs.Common.{◌≡◌, ℕ, ◌+◌, ◌<◌, ◌≤◌, ◌^◌, List, [], ◌∷◌, ◌++◌, length, cond, Bool, true, false, Some, bytes_eq, refl, ap, ◌∙◌, arith}
+use Rattle.std.proofs.Common.{◌≡◌, ℕ, ◌+◌, ◌<◌, ◌≤◌, ◌^◌, List, [], ◌∷◌, ◌++◌, length, cond, Bool, true, false, ◌&&◌, Some, bytes_eq, refl, ap, ◌∙◌, arith}
 use Rattle.std.specs.Prelude.{slice_index_or, codes}
 use Rattle.hq_base.specs.Lists.{all_differ, Each}
 use Rattle.hq_base.specs.declared.value.Val.{Val}
 use Rattle.hq_terms.specs.Meta.{MetaTree}
 use Rattle.hq_terms.specs.Schema.{Schema, SchemaTable, schema_of, no_table, table, rel}
 use Rattle.hq_terms.specs.Selected.{ListArguments}
-use Rattle.hq_terms.specs.declared.bexp.Operand.TheVariants.{Const}
 use Rattle.hq_terms.specs.declared.table.Table.{Table}
 use Rattle.hq_ask_tree.specs.Fields.{Origin, from_table, along, FieldTrees, no_field, field, FieldTree, column, typename, no_queries, object, list, by_key, aggregate, introspect, PartTrees, no_part, part, PartTree, summary, nodes, part_typename}
 use Rattle.hq_ask_tree.specs.Resolve.{origin_table}

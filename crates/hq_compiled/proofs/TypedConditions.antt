@@ -11,7 +11,9 @@ use Rattle.hq_terms.specs.Bexp.{BexpTree, always, and_of, or_of, not_of, test, t
 use Rattle.hq_terms.specs.Database.{is_text}
 use Rattle.hq_terms.specs.Filters.{constant_fits, is_pattern, test_fits, operand_fits, is_test}
 use Rattle.hq_terms.specs.Schema.{Schema, table, rel, no_column}
-use Rattle.hq_terms.specs.Tests.{Test, Compare, Among, IsNull, Like, arity, has_arity, takes, applies, is_of_nothing}
+use Rattle.hq_terms.specs.Tests.{arity, has_arity, takes, applies, is_of_nothing}
+use Rattle.hq_terms.specs.declared.test.Test.{Test}
+use Rattle.hq_terms.specs.declared.test.Test.TheVariants.{Compare, Among, IsNull, Like}
 use Rattle.std.specs.Prelude.{slice_index_or}
 use Rattle.hq_terms.specs.declared.bexp.Operand.{Operand}
 use Rattle.hq_terms.specs.declared.bexp.Operand.TheVariants.{Const, Session}
@@ -256,7 +258,7 @@ module _ (s : Schema) (g : Rights) (tables : List Table) (ok : FineTables s g ta
       let own : ExprTree = compared_at (table s t).columns (own_look (table s t).columns p x.own) x.own in
       let kinds : compare_kinds (kind scope far) (kind scope own) ≡ true = rw (l x.remote f.0.1, k x.own f.0.0) f.0.2 in (
         two (is_compared scope far) (is_item scope far own && true) (compared_typed scope u (own_look (table s u).columns q x.remote) x.remote (l x.remote f.0.1))
-            (three (is_compared scope own) (compare_kinds (kind scope far) (kind scope own)) true (compared_typed scope t (own_look (table s t).columns p x.own) x.own (k x.own f.0.0)) kinds refl),
+            (two (is_item scope far own) true (two (is_compared scope own) (compare_kinds (kind scope far) (kind scope own)) (compared_typed scope t (own_look (table s t).columns p x.own) x.own (k x.own f.0.0)) kinds) refl),
         links_typed scope t u p q xs f.1 k l,
       )
 

@@ -9,6 +9,7 @@ use Rattle.hq_terms.specs.Schema.{Schema}
 use Rattle.hq_terms.specs.Selected.{ListArguments}
 use Rattle.hq_terms.specs.declared.bexp.Operand.TheVariants.{Const}
 use Rattle.hq_terms.specs.declared.op.Op.TheVariants.{Eq}
+use Rattle.hq_terms.specs.declared.test.Test.TheVariants.{Compare}
 use Rattle.hq_ask_tree.specs.Fields.{FieldTrees, no_field, field, column, list, from_table}
 use Rattle.hq_sql_tree.specs.Spelling.{select_text, quoted}
 use Rattle.hq_sql_tree.specs.Word.{word_text}

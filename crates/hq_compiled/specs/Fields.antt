@@ -4,7 +4,7 @@ use Rattle.hq_base.specs.declared.value.Val.{Val}
 use Rattle.hq_compiled.specs.Rights.{Rights}
 use Rattle.hq_terms.specs.Schema.{Schema, table, rel}
 use Rattle.hq_terms.specs.Selected.{ListArguments}
-use Rattle.hq_terms.specs.Tests.{Compare}
+use Rattle.hq_terms.specs.declared.test.Test.TheVariants.{Compare}
 use Rattle.hq_terms.specs.declared.op.Op.TheVariants.{Eq}
 use Rattle.hq_terms.specs.declared.table.Column.{Column}
 use Rattle.hq_ask_tree.specs.Fields.{Origin, from_table, along, FieldTrees, no_field, field, FieldTree, column, typename, no_queries, object, list, by_key, aggregate, introspect, PartTrees, no_part, part, PartTree, summary, nodes, part_typename}

@@ -3,7 +3,8 @@ use Rattle.std.specs.Prelude.{ℕ, List, [], ◌∷◌, ◌++◌, Bool, true, fa
 use Rattle.std.specs.List.{list_any}
 use Rattle.hq_terms.specs.Database.{is_text}
 use Rattle.hq_terms.specs.Schema.{no_column}
-use Rattle.hq_terms.specs.Tests.{Test, IsNull}
+use Rattle.hq_terms.specs.declared.test.Test.{Test}
+use Rattle.hq_terms.specs.declared.test.Test.TheVariants.{IsNull}
 use Rattle.hq_terms.specs.declared.table.Column.{Column}
 use Rattle.hq_sql_tree.specs.Tree.{ExprTree, column}
 use Rattle.hq_compiled.specs.Names.{table_alias}
