@@ -40,9 +40,9 @@ fn add_field(field: &AggField, columns: &mut ColList) -> Result<(), Memory>
 {
     match field {
         AggField::Count { col, .. } => add_counted(*col, columns),
-        AggField::Sum(fields) => add_columns(fields.as_slice(), columns),
-        AggField::Min(fields) => add_columns(fields.as_slice(), columns),
-        AggField::Max(fields) => add_columns(fields.as_slice(), columns),
+        AggField::Columns {
+            columns: fields, ..
+        } => add_columns(fields.as_slice(), columns),
         AggField::Typename { .. } => Ok(()),
     }
 }
@@ -92,9 +92,7 @@ fn is_aggregate(field: &AggField) -> bool
 {
     match field {
         AggField::Count { .. } => true,
-        AggField::Sum(fields) => some_taken(fields.as_slice()),
-        AggField::Min(fields) => some_taken(fields.as_slice()),
-        AggField::Max(fields) => some_taken(fields.as_slice()),
+        AggField::Columns { columns, .. } => some_taken(columns.as_slice()),
         AggField::Typename { .. } => false,
     }
 }

@@ -2,13 +2,13 @@
 ghost use Rattle.std.specs.Prelude.{◌≡◌, [], IfOk, OnOk, false};
 ghost use Rattle.hq_sql_tree.specs.Tree as tree;
 ghost use Rattle.hq_sql_tree.specs.View.{expr_view};
-ghost use Rattle.hq_compiled.specs.Looks.{name_of, is_text_column, own_look, cell_at, compared_at, is_used, add_new, add_all};
+ghost use Rattle.hq_compiled.specs.Looks.{name_of, is_text_column, own_look, cell_at, compared_at, compares, tested_at, is_used, add_new, add_all};
 ghost use Rattle.hq_compiled.specs.Masks.{value_place};
 
 use hq_base::{List, Memory, Txt, Ty};
 use hq_compile_context::{join_alias, table_alias, value_name};
 use hq_sql_tree::Expr;
-use hq_terms::{ColId, ColList, Column};
+use hq_terms::{ColId, ColList, Column, Test};
 use std::alloc::Global;
 
 // The name of a column; empty beyond the table's columns.
@@ -72,6 +72,27 @@ pub fn compared_column(
     ensures { IfOk result (λ e. expr_view e ≡ compared_at columns.now (own_look columns.now number column) column) }
 {
     let collate = is_text(columns, column);
+    column_at(alloc, columns, number, column, collate)
+}
+
+// Whether a test compares the value that it looks at.
+fn compares(test: Test) -> bool
+    ensures { result ≡ compares test }
+{
+    !matches!(test, Test::IsNull)
+}
+
+/// The same column, as a test looks at it.
+pub(crate) fn tested_column(
+    alloc: Global,
+    columns: &[Column],
+    number: u64,
+    column: ColId,
+    test: Test,
+) -> Result<Expr, Memory>
+    ensures { IfOk result (λ e. expr_view e ≡ tested_at columns.now (own_look columns.now number column) column test) }
+{
+    let collate = compares(test) && is_text(columns, column);
     column_at(alloc, columns, number, column, collate)
 }
 
