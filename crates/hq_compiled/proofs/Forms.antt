@@ -41,7 +41,7 @@ use Rattle.hq_compiled.specs.Selects.{key_orders, filter_from, behind_filter, fi
 use Rattle.hq_compiled.specs.Sorts.{Sort, shown_sorts, own_sorts, last_used, sort_place, sort_numbers, sort_joins, sorts_joins, orders, key_outputs, output_orders}
 use Rattle.hq_compiled.specs.Lists.{once, list_sorts, list_used, sorts_from, children_from, distinct_columns, list_rows, list_outputs, list_select}
 use Rattle.hq_compiled.specs.Aggregates.{is_taken, some_taken, is_aggregate, some_aggregate, taken_value, taken_pairs, count_value, summary_value, summary_pairs, needed, needed_columns, needed_outputs, summary_used, folded_select, plain_select, summary_select}
-use Rattle.hq_compiled.specs.Fields.{fields_used, key_used, origin_tie, key_members, field_value, fields_values, part_value, parts_values, field_numbers, part_numbers, fields_joins, field_joins, parts_joins, part_joins}
+use Rattle.hq_compiled.specs.Fields.{fields_used, key_used, origin_tie, key_members, field_value, fields_values, part_value, parts_values, field_numbers, part_numbers, fields_joins, field_joins, parts_joins, part_joins, kids_from}
 use Rattle.hq_compiled.specs.Statement.{statement}
 use Rattle.hq_compiled.specs.Correct.{HasKey, AreKeyed, IsKeyed, AreKeyedParts, IsKeyedPart}
 
@@ -456,7 +456,7 @@ module _ (s : Schema) (g : Rights) where
         (first_of fs u n (fields_used fs) (link s t (rel s t r) p n) (linked_form s t (rel s t r) p n) (joins_of_fields fs u n (behind_filter s g u (fields_used fs) n) h), tt)
     joins_of_field (list o a fs) t p n h =
         let u : ℕ = origin_table o s t in
-        (list_of fs u a n (origin_tie o s t p n) h.0 (tie_form o t p n) (joins_of_fields fs u n (children_from s g u (list_used s u a (fields_used fs)) a n) h.1), tt)
+        (list_of fs u a n (origin_tie o s t p n) h.0 (tie_form o t p n) (joins_of_fields fs u n (kids_from s g u a fs n) h.1), tt)
     joins_of_field (by_key u key fs) t p n h =
         let cs : List ℕ = key_used s u fs in
         let members : List PredTree = key_members (table s u).columns (shown_look s g u cs n) (table s u).key key in
@@ -474,7 +474,7 @@ module _ (s : Schema) (g : Rights) where
     joins_of_part (summary fs) o t p a n h = (summary_select_form fs (origin_table o s t) a n (origin_tie o s t p n) (tie_form o t p n), tt)
     joins_of_part (nodes fs) o t p a n h =
         let u : ℕ = origin_table o s t in
-        (list_of fs u a n (origin_tie o s t p n) h.0 (tie_form o t p n) (joins_of_fields fs u n (children_from s g u (list_used s u a (fields_used fs)) a n) h.1), tt)
+        (list_of fs u a n (origin_tie o s t p n) h.0 (tie_form o t p n) (joins_of_fields fs u n (kids_from s g u a fs n) h.1), tt)
     joins_of_part (part_typename name) o t p a n h = tt
 
 -- the statement

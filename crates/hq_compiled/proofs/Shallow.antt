@@ -40,7 +40,7 @@ use Rattle.hq_compiled.specs.Selects.{filter_from, behind_filter, key_orders, fi
 use Rattle.hq_compiled.specs.Sorts.{Sort, shown_sorts, own_sorts, last_used, sort_place, sort_numbers, sort_joins, sorts_joins, orders, key_outputs, output_orders}
 use Rattle.hq_compiled.specs.Lists.{once, list_sorts, list_used, sorts_from, children_from, distinct_columns, list_outputs, list_rows, list_select}
 use Rattle.hq_compiled.specs.Aggregates.{some_aggregate, taken_value, taken_pairs, count_value, summary_value, summary_pairs, needed, needed_columns, needed_outputs, summary_used, folded_select, plain_select, summary_select}
-use Rattle.hq_compiled.specs.Fields.{fields_used, key_used, origin_tie, empty_select, key_members, field_value, fields_values, part_value, parts_values, field_numbers, part_numbers, fields_joins, field_joins, parts_joins, part_joins}
+use Rattle.hq_compiled.specs.Fields.{fields_used, key_used, origin_tie, empty_select, key_members, field_value, fields_values, part_value, parts_values, field_numbers, part_numbers, fields_joins, field_joins, parts_joins, part_joins, kids_from}
 use Rattle.hq_compiled.specs.Shallow.{LowRights, AreShort, fields_height, field_height, parts_height, part_height, AreLow, IsLow, AreLowParts, IsLowPart, IsShallow}
 
 -- ---- conditions
@@ -477,7 +477,7 @@ module _ (s : Schema) (g : Rights) (F : ℕ) (low : LowRights g F) where
       field_low (list o a fs) k t p n h le =
           let u : ℕ = origin_table o s t in
           let m : ℕ = 2 * fields_height fs + base in
-          let l = list_of fs u a n m (origin_tie o s t p n) h.0 (omega arith) (tie_low o t p n) (fields_low fs m u n (children_from s g u (list_used s u a (fields_used fs)) a n) h.1 (omega arith)) in
+          let l = list_of fs u a n m (origin_tie o s t p n) h.0 (omega arith) (tie_low o t p n) (fields_low fs m u n (kids_from s g u a fs n) h.1 (omega arith)) in
           (omega (arith, l, le), tt)
       field_low (by_key u key fs) k t p n h le =
           let m : ℕ = 2 * fields_height fs + base in
@@ -510,7 +510,7 @@ module _ (s : Schema) (g : Rights) (F : ℕ) (low : LowRights g F) where
       part_low (nodes fs) o k t p a n short h le =
           let u : ℕ = origin_table o s t in
           let m : ℕ = 2 * fields_height fs + base in
-          let l = list_of fs u a n m (origin_tie o s t p n) short (omega arith) (tie_low o t p n) (fields_low fs m u n (children_from s g u (list_used s u a (fields_used fs)) a n) h (omega arith)) in
+          let l = list_of fs u a n m (origin_tie o s t p n) short (omega arith) (tie_low o t p n) (fields_low fs m u n (kids_from s g u a fs n) h (omega arith)) in
           (omega (arith, l, le), tt)
       part_low (part_typename name) o k t p a n short h le = tt
 
