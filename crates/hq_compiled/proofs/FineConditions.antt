@@ -1,18 +1,107 @@
 -- A condition over a table of the catalog is one whose columns, operands and relationships are there and of their kinds.
-use Rattle.std.proofs.Common.{◌≡◌, ℕ, Bool, true, Option, Some, None, is_some, refl, sym, subst, ◌≤◌}
-use Rattle.std.specs.Prelude.{slice_get, nat_le}
+use Rattle.std.proofs.Common.{◌≡◌, ℕ, List, [], ◌∷◌, length, map, Bool, true, ◌&&◌, Option, Some, None, is_some, refl, sym, subst, ◌≤◌}
+use Rattle.std.specs.Prelude.{slice_get, nat_le, codes}
+use Rattle.std.specs.List.{list_all}
 use Rattle.std.proofs.lemmas.Bool.{and_parts, leb-true, false≢true}
 use Rattle.hq_base.specs.declared.value.Ty.{Ty}
+use Rattle.hq_base.specs.declared.value.Ty.TheVariants.{Integer, Bigint, Text, Boolean}
+use Rattle.hq_base.specs.declared.value.Val.{Val}
+use Rattle.hq_base.specs.declared.value.Val.TheVariants as val
 use Rattle.hq_terms.specs.Bexp.{BexpTree, always, and_of, or_of, not_of, test, through, BexpTrees, no_bexp, bexp, depth}
-use Rattle.hq_terms.specs.Filters.{column_ty, is_test, of_type, is_filter, are_filters}
+use Rattle.hq_terms.specs.Filters.{column_ty, constant_fits, is_pattern, test_fits, operand_fits, is_test, of_type, is_filter, are_filters}
+use Rattle.hq_terms.specs.Database.{is_text}
 use Rattle.hq_terms.specs.Schema.{Schema, table, rel}
-use Rattle.hq_ask_tree.specs.Conditions.{is_bound, are_bound, is_condition}
-use Rattle.hq_compiled.specs.Fine.{FineRel, FineBexp, FineBexps}
+use Rattle.hq_terms.specs.Tests.{arity, has_arity, takes, applies}
+use Rattle.hq_terms.specs.declared.bexp.Operand.{Operand}
+use Rattle.hq_terms.specs.declared.bexp.Operand.TheVariants.{Const, Session}
+use Rattle.hq_terms.specs.declared.test.Arity.{Arity}
+use Rattle.hq_terms.specs.declared.test.Arity.TheVariants.{Nothing, One, Many}
+use Rattle.hq_terms.specs.declared.test.Test.{Test}
+use Rattle.hq_terms.specs.declared.test.Test.TheVariants.{Compare, Among, IsNull, Like}
+use Rattle.hq_ask_tree.specs.Conditions.{is_constant, is_bound, are_bound, is_condition}
+use Rattle.hq_sql_tree.specs.Tree as tree
+use Rattle.hq_sql_tree.specs.Tree.{ExprTree}
+use Rattle.hq_sql_tree.specs.WellFormed as well
+use Rattle.hq_sql_tree.specs.WellFormed.{Aliases, kind_of_type, kind, is_item, is_tested, is_operand}
+use Rattle.hq_compiled.specs.Looks.{compares}
+use Rattle.hq_compiled.specs.Conditions.{literal, operand_literal, literals_for}
+use Rattle.hq_compiled.specs.Fine.{column_alone, TestFits, FineRel, FineBexp, FineBexps}
 use Rattle.hq_compiled.proofs.Relationships.{column_is}
+use Rattle.hq_compiled.proofs.Scopes.{compared_of}
+use Rattle.hq_compiled.proofs.TypedConditions.{two}
 
 -- a number that is tested to be at most another is
 pub at_most : (n k : ℕ) → nat_le n k ≡ true → n ≤ k
 at_most n k h = leb-true n k h
+
+-- ---- tests of columns
+
+-- a constant is compared with a value of its type's kind
+constant_item : (scope : Aliases) (e : ExprTree) (ty : Ty) (v : Val) → kind scope e ≡ Some (kind_of_type ty) → constant_fits ty v ≡ true → is_item scope e (literal v) ≡ true
+constant_item scope e ty val.Null h f = cc
+constant_item scope e Integer (val.Int n) h f = rw h refl
+constant_item scope e Bigint (val.Int n) h f = rw h refl
+constant_item scope e Text (val.Int n) h f = cc
+constant_item scope e Boolean (val.Int n) h f = cc
+constant_item scope e Integer (val.Text s) h f = cc
+constant_item scope e Bigint (val.Text s) h f = cc
+constant_item scope e Text (val.Text s) h f = rw h refl
+constant_item scope e Boolean (val.Text s) h f = cc
+constant_item scope e Integer (val.Bool b) h f = cc
+constant_item scope e Bigint (val.Bool b) h f = cc
+constant_item scope e Text (val.Bool b) h f = cc
+constant_item scope e Boolean (val.Bool b) h f = rw h refl
+
+pattern_item : (v : Val) → is_pattern v ≡ true → well.is_pattern (literal v) ≡ true
+pattern_item val.Null f = cc
+pattern_item (val.Int n) f = cc
+pattern_item (val.Text s) f = f
+pattern_item (val.Bool b) f = cc
+
+-- an operand that fits a test of a column is one of the test of a value of the column's kind
+module _ (scope : Aliases) (e : ExprTree) (ty : Ty) (t : Test) (h : kind scope e ≡ Some (kind_of_type ty)) where
+  operand_const : (t : Test) (v : Val) → test_fits t ty v ≡ true → is_operand scope t e (literal v) ≡ true
+  operand_const (Compare op) v f = constant_item scope e ty v h f
+  operand_const Among v f = constant_item scope e ty v h f
+  operand_const IsNull v f = constant_item scope e ty v h f
+  operand_const (Like fold) v f = pattern_item v f
+
+  operand_typed : (v : Operand) → operand_fits t ty v ≡ true → is_constant v ≡ true → is_operand scope t e (operand_literal v) ≡ true
+  operand_typed (Const v) f g = operand_const t v f
+  operand_typed (Session name) f g = cc
+
+  operands_typed : (vs : List Operand) → list_all (operand_fits t ty) vs ≡ true → list_all is_constant vs ≡ true → list_all (is_operand scope t e) (map operand_literal vs) ≡ true
+  operands_typed [] f g = refl
+  operands_typed (v ∷ vs) f g =
+      let a = and_parts (operand_fits t ty v) (list_all (operand_fits t ty) vs) f in
+      let b = and_parts (is_constant v) (list_all is_constant vs) g in
+      two (is_operand scope t e (operand_literal v)) (list_all (is_operand scope t e) (map operand_literal vs)) (operand_typed v a.0 b.0) (operands_typed vs a.1 b.1)
+
+  literals_typed : (k : Arity) (vs : List Operand) → has_arity k (length vs) ≡ true → list_all (operand_fits t ty) vs ≡ true → list_all is_constant vs ≡ true → list_all (is_operand scope t e) (literals_for k vs) ≡ true
+  literals_typed Nothing vs n f g = refl
+  literals_typed One [] n f g = cc
+  literals_typed One (v ∷ vs) n f g =
+      two (is_operand scope t e (operand_literal v)) true
+      (operand_typed v (and_parts (operand_fits t ty v) (list_all (operand_fits t ty) vs) f).0 (and_parts (is_constant v) (list_all is_constant vs) g).0) refl
+  literals_typed Many vs n f g = operands_typed vs f g
+
+-- a column of a type that a test applies to
+value_alone : (ty : Ty) (t : Test) → applies t ty ≡ true → is_tested (column_alone ty) t (tree.column (codes "t") (codes "c") (compares t && is_text ty)) ≡ true
+value_alone Integer (Like fold) f = cc
+value_alone Bigint (Like fold) f = cc
+value_alone Text (Like fold) f = refl
+value_alone Boolean (Like fold) f = cc
+value_alone ty IsNull f = refl
+value_alone ty (Compare op) f = compared_of (column_alone ty) (codes "t") (codes "c") ty refl
+value_alone ty Among f = compared_of (column_alone ty) (codes "t") (codes "c") ty refl
+
+-- a test of a column of a type, of constants
+pub test_fine : (ty : Ty) (t : Test) (vs : List Operand) → is_test t vs ty ≡ true → list_all is_constant vs ≡ true → TestFits t ty vs
+test_fine ty t vs f g =
+    let e : ExprTree = tree.column (codes "t") (codes "c") (compares t && is_text ty) in
+    let parts = and_parts (takes t (length vs) && applies t ty) (list_all (operand_fits t ty) vs) f in
+    let of = and_parts (takes t (length vs)) (applies t ty) parts.0 in
+    two (is_tested (column_alone ty) t e) (list_all (is_operand (column_alone ty) t e) (literals_for (arity t) vs)) (value_alone ty t of.1) (literals_typed (column_alone ty) e ty t refl (arity t) vs of.0 parts.1 g)
 
 -- ---- columns whose type passes a test
 
@@ -32,9 +121,9 @@ module _ (s : Schema) (rels : (t r : ℕ) → is_some (slice_get (table s t).rel
     filter_fine (or_of bs) t h g = filters_fine bs t h g
     filter_fine (not_of b) t h g = filter_fine b t h g
     filter_fine (test c tested vs negated) t h g =
-        let at = of_column (λ ty. is_test tested vs ty ≡ true) (is_test tested vs) s t c (λ ty f. f) h in
+        let at = of_column (λ ty. TestFits tested ty vs) (is_test tested vs) s t c (λ ty f. test_fine ty tested vs f g) h in
         let is = column_is s t c at.0 at.1 in
-        (is.0, subst (λ (ty : Ty). is_test tested vs ty ≡ true) (sym is.1) at.2, g)
+        (is.0, subst (λ (ty : Ty). TestFits tested ty vs) (sym is.1) at.2)
     filter_fine (through r b) t h g =
         let parts = and_parts _ _ h in
         (rels t r parts.0, filter_fine b (rel s t r).remote parts.1 g)

@@ -13,7 +13,10 @@ use Rattle.hq_terms.specs.Fits.{fits}
 use Rattle.hq_terms.specs.Meta.{MetaTree}
 use Rattle.hq_terms.specs.Schema.{Schema, schema_of, table, rel}
 use Rattle.hq_terms.specs.Selected.{SortKey, ListArguments}
+use Rattle.hq_terms.specs.declared.bexp.Operand.TheVariants.{Const}
+use Rattle.hq_terms.specs.declared.op.Op.TheVariants.{Eq}
 use Rattle.hq_terms.specs.declared.table.Table.{Table}
+use Rattle.hq_terms.specs.declared.test.Test.TheVariants.{Compare}
 use Rattle.hq_ask_tree.specs.Allowed.{existing}
 use Rattle.hq_ask_tree.specs.Conditions as fit
 use Rattle.hq_ask_tree.specs.Conditions.{is_key, is_summary, FieldFits, PartFits}
@@ -30,10 +33,11 @@ use Rattle.hq_ask_tree.specs.declared.aggregate.AggField.TheVariants as take
 use Rattle.hq_ask_tree.specs.declared.aggregate.KeyedAggCol.{KeyedAggCol}
 use Rattle.hq_ask_tree.specs.declared.aggregate.KeyedAggField.{KeyedAggField}
 use Rattle.hq_compiled.specs.Correct.{AreFew, IsFew, AreFewParts, IsFewPart}
-use Rattle.hq_compiled.specs.Fine.{Has, FineRel, FineChain, FineArguments, FineOrigin, FineKey, FineTaken, FineSummary, keys_of, part_keys_of, FineFields, FineField, FineParts, FinePart}
+use Rattle.hq_compiled.specs.Fine.{Has, TestFits, FineRel, FineChain, FineArguments, FineOrigin, FineKey, FineTaken, FineSummary, keys_of, part_keys_of, FineFields, FineField, FineParts, FinePart}
 use Rattle.hq_compiled.specs.Lists.{list_sorts}
 use Rattle.hq_compiled.proofs.Relationships.{less, column_is, column_there, fitting_rel, rel_fine}
-use Rattle.hq_compiled.proofs.FineConditions.{of_column, condition_fine}
+use Rattle.hq_compiled.proofs.FineConditions.{of_column, test_fine, condition_fine}
+use Rattle.hq_compiled.proofs.TypedConditions.{two}
 use Rattle.hq_compiled.proofs.Once.{each_once}
 use Rattle.hq_compiled.proofs.Distinct.{entries_begin}
 
@@ -101,9 +105,9 @@ module _ (tables : List Table) (m : MetaTree) (fitting : fits tables m ≡ true)
   key_fine t (c ∷ cs) [] h = tt
   key_fine t (c ∷ cs) (v ∷ vs) h =
       let parts = and_parts _ _ h in
-      let at = of_column (λ ty. constant_fits ty v ≡ true) (λ ty. constant_fits ty v) s t c (λ ty f. f) parts.0 in
+      let at = of_column (λ ty. TestFits (Compare Eq) ty (Const v ∷ [])) (λ ty. constant_fits ty v) s t c (λ ty f. test_fine ty (Compare Eq) (Const v ∷ []) (two (constant_fits ty v) true f refl) refl) parts.0 in
       let is = column_is s t c at.0 at.1 in
-      (subst (λ (ty : Ty). constant_fits ty v ≡ true) (sym is.1) at.2, key_fine t cs vs parts.1)
+      (subst (λ (ty : Ty). TestFits (Compare Eq) ty (Const v ∷ [])) (sym is.1) at.2, key_fine t cs vs parts.1)
 
   -- ---- aggregates
 

@@ -1,8 +1,11 @@
 -- Each part of the statement has its type in scope.
-use Rattle.std.proofs.Common.{◌≡◌, ℕ, ◌+◌, ◌<◌, ◌≤◌, ◌^◌, List, [], ◌∷◌, ◌++◌, length, cond, Bool, true, false, ◌&&◌, Some, bytes_eq, refl, ap, ◌∙◌, arith}
+use Rattle.std.proofs.Common.{◌≡◌, ℕ, ◌+◌, ◌<◌, ◌≤◌, ◌^◌, List, [], ◌∷◌, ◌++◌, length, cond, Bool, true, false, Some, bytes_eq, refl, ap, ◌∙◌, arith}
 use Rattle.std.specs.Prelude.{slice_index_or, codes}
 use Rattle.hq_base.specs.Lists.{all_differ, Each}
 use Rattle.hq_base.specs.declared.value.Val.{Val}
+use Rattle.hq_terms.specs.declared.bexp.Operand.TheVariants.{Const}
+use Rattle.hq_terms.specs.declared.op.Op.TheVariants.{Eq}
+use Rattle.hq_terms.specs.declared.test.Test.TheVariants.{Compare}
 use Rattle.hq_terms.specs.Meta.{MetaTree}
 use Rattle.hq_terms.specs.Schema.{Schema, SchemaTable, schema_of, no_table, table, rel}
 use Rattle.hq_terms.specs.Selected.{ListArguments}
@@ -17,7 +20,7 @@ use Rattle.hq_sql_tree.specs.WellFormed.{Aliases, Kind, kind, kind_at, kind_name
 use Rattle.hq_compiled.specs.Names.{table_alias, join_alias, value_name}
 use Rattle.hq_compiled.specs.Looks.{Look, own_look, cell_at, compared_at}
 use Rattle.hq_compiled.specs.Rights.{Rights}
-use Rattle.hq_compiled.specs.Conditions.{literal, joined_by_and}
+use Rattle.hq_compiled.specs.Conditions.{joined_by_and}
 use Rattle.hq_compiled.specs.Predicates.{columns_in, link}
 use Rattle.hq_compiled.specs.Masks.{value_place, extra, masks, shown_look, filter_predicate}
 use Rattle.hq_compiled.specs.Selects.{filter_from, behind_filter, first_select}
@@ -29,7 +32,7 @@ use Rattle.hq_compiled.specs.Fine.{Has, type_of, kind_of, Known, FineArguments, 
 use Rattle.hq_compiled.proofs.CatalogTables.{FineTables, fine_tables}
 use Rattle.hq_compiled.proofs.Names.{same_text, used_one, used_left, used_right}
 use Rattle.hq_compiled.proofs.Scopes.{under_later, LooksUnder, looks_under_later, own_under, Knows, KnowsAll, knows_behind, all_behind, knows_left, knows_right, grows_table, value_of}
-use Rattle.hq_compiled.proofs.TypedConditions.{two, Preds, and_typed, constant_item, Joined, joined_none, joined_then, joined_one, joined_as, typed_last, joined_last, compared_typed}
+use Rattle.hq_compiled.proofs.TypedConditions.{two, Preds, and_typed, test_typed, Joined, joined_none, joined_then, joined_one, joined_as, typed_last, joined_last}
 use Rattle.hq_compiled.proofs.TypedJoins.{First, shown_under, Behind, first_typed, tie_typed}
 use Rattle.hq_compiled.proofs.TypedLists.{object_typed, list_typed}
 use Rattle.hq_compiled.proofs.TypedSummaries.{summary_typed}
@@ -65,8 +68,7 @@ module _ (s : Schema) (g : Rights) (tables : List Table) (ok : FineTables s g ta
   key_typed u look final (c ∷ cs) (v ∷ vs) h f k =
       let e : ExprTree = compared_at (table s u).columns (look c) c in
       let here = k c h.0 (used_left c (c ∷ []) cs (used_one c)) in (
-        two (is_compared final e) (is_item final e (literal v) && true) (compared_typed s g tables ok final u (look c) c here)
-            (two (is_item final e (literal v)) true (constant_item final e (type_of s u c) v here f.0) refl),
+        test_typed final (look c).alias (look c).name (type_of s u c) (Compare Eq) (Const v ∷ []) here f.0,
         key_typed u look final cs vs h.1 f.1 (λ d has used. k d has (used_right d (c ∷ []) cs used)),
       )
 

@@ -1,20 +1,18 @@
 -- Conditions have their types wherever the places of a row's columns show cells of the columns' kinds.
-use Rattle.std.proofs.Common.{◌≡◌, ℕ, ◌+◌, ◌<◌, ◌≤◌, ◌^◌, List, [], ◌∷◌, ◌++◌, length, map, Bool, true, false, cond, ◌&&◌, Option, Some, None, bytes_eq, refl, ap, sym, ◌∙◌, arith, append-nil, append_assoc}
+use Rattle.std.proofs.Common.{◌≡◌, ℕ, ◌+◌, ◌<◌, ◌≤◌, ◌^◌, List, [], ◌∷◌, ◌++◌, map, Bool, true, false, cond, ◌&&◌, Option, Some, None, bytes_eq, refl, ap, ap₂, sym, ◌∙◌, arith, append-nil, append_assoc}
 use Rattle.std.specs.List.{list_all}
 use Rattle.std.proofs.lemmas.Bool.{and_parts}
 use Rattle.hq_base.specs.Lists.{all_differ, Each}
 use Rattle.hq_base.specs.declared.value.Ty.{Ty}
-use Rattle.hq_base.specs.declared.value.Ty.TheVariants.{Integer, Bigint, Text, Boolean}
-use Rattle.hq_base.specs.declared.value.Val.{Val}
+use Rattle.hq_base.specs.declared.value.Ty.TheVariants.{Text}
 use Rattle.hq_base.specs.declared.value.Val.TheVariants as val
 use Rattle.hq_terms.specs.Bexp.{BexpTree, always, and_of, or_of, not_of, test, through, BexpTrees, no_bexp, bexp}
 use Rattle.hq_terms.specs.Database.{is_text}
-use Rattle.hq_terms.specs.Filters.{constant_fits, is_pattern, test_fits, operand_fits, is_test}
 use Rattle.hq_terms.specs.Schema.{Schema, table, rel, no_column}
-use Rattle.hq_terms.specs.Tests.{arity, has_arity, takes, applies, is_of_nothing}
+use Rattle.hq_terms.specs.Tests.{arity, is_of_nothing}
 use Rattle.hq_terms.specs.declared.test.Test.{Test}
 use Rattle.hq_terms.specs.declared.test.Test.TheVariants.{Compare, Among, IsNull, Like}
-use Rattle.std.specs.Prelude.{slice_index_or}
+use Rattle.std.specs.Prelude.{slice_index_or, codes}
 use Rattle.hq_terms.specs.declared.bexp.Operand.{Operand}
 use Rattle.hq_terms.specs.declared.bexp.Operand.TheVariants.{Const, Session}
 use Rattle.hq_terms.specs.declared.meta.Pair.{Pair}
@@ -22,17 +20,15 @@ use Rattle.hq_terms.specs.declared.meta.Rel.{Rel}
 use Rattle.hq_terms.specs.declared.table.Table.{Table}
 use Rattle.hq_terms.specs.declared.test.Arity.{Arity}
 use Rattle.hq_terms.specs.declared.test.Arity.TheVariants.{Nothing, One, Many}
-use Rattle.hq_ask_tree.specs.Conditions.{is_constant}
 use Rattle.hq_sql_tree.specs.Tree as tree
 use Rattle.hq_sql_tree.specs.Tree.{ExprTree, OrderTree, OutTree, SelectTree, JoinTree, JoinTrees, FilterTree, PredTree, preds_of, joins_of}
-use Rattle.hq_sql_tree.specs.WellFormed as well
 use Rattle.hq_sql_tree.specs.WellFormed.{Aliases, Kind, kind_of_type, kind, kind_at, kind_named, compare_kinds, is_value, is_compared, is_item, is_tested, is_operand, is_typed_test, begin_with, are_parts, is_typed, are_typed_joins, joined_scope, select_names, is_typed_filter, is_typed_pred, are_typed_preds}
 use Rattle.hq_compiled.specs.Names.{table_alias, join_alias, value_name, unit_name}
 use Rattle.hq_compiled.specs.Looks.{Look, Place, own_look, compared_at, compares, tested_at}
 use Rattle.hq_compiled.specs.Rights.{Rights}
-use Rattle.hq_compiled.specs.Conditions.{literal, operand_literal, joined_by_and, joined_by_or, with_member, where_of, negation_if, literals_for, test_of}
+use Rattle.hq_compiled.specs.Conditions.{operand_literal, joined_by_and, joined_by_or, with_member, where_of, negation_if, literals_for, test_of}
 use Rattle.hq_compiled.specs.Predicates.{link_members, link, Mode, columns_in, columns_in_all, guard_from, inner_from, numbers, numbers_all, predicate, predicates, filter_mode, own_numbers, own_predicate}
-use Rattle.hq_compiled.specs.Fine.{type_of, kind_of, Known, FinePair, FineBexp, FineBexps}
+use Rattle.hq_compiled.specs.Fine.{type_of, kind_of, Known, column_alone, TestFits, FinePair, FineBexp, FineBexps}
 use Rattle.hq_compiled.proofs.CatalogTables.{FineTables}
 use Rattle.hq_compiled.proofs.Names.{same_text, used_else}
 use Rattle.hq_compiled.proofs.Scopes.{under_table, under_join, under_later, LooksUnder, looks_under_later, own_under, Grows, Knows, KnowsAll, all_behind, knows_left, knows_right, with_table, knows_here, grows_table, value_of, compared_of}
@@ -89,70 +85,47 @@ three_typed tables scope a b c e f g =
 
 -- ---- tests
 
--- a constant is compared with a value of its type's kind
-pub constant_item : (scope : Aliases) (e : ExprTree) (ty : Ty) (v : Val) → kind scope e ≡ Some (kind_of_type ty) → constant_fits ty v ≡ true → is_item scope e (literal v) ≡ true
-constant_item scope e ty val.Null h f = cc
-constant_item scope e Integer (val.Int n) h f = rw h refl
-constant_item scope e Bigint (val.Int n) h f = rw h refl
-constant_item scope e Text (val.Int n) h f = cc
-constant_item scope e Boolean (val.Int n) h f = cc
-constant_item scope e Integer (val.Text s) h f = cc
-constant_item scope e Bigint (val.Text s) h f = cc
-constant_item scope e Text (val.Text s) h f = rw h refl
-constant_item scope e Boolean (val.Text s) h f = cc
-constant_item scope e Integer (val.Bool b) h f = cc
-constant_item scope e Bigint (val.Bool b) h f = cc
-constant_item scope e Text (val.Bool b) h f = cc
-constant_item scope e Boolean (val.Bool b) h f = rw h refl
+-- the literal of an operand has its type beside one value of a kind as beside another of that kind
+module _ (scope around : Aliases) (e f : ExprTree) (ty : Ty) (h : kind scope e ≡ Some (kind_of_type ty)) (g : kind around f ≡ Some (kind_of_type ty)) where
+  item_same : (v : Operand) → is_item scope e (operand_literal v) ≡ is_item around f (operand_literal v)
+  item_same (Const val.Null) = refl
+  item_same (Const (val.Int n)) = rw (h, g) refl
+  item_same (Const (val.Text s)) = rw (h, g) refl
+  item_same (Const (val.Bool b)) = rw (h, g) refl
+  item_same (Session name) = refl
 
-pattern_item : (v : Val) → is_pattern v ≡ true → well.is_pattern (literal v) ≡ true
-pattern_item val.Null f = cc
-pattern_item (val.Int n) f = cc
-pattern_item (val.Text s) f = f
-pattern_item (val.Bool b) f = cc
+  operand_same : (t : Test) (v : Operand) → is_operand scope t e (operand_literal v) ≡ is_operand around t f (operand_literal v)
+  operand_same (Like fold) v = refl
+  operand_same _ v = item_same v
 
--- an operand that fits a test of a column is one of the test of a value of the column's kind
-module _ (scope : Aliases) (e : ExprTree) (ty : Ty) (t : Test) (h : kind scope e ≡ Some (kind_of_type ty)) where
-  operand_const : (t : Test) (v : Val) → test_fits t ty v ≡ true → is_operand scope t e (literal v) ≡ true
-  operand_const (Compare op) v f = constant_item scope e ty v h f
-  operand_const Among v f = constant_item scope e ty v h f
-  operand_const IsNull v f = constant_item scope e ty v h f
-  operand_const (Like fold) v f = pattern_item v f
+  operands_same : (t : Test) (vs : List Operand) → list_all (is_operand scope t e) (map operand_literal vs) ≡ list_all (is_operand around t f) (map operand_literal vs)
+  operands_same t [] = refl
+  operands_same t (v ∷ vs) = ap₂ (λ a b. a && b) (operand_same t v) (operands_same t vs)
 
-  operand_typed : (v : Operand) → operand_fits t ty v ≡ true → is_constant v ≡ true → is_operand scope t e (operand_literal v) ≡ true
-  operand_typed (Const v) f g = operand_const t v f
-  operand_typed (Session name) f g = cc
+  literals_same : (t : Test) (k : Arity) (vs : List Operand) → list_all (is_operand scope t e) (literals_for k vs) ≡ list_all (is_operand around t f) (literals_for k vs)
+  literals_same t Nothing vs = refl
+  literals_same t One [] = ap (λ a. a && true) (operand_same t (Const val.Null))
+  literals_same t One (v ∷ vs) = ap (λ a. a && true) (operand_same t v)
+  literals_same t Many vs = operands_same t vs
 
-  operands_typed : (vs : List Operand) → list_all (operand_fits t ty) vs ≡ true → list_all is_constant vs ≡ true → list_all (is_operand scope t e) (map operand_literal vs) ≡ true
-  operands_typed [] f g = refl
-  operands_typed (v ∷ vs) f g =
-      let a = and_parts (operand_fits t ty v) (list_all (operand_fits t ty) vs) f in
-      let b = and_parts (is_constant v) (list_all is_constant vs) g in
-      two (is_operand scope t e (operand_literal v)) (list_all (is_operand scope t e) (map operand_literal vs)) (operand_typed v a.0 b.0) (operands_typed vs a.1 b.1)
-
-  literals_typed : (k : Arity) (vs : List Operand) → has_arity k (length vs) ≡ true → list_all (operand_fits t ty) vs ≡ true → list_all is_constant vs ≡ true → list_all (is_operand scope t e) (literals_for k vs) ≡ true
-  literals_typed Nothing vs n f g = refl
-  literals_typed One [] n f g = cc
-  literals_typed One (v ∷ vs) n f g =
-      two (is_operand scope t e (operand_literal v)) true
-      (operand_typed v (and_parts (operand_fits t ty v) (list_all (operand_fits t ty) vs) f).0 (and_parts (is_constant v) (list_all is_constant vs) g).0) refl
-  literals_typed Many vs n f g = operands_typed vs f g
-
--- a column of a type that a test applies to, as the test looks at it
-value_typed : (scope : Aliases) (alias name : List ℕ) (ty : Ty) (t : Test) → kind_at scope alias name ≡ Some (kind_of_type ty) → applies t ty ≡ true → is_tested scope t (tree.column alias name (compares t && is_text ty)) ≡ true
+-- a column of a type that a test takes where it stands alone, as the test looks at it
+value_typed : (scope : Aliases) (alias name : List ℕ) (ty : Ty) (t : Test) → kind_at scope alias name ≡ Some (kind_of_type ty)
+    → is_tested (column_alone ty) t (tree.column (codes "t") (codes "c") (compares t && is_text ty)) ≡ true → is_tested scope t (tree.column alias name (compares t && is_text ty)) ≡ true
 value_typed scope alias name ty (Compare op) h f = compared_of scope alias name ty h
 value_typed scope alias name ty Among h f = compared_of scope alias name ty h
 value_typed scope alias name ty IsNull h f = value_of scope alias name (kind_of_type ty) h
 value_typed scope alias name Text (Like fold) h f = rw h refl
 value_typed scope alias name _ (Like fold) h f = cc
 
-test_typed : (scope : Aliases) (alias name : List ℕ) (ty : Ty) (t : Test) (vs : List Operand) → kind_at scope alias name ≡ Some (kind_of_type ty) → is_test t vs ty ≡ true → list_all is_constant vs ≡ true
+-- a test that has its types where its column stands alone has them in each scope
+pub test_typed : (scope : Aliases) (alias name : List ℕ) (ty : Ty) (t : Test) (vs : List Operand) → kind_at scope alias name ≡ Some (kind_of_type ty) → TestFits t ty vs
     → is_typed_test scope (tree.column alias name (compares t && is_text ty)) t (literals_for (arity t) vs) ≡ true
-test_typed scope alias name ty t vs h f g =
+test_typed scope alias name ty t vs h f =
     let e : ExprTree = tree.column alias name (compares t && is_text ty) in
-    let parts = and_parts (takes t (length vs) && applies t ty) (list_all (operand_fits t ty) vs) f in
-    let of = and_parts (takes t (length vs)) (applies t ty) parts.0 in
-    two (is_tested scope t e) (list_all (is_operand scope t e) (literals_for (arity t) vs)) (value_typed scope alias name ty t h of.1) (literals_typed scope e ty t h (arity t) vs of.0 parts.1 g)
+    let own : ExprTree = tree.column (codes "t") (codes "c") (compares t && is_text ty) in
+    let parts = and_parts (is_tested (column_alone ty) t own) (list_all (is_operand (column_alone ty) t own) (literals_for (arity t) vs)) f in
+    two (is_tested scope t e) (list_all (is_operand scope t e) (literals_for (arity t) vs)) (value_typed scope alias name ty t h parts.0)
+    (literals_same scope (column_alone ty) e own ty h refl t (arity t) vs ∙ parts.1)
 
 negation_typed : (tables : List Table) (scope : Aliases) (b : Bool) (p : PredTree) → is_typed_pred p tables scope ≡ true → is_typed_pred (negation_if b p) tables scope ≡ true
 negation_typed tables scope true p e = e
@@ -289,7 +262,7 @@ module _ (s : Schema) (g : Rights) (tables : List Table) (ok : FineTables s g ta
       predicate_typed (not_of b) look t p n scope f own lt k u bound = predicate_typed b look t p n scope f own lt k u bound
       predicate_typed (test c tested vs negated) look t p n scope f own lt k u bound =
           test_of_typed tables scope (tested_at (table s t).columns (look c) c tested) tested vs negated
-          (λ some. test_typed scope (look c).alias (look c).name (type_of s t c) tested vs (k c f.0 (used_else c (is_of_nothing tested vs) some)) f.1 f.2)
+          (λ some. test_typed scope (look c).alias (look c).name (type_of s t c) tested vs (k c f.0 (used_else c (is_of_nothing tested vs) some)) f.1)
       predicate_typed (through r b) look t p n scope f own lt k u bound =
           let far : ℕ = (rel s t r).remote in
           let cs : List ℕ = columns_in b in

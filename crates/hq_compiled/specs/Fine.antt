@@ -1,5 +1,5 @@
 -- What a request and a catalog must be, that each part of the statement has its type in scope.
-use Rattle.std.specs.Prelude.{◌≡◌, ℕ, ◌<◌, ◌≤◌, ◌^◌, ◌+◌, List, [], ◌∷◌, length, map, Bool, true, ◌&&◌, ◌||◌, ◌==◌, Some, None, bytes_eq, slice_index_or}
+use Rattle.std.specs.Prelude.{◌≡◌, ℕ, ◌<◌, ◌≤◌, ◌^◌, ◌+◌, List, [], ◌∷◌, length, map, Bool, true, ◌&&◌, ◌||◌, ◌==◌, Some, None, bytes_eq, codes, slice_index_or}
 use Rattle.std.specs.List.{list_all}
 use Rattle.hq_base.specs.Aggregates.{is_aggregate_of}
 use Rattle.hq_base.specs.Lists.{all_differ, Each}
@@ -8,15 +8,20 @@ use Rattle.hq_base.specs.declared.value.Ty.{Ty}
 use Rattle.hq_base.specs.declared.value.Val.{Val}
 use Rattle.hq_terms.specs.Bexp.{BexpTree, always, and_of, or_of, not_of, test, through, BexpTrees, no_bexp, bexp}
 use Rattle.hq_terms.specs.Catalog.{is_catalog}
-use Rattle.hq_terms.specs.Filters.{constant_fits, is_test}
+use Rattle.hq_terms.specs.Database.{is_text}
 use Rattle.hq_terms.specs.Meta.{MetaTree}
 use Rattle.hq_terms.specs.Permission.{Mask}
 use Rattle.hq_terms.specs.Schema.{Schema, schema_of, table, rel, no_column}
 use Rattle.hq_terms.specs.Selected.{SortKey, ListArguments, entries}
 use Rattle.hq_terms.specs.declared.meta.Pair.{Pair}
+use Rattle.hq_terms.specs.Tests.{arity}
+use Rattle.hq_terms.specs.declared.bexp.Operand.{Operand}
+use Rattle.hq_terms.specs.declared.bexp.Operand.TheVariants.{Const}
+use Rattle.hq_terms.specs.declared.op.Op.TheVariants.{Eq}
 use Rattle.hq_terms.specs.declared.table.Column.{Column}
 use Rattle.hq_terms.specs.declared.table.Table.{Table}
-use Rattle.hq_ask_tree.specs.Conditions.{is_constant}
+use Rattle.hq_terms.specs.declared.test.Test.{Test}
+use Rattle.hq_terms.specs.declared.test.Test.TheVariants.{Compare}
 use Rattle.hq_ask_tree.specs.Fields.{Origin, from_table, along, FieldTrees, no_field, field, FieldTree, column, typename, no_queries, object, list, by_key, aggregate, introspect, PartTrees, no_part, part, PartTree, summary, nodes, part_typename}
 use Rattle.hq_ask_tree.specs.Resolve.{origin_table}
 use Rattle.hq_ask_tree.specs.declared.aggregate.AggCol.{AggCol}
@@ -25,8 +30,10 @@ use Rattle.hq_ask_tree.specs.declared.aggregate.AggField.{AggField}
 use Rattle.hq_ask_tree.specs.declared.aggregate.AggField.TheVariants as take
 use Rattle.hq_ask_tree.specs.declared.aggregate.KeyedAggCol.{KeyedAggCol}
 use Rattle.hq_ask_tree.specs.declared.aggregate.KeyedAggField.{KeyedAggField}
-use Rattle.hq_sql_tree.specs.WellFormed.{Kind, Names, kind_of_type, compare_kinds, is_typed}
-use Rattle.hq_compiled.specs.Looks.{is_used}
+use Rattle.hq_sql_tree.specs.Tree as sql
+use Rattle.hq_sql_tree.specs.WellFormed.{Aliases, Kind, Names, kind_of_type, compare_kinds, is_typed_test, is_typed}
+use Rattle.hq_compiled.specs.Looks.{compares, is_used}
+use Rattle.hq_compiled.specs.Conditions.{literals_for}
 use Rattle.hq_compiled.specs.Rights.{Rights}
 use Rattle.hq_compiled.specs.Lists.{once, list_sorts}
 use Rattle.hq_compiled.specs.Aggregates.{needed}
@@ -53,6 +60,14 @@ kind_of s t c = kind_of_type (type_of s t c)
 
 -- ---- conditions
 
+-- one alias alone, with one column of a type
+abbrev pub column_alone : Ty → Aliases
+column_alone ty = (codes "t", (codes "c", Some (kind_of_type ty)) ∷ []) ∷ []
+
+-- a test of a column of a type has its types with these operands
+abbrev pub TestFits : Test → Ty → List Operand → Type 0
+TestFits t ty vs = is_typed_test (column_alone ty) (sql.column (codes "t") (codes "c") (compares t && is_text ty)) t (literals_for (arity t) vs) ≡ true
+
 -- the columns of a pair are the tables' and can be compared
 abbrev pub FinePair : Schema → (t u : ℕ) → Pair → Type 0
 FinePair s t u p = Has s t p.own × Has s u p.remote × (compare_kinds (Some (kind_of s u p.remote)) (Some (kind_of s t p.own)) ≡ true)
@@ -66,7 +81,7 @@ abbrev mutual
   FineBexp (and_of bs) s t = FineBexps bs s t
   FineBexp (or_of bs) s t = FineBexps bs s t
   FineBexp (not_of b) s t = FineBexp b s t
-  FineBexp (test c tested vs negated) s t = Has s t c × (is_test tested vs (type_of s t c) ≡ true) × (list_all is_constant vs ≡ true)
+  FineBexp (test c tested vs negated) s t = Has s t c × TestFits tested (type_of s t c) vs
   FineBexp (through r b) s t = FineRel s t r × FineBexp b s (rel s t r).remote
 
   pub FineBexps : BexpTrees → Schema → (t : ℕ) → Type 0
@@ -110,7 +125,7 @@ FineOrigin (along r) s t = FineRel s t r
 abbrev pub FineKey : Schema → (t : ℕ) → List ℕ → List Val → Type 0
 FineKey s t [] vs = Unit {0}
 FineKey s t (c ∷ cs) [] = Unit {0}
-FineKey s t (c ∷ cs) (v ∷ vs) = (constant_fits (type_of s t c) v ≡ true) × FineKey s t cs vs
+FineKey s t (c ∷ cs) (v ∷ vs) = TestFits (Compare Eq) (type_of s t c) (Const v ∷ []) × FineKey s t cs vs
 
 -- ---- aggregates
 
