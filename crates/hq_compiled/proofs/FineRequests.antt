@@ -1,5 +1,5 @@
 -- A typed request is of its catalog: its columns, relationships and tables are there, and its values and sorts are of their kinds.
-use Rattle.std.proofs.Common.{◌≡◌, ℕ, ◌≤◌, ◌^◌, List, [], ◌∷◌, map, length, true, Some, None, refl, sym, ap, subst, ◌∙◌}
+use Rattle.std.proofs.Common.{◌≡◌, ℕ, ◌≤◌, ◌^◌, List, [], ◌∷◌, map, length, true, Some, None, refl, sym, subst}
 use Rattle.std.specs.Prelude.{bytes_eq}
 use Rattle.std.specs.List.{list_all}
 use Rattle.std.proofs.lemmas.Bool.{and_parts}
@@ -33,7 +33,7 @@ use Rattle.hq_ask_tree.specs.declared.aggregate.AggField.TheVariants as take
 use Rattle.hq_ask_tree.specs.declared.aggregate.KeyedAggCol.{KeyedAggCol}
 use Rattle.hq_ask_tree.specs.declared.aggregate.KeyedAggField.{KeyedAggField}
 use Rattle.hq_compiled.specs.Correct.{AreFew, IsFew, AreFewParts, IsFewPart}
-use Rattle.hq_compiled.specs.Fine.{Has, TestFits, FineRel, FineChain, FineArguments, FineOrigin, FineKey, FineTaken, FineSummary, keys_of, part_keys_of, FineFields, FineField, FineParts, FinePart}
+use Rattle.hq_compiled.specs.Fine.{Has, TestFits, FineRel, FineChain, FineArguments, FineOrigin, FineKey, FineTaken, FineSummary, FineFields, FineField, FineParts, FinePart}
 use Rattle.hq_compiled.specs.Lists.{list_sorts}
 use Rattle.hq_compiled.proofs.Relationships.{less, column_is, column_there, fitting_rel, rel_fine}
 use Rattle.hq_compiled.proofs.FineConditions.{of_column, test_fine, condition_fine}
@@ -43,22 +43,8 @@ use Rattle.hq_compiled.proofs.Distinct.{entries_begin}
 
 -- ---- response keys
 
-keys_same : (fs : FieldTrees) → keys_of fs ≡ response.keys_of fs
-keys_same no_field = refl
-keys_same (field key f fs) = ap (λ ks. key ∷ ks) (keys_same fs)
-
-part_keys_same : (ps : PartTrees) → part_keys_of ps ≡ response.part_keys ps
-part_keys_same no_part = refl
-part_keys_same (part key p ps) = ap (λ ks. key ∷ ks) (part_keys_same ps)
-
-keys_differ : (ks : List (List ℕ)) → are_keys ks ≡ true → all_differ bytes_eq ks ≡ true
+pub keys_differ : (ks : List (List ℕ)) → are_keys ks ≡ true → all_differ bytes_eq ks ≡ true
 keys_differ ks h = (and_parts _ _ h).1
-
-pub fields_apart : (fs : FieldTrees) → are_keys (response.keys_of fs) ≡ true → all_differ bytes_eq (keys_of fs) ≡ true
-fields_apart fs h = ap (all_differ bytes_eq) (keys_same fs) ∙ keys_differ (response.keys_of fs) h
-
-parts_apart : (ps : PartTrees) → are_keys (response.part_keys ps) ≡ true → all_differ bytes_eq (part_keys_of ps) ≡ true
-parts_apart ps h = ap (all_differ bytes_eq) (part_keys_same ps) ∙ keys_differ (response.part_keys ps) h
 
 module _ (tables : List Table) (m : MetaTree) (fitting : fits tables m ≡ true) where
   abbrev s : Schema
@@ -155,14 +141,14 @@ module _ (tables : List Table) (m : MetaTree) (fitting : fits tables m ≡ true)
     field_fine (column c) t u ub h hb k kb few = column_there s t c u
     field_fine (typename name) t u ub h hb k kb few = tt
     field_fine no_queries t u ub h hb k kb few = tt
-    field_fine (object r fs) t u ub h hb k kb few = (rel_there t r u, fields_apart fs k, fields_fine fs (rel s t r).remote ub hb kb few)
+    field_fine (object r fs) t u ub h hb k kb few = (rel_there t r u, keys_differ (response.keys_of fs) k, fields_fine fs (rel s t r).remote ub hb kb few)
     field_fine (list o a fs) t u ub h hb k kb few =
         let v : ℕ = origin_table o s t in
-        (origin_there o t u.0, arguments_fine a v (sorts_there a.sorts v u.1.1) (columns_there a.distinct v u.1.2) h few.0, fields_apart fs k, fields_fine fs v ub hb kb few.1)
-    field_fine (by_key v key fs) t u ub h hb k kb few = (less v (length s) u.0, key_fine v (table s v).key key h, fields_apart fs k, fields_fine fs v ub hb kb few)
+        (origin_there o t u.0, arguments_fine a v (sorts_there a.sorts v u.1.1) (columns_there a.distinct v u.1.2) h few.0, keys_differ (response.keys_of fs) k, fields_fine fs v ub hb kb few.1)
+    field_fine (by_key v key fs) t u ub h hb k kb few = (less v (length s) u.0, key_fine v (table s v).key key h, keys_differ (response.keys_of fs) k, fields_fine fs v ub hb kb few)
     field_fine (aggregate o a ps) t u ub h hb k kb few =
         let v : ℕ = origin_table o s t in
-        (origin_there o t u.0, arguments_fine a v (sorts_there a.sorts v u.2.1) (columns_there a.distinct v u.2.2) h few.0, parts_apart ps k, parts_fine ps v ub hb kb few.1)
+        (origin_there o t u.0, arguments_fine a v (sorts_there a.sorts v u.2.1) (columns_there a.distinct v u.2.2) h few.0, keys_differ (response.part_keys ps) k, parts_fine ps v ub hb kb few.1)
     field_fine (introspect x) t u ub h hb k kb few = tt
 
     parts_fine : (ps : PartTrees) (u : ℕ) → EveryPart (UsesHere s (existing m s)) (UsesPart (existing m s)) ps s u → EveryPart (FieldFits s) (PartFits s) ps s u → EveryPart FieldKeys PartKeys ps s u →
@@ -173,5 +159,5 @@ module _ (tables : List Table) (m : MetaTree) (fitting : fits tables m ≡ true)
     part_fine : (q : PartTree) (u : ℕ) → UsesPart (existing m s) u q → BelowPart (UsesHere s (existing m s)) (UsesPart (existing m s)) q s u →
         PartFits s u q → BelowPart (FieldFits s) (PartFits s) q s u → PartKeys u q → BelowPart FieldKeys PartKeys q s u → IsFewPart q s u → FinePart q s u
     part_fine (summary fs) u h hb f fb k kb few = (summaries_fine u fs h f k.1, keys_differ (map (λ x. x.key) fs) k.0, few)
-    part_fine (nodes fs) u h hb f fb k kb few = (fields_apart fs k, fields_fine fs u hb fb kb few)
+    part_fine (nodes fs) u h hb f fb k kb few = (keys_differ (response.keys_of fs) k, fields_fine fs u hb fb kb few)
     part_fine (part_typename name) u h hb f fb k kb few = tt

@@ -12,6 +12,7 @@ use Rattle.hq_terms.specs.Selected.{ListArguments}
 use Rattle.hq_terms.specs.declared.table.Table.{Table}
 use Rattle.hq_ask_tree.specs.Fields.{Origin, from_table, along, FieldTrees, no_field, field, FieldTree, column, typename, no_queries, object, list, by_key, aggregate, introspect, PartTrees, no_part, part, PartTree, summary, nodes, part_typename}
 use Rattle.hq_ask_tree.specs.Resolve.{origin_table}
+use Rattle.hq_ask_tree.specs.ResponseKeys.{keys_of, part_keys}
 use Rattle.hq_ask_tree.specs.declared.aggregate.KeyedAggField.{KeyedAggField}
 use Rattle.hq_sql_tree.specs.Tree as tree
 use Rattle.hq_sql_tree.specs.Tree.{ExprTree, PairTree, SelectTree, JoinTree, PredTree, joins_of, pairs_of}
@@ -28,7 +29,7 @@ use Rattle.hq_compiled.specs.Sorts.{used_sorts}
 use Rattle.hq_compiled.specs.Lists.{once, list_sorts, list_used, list_numbers, children_from, list_select}
 use Rattle.hq_compiled.specs.Aggregates.{some_aggregate, summary_select, summary_used, summary_numbers}
 use Rattle.hq_compiled.specs.Fields.{field_used, fields_used, key_used, origin_tie, key_members, field_numbers, fields_numbers, part_numbers, parts_numbers, field_value, fields_values, part_value, parts_values, empty_select, parts_select, field_joins, fields_joins, part_joins, parts_joins}
-use Rattle.hq_compiled.specs.Fine.{Has, type_of, kind_of, Known, FineArguments, FineOrigin, FineKey, keys_of, part_keys_of, Apart, FineFields, FineField, FineParts, FinePart, IsTyped}
+use Rattle.hq_compiled.specs.Fine.{Has, type_of, kind_of, Known, FineArguments, FineOrigin, FineKey, Apart, FineFields, FineField, FineParts, FinePart, IsTyped}
 use Rattle.hq_compiled.proofs.CatalogTables.{FineTables, fine_tables}
 use Rattle.hq_compiled.proofs.Names.{same_text, used_one, used_left, used_right}
 use Rattle.hq_compiled.proofs.Scopes.{under_later, LooksUnder, looks_under_later, own_under, Knows, KnowsAll, knows_behind, all_behind, knows_left, knows_right, grows_table, value_of}
@@ -45,7 +46,7 @@ names_of : (fs : FieldTrees) (s : Schema) (g : Rights) (look : Look) (t n : ℕ)
 names_of no_field s g look t n = refl
 names_of (field k f fs) s g look t n = ap (λ l. k ∷ l) (names_of fs s g look t (n + field_numbers f s g t))
 
-part_names_of : (ps : PartTrees) (s : Schema) (g : Rights) (u : ℕ) (a : ListArguments) (n : ℕ) → pair_names (pairs_of (parts_values ps s g u a n)) ≡ part_keys_of ps
+part_names_of : (ps : PartTrees) (s : Schema) (g : Rights) (u : ℕ) (a : ListArguments) (n : ℕ) → pair_names (pairs_of (parts_values ps s g u a n)) ≡ part_keys ps
 part_names_of no_part s g u a n = refl
 part_names_of (part k p ps) s g u a n = ap (λ l. k ∷ l) (part_names_of ps s g u a (n + part_numbers p s g u a))
 

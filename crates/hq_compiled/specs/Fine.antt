@@ -24,6 +24,7 @@ use Rattle.hq_terms.specs.declared.test.Test.{Test}
 use Rattle.hq_terms.specs.declared.test.Test.TheVariants.{Compare}
 use Rattle.hq_ask_tree.specs.Fields.{Origin, from_table, along, FieldTrees, no_field, field, FieldTree, column, typename, no_queries, object, list, by_key, aggregate, introspect, PartTrees, no_part, part, PartTree, summary, nodes, part_typename}
 use Rattle.hq_ask_tree.specs.Resolve.{origin_table}
+use Rattle.hq_ask_tree.specs.ResponseKeys.{keys_of, part_keys}
 use Rattle.hq_ask_tree.specs.declared.aggregate.AggCol.{AggCol}
 use Rattle.hq_ask_tree.specs.declared.aggregate.AggCol.TheVariants as of
 use Rattle.hq_ask_tree.specs.declared.aggregate.AggField.{AggField}
@@ -149,14 +150,6 @@ FineSummaries s t fs = Each (λ f. FineSummary s t f.field) fs × (all_differ by
 
 -- ---- fields
 
-abbrev pub keys_of : FieldTrees → List (List ℕ)
-keys_of no_field = []
-keys_of (field key f fs) = key ∷ keys_of fs
-
-abbrev pub part_keys_of : PartTrees → List (List ℕ)
-part_keys_of no_part = []
-part_keys_of (part key p ps) = key ∷ part_keys_of ps
-
 -- the response keys of an object differ
 abbrev pub Apart : FieldTrees → Type 0
 Apart fs = all_differ bytes_eq (keys_of fs) ≡ true
@@ -173,7 +166,7 @@ abbrev mutual
   FineField (object r fs) s t = FineRel s t r × Apart fs × FineFields fs s (rel s t r).remote
   FineField (list o a fs) s t = FineOrigin o s t × FineArguments s (origin_table o s t) a × Apart fs × FineFields fs s (origin_table o s t)
   FineField (by_key u key fs) s t = Known s u × FineKey s u (table s u).key key × Apart fs × FineFields fs s u
-  FineField (aggregate o a ps) s t = FineOrigin o s t × FineArguments s (origin_table o s t) a × (all_differ bytes_eq (part_keys_of ps) ≡ true) × FineParts ps s (origin_table o s t)
+  FineField (aggregate o a ps) s t = FineOrigin o s t × FineArguments s (origin_table o s t) a × (all_differ bytes_eq (part_keys ps) ≡ true) × FineParts ps s (origin_table o s t)
   FineField (introspect f) s t = Unit {0}
 
   pub FineParts : PartTrees → Schema → (u : ℕ) → Type 0
