@@ -24,18 +24,13 @@ fn is_pattern(alloc: Global, value: &Expr) -> Result<bool, Memory>
 }
 
 // Whether the value is one of which the test is.
-fn is_tested(
-    alloc: Global,
-    scope: &Scope<'_, '_>,
-    test: Test,
-    value: &Expr,
-) -> Result<bool, Memory>
+fn is_tested(alloc: Global, scope: &Scope<'_, '_>, test: Test, value: &Expr) -> Result<bool, Memory>
     ensures { IfOk result (λ well. well ≡ is_tested (scope_view scope.now) test (expr_view value.now)) }
 {
     match test {
         Test::IsNull => is_value(alloc, scope, value),
         Test::Like { .. } => Ok(is_compared(alloc, scope, value)? && is_text(kind(scope, value))),
-        Test::Compare(_) | Test::Among => is_compared(alloc, scope, value),
+        _ => is_compared(alloc, scope, value),
     }
 }
 
@@ -51,7 +46,7 @@ fn is_operand(
 {
     match test {
         Test::Like { .. } => is_pattern(alloc, operand),
-        Test::Compare(_) | Test::Among | Test::IsNull => is_item(alloc, scope, value, operand),
+        _ => is_item(alloc, scope, value, operand),
     }
 }
 

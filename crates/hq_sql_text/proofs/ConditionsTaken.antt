@@ -10,8 +10,8 @@ use Rattle.hq_sql_tree.specs.Tree as tree
 use Rattle.hq_sql_tree.specs.Tree.{ExprTree, OrderTree, SelectTree, FilterTree, PredTree, preds_of}
 use Rattle.hq_sql_tree.specs.Form.{is_rows, is_count}
 use Rattle.hq_sql_tree.specs.Spelling.{separated, clause_text, expr_text, order_text, number_text, select_text, filter_text, pred_text, pred_texts}
-use Rattle.hq_sql_expr.specs.Reading.{◌>>=◌, Reader, below, after, choose, all_many, expr_at, order_with}
-use Rattle.hq_sql_expr.proofs.Sound.{Taken, Sound, Spelled, sound_next, sound_last, sound_word, sound_choose, sound_choose_end, sound_end, sound_pure, sound_nothing}
+use Rattle.hq_sql_expr.specs.Reading.{◌>>=◌, Reader, after, choose, all_many, expr_at, order_with}
+use Rattle.hq_sql_expr.proofs.Sound.{Taken, Sound, Spelled, sound_next, sound_last, sound_word, sound_choose, sound_choose_end, sound_end, sound_pure}
 use Rattle.hq_sql_expr.proofs.Listed.{AllGood, list_text, all_many_takes}
 use Rattle.hq_sql_expr.proofs.Fits.{FitsExpr}
 use Rattle.hq_sql_expr.proofs.Exprs.{GoodOrder, expr_takes, orders_take}
@@ -61,7 +61,8 @@ module _ (d : ℕ) (value : ExprTree) (fits : FitsExpr value d) where
   unfolding test_with
   test_takes =
       sound_next test_at (λ t bytes. operands_at (arity t) d bytes >>= λ es. Some (tree.test value t es.0, es.1)) (λ t. word_text (test_word t)) (λ t. Unit {0}) Asked test_at_takes
-      (λ t u. sound_last (operands_at (arity t) d) (λ es. tree.test value t es) (closed_list_text (test_close t)) (FitsOperands (arity t) d) (λ b p. Asked (word_text (test_word t) ++ b) p) (λ es good. (refl, (fits, good))) (operands_take (arity t) d))
+      (λ t u. sound_last (operands_at (arity t) d) (λ es. tree.test value t es) (closed_list_text (test_close t)) (FitsOperands (arity t) d) (λ b p. Asked (word_text (test_word t) ++ b) p)
+      (λ es good. (refl, (fits, good))) (operands_take (arity t) d))
 
 tested_takes : (d : ℕ) → Sound (tested_at d) (Inside d)
 unfolding tested_at
