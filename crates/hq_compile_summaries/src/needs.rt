@@ -41,7 +41,8 @@ fn add_field(field: &AggField, columns: &mut ColList) -> Result<(), Memory>
     match field {
         AggField::Count { col, .. } => add_counted(*col, columns),
         AggField::Columns {
-            columns: fields, ..
+            columns: fields,
+            ..
         } => add_columns(fields.as_slice(), columns),
         AggField::Typename { .. } => Ok(()),
     }

@@ -17,7 +17,7 @@ use Rattle.hq_terms.specs.declared.bexp.Operand.TheVariants.{Const, Session}
 use Rattle.hq_terms.specs.declared.test.Arity.{Arity}
 use Rattle.hq_terms.specs.declared.test.Arity.TheVariants.{Nothing, One, Many}
 use Rattle.hq_terms.specs.declared.test.Test.{Test}
-use Rattle.hq_terms.specs.declared.test.Test.TheVariants.{Compare, Among, IsNull, Like}
+use Rattle.hq_terms.specs.declared.test.Test.TheVariants.{IsNull, Like}
 use Rattle.hq_ask_tree.specs.Conditions.{is_constant, is_bound, are_bound, is_condition}
 use Rattle.hq_sql_tree.specs.Tree as tree
 use Rattle.hq_sql_tree.specs.Tree.{ExprTree}
@@ -61,10 +61,8 @@ pattern_item (val.Bool b) f = cc
 -- an operand that fits a test of a column is one of the test of a value of the column's kind
 module _ (scope : Aliases) (e : ExprTree) (ty : Ty) (t : Test) (h : kind scope e ≡ Some (kind_of_type ty)) where
   operand_const : (t : Test) (v : Val) → test_fits t ty v ≡ true → is_operand scope t e (literal v) ≡ true
-  operand_const (Compare op) v f = constant_item scope e ty v h f
-  operand_const Among v f = constant_item scope e ty v h f
-  operand_const IsNull v f = constant_item scope e ty v h f
   operand_const (Like fold) v f = pattern_item v f
+  operand_const _ v f = constant_item scope e ty v h f
 
   operand_typed : (v : Operand) → operand_fits t ty v ≡ true → is_constant v ≡ true → is_operand scope t e (operand_literal v) ≡ true
   operand_typed (Const v) f g = operand_const t v f
@@ -92,8 +90,7 @@ value_alone Bigint (Like fold) f = cc
 value_alone Text (Like fold) f = refl
 value_alone Boolean (Like fold) f = cc
 value_alone ty IsNull f = refl
-value_alone ty (Compare op) f = compared_of (column_alone ty) (codes "t") (codes "c") ty refl
-value_alone ty Among f = compared_of (column_alone ty) (codes "t") (codes "c") ty refl
+value_alone ty _ f = compared_of (column_alone ty) (codes "t") (codes "c") ty refl
 
 -- a test of a column of a type, of constants
 pub test_fine : (ty : Ty) (t : Test) (vs : List Operand) → is_test t vs ty ≡ true → list_all is_constant vs ≡ true → TestFits t ty vs

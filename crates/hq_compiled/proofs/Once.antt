@@ -108,11 +108,15 @@ any_absorb = record { assoc = assoc; left = λ a. refl; right = right; again = a
 
 -- ---- tests of columns
 
-is_total : {M : Type 0} (op : M → M → M) (none : M) (h : Absorbs op none) (part : ℕ → M) (f : List ℕ → M) → f [] ≡ none → ((c : ℕ) (cs : List ℕ) → f (c ∷ cs) ≡ op (part c) (f cs)) → (ds : List ℕ) → f ds ≡ total op none h part ds
+-- what is said of a list column by column is put together so
+is_total : {M : Type 0} (op : M → M → M) (none : M) (h : Absorbs op none) (part : ℕ → M) (f : List ℕ → M) → f [] ≡ none
+    → ((c : ℕ) (cs : List ℕ) → f (c ∷ cs) ≡ op (part c) (f cs)) → (ds : List ℕ) → f ds ≡ total op none h part ds
 is_total op none h part f first next [] = first
 is_total op none h part f first next (d ∷ ds) = next d ds ∙ ap (op (part d)) (is_total op none h part f first next ds)
 
-same_once : {M : Type 0} (op : M → M → M) (none : M) (h : Absorbs op none) (part : ℕ → M) (f : List ℕ → M) → f [] ≡ none → ((c : ℕ) (cs : List ℕ) → f (c ∷ cs) ≡ op (part c) (f cs)) → (ds : List ℕ) → f (add_all ds []) ≡ f ds
+-- so it is the same of a list with each column once
+same_once : {M : Type 0} (op : M → M → M) (none : M) (h : Absorbs op none) (part : ℕ → M) (f : List ℕ → M) → f [] ≡ none
+    → ((c : ℕ) (cs : List ℕ) → f (c ∷ cs) ≡ op (part c) (f cs)) → (ds : List ℕ) → f (add_all ds []) ≡ f ds
 same_once op none h part f first next ds =
     is_total op none h part f first next (add_all ds []) ∙ total_once op none h part ds ∙ sym (is_total op none h part f first next ds)
 

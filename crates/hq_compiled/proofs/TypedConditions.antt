@@ -11,7 +11,7 @@ use Rattle.hq_terms.specs.Database.{is_text}
 use Rattle.hq_terms.specs.Schema.{Schema, table, rel, no_column}
 use Rattle.hq_terms.specs.Tests.{arity, is_of_nothing}
 use Rattle.hq_terms.specs.declared.test.Test.{Test}
-use Rattle.hq_terms.specs.declared.test.Test.TheVariants.{Compare, Among, IsNull, Like}
+use Rattle.hq_terms.specs.declared.test.Test.TheVariants.{IsNull, Like}
 use Rattle.std.specs.Prelude.{slice_index_or, codes}
 use Rattle.hq_terms.specs.declared.bexp.Operand.{Operand}
 use Rattle.hq_terms.specs.declared.bexp.Operand.TheVariants.{Const, Session}
@@ -111,11 +111,10 @@ module _ (scope around : Aliases) (e f : ExprTree) (ty : Ty) (h : kind scope e �
 -- a column of a type that a test takes where it stands alone, as the test looks at it
 value_typed : (scope : Aliases) (alias name : List ℕ) (ty : Ty) (t : Test) → kind_at scope alias name ≡ Some (kind_of_type ty)
     → is_tested (column_alone ty) t (tree.column (codes "t") (codes "c") (compares t && is_text ty)) ≡ true → is_tested scope t (tree.column alias name (compares t && is_text ty)) ≡ true
-value_typed scope alias name ty (Compare op) h f = compared_of scope alias name ty h
-value_typed scope alias name ty Among h f = compared_of scope alias name ty h
 value_typed scope alias name ty IsNull h f = value_of scope alias name (kind_of_type ty) h
 value_typed scope alias name Text (Like fold) h f = rw h refl
 value_typed scope alias name _ (Like fold) h f = cc
+value_typed scope alias name ty _ h f = compared_of scope alias name ty h
 
 -- a test that has its types where its column stands alone has them in each scope
 pub test_typed : (scope : Aliases) (alias name : List ℕ) (ty : Ty) (t : Test) (vs : List Operand) → kind_at scope alias name ≡ Some (kind_of_type ty) → TestFits t ty vs

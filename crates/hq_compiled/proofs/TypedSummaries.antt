@@ -6,7 +6,7 @@ use Rattle.hq_base.specs.Aggregates.{is_aggregate_of}
 use Rattle.hq_base.specs.Lists.{all_differ, Each}
 use Rattle.hq_base.specs.Types.{is_whole, is_text}
 use Rattle.hq_base.specs.declared.aggregate.Aggregate.{Aggregate}
-use Rattle.hq_base.specs.declared.aggregate.Aggregate.TheVariants.{Max, Min, Sum}
+use Rattle.hq_base.specs.declared.aggregate.Aggregate.TheVariants.{Sum}
 use Rattle.hq_base.specs.declared.value.Ty.{Ty}
 use Rattle.hq_base.specs.declared.value.Ty.TheVariants.{Integer, Bigint, Text, Boolean}
 use Rattle.hq_terms.specs.Schema.{Schema, table}
@@ -120,9 +120,8 @@ sum_of scope alias name Text e h = cc
 sum_of scope alias name Boolean e h = cc
 
 taken_of : (scope : Aliases) (f : Aggregate) (alias name : List ℕ) (ty : Ty) → kind_at scope alias name ≡ Some (kind_of_type ty) → is_aggregate_of f ty ≡ true → is_taken scope (tree.take f (tree.column alias name (is_text ty))) ≡ true
-taken_of scope Max alias name ty e h = extreme_of scope alias name ty e h
-taken_of scope Min alias name ty e h = extreme_of scope alias name ty e h
 taken_of scope Sum alias name ty e h = sum_of scope alias name ty e h
+taken_of scope _ alias name ty e h = extreme_of scope alias name ty e h
 
 taken_names : (f : Aggregate) (columns : List Column) (n : ℕ) (cs : List ℕ) (ks : List KeyedAggCol) → pair_names (pairs_of (taken_pairs f columns n cs ks)) ≡ map (λ k. k.key) ks
 taken_names f columns n cs [] = refl
