@@ -4,7 +4,7 @@ use Rattle.std.proofs.Common.{◌≡◌, ℕ, List, [], ◌∷◌, map, filter, 
 use Rattle.std.specs.Ordering.{ordering_then}
 use Rattle.std.specs.Prelude.{option_map, unwrap_or, slice_get}
 use Rattle.hq_base.specs.Aggregates.{counted, aggregated}
-use Rattle.hq_base.specs.Cells.{CellTree, null, int, cell_of, json_of, key_cmp, same_cell}
+use Rattle.hq_base.specs.Cells.{null, int, cell_of, json_of, key_cmp, same_cell}
 use Rattle.hq_base.specs.Json.{arr, obj, elements_of, member}
 use Rattle.hq_base.specs.Lists.{Zip}
 use Rattle.hq_base.specs.declared.aggregate.Aggregate.{Aggregate}
