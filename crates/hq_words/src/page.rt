@@ -32,7 +32,7 @@ Status  0  done
         8  the request is longer than 1,048,576 bytes
 ";
 
-/// The program's line and the kit's.
+/// The program's line, and the kit's as `rt version` has it, which stands in README too.
 pub const VERSION: &str = "hq 0.1.0\nKit: rattle-kit-13f logic dac8208d650f15bf\n";
 
 impl Page {
