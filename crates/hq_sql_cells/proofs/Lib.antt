@@ -1,4 +1,3 @@
-pub mod Orders
 pub mod Truths
 pub mod KeyOrders
 pub mod Groups

@@ -4,14 +4,15 @@ ghost use Rattle.std.specs.Int.{w128};
 ghost use Rattle.std.specs.Ordering.{on};
 ghost use Rattle.hq_base.specs.Cells.{cell_cmp, same_cell, int_in};
 ghost use Rattle.hq_base.specs.Lists.{Ascends, firsts, sort};
-ghost use Rattle.hq_base.specs.Aggregates.{is_counted, is_taken, first_cell, counted, summed, least, greatest};
+ghost use Rattle.hq_base.specs.Aggregates.{is_counted, is_taken, first_cell, counted, summed, aggregated};
+ghost use Rattle.hq_base.specs.declared.aggregate.Aggregate.TheVariants.{Sum};
 ghost use Rattle.hq_sql_cells.specs.View.{cell_view};
 ghost use Rattle.hq_sql_cells.specs.Best.{best_cmp, is_better};
 ghost use Rattle.hq_sql_cells.specs.Totals.{total_after, SumsFit, starts_group};
 
 use crate::Cell;
 use crate::order::cell_cmp;
-use hq_base::Memory;
+use hq_base::{Aggregate, Memory};
 use std::cmp::Ordering;
 
 // Whether a plain count counts the cell.
@@ -111,8 +112,8 @@ fn int_in(cell: &Cell<'_>) -> i128
     }
 }
 
-/// `sum(e)`: the exact sum of whole numbers, NULL over none. Memory only where a sum on the way does not fit 128 bits.
-pub fn summed<'d>(cells: &[Cell<'d>]) -> Result<Cell<'d>, Memory>
+// The exact sum of whole numbers, NULL over none. Memory only where a sum on the way does not fit 128 bits.
+fn summed<'d>(cells: &[Cell<'d>]) -> Result<Cell<'d>, Memory>
     ensures value { IfOk result (λ sum. cell_view sum ≡ summed (map cell_view cells.now)) }
     ensures past { OnErr result (SumsFit None (filter is_taken (map cell_view cells.now)) → ⊥) }
 {
@@ -165,16 +166,16 @@ fn best_of<'d>(greatest: bool, cells: Vec<Cell<'d>>) -> Cell<'d>
     best
 }
 
-/// `min(e)`: the least cell, NULL over none. Takes one pass.
-pub fn least<'d>(cells: Vec<Cell<'d>>) -> Cell<'d>
-    ensures { cell_view result ≡ least (map cell_view cells.entry.items) }
+/// What an aggregate gives of cells, NULL over none: each takes one pass. Memory only where a sum on the way does not fit
+/// 128 bits.
+pub fn aggregated<'d>(aggregate: Aggregate, cells: Vec<Cell<'d>>) -> Result<Cell<'d>, Memory>
+    ensures value { IfOk result (λ cell. cell_view cell ≡ aggregated aggregate (map cell_view cells.entry.items)) }
+    ensures sum { OnErr result (aggregate ≡ Sum) }
+    ensures past { OnErr result (SumsFit None (filter is_taken (map cell_view cells.entry.items)) → ⊥) }
 {
-    best_of(false, cells)
-}
-
-/// `max(e)`: the greatest cell, NULL over none. Takes one pass.
-pub fn greatest<'d>(cells: Vec<Cell<'d>>) -> Cell<'d>
-    ensures { cell_view result ≡ greatest (map cell_view cells.entry.items) }
-{
-    best_of(true, cells)
+    match aggregate {
+        Aggregate::Max => Ok(best_of(true, cells)),
+        Aggregate::Min => Ok(best_of(false, cells)),
+        Aggregate::Sum => summed(&cells),
+    }
 }

@@ -1,4 +1,4 @@
-//! The cells that the evaluation of a statement works with: comparisons, sorts, groups, pages and aggregates.
+//! The cells that the evaluation of a statement works with: tests, sorts, groups, pages and aggregates.
 #![tactic(auto)]
 
 mod aggregate;
@@ -9,9 +9,9 @@ mod page;
 mod seen;
 mod truth;
 
-pub use aggregate::{counted, greatest, least, summed};
+pub use aggregate::{aggregated, counted};
 pub use cell::Cell;
 pub use kept::{Kept, first_kept, rows_of, sort_kept};
 pub use order::{Direction, keys_cmp};
 pub use page::paged;
-pub use truth::{among, compared, matched};
+pub use truth::test_truth;

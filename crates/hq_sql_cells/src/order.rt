@@ -42,7 +42,7 @@ pub fn order_between(left: &Cell<'_>, right: &Cell<'_>) -> Option<Ordering>
 }
 
 /// The order of cells, by kind and then by value: whole numbers by value, texts by their bytes, false before true.
-#[tactic(auto, using(crate::proofs::Orders::cell_cmp_between, crate::proofs::Orders::cell_cmp_kinds))]
+#[tactic(auto, using(hq_terms::proofs::CellOrders::cell_cmp_between, hq_terms::proofs::CellOrders::cell_cmp_kinds))]
 pub fn cell_cmp(left: &Cell<'_>, right: &Cell<'_>) -> Ordering
     ensures { result ≡ cell_cmp (cell_view left.now) (cell_view right.now) }
 {

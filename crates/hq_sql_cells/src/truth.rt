@@ -1,14 +1,17 @@
-//! Comparisons in three values (PostgreSQL, comparison functions and operators, row and array comparisons, pattern
-//! matching).
+//! What a test says of a cell, in three values (PostgreSQL, comparison functions and operators, row and array comparisons,
+//! pattern matching).
 ghost use Rattle.std.specs.Prelude.{◌≡◌, map, IfOk};
+ghost use Rattle.hq_base.specs.Aggregates.{first_cell};
+ghost use Rattle.hq_base.specs.Cells.{null};
 ghost use Rattle.hq_base.specs.Patterns.{like};
 ghost use Rattle.hq_terms.specs.Logic.{op_test, compared, among, matched};
+ghost use Rattle.hq_terms.specs.Tests.{test_truth};
 ghost use Rattle.hq_sql_cells.specs.View.{cell_view};
 
 use crate::Cell;
 use crate::order::order_between;
 use hq_base::{Memory, Pattern, PatternRefusal, Txt};
-use hq_terms::{Op, Truth};
+use hq_terms::{Op, Test, Truth};
 use std::alloc::Global;
 use std::cmp::Ordering;
 
@@ -26,8 +29,8 @@ fn op_test(op: Op, order: Ordering) -> bool
     }
 }
 
-/// A comparison of two cells: Unknown where one is NULL.
-pub fn compared(op: Op, left: &Cell<'_>, right: &Cell<'_>) -> Truth
+// A comparison of two cells: Unknown where one is NULL.
+fn compared(op: Op, left: &Cell<'_>, right: &Cell<'_>) -> Truth
     ensures { result ≡ compared op (cell_view left.now) (cell_view right.now) }
 {
     match order_between(left, right) {
@@ -36,9 +39,9 @@ pub fn compared(op: Op, left: &Cell<'_>, right: &Cell<'_>) -> Truth
     }
 }
 
-/// IN: whether a cell equals one of the items. It is No of the empty list, and Unknown where no item equals the cell but
-/// one of them, or the cell, is NULL.
-pub fn among(items: &[Cell<'_>], value: &Cell<'_>) -> Truth
+// IN: whether a cell equals one of the items, up to the first one that it equals. It is No of the empty list, and Unknown
+// where no item equals the cell but one of them, or the cell, is NULL.
+fn among(items: &[Cell<'_>], value: &Cell<'_>) -> Truth
     ensures { result ≡ among (map cell_view items.now) (cell_view value.now) }
 {
     let mut found = Truth::No;
@@ -62,8 +65,8 @@ fn text_matched(alloc: Global, fold: bool, text: &Txt, pattern: &Txt) -> Result<
     }
 }
 
-/// LIKE, and ILIKE where `fold`: Unknown where one side is NULL.
-pub fn matched(
+// LIKE, and ILIKE where `fold`: Unknown where one side is NULL.
+fn matched(
     alloc: Global,
     fold: bool,
     text: &Cell<'_>,
@@ -76,5 +79,35 @@ pub fn matched(
             Ok(Truth::of(text_matched(alloc, fold, text, pattern)?))
         }
         _ => Ok(Truth::Unknown),
+    }
+}
+
+// The first of these cells, and this one, which is NULL, where there is none.
+fn first_or<'s, 'd>(cells: &'s [Cell<'d>], none: &'s Cell<'d>) -> &'s Cell<'d>
+    requires { cell_view none.now ≡ null }
+    ensures { cell_view result.now ≡ first_cell (map cell_view cells.now) }
+{
+    if cells.is_empty() {
+        return none;
+    }
+    &cells[0]
+}
+
+/// What a test says of a cell beside its operands. One that takes a single operand looks at the first one, and at NULL where
+/// there is none.
+pub fn test_truth(
+    alloc: Global,
+    test: Test,
+    cell: &Cell<'_>,
+    operands: &[Cell<'_>],
+) -> Result<Truth, Memory>
+    ensures { IfOk result (λ t. t ≡ test_truth test (cell_view cell.now) (map cell_view operands.now)) }
+{
+    let null = Cell::Null;
+    match test {
+        Test::Compare(op) => Ok(compared(op, cell, first_or(operands, &null))),
+        Test::Among => Ok(among(operands, cell)),
+        Test::IsNull => Ok(Truth::of(cell.is_null())),
+        Test::Like { fold } => matched(alloc, fold, cell, first_or(operands, &null)),
     }
 }

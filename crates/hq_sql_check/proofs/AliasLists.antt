@@ -35,10 +35,7 @@ mutual
   of_pred : (p : PredTree) (others : List (List ℕ)) → aliases_in_pred p others ≡ aliases_in_pred p [] ++ others
   of_pred tree.always others = refl
   of_pred tree.never others = refl
-  of_pred (tree.compare l op r) others = refl
-  of_pred (tree.like l r fold) others = refl
-  of_pred (tree.within e es) others = refl
-  of_pred (tree.is_null e) others = refl
+  of_pred (tree.test e t es) others = refl
   of_pred (tree.negation p) others = of_pred p others
   of_pred (tree.all_of ps) others = of_preds ps others
   of_pred (tree.any_of ps) others = of_preds ps others

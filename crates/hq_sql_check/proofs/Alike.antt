@@ -87,10 +87,7 @@ module _ (tables : List Table) (d e : List (List Row)) where
     truth_alike : (p : PredTree) → Each Same (places_of_pred p tables) → (scope : Scope) → truth_at p one scope ≡ truth_at p other scope
     truth_alike tree.always h scope = refl
     truth_alike tree.never h scope = refl
-    truth_alike (tree.compare l op r) h scope = refl
-    truth_alike (tree.like l r fold) h scope = refl
-    truth_alike (tree.within v vs) h scope = refl
-    truth_alike (tree.is_null v) h scope = refl
+    truth_alike (tree.test e t es) h scope = refl
     truth_alike (tree.negation p) h scope = ap not3 (truth_alike p h scope)
     truth_alike (tree.all_of ps) h scope = all_alike ps h scope
     truth_alike (tree.any_of ps) h scope = any_alike ps h scope

@@ -50,10 +50,7 @@ module _ (tables : List Table) where
     pred_within : (p : PredTree) → Each Within (places_of_pred p tables)
     pred_within tree.always = tt
     pred_within tree.never = tt
-    pred_within (tree.compare l op r) = tt
-    pred_within (tree.like l r fold) = tt
-    pred_within (tree.within v vs) = tt
-    pred_within (tree.is_null v) = tt
+    pred_within (tree.test e t es) = tt
     pred_within (tree.negation p) = pred_within p
     pred_within (tree.all_of ps) = preds_within ps
     pred_within (tree.any_of ps) = preds_within ps

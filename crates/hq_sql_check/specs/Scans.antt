@@ -36,10 +36,7 @@ abbrev mutual
   pub places_of_pred : PredTree → List Table → List ℕ
   places_of_pred tree.always tables = []
   places_of_pred tree.never tables = []
-  places_of_pred (tree.compare l op r) tables = []
-  places_of_pred (tree.like l r fold) tables = []
-  places_of_pred (tree.within e es) tables = []
-  places_of_pred (tree.is_null e) tables = []
+  places_of_pred (tree.test e t es) tables = []
   places_of_pred (tree.negation p) tables = places_of_pred p tables
   places_of_pred (tree.all_of ps) tables = places_of_preds ps tables
   places_of_pred (tree.any_of ps) tables = places_of_preds ps tables

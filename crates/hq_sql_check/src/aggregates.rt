@@ -8,7 +8,7 @@ ghost use Rattle.hq_sql_check.specs.Scopes.{scope_view};
 use crate::differ::pairs_differ;
 use crate::parts::are_keys;
 use crate::scope::Scope;
-use crate::values::{has_extremes, is_collated, is_compared, is_summed, is_value, kind};
+use crate::values::{is_collated, is_compared, is_value, kind, takes_kind};
 use hq_base::Memory;
 use hq_sql_tree::{Agg, Expr, ExprPairList};
 use std::alloc::Global;
@@ -26,10 +26,9 @@ fn is_taken(alloc: Global, scope: &Scope<'_, '_>, agg: &Agg) -> Result<bool, Mem
                 is_value(alloc, scope, value)
             }
         }
-        Agg::Sum(value) => Ok(is_value(alloc, scope, value)? && is_summed(kind(scope, value))),
-        Agg::Min(value) | Agg::Max(value) => Ok(
+        Agg::Take { aggregate, value } => Ok(
             is_value(alloc, scope, value)?
-                && has_extremes(kind(scope, value))
+                && takes_kind(*aggregate, kind(scope, value))
                 && is_collated(scope, value),
         ),
         Agg::JsonAgg { value, order } => {

@@ -83,12 +83,7 @@ fn push_of_pred<'d>(aliases: &mut Vec<&'d str>, pred: &'d Pred) -> Result<(), Me
         Pred::Not(inner) => push_of_pred(aliases, inner),
         Pred::And(preds) | Pred::Or(preds) => push_of_preds(aliases, preds),
         Pred::Exists(select) => push_aliases(aliases, select),
-        Pred::True
-        | Pred::False
-        | Pred::Cmp { .. }
-        | Pred::Like { .. }
-        | Pred::Within { .. }
-        | Pred::IsNull(_) => Ok(()),
+        Pred::True | Pred::False | Pred::Test { .. } => Ok(()),
     }
 }
 

@@ -11,6 +11,7 @@ mod marks;
 mod parts;
 mod places;
 mod scope;
+mod tested;
 mod typed;
 mod values;
 mod well;

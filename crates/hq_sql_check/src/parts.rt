@@ -2,15 +2,15 @@
 ghost use Rattle.std.specs.Prelude.{◌≡◌, IfOk, map};
 ghost use Rattle.std.specs.List.{list_all};
 ghost use Rattle.hq_sql_tree.specs.View.{expr_view, order_view, out_view};
-ghost use Rattle.hq_sql_tree.specs.WellFormed.{is_compared, is_item, is_value, are_parts, out_names};
+ghost use Rattle.hq_sql_tree.specs.WellFormed.{is_compared, is_value, are_parts, out_names};
 ghost use Rattle.hq_sql_check.specs.Scopes.{name_view, scope_view};
 
 use crate::differ::outs_differ;
 use crate::distinct::begin_with;
 use crate::scope::{Name, Scope};
-use crate::values::{is_compared, is_item, is_value, kind};
+use crate::values::{is_compared, is_value, kind};
 use hq_base::Memory;
-use hq_sql_tree::{Expr, ExprList, OrderList, OutList};
+use hq_sql_tree::{ExprList, OrderList, OutList};
 use std::alloc::Global;
 
 fn are_compared(alloc: Global, scope: &Scope<'_, '_>, exprs: &ExprList) -> Result<bool, Memory>
@@ -69,24 +69,6 @@ pub(crate) fn are_parts(
             && outs_differ(alloc, outs)?
             && are_keys(alloc, scope, keys)?,
     )
-}
-
-/// Whether all members of IN are compared with the value.
-#[inline(never)]
-pub(crate) fn are_items(
-    alloc: Global,
-    scope: &Scope<'_, '_>,
-    value: &Expr,
-    items: &ExprList,
-) -> Result<bool, Memory>
-    ensures { IfOk result (λ well. well ≡ list_all (is_item (scope_view scope.now) (expr_view value.now)) (map expr_view items.now.items)) }
-{
-    for item in items {
-        if !is_item(alloc, scope, value, item)? {
-            return Ok(false);
-        }
-    }
-    Ok(true)
 }
 
 /// The names of outputs, with their kinds.

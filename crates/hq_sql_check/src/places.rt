@@ -94,8 +94,7 @@ fn add_pred(found: &mut Vec<usize>, pred: &Pred, tables: &[Table]) -> Result<(),
         Pred::And(preds) => add_preds(&mut *found, preds, tables),
         Pred::Or(preds) => add_preds(&mut *found, preds, tables),
         Pred::Exists(select) => add_places(&mut *found, select, tables),
-        Pred::True | Pred::False => Ok(()),
-        Pred::Cmp { .. } | Pred::Like { .. } | Pred::Within { .. } | Pred::IsNull(_) => Ok(()),
+        Pred::True | Pred::False | Pred::Test { .. } => Ok(()),
     }
 }
 

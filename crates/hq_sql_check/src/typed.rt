@@ -2,16 +2,17 @@
 ghost use Rattle.std.specs.Prelude.{◌≡◌, ◌∷◌, ◌++◌, ◌&&◌, [], IfOk, OnOk, MatchOption, map, option_map, true, false};
 ghost use Rattle.hq_sql_tree.specs.Tree.{joins_of, preds_of};
 ghost use Rattle.hq_sql_tree.specs.View.{expr_view, out_view, select_view, from_view, join_view, pred_view, filter_view};
-ghost use Rattle.hq_sql_tree.specs.WellFormed.{kind, is_text_kind, is_compared, is_folded, select_names, from_scope, joined_scope, is_pattern, is_typed, is_typed_from, are_typed_joins, is_typed_filter, is_typed_pred, are_typed_preds};
+ghost use Rattle.hq_sql_tree.specs.WellFormed.{kind, is_folded, select_names, from_scope, joined_scope, is_typed, is_typed_from, are_typed_joins, is_typed_filter, is_typed_pred, are_typed_preds};
 ghost use Rattle.hq_sql_check.specs.Scopes.{name_view, alias_view, stacked, scope_view};
 
 use crate::aggregates::is_folded;
 use crate::from::{one_names, table_names};
-use crate::parts::{are_items, are_parts, out_names};
+use crate::parts::{are_parts, out_names};
 use crate::scope::{Alias, Name, Scope, only_name};
-use crate::values::{is_compared, is_item, is_text, is_value, kind};
-use hq_base::{Memory, Pattern, PatternRefusal, Txt};
-use hq_sql_tree::{Expr, From, JoinList, Out, Pred, PredList, Select};
+use crate::tested::is_typed_test;
+use crate::values::kind;
+use hq_base::{Memory, Txt};
+use hq_sql_tree::{From, JoinList, Out, Pred, PredList, Select};
 use hq_terms::Table;
 use std::alloc::Global;
 
@@ -191,29 +192,6 @@ fn is_typed_filter<'d>(
     }
 }
 
-// Whether the expression is a pattern whose escapes are whole.
-#[inline(never)]
-fn is_pattern(alloc: Global, value: &Expr) -> Result<bool, Memory>
-    ensures { IfOk result (λ well. well ≡ is_pattern (expr_view value.now)) }
-{
-    match value {
-        Expr::Text(text) => match Pattern::new(alloc, text) {
-            Ok(_) => Ok(true),
-            Err(PatternRefusal::EndsInEscape) => Ok(false),
-            Err(PatternRefusal::Memory) => Err(Memory),
-        },
-        _ => Ok(false),
-    }
-}
-
-// Whether a text is compared with a pattern.
-#[inline(never)]
-fn is_like(alloc: Global, scope: &Scope<'_, '_>, left: &Expr, right: &Expr) -> Result<bool, Memory>
-    ensures { IfOk result (λ well. well ≡ (is_compared (scope_view scope.now) (expr_view left.now) && is_text_kind (kind (scope_view scope.now) (expr_view left.now)) && is_pattern (expr_view right.now))) }
-{
-    Ok(is_compared(alloc, scope, left)? && is_text(kind(scope, left)) && is_pattern(alloc, right)?)
-}
-
 #[cycle(typed)]
 fn is_typed_pred<'d>(
     alloc: Global,
@@ -225,14 +203,11 @@ fn is_typed_pred<'d>(
 {
     match pred {
         Pred::True | Pred::False => Ok(true),
-        Pred::Cmp { left, right, .. } => {
-            Ok(is_compared(alloc, scope, left)? && is_item(alloc, scope, left, right)?)
-        }
-        Pred::Like { left, right, .. } => is_like(alloc, scope, left, right),
-        Pred::Within { value, list } => {
-            Ok(is_compared(alloc, scope, value)? && are_items(alloc, scope, value, list)?)
-        }
-        Pred::IsNull(value) => is_value(alloc, scope, value),
+        Pred::Test {
+            value,
+            test,
+            operands,
+        } => is_typed_test(alloc, scope, value, *test, operands),
         Pred::Not(inner) => is_typed_pred(alloc, inner, tables, scope),
         Pred::And(preds) | Pred::Or(preds) => are_typed_preds(alloc, preds, tables, scope),
         Pred::Exists(select) => Ok(select_names(alloc, select, tables, scope)?.is_some()),

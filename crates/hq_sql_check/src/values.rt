@@ -2,12 +2,12 @@
 ghost use Rattle.std.specs.Prelude.{◌≡◌, IfOk, map, option_map};
 ghost use Rattle.hq_sql_tree.specs.Tree.{pairs_of, orders_of};
 ghost use Rattle.hq_sql_tree.specs.View.{agg_view, expr_view, pair_view, order_view};
-ghost use Rattle.hq_sql_tree.specs.WellFormed.{not_of_column, kind, agg_kind, is_text_kind, has_order, has_extremes, is_summed, compare_kinds, pair_names, is_value, are_values, is_collated, is_compared, are_keys, is_item};
+ghost use Rattle.hq_sql_tree.specs.WellFormed.{not_of_column, kind, agg_kind, is_text_kind, has_order, has_extremes, is_summed, taken_kind, takes_kind, compare_kinds, pair_names, is_value, are_values, is_collated, is_compared, are_keys, is_item};
 ghost use Rattle.hq_sql_check.specs.Scopes.{kind_view, scope_view};
 
 use crate::differ::pairs_differ;
 use crate::scope::{Kind, Scope, kind_at};
-use hq_base::Memory;
+use hq_base::{Aggregate, Memory};
 use hq_sql_tree::{Agg, Expr, ExprPairList, OrderList};
 use std::alloc::Global;
 
@@ -18,6 +18,16 @@ fn not_of_column(kind: Option<Kind>) -> Option<Kind>
     match kind {
         Some(Kind::Whole { .. }) => Some(Kind::Whole { of_column: false }),
         other => other,
+    }
+}
+
+// The kind of what an aggregate gives of values of this kind.
+fn taken_kind(aggregate: Aggregate, kind: Option<Kind>) -> Option<Kind>
+    ensures { option_map kind_view result ≡ taken_kind aggregate (option_map kind_view kind) }
+{
+    match aggregate {
+        Aggregate::Sum => Some(Kind::Whole { of_column: false }),
+        _ => not_of_column(kind),
     }
 }
 
@@ -42,8 +52,8 @@ fn agg_kind(scope: &Scope<'_, '_>, agg: &Agg) -> Option<Kind>
     ensures { option_map kind_view result ≡ agg_kind (scope_view scope.now) (agg_view agg.now) }
 {
     match agg {
-        Agg::CountAll | Agg::Count { .. } | Agg::Sum(_) => Some(Kind::Whole { of_column: false }),
-        Agg::Min(value) | Agg::Max(value) => not_of_column(kind(scope, value)),
+        Agg::CountAll | Agg::Count { .. } => Some(Kind::Whole { of_column: false }),
+        Agg::Take { aggregate, value } => taken_kind(*aggregate, kind(scope, value)),
         Agg::JsonAgg { .. } => Some(Kind::Json),
     }
 }
@@ -65,18 +75,28 @@ pub(crate) fn has_order(kind: Option<Kind>) -> bool
     )
 }
 
-/// Whether `min` and `max` take values of this kind.
-pub(crate) fn has_extremes(kind: Option<Kind>) -> bool
+// Whether values of this kind have a least and a greatest one.
+fn has_extremes(kind: Option<Kind>) -> bool
     ensures { result ≡ has_extremes (option_map kind_view kind) }
 {
     matches!(kind, Some(Kind::Whole { .. }) | Some(Kind::Text))
 }
 
-/// Whether `sum` takes values of this kind: whole numbers of a table's column.
-pub(crate) fn is_summed(kind: Option<Kind>) -> bool
+// Whether values of this kind are summed: whole numbers of a table's column.
+fn is_summed(kind: Option<Kind>) -> bool
     ensures { result ≡ is_summed (option_map kind_view kind) }
 {
     matches!(kind, Some(Kind::Whole { of_column: true }))
+}
+
+/// Whether an aggregate takes values of this kind.
+pub(crate) fn takes_kind(aggregate: Aggregate, kind: Option<Kind>) -> bool
+    ensures { result ≡ takes_kind aggregate (option_map kind_view kind) }
+{
+    match aggregate {
+        Aggregate::Sum => is_summed(kind),
+        _ => has_extremes(kind),
+    }
 }
 
 // Whether values of these kinds are compared with one another.

@@ -5,7 +5,8 @@ use Rattle.std.proofs.lemmas.Bool.{and_parts, false≢true}
 use Rattle.hq_base.specs.Cells as cell
 use Rattle.hq_base.specs.Cells.{CellTree}
 use Rattle.hq_base.specs.Lists.{sort, put}
-use Rattle.hq_terms.specs.Logic.{is_true, truth_of, not3, and3, or3, compared, among, null_test, matched}
+use Rattle.hq_terms.specs.Logic.{is_true, truth_of, not3, and3, or3}
+use Rattle.hq_terms.specs.Tests.{test_truth}
 use Rattle.hq_sql_tree.specs.Meaning.{NamedRow, Scope, World, nothing, with_alias, cell_named, value, rows_named, order_cmp, outputs, has_rows, rows_of, scopes_of, joined, kept, truth_at, all_true, any_true, distinct_on}
 use Rattle.hq_sql_tree.specs.Tree as tree
 use Rattle.hq_sql_tree.specs.Tree.{ExprTree, OutTree, OrderTree, SelectTree, FromTree, JoinTrees, FilterTree, PredTree, PredTrees}
@@ -105,16 +106,9 @@ module _ (world : World) where
     pub truth_alike : (p : PredTree) (names : List (List ℕ)) (x y : Scope) → AgreeAt names x y → is_closed names p ≡ true → truth_at p world x ≡ truth_at p world y
     truth_alike tree.always names x y agree h = refl
     truth_alike tree.never names x y agree h = refl
-    truth_alike (tree.compare l op r) names x y agree h =
-        let k = and_parts (is_bound names l) (is_bound names r) h in
-        ap₂ (compared op) (value_alike names x y agree l k.0) (value_alike names x y agree r k.1)
-    truth_alike (tree.like l r fold_case) names x y agree h =
-        let k = and_parts (is_bound names l) (is_bound names r) h in
-        ap₂ (matched fold_case) (value_alike names x y agree l k.0) (value_alike names x y agree r k.1)
-    truth_alike (tree.within e es) names x y agree h =
+    truth_alike (tree.test e t es) names x y agree h =
         let k = and_parts (is_bound names e) (are_bound names es) h in
-        ap₂ among (values_alike names x y agree es k.1) (value_alike names x y agree e k.0)
-    truth_alike (tree.is_null e) names x y agree h = ap (λ v. truth_of (null_test v)) (value_alike names x y agree e h)
+        ap₂ (test_truth t) (value_alike names x y agree e k.0) (values_alike names x y agree es k.1)
     truth_alike (tree.negation p) names x y agree h = ap not3 (truth_alike p names x y agree h)
     truth_alike (tree.all_of ps) names x y agree h = all_alike ps names x y agree h
     truth_alike (tree.any_of ps) names x y agree h = any_alike ps names x y agree h

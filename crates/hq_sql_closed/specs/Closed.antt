@@ -2,7 +2,7 @@
 -- whatever else is in scope (PostgreSQL, subquery expressions: EXISTS).
 use Rattle.std.specs.Prelude.{ℕ, List, [], ◌∷◌, Bool, true, false, ◌&&◌, ◌||◌, bytes_eq, is_none}
 use Rattle.hq_sql_tree.specs.Form.{is_no_join}
-use Rattle.hq_sql_tree.specs.Tree.{ExprTree, column, int, text, bool, object, aggregate, SelectTree, rows, fold, FromTree, table, sub, one, FilterTree, no_filter, filter, PredTree, always, never, compare, like, within, is_null, negation, all_of, any_of, exists, PredTrees, no_pred, pred}
+use Rattle.hq_sql_tree.specs.Tree.{ExprTree, column, int, text, bool, object, aggregate, SelectTree, rows, fold, FromTree, table, sub, one, FilterTree, no_filter, filter, PredTree, always, never, test, negation, all_of, any_of, exists, PredTrees, no_pred, pred}
 
 abbrev pub is_named : List (List ℕ) → List ℕ → Bool
 is_named [] alias = false
@@ -37,10 +37,7 @@ abbrev mutual
   pub is_closed : List (List ℕ) → PredTree → Bool
   is_closed names always = true
   is_closed names never = true
-  is_closed names (compare l op r) = is_bound names l && is_bound names r
-  is_closed names (like l r fold_case) = is_bound names l && is_bound names r
-  is_closed names (within e es) = is_bound names e && are_bound names es
-  is_closed names (is_null e) = is_bound names e
+  is_closed names (test e t es) = is_bound names e && are_bound names es
   is_closed names (negation p) = is_closed names p
   is_closed names (all_of ps) = are_closed names ps
   is_closed names (any_of ps) = are_closed names ps

@@ -22,9 +22,7 @@ total (n ∷ ns) = n + total ns
 abbrev pub agg_step : Agg-F ℕ ℕ ℕ ℕ → ℕ
 agg_step Agg-F.CountAll = 1
 agg_step (Agg-F.Count e distinct) = 4 + e.value
-agg_step (Agg-F.Sum e) = 4 + e.value
-agg_step (Agg-F.Min e) = 4 + e.value
-agg_step (Agg-F.Max e) = 4 + e.value
+agg_step (Agg-F.Take a e) = 4 + e.value
 agg_step (Agg-F.JsonAgg e os) = 6 + (e.value + total os.items)
 
 abbrev pub expr_step : Expr-F ℕ ℕ ℕ ℕ → ℕ
@@ -71,10 +69,7 @@ from_step (From-F.One alias) = 0
 abbrev pub pred_step : Pred-F ℕ ℕ ℕ ℕ → ℕ
 pred_step Pred-F.True = 1
 pred_step Pred-F.False = 1
-pred_step (Pred-F.Cmp l op r) = 2 + (expr_weight l + expr_weight r)
-pred_step (Pred-F.Like l r fold) = 2 + (expr_weight l + expr_weight r)
-pred_step (Pred-F.Within e es) = 3 + (expr_weight e + total (map expr_weight es.items))
-pred_step (Pred-F.IsNull e) = 1 + expr_weight e
+pred_step (Pred-F.Test e t es) = 3 + (expr_weight e + total (map expr_weight es.items))
 pred_step (Pred-F.Not p) = 1 + p.value
 pred_step (Pred-F.And ps) = 2 + total ps.items
 pred_step (Pred-F.Or ps) = 2 + total ps.items

@@ -87,11 +87,11 @@ pub fn is_closed(pred: &Pred, names: &Names<'_>) -> bool
 {
     match pred {
         Pred::True | Pred::False => true,
-        Pred::Cmp { left, right, .. } | Pred::Like { left, right, .. } => {
-            is_bound(left, names) && is_bound(right, names)
-        }
-        Pred::Within { value, list } => is_bound(value, names) && are_bound(list, names),
-        Pred::IsNull(value) => is_bound(value, names),
+        Pred::Test {
+            value,
+            operands,
+            ..
+        } => is_bound(value, names) && are_bound(operands, names),
         Pred::Not(inner) => is_closed(inner, names),
         Pred::And(preds) | Pred::Or(preds) => are_closed(preds, names),
         Pred::Exists(select) => is_closed_select(select, names),

@@ -101,31 +101,20 @@ pub fn same_pred(a: &Pred, b: &Pred) -> bool
         (Pred::True, Pred::True) => true,
         (Pred::False, Pred::False) => true,
         (
-            Pred::Cmp { left, op, right },
-            Pred::Cmp {
-                left: other_left,
-                op: other_op,
-                right: other_right,
+            Pred::Test {
+                value,
+                test,
+                operands,
             },
-        ) => *op == *other_op && (same_expr(left, other_left) && same_expr(right, other_right)),
-        (
-            Pred::Like { left, right, fold },
-            Pred::Like {
-                left: other_left,
-                right: other_right,
-                fold: other_fold,
+            Pred::Test {
+                value: other_value,
+                test: other_test,
+                operands: other_operands,
             },
         ) => {
-            *fold == *other_fold && (same_expr(left, other_left) && same_expr(right, other_right))
+            *test == *other_test
+                && (same_expr(value, other_value) && same_exprs(operands, other_operands))
         }
-        (
-            Pred::Within { value, list },
-            Pred::Within {
-                value: other_value,
-                list: other_list,
-            },
-        ) => same_expr(value, other_value) && same_exprs(list, other_list),
-        (Pred::IsNull(a), Pred::IsNull(b)) => same_expr(a, b),
         (Pred::Not(a), Pred::Not(b)) => same_pred(a, b),
         (Pred::And(a), Pred::And(b)) => same_preds(a, b),
         (Pred::Or(a), Pred::Or(b)) => same_preds(a, b),

@@ -21,12 +21,7 @@ fn has_exists(pred: &Pred) -> bool {
             false
         }
         Pred::Exists(_) => true,
-        Pred::True
-        | Pred::False
-        | Pred::Cmp { .. }
-        | Pred::Like { .. }
-        | Pred::Within { .. }
-        | Pred::IsNull(_) => false,
+        Pred::True | Pred::False | Pred::Test { .. } => false,
     }
 }
 
@@ -99,12 +94,7 @@ fn remember_pred<'d>(alloc: Global, pred: &'d Pred, world: &mut Pinned<'d>) -> R
             remember(alloc, select, world)?;
             learn(alloc, select, world)
         }
-        Pred::True
-        | Pred::False
-        | Pred::Cmp { .. }
-        | Pred::Like { .. }
-        | Pred::Within { .. }
-        | Pred::IsNull(_) => Ok(()),
+        Pred::True | Pred::False | Pred::Test { .. } => Ok(()),
     }
 }
 

@@ -19,6 +19,7 @@ use Rattle.hq_sql_expr.proofs.Fits.{FitsExpr, FitsPairs, FitsAgg, FitsOrders, At
 use Rattle.hq_sql_expr.proofs.Literals.{Free, quoted_again, text_again}
 use Rattle.hq_sql_expr.proofs.Ints.{int_again, int_is_text}
 use Rattle.hq_sql_expr.proofs.Exprs.{GoodPair, GoodOrder, GoodOut}
+use Rattle.hq_sql_expr.proofs.Aggregates.{agg_apart, head_taken, with_taken}
 
 -- what may follow an expression: no quote, which would go on with a name, and no COLLATE
 abbrev pub Ends : List ℕ → Type 0
@@ -119,16 +120,6 @@ direction_again true false rest = refl
 abbrev Plain : List ℕ → Type 0
 Plain rest = (strip (codes "*)") rest ≡ None) × (strip (codes "DISTINCT ") rest ≡ None)
 
-agg_plain : (a : AggTree) (rest : List ℕ) → Plain (expr_text (tree.aggregate a) ++ rest)
-unfolding word_text
-agg_plain tree.count_all rest = (refl, refl)
-agg_plain (tree.count e true) rest = (refl, refl)
-agg_plain (tree.count e false) rest = (refl, refl)
-agg_plain (tree.sum e) rest = (refl, refl)
-agg_plain (tree.min e) rest = (refl, refl)
-agg_plain (tree.max e) rest = (refl, refl)
-agg_plain (tree.json_agg e os) rest = (refl, refl)
-
 expr_plain : (e : ExprTree) (rest : List ℕ) → Plain (expr_text e ++ rest)
 unfolding word_text quoted
 expr_plain (tree.column a n c) rest = (refl, refl)
@@ -137,7 +128,7 @@ expr_plain (tree.text t) rest = (refl, refl)
 expr_plain (tree.bool true) rest = (refl, refl)
 expr_plain (tree.bool false) rest = (refl, refl)
 expr_plain (tree.object ps) rest = (refl, refl)
-expr_plain (tree.aggregate a) rest = agg_plain a rest
+expr_plain (tree.aggregate a) rest = (agg_apart a 42 (codes ")") rest refl, agg_apart a 68 (codes "ISTINCT ") rest refl)
 
 abbrev IfCount : Head → List ℕ → Type 0
 IfCount head.Count rest = Plain rest
@@ -149,10 +140,8 @@ head_again head.Object rest plain = refl
 head_again head.CountAll rest plain = refl
 head_again head.CountDistinct rest plain = refl
 head_again head.Count rest plain = rw (plain.0, plain.1) refl
-head_again head.Sum rest plain = refl
-head_again head.Min rest plain = refl
-head_again head.Max rest plain = refl
 head_again head.JsonAgg rest plain = refl
+head_again (head.Take a) rest plain = head_taken a rest
 
 module _ (inside : Head → Reader ExprTree) where
   with_name : (bytes : List ℕ) → expr_with inside (34 ∷ bytes) ≡ column_at (34 ∷ bytes)
@@ -182,10 +171,8 @@ module _ (inside : Head → Reader ExprTree) where
   with_head head.CountAll rest = refl
   with_head head.CountDistinct rest = refl
   with_head head.Count rest = refl
-  with_head head.Sum rest = refl
-  with_head head.Min rest = refl
-  with_head head.Max rest = refl
   with_head head.JsonAgg rest = refl
+  with_head (head.Take a) rest = with_taken inside a rest
 
   -- a head and what follows it
   headed : (h : Head) (text rest : List ℕ) → IfCount h (text ++ rest) → expr_with inside ((word_text (head_word h) ++ text) ++ rest) ≡ inside h (text ++ rest)
@@ -308,9 +295,7 @@ module _ (d : ℕ) (expr ordered : Reader ExprTree) (expr_again : Again d expr) 
   agg_again (tree.count e false) rest fits =
       let plain = subst Plain (sym (append_assoc (expr_text e) (word_text word.Close) rest)) (expr_plain e (word_text word.Close ++ rest)) in
       headed inner head.Count (expr_text e ++ word_text word.Close) rest plain ∙ rw (argument_again d expr expr_again e rest fits) refl
-  agg_again (tree.sum e) rest fits = headed inner head.Sum (expr_text e ++ word_text word.Close) rest tt ∙ rw (argument_again d expr expr_again e rest fits) refl
-  agg_again (tree.min e) rest fits = headed inner head.Min (expr_text e ++ word_text word.Close) rest tt ∙ rw (argument_again d expr expr_again e rest fits) refl
-  agg_again (tree.max e) rest fits = headed inner head.Max (expr_text e ++ word_text word.Close) rest tt ∙ rw (argument_again d expr expr_again e rest fits) refl
+  agg_again (tree.take a e) rest fits = headed inner (head.Take a) (expr_text e ++ word_text word.Close) rest tt ∙ rw (argument_again d expr expr_again e rest fits) refl
   agg_again (tree.json_agg e os) rest fits = headed inner head.JsonAgg (expr_text e ++ (word_text word.OrderBy ++ (separated word.Comma (order_texts os) ++ word_text word.OrEmptyArray))) rest tt ∙ ordered_again e os rest fits
 
   deeper : Again (suc d) (expr_with inner)

@@ -3,16 +3,18 @@ use Rattle.std.proofs.Common.{◌≡◌, ℕ, zero, suc, ℤ, Bool, true, false,
 use Rattle.std.proofs.lemmas.List.{append-nil}
 use Rattle.std.specs.List.{AllByRecursion}
 use Rattle.hq_sql_tree.specs.declared.word.Word.TheVariants as word
-use Rattle.hq_sql_tree.specs.Word.{word_text}
+use Rattle.hq_base.specs.Aggregates.{all_aggregates}
+use Rattle.hq_sql_tree.specs.Word.{word_text, aggregate_word}
 use Rattle.hq_sql_tree.specs.Form.{is_text}
 use Rattle.hq_sql_tree.specs.Tree as tree
 use Rattle.hq_sql_tree.specs.Tree.{ExprTree, PairTree, AggTree, OrderTree, OutTree, pairs_of, orders_of}
 use Rattle.hq_sql_tree.specs.Spelling.{quoted, name_text, literal_text, separated, collate_text, direction_word, expr_text, pair_text, order_text, out_text}
 use Rattle.hq_sql_expr.specs.declared.head.Head.{Head}
 use Rattle.hq_sql_expr.specs.declared.head.Head.TheVariants as head
-use Rattle.hq_sql_expr.specs.Reading.{◌>>=◌, Reader, nothing, after, choose, all_many, name_at, quoted_at, text_at, int_from, literal_at, collate_at, column_at, head_word, head_or, head_at, expr_with, pair_with, pairs_with, argument_with, direction_or, direction_at, order_with, ordered_with, inside_with, expr_at, ordered_at, out_with}
+use Rattle.hq_sql_expr.specs.Reading.{◌>>=◌, Reader, nothing, after, choose, all_many, name_at, quoted_at, text_at, int_from, literal_at, collate_at, column_at, first_word, head_word, head_or, head_at, expr_with, pair_with, pairs_with, argument_with, direction_or, direction_at, order_with, ordered_with, inside_with, expr_at, ordered_at, out_with}
 use Rattle.hq_sql_expr.proofs.Between.{pair_texts_of, order_texts_of}
 use Rattle.hq_sql_expr.proofs.Sound.{Taken, Sound, Spelled, sound_next, sound_last, sound_word, sound_choose_end, sound_end, sound_peek, sound_pure, sound_nothing}
+use Rattle.hq_sql_expr.proofs.Words.{first_word_takes}
 use Rattle.hq_sql_expr.proofs.Listed.{AllGood, list_text, all_many_takes}
 use Rattle.hq_sql_expr.proofs.Fits.{FitsExpr, FitsPairs, FitsOrders, AtLeastOne}
 use Rattle.hq_sql_expr.proofs.Literals.{IsText, quoted_takes, text_takes}
@@ -79,18 +81,24 @@ OneHead = Spelled head_text (λ h. Unit {0})
 one_head : (h : Head) (other : Reader Head) → Sound other OneHead → Sound (λ bytes. head_or h bytes (other bytes)) OneHead
 one_head h other sound_other = sound_choose_end (head_word h) h OneHead (refl, tt) other sound_other
 
+-- an aggregate of a column's values
+abbrev aggregate_head : Reader Head
+aggregate_head bytes = first_word aggregate_word all_aggregates bytes >>= λ a. Some (head.Take a.0, a.1)
+
+aggregate_head_takes : Sound aggregate_head OneHead
+aggregate_head_takes =
+    sound_last (first_word aggregate_word all_aggregates) (λ a. head.Take a) (λ a. word_text (aggregate_word a)) (λ a. Unit {0}) OneHead (λ a u. (refl, tt))
+    (first_word_takes aggregate_word all_aggregates)
+
 pub head_takes : Sound head_at OneHead
 unfolding head_at
 head_takes =
-    one_head head.Object (λ bytes. head_or head.CountAll bytes (head_or head.CountDistinct bytes (head_or head.Count bytes (head_or head.Sum bytes (head_or head.Min bytes (head_or head.Max bytes (head_or head.JsonAgg bytes None)))))))
-    (one_head head.CountAll (λ bytes. head_or head.CountDistinct bytes (head_or head.Count bytes (head_or head.Sum bytes (head_or head.Min bytes (head_or head.Max bytes (head_or head.JsonAgg bytes None))))))
-    (one_head head.CountDistinct (λ bytes. head_or head.Count bytes (head_or head.Sum bytes (head_or head.Min bytes (head_or head.Max bytes (head_or head.JsonAgg bytes None)))))
-    (one_head head.Count (λ bytes. head_or head.Sum bytes (head_or head.Min bytes (head_or head.Max bytes (head_or head.JsonAgg bytes None))))
-    (one_head head.Sum (λ bytes. head_or head.Min bytes (head_or head.Max bytes (head_or head.JsonAgg bytes None)))
-    (one_head head.Min (λ bytes. head_or head.Max bytes (head_or head.JsonAgg bytes None))
-    (one_head head.Max (λ bytes. head_or head.JsonAgg bytes None)
-    (one_head head.JsonAgg (λ bytes. None)
-    (sound_nothing {A = Head} OneHead))))))))
+    one_head head.Object (λ bytes. head_or head.CountAll bytes (head_or head.CountDistinct bytes (head_or head.Count bytes (head_or head.JsonAgg bytes (aggregate_head bytes)))))
+    (one_head head.CountAll (λ bytes. head_or head.CountDistinct bytes (head_or head.Count bytes (head_or head.JsonAgg bytes (aggregate_head bytes))))
+    (one_head head.CountDistinct (λ bytes. head_or head.Count bytes (head_or head.JsonAgg bytes (aggregate_head bytes)))
+    (one_head head.Count (λ bytes. head_or head.JsonAgg bytes (aggregate_head bytes))
+    (one_head head.JsonAgg aggregate_head
+    aggregate_head_takes))))
 
 -- ---- what stands inside parentheses
 
@@ -169,10 +177,9 @@ module _ (d : ℕ) (expr : Reader ExprTree) (expr_takes : Sound expr (OneExpr d)
   inside_takes ordered sound_ordered head.CountAll = sound_pure (tree.aggregate tree.count_all) (Behind (suc d) head.CountAll) (append-nil (word_text word.CountAll), tt)
   inside_takes ordered sound_ordered head.CountDistinct = sound_last (argument_with expr) (λ e. tree.aggregate (tree.count e true)) closed_text Fits (Behind (suc d) head.CountDistinct) (λ e fits. (refl, fits)) argument_takes
   inside_takes ordered sound_ordered head.Count = sound_last (argument_with expr) (λ e. tree.aggregate (tree.count e false)) closed_text Fits (Behind (suc d) head.Count) (λ e fits. (refl, fits)) argument_takes
-  inside_takes ordered sound_ordered head.Sum = sound_last (argument_with expr) (λ e. tree.aggregate (tree.sum e)) closed_text Fits (Behind (suc d) head.Sum) (λ e fits. (refl, fits)) argument_takes
-  inside_takes ordered sound_ordered head.Min = sound_last (argument_with expr) (λ e. tree.aggregate (tree.min e)) closed_text Fits (Behind (suc d) head.Min) (λ e fits. (refl, fits)) argument_takes
-  inside_takes ordered sound_ordered head.Max = sound_last (argument_with expr) (λ e. tree.aggregate (tree.max e)) closed_text Fits (Behind (suc d) head.Max) (λ e fits. (refl, fits)) argument_takes
   inside_takes ordered sound_ordered head.JsonAgg = sound_ordered
+  inside_takes ordered sound_ordered (head.Take a) =
+      sound_last (argument_with expr) (λ e. tree.aggregate (tree.take a e)) closed_text Fits (Behind (suc d) (head.Take a)) (λ e fits. (refl, fits)) argument_takes
 
 -- ---- expressions
 

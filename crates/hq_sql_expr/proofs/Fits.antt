@@ -26,9 +26,7 @@ abbrev mutual
   pub FitsAgg : AggTree → ℕ → Type 0
   FitsAgg tree.count_all d = Unit {0}
   FitsAgg (tree.count e distinct) d = FitsExpr e d
-  FitsAgg (tree.sum e) d = FitsExpr e d
-  FitsAgg (tree.min e) d = FitsExpr e d
-  FitsAgg (tree.max e) d = FitsExpr e d
+  FitsAgg (tree.take a e) d = FitsExpr e d
   FitsAgg (tree.json_agg e os) zero = ⊥
   FitsAgg (tree.json_agg e os) (suc d) = AtLeastOne os × FitsExpr e d × FitsOrders os d
 

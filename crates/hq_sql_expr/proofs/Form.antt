@@ -42,9 +42,7 @@ mutual
   fits_agg : (a : AggTree) (d : ℕ) → is_agg a ≡ true → agg_depth a ≤ d → agg_fits a ≡ true → FitsAgg a d
   fits_agg tree.count_all d form depth fits = tt
   fits_agg (tree.count e distinct) d form depth fits = fits_expr e d form depth fits
-  fits_agg (tree.sum e) d form depth fits = fits_expr e d form depth fits
-  fits_agg (tree.min e) d form depth fits = fits_expr e d form depth fits
-  fits_agg (tree.max e) d form depth fits = fits_expr e d form depth fits
+  fits_agg (tree.take a e) d form depth fits = fits_expr e d form depth fits
   fits_agg (tree.json_agg e os) zero form depth fits = absurd (omega arith)
   fits_agg (tree.json_agg e tree.no_order) (suc d) form depth fits = absurd cc
   fits_agg (tree.json_agg e (tree.order f desc nulls_first os)) (suc d) form depth fits =
@@ -85,9 +83,7 @@ mutual
   agg_told : (a : AggTree) (d : ℕ) → FitsAgg a d → (is_agg a ≡ true) × (agg_depth a ≤ d) × (agg_fits a ≡ true)
   agg_told tree.count_all d h = (refl, omega arith, refl)
   agg_told (tree.count e distinct) d h = expr_told e d h
-  agg_told (tree.sum e) d h = expr_told e d h
-  agg_told (tree.min e) d h = expr_told e d h
-  agg_told (tree.max e) d h = expr_told e d h
+  agg_told (tree.take a e) d h = expr_told e d h
   agg_told (tree.json_agg e os) zero h = absurd h
   agg_told (tree.json_agg e tree.no_order) (suc d) h = absurd h.0
   agg_told (tree.json_agg e (tree.order f desc nulls_first os)) (suc d) h =

@@ -4,12 +4,14 @@ pub mod Strip
 pub mod Quotes
 pub mod Many
 pub mod Below
+pub mod Words
 pub mod Listed
 pub mod Fits
 pub mod Literals
 pub mod Ints
 pub mod Numbers
 pub mod Exprs
+pub mod Aggregates
 pub mod Again
 pub mod Form
 pub mod Closed

@@ -5,7 +5,8 @@ use Rattle.std.specs.Str.Parse.{digits_value, signed_digits_value}
 use Rattle.std.specs.Fmt.{decimal, signed_decimal}
 use Rattle.hq_sql_tree.specs.declared.word.Word.{Word}
 use Rattle.hq_sql_tree.specs.declared.word.Word.TheVariants as word
-use Rattle.hq_sql_tree.specs.Word.{word_text}
+use Rattle.hq_base.specs.Aggregates.{all_aggregates}
+use Rattle.hq_sql_tree.specs.Word.{word_text, aggregate_word}
 use Rattle.hq_sql_tree.specs.Form.{is_text, is_bigint}
 use Rattle.hq_sql_tree.specs.Tree as tree
 use Rattle.hq_sql_tree.specs.Tree.{ExprTree, PairTree, AggTree, OrderTree, OutTree, pairs_of, orders_of}
@@ -60,6 +61,11 @@ strip (w ∷ ws) (b ∷ bytes) = if b == w then strip ws bytes else None
 
 unfoldable pub after : Word → List ℕ → Option (List ℕ)
 after w bytes = strip (word_text w) bytes
+
+-- the first of these whose word stands here
+abbrev pub first_word : {A : Type 0} → (A → Word) → List A → Reader A
+first_word word_of [] bytes = None
+first_word word_of (x ∷ xs) bytes = choose (after (word_of x) bytes) (λ rest. Some (x, rest)) (first_word word_of xs bytes)
 
 -- one or more, with the word between each two, at most so many
 unfoldable pub many : {A : Type 0} → Reader A → Word → ℕ → Reader (List A)
@@ -153,10 +159,8 @@ head_word head.Object = word.BuildObject
 head_word head.CountAll = word.CountAll
 head_word head.CountDistinct = word.CountDistinct
 head_word head.Count = word.Count
-head_word head.Sum = word.Sum
-head_word head.Min = word.Min
-head_word head.Max = word.Max
 head_word head.JsonAgg = word.JsonAgg
+head_word (head.Take a) = aggregate_word a
 
 -- what begins with this head, or else the other way
 abbrev pub head_or : Head → List ℕ → Option (Head × List ℕ) → Option (Head × List ℕ)
@@ -165,7 +169,7 @@ head_or h bytes other = choose (after (head_word h) bytes) (λ rest. Some (h, re
 unfoldable pub head_at : Reader Head
 head_at bytes =
     head_or head.Object bytes (head_or head.CountAll bytes (head_or head.CountDistinct bytes (head_or head.Count bytes
-    (head_or head.Sum bytes (head_or head.Min bytes (head_or head.Max bytes (head_or head.JsonAgg bytes None)))))))
+    (head_or head.JsonAgg bytes (first_word aggregate_word all_aggregates bytes >>= λ a. Some (head.Take a.0, a.1))))))
 
 unfoldable pub expr_with : (inside : Head → Reader ExprTree) → Reader ExprTree
 expr_with inside bytes =
@@ -226,10 +230,8 @@ inside_with expr ordered head.Object bytes = pairs_with expr bytes
 inside_with expr ordered head.CountAll bytes = Some (tree.aggregate tree.count_all, bytes)
 inside_with expr ordered head.CountDistinct bytes = argument_with expr bytes >>= λ e. Some (tree.aggregate (tree.count e.0 true), e.1)
 inside_with expr ordered head.Count bytes = argument_with expr bytes >>= λ e. Some (tree.aggregate (tree.count e.0 false), e.1)
-inside_with expr ordered head.Sum bytes = argument_with expr bytes >>= λ e. Some (tree.aggregate (tree.sum e.0), e.1)
-inside_with expr ordered head.Min bytes = argument_with expr bytes >>= λ e. Some (tree.aggregate (tree.min e.0), e.1)
-inside_with expr ordered head.Max bytes = argument_with expr bytes >>= λ e. Some (tree.aggregate (tree.max e.0), e.1)
 inside_with expr ordered head.JsonAgg bytes = ordered bytes
+inside_with expr ordered (head.Take a) bytes = argument_with expr bytes >>= λ e. Some (tree.aggregate (tree.take a e.0), e.1)
 
 -- expressions that open at most so many parentheses at once
 unfoldable mutual

@@ -1,3 +1,5 @@
+use hq_base::Aggregate;
+
 /// What a JSON object or an aggregate begins with.
 #[derive(Clone, Copy, PartialEq, Eq)]
 pub enum Head {
@@ -5,8 +7,6 @@ pub enum Head {
     CountAll,
     CountDistinct,
     Count,
-    Sum,
-    Min,
-    Max,
     JsonAgg,
+    Take(Aggregate),
 }

@@ -139,9 +139,9 @@ fn put_agg(alloc: Global, out: &mut Vec<u8>, agg: &Agg) -> Result<(), Memory>
             value,
             distinct: false,
         } => put_call(alloc, out, Word::Count, value),
-        Agg::Sum(value) => put_call(alloc, out, Word::Sum, value),
-        Agg::Min(value) => put_call(alloc, out, Word::Min, value),
-        Agg::Max(value) => put_call(alloc, out, Word::Max, value),
+        Agg::Take { aggregate, value } => {
+            put_call(alloc, out, Word::of_aggregate(*aggregate), value)
+        }
         Agg::JsonAgg { value, order } => {
             put_word(out, Word::JsonAgg)?;
             put_expr(alloc, out, value)?;

@@ -1,12 +1,15 @@
 //! Reading expressions.
 ghost use Rattle.std.specs.Prelude.{◌≡◌, List, ℕ, map, Some};
+ghost use Rattle.hq_base.specs.Aggregates.{all_aggregates};
 ghost use Rattle.hq_sql_tree.specs.View.{expr_view, pair_view, order_view};
+ghost use Rattle.hq_sql_tree.specs.Word.{aggregate_word};
 ghost use Rattle.hq_sql_tree.specs.declared.word.Word.TheVariants as words;
-ghost use Rattle.hq_sql_expr.specs.Reading.{Reads, below, all_many, collate_at, column_at, head_word, head_at, expr_with, pair_with, pairs_with, argument_with, direction_at, order_with, ordered_with, inside_with, inside_at, listed_at};
+ghost use Rattle.hq_sql_expr.specs.Reading.{Reads, below, all_many, collate_at, column_at, first_word, head_word, head_at, expr_with, pair_with, pairs_with, argument_with, direction_at, order_with, ordered_with, inside_with, inside_at, listed_at};
 
 use crate::head::Head;
 use crate::texts::{literal_of, text_of};
 use crate::{ReadRefusal, read_name, skip, starts};
+use hq_base::Aggregate;
 use hq_sql_tree::{Agg, Expr, ExprPair, ExprPairList, Order, OrderList, Word};
 use std::alloc::Global;
 
@@ -47,12 +50,22 @@ impl Head {
             Head::CountAll => Word::CountAll,
             Head::CountDistinct => Word::CountDistinct,
             Head::Count => Word::Count,
-            Head::Sum => Word::Sum,
-            Head::Min => Word::Min,
-            Head::Max => Word::Max,
             Head::JsonAgg => Word::JsonAgg,
+            Head::Take(aggregate) => Word::of_aggregate(aggregate),
         }
     }
+}
+
+// The aggregate whose word stands here, and what follows it.
+fn aggregate_of(bytes: &[u8]) -> Result<(Aggregate, &[u8]), ReadRefusal>
+    ensures { Reads (λ x. (x.0, x.1.now)) result (first_word aggregate_word all_aggregates bytes.now) }
+{
+    for aggregate in Aggregate::all() {
+        if let Some(rest) = starts(bytes, Word::of_aggregate(aggregate)) {
+            return Ok((aggregate, rest));
+        }
+    }
+    Err(ReadRefusal::NotSql)
 }
 
 // What an object or an aggregate begins with, and what follows it.
@@ -72,17 +85,11 @@ fn head_of(bytes: &[u8]) -> Result<(Head, &[u8]), ReadRefusal>
     if let Some(rest) = starts(bytes, Word::Count) {
         return Ok((Head::Count, rest));
     }
-    if let Some(rest) = starts(bytes, Word::Sum) {
-        return Ok((Head::Sum, rest));
+    if let Some(rest) = starts(bytes, Word::JsonAgg) {
+        return Ok((Head::JsonAgg, rest));
     }
-    if let Some(rest) = starts(bytes, Word::Min) {
-        return Ok((Head::Min, rest));
-    }
-    if let Some(rest) = starts(bytes, Word::Max) {
-        return Ok((Head::Max, rest));
-    }
-    let rest = skip(bytes, Word::JsonAgg)?;
-    Ok((Head::JsonAgg, rest))
+    let (aggregate, rest) = aggregate_of(bytes)?;
+    Ok((Head::Take(aggregate), rest))
 }
 
 #[cycle(read_expr)]
@@ -154,19 +161,11 @@ fn inside_of(
                 rest,
             ))
         }
-        Head::Sum => {
-            let (value, rest) = argument_of(alloc, depth, bytes)?;
-            Ok((Expr::Agg(Agg::Sum(value)), rest))
-        }
-        Head::Min => {
-            let (value, rest) = argument_of(alloc, depth, bytes)?;
-            Ok((Expr::Agg(Agg::Min(value)), rest))
-        }
-        Head::Max => {
-            let (value, rest) = argument_of(alloc, depth, bytes)?;
-            Ok((Expr::Agg(Agg::Max(value)), rest))
-        }
         Head::JsonAgg => ordered_below(alloc, depth, bytes),
+        Head::Take(aggregate) => {
+            let (value, rest) = argument_of(alloc, depth, bytes)?;
+            Ok((Expr::Agg(Agg::Take { aggregate, value }), rest))
+        }
     }
 }
 

@@ -16,15 +16,16 @@ use Rattle.hq_terms.specs.Database.{Row}
 use Rattle.hq_terms.specs.declared.truth.Truth.{Truth}
 use Rattle.hq_terms.specs.declared.truth.Truth.TheVariants.{Yes, No, Unknown}
 use Rattle.hq_terms.specs.Logic.{and3, truth_of, equal, null_test}
-use Rattle.hq_terms.specs.declared.op.Op.TheVariants as op
+use Rattle.hq_terms.specs.declared.test.Test.{Test}
 use Rattle.hq_terms.specs.declared.table.Column.{Column}
+use Rattle.hq_terms.proofs.CellOrders.{then_equal}
 use Rattle.hq_index.specs.Keys.{cell_in, key_in, keys_cmp, has_null, has_key}
 use Rattle.hq_sql_tree.specs.Tree as tree
 use Rattle.hq_sql_tree.specs.Tree.{ExprTree, JoinTrees, PredTree, preds_of}
 use Rattle.hq_sql_tree.specs.View.{pred_view}
 use Rattle.hq_sql_tree.specs.declared.select.Pred.{Pred}
 use Rattle.hq_sql_tree.specs.Meaning.{Scope as Names, World, cell_named, named_row, value, truth_at, all_true}
-use Rattle.hq_sql_rows.specs.Equations.{is_joined, is_column, is_outer, key_cell, IsAround, Forces, AsksCell, AsksKey}
+use Rattle.hq_sql_rows.specs.Equations.{is_joined, is_column, is_outer, key_cell, IsAround, IsEquation, Forces, AsksCell, AsksKey}
 use Rattle.hq_sql_rows.specs.View.{scope_of}
 use Rattle.hq_sql_rows.specs.declared.scope.Scope.{Scope}
 
@@ -39,11 +40,6 @@ equal_turn (int m) (int n) e = let back = tied_back int_cmp_total m n ((Equal-is
 equal_turn (text s) (text t) e = let back = tied_back nat_list_cmp_total s t ((Equal-is (slice_cmp nat_cmp s t)).0 (truth_is (is_eq (slice_cmp nat_cmp s t)) e)) in rw back refl
 equal_turn (bool x) (bool y) e = let back = tied_back bool_cmp_total x y ((Equal-is (bool_cmp x y)).0 (truth_is (is_eq (bool_cmp x y)) e)) in rw back refl
 equal_turn _ _ e = cc
-
-then_equal : (o : Ordering) → ordering_then o Equal ≡ o
-then_equal Less = refl
-then_equal Equal = refl
-then_equal Greater = refl
 
 -- an equal cell is no NULL and no JSON, and has no order before or behind
 equal_key : (a b : CellTree) → equal a b ≡ Yes → (is_eq (cell_cmp a (key_cell b)) ≡ true) × (null_test (key_cell b) ≡ false)
@@ -84,13 +80,20 @@ column_value alias name (tree.bool b) m is = cc
 column_value alias name (tree.object ps) m is = cc
 column_value alias name (tree.aggregate a) m is = cc
 
--- an equation forces the column on either side
-pub forces_left : (alias name : List ℕ) (l r : ExprTree) → is_column alias name l ≡ true → Forces (tree.compare l op.Eq r) alias name r
-forces_left alias name l r is = record { equals = λ w m holds. ap (λ c. equal c (value r [] m)) (sym (column_value alias name l m is)) ∙ holds }
+-- where an equation is true, its sides are equal
+equation_holds : (l r : ExprTree) (t : Test) (es : List ExprTree) (w : World) (m : Names) → IsEquation t es r → truth_at (tree.test l t es) w m ≡ Yes → equal (value l [] m) (value r [] m) ≡ Yes
+equation_holds l r t es w m equates holds = ap₂ (λ u operands. truth_at (tree.test l u operands) w m) (sym equates.test) (sym equates.operand) ∙ holds
 
-pub forces_right : (alias name : List ℕ) (l r : ExprTree) → is_column alias name r ≡ true → Forces (tree.compare l op.Eq r) alias name l
-forces_right alias name l r is =
-    record { equals = λ w m holds. ap (λ c. equal c (value l [] m)) (sym (column_value alias name r m is)) ∙ equal_turn (value l [] m) (value r [] m) holds }
+-- an equation forces the column on either side
+pub forces_left : (alias name : List ℕ) (l r : ExprTree) (t : Test) (es : List ExprTree) → IsEquation t es r → is_column alias name l ≡ true → Forces (tree.test l t es) alias name r
+forces_left alias name l r t es equates is =
+    record { equals = λ w m holds. ap (λ c. equal c (value r [] m)) (sym (column_value alias name l m is)) ∙ equation_holds l r t es w m equates holds }
+
+pub forces_right : (alias name : List ℕ) (l r : ExprTree) (t : Test) (es : List ExprTree) → IsEquation t es r → is_column alias name r ≡ true → Forces (tree.test l t es) alias name l
+forces_right alias name l r t es equates is =
+    record {
+      equals = λ w m holds. ap (λ c. equal c (value l [] m)) (sym (column_value alias name r m is)) ∙ equal_turn (value l [] m) (value r [] m) (equation_holds l r t es w m equates holds);
+    }
 
 -- ---- cells
 

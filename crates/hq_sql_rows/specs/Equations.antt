@@ -1,10 +1,13 @@
 -- What a WHERE asks the cells of a scanned row to equal, whatever else is in scope.
-use Rattle.std.specs.Prelude.{◌≡◌, ℕ, List, [], Bool, true, false, not, ◌&&◌, ◌||◌, bytes_eq}
+use Rattle.std.specs.Prelude.{◌≡◌, ℕ, List, [], ◌∷◌, Bool, true, false, not, ◌&&◌, ◌||◌, bytes_eq}
 use Rattle.std.specs.Ordering.{is_eq}
 use Rattle.hq_base.specs.Cells as cell
 use Rattle.hq_base.specs.Cells.{CellTree, cell_cmp}
 use Rattle.hq_terms.specs.Database.{Row}
 use Rattle.hq_terms.specs.Logic.{equal, null_test}
+use Rattle.hq_terms.specs.declared.op.Op.TheVariants.{Eq}
+use Rattle.hq_terms.specs.declared.test.Test.{Test}
+use Rattle.hq_terms.specs.declared.test.Test.TheVariants.{Compare}
 use Rattle.hq_terms.specs.declared.truth.Truth.TheVariants.{Yes}
 use Rattle.hq_terms.specs.declared.table.Column.{Column}
 use Rattle.hq_index.specs.Keys.{cell_in, has_key}
@@ -31,6 +34,11 @@ is_outer alias js (text t) = true
 is_outer alias js (bool b) = true
 is_outer alias js (object ps) = false
 is_outer alias js (aggregate a) = false
+
+-- a test is the equation of its value and this expression
+pub record IsEquation (t : Test) (operands : List ExprTree) (e : ExprTree) : Type 0 where
+  pub test : t ≡ Compare Eq
+  pub operand : operands ≡ e ∷ []
 
 -- where the condition is true, the cell of this name of the alias equals the expression
 pub record Forces (p : PredTree) (alias name : List ℕ) (e : ExprTree) : Type 0 where

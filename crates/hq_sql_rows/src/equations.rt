@@ -3,20 +3,19 @@ ghost use Rattle.std.specs.Prelude.{◌≡◌, [], true, map, Some, IfOk, IfSome
 ghost use Rattle.std.specs.List.{position};
 ghost use Rattle.hq_index.specs.Keys.{cell_view as key_view};
 ghost use Rattle.hq_sql_cells.specs.View.{cell_view};
-ghost use Rattle.hq_sql_tree.specs.Tree.{joins_of, preds_of, compare, all_of};
+ghost use Rattle.hq_sql_tree.specs.Tree.{joins_of, preds_of, test as tested, all_of};
 ghost use Rattle.hq_sql_tree.specs.View.{expr_view, join_view, pred_view};
 ghost use Rattle.hq_sql_tree.specs.Meaning.{World, value};
-ghost use Rattle.hq_terms.specs.declared.op.Op.TheVariants.{Eq};
 ghost use Rattle.hq_sql_rows.specs.View.{row_view, scope_of};
-ghost use Rattle.hq_sql_rows.specs.Equations.{is_joined, is_column, is_outer, key_cell, Forces, AsksCell, AsksKey};
+ghost use Rattle.hq_sql_rows.specs.Equations.{is_joined, is_column, is_outer, key_cell, IsEquation, Forces, AsksCell, AsksKey};
 
 use crate::row::{Row, cell_at};
 use crate::scope::Scope;
 use hq_base::{Memory, Txt};
 use hq_index::KeyCell;
 use hq_sql_cells::Cell;
-use hq_sql_tree::{Expr, Join, Pred, PredList};
-use hq_terms::{ColId, Column, Op, Table};
+use hq_sql_tree::{Expr, ExprList, Join, Pred, PredList};
+use hq_terms::{ColId, Column, Op, Table, Test};
 use std::alloc::Global;
 
 /// Whether the alias is that of one of the joins.
@@ -56,18 +55,30 @@ fn is_outer(expr: &Expr, alias: &Txt, joins: &[Join]) -> bool
     }
 }
 
+// What a test asks its value to equal.
+fn equal_to<'d>(test: Test, operands: &'d ExprList) -> Option<&'d Expr>
+    ensures { IfSome result (λ e. IsEquation test (map expr_view operands.now.items) (expr_view e.now)) }
+{
+    match (test, operands.as_slice()) {
+        (Test::Compare(Op::Eq), [operand]) => Some(operand),
+        _ => None,
+    }
+}
+
 // The side of an equation that the column equals.
 #[tactic(auto, using(crate::proofs::Asked::forces_left, crate::proofs::Asked::forces_right))]
 fn other_side<'d>(
     left: &'d Expr,
-    right: &'d Expr,
+    test: Test,
+    operands: &'d ExprList,
     alias: &Txt,
     name: &Txt,
     joins: &[Join],
 ) -> Option<&'d Expr>
     ensures outer { IfSome result (λ e. is_outer alias.now (joins_of (map join_view joins.now)) (expr_view e.now) ≡ true) }
-    ensures equals { IfSome result (λ e. Forces (compare (expr_view left.now) Eq (expr_view right.now)) alias.now name.now (expr_view e.now)) }
+    ensures equals { IfSome result (λ e. Forces (tested (expr_view left.now) test (map expr_view operands.now.items)) alias.now name.now (expr_view e.now)) }
 {
+    let right = equal_to(test, operands)?;
     if is_column(left, alias, name) && is_outer(right, alias, joins) {
         return Some(right);
     }
@@ -84,21 +95,13 @@ fn forced<'d>(pred: &'d Pred, alias: &Txt, name: &Txt, joins: &[Join]) -> Option
     ensures equals { IfSome result (λ e. Forces (pred_view pred.now) alias.now name.now (expr_view e.now)) }
 {
     match pred {
-        Pred::Cmp { left, op, right } => {
-            if *op == Op::Eq {
-                return other_side(left, right, alias, name, joins);
-            }
-            None
-        }
+        Pred::Test {
+            value,
+            test,
+            operands,
+        } => other_side(value, *test, operands, alias, name, joins),
         Pred::And(preds) => forced_among(preds, alias, name, joins),
-        Pred::True
-        | Pred::False
-        | Pred::Like { .. }
-        | Pred::Within { .. }
-        | Pred::IsNull(_)
-        | Pred::Not(_)
-        | Pred::Or(_)
-        | Pred::Exists(_) => None,
+        Pred::True | Pred::False | Pred::Not(_) | Pred::Or(_) | Pred::Exists(_) => None,
     }
 }
 

@@ -30,7 +30,7 @@ fn in_agg(agg: &Agg, alias: &Txt) -> usize {
     match agg {
         Agg::CountAll => 0,
         Agg::Count { value, .. } => in_expr(value, alias),
-        Agg::Sum(value) | Agg::Min(value) | Agg::Max(value) => in_expr(value, alias),
+        Agg::Take { value, .. } => in_expr(value, alias),
         Agg::JsonAgg { value, order } => {
             in_expr(value, alias).saturating_add(in_aggregate_order(order, alias))
         }
@@ -128,11 +128,9 @@ pub fn in_filter(filter: &Option<Pred>, alias: &Txt) -> usize {
 fn in_pred(pred: &Pred, alias: &Txt) -> usize {
     match pred {
         Pred::True | Pred::False => 0,
-        Pred::Cmp { left, right, .. } | Pred::Like { left, right, .. } => {
-            in_expr(left, alias).saturating_add(in_expr(right, alias))
-        }
-        Pred::Within { value, list } => in_expr(value, alias).saturating_add(in_exprs(list, alias)),
-        Pred::IsNull(value) => in_expr(value, alias),
+        Pred::Test {
+            value, operands, ..
+        } => in_expr(value, alias).saturating_add(in_exprs(operands, alias)),
         Pred::Not(inner) => in_pred(inner, alias),
         Pred::And(preds) | Pred::Or(preds) => in_preds(preds, alias),
         Pred::Exists(select) => in_select(select, alias),

@@ -133,12 +133,7 @@ fn in_pred(alloc: Global, pred: &Pred, wanted: &mut Wanted<'_>) -> Result<(), Me
         Pred::Not(inner) => in_pred(alloc, inner, wanted),
         Pred::And(preds) | Pred::Or(preds) => in_preds(alloc, preds, wanted),
         Pred::Exists(select) => in_select(alloc, select, wanted),
-        Pred::True
-        | Pred::False
-        | Pred::Cmp { .. }
-        | Pred::Like { .. }
-        | Pred::Within { .. }
-        | Pred::IsNull(_) => Ok(()),
+        Pred::True | Pred::False | Pred::Test { .. } => Ok(()),
     }
 }
 

@@ -7,7 +7,7 @@ use Rattle.hq_sql_tree.specs.declared.word.Word.{Word}
 use Rattle.hq_sql_tree.specs.declared.word.Word.TheVariants as word
 use Rattle.hq_sql_tree.specs.Word.{word_text}
 use Rattle.hq_sql_tree.specs.Tree as tree
-use Rattle.hq_sql_tree.specs.Tree.{ExprTree, AggTree, OrderTree, OutTree, SelectTree, FromTree, JoinTree, JoinTrees, FilterTree, PredTree, joins_of, join_list}
+use Rattle.hq_sql_tree.specs.Tree.{ExprTree, OrderTree, OutTree, SelectTree, FromTree, JoinTree, JoinTrees, FilterTree, PredTree, joins_of, join_list}
 use Rattle.hq_sql_tree.specs.Form.{holds_agg, is_rows, is_count}
 use Rattle.hq_sql_tree.specs.Spelling.{quoted, doubled, name_text, each_after, separated, clause_text, expr_text, out_text, distinct_text, number_text, select_text, from_text, join_text, join_texts, filter_text}
 use Rattle.hq_sql_expr.specs.Reading.{Reader, nothing, after, strip}
@@ -15,6 +15,7 @@ use Rattle.hq_sql_expr.proofs.Sound.{after_again}
 use Rattle.hq_sql_expr.proofs.Listed.{AllGood, all_many_again}
 use Rattle.hq_sql_expr.proofs.Literals.{IsText, Free, quoted_again}
 use Rattle.hq_sql_expr.proofs.Exprs.{GoodOrder, GoodOut}
+use Rattle.hq_sql_expr.proofs.Aggregates.{agg_apart}
 use Rattle.hq_sql_expr.proofs.Again.{as_ends, outs_again}
 use Rattle.hq_sql_text.specs.Reading.{clause_with, table_at, one_at, aliased_with, from_with, join_with, fold_of, shaped, inside_with, pred_with, pred_at, select_with, select_at}
 use Rattle.hq_sql_text.proofs.Fits.{FitsDistinct, FitsSelect, FitsFrom, FitsJoins, FitsFilter}
@@ -74,16 +75,6 @@ u_begins (c ∷ n) rest free =
       | false ↦ elim (eqb c 117) as (λ t. cond t (strip (codes "\") AS ") ((doubled 34 n ++ 34 ∷ []) ++ rest)) None ≡ None) [ true ↦ u_ends n rest free | false ↦ refl ]
     ]
 
-agg_not_true : (a : AggTree) (rest : List ℕ) → strip (codes "TRUE AS \"u\") AS ") (expr_text (tree.aggregate a) ++ rest) ≡ None
-unfolding word_text
-agg_not_true tree.count_all rest = refl
-agg_not_true (tree.count e true) rest = refl
-agg_not_true (tree.count e false) rest = refl
-agg_not_true (tree.sum e) rest = refl
-agg_not_true (tree.min e) rest = refl
-agg_not_true (tree.max e) rest = refl
-agg_not_true (tree.json_agg e os) rest = refl
-
 output_not_one : (e : ExprTree) (n rest : List ℕ) → Open rest → strip (codes "TRUE AS \"u\") AS ") (expr_text e ++ (word_text word.As ++ (name_text n ++ rest))) ≡ None
 unfolding word_text quoted
 output_not_one (tree.column a m c) n rest free = refl
@@ -92,7 +83,7 @@ output_not_one (tree.text t) n rest free = refl
 output_not_one (tree.bool true) n rest free = u_begins n rest free
 output_not_one (tree.bool false) n rest free = refl
 output_not_one (tree.object ps) n rest free = refl
-output_not_one (tree.aggregate a) n rest free = agg_not_true a _
+output_not_one (tree.aggregate a) n rest free = agg_apart a 84 (codes "RUE AS \"u\") AS ") _ refl
 
 after_select : (rest : List ℕ) → after word.One (word_text word.Select ++ rest) ≡ strip (codes "TRUE AS \"u\") AS ") rest
 unfolding after word_text

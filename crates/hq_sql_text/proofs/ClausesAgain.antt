@@ -1,12 +1,13 @@
 -- Clauses that hold no select: what is spelled so is read again, whatever follows.
 use Rattle.std.proofs.Common.{◌≡◌, ℕ, true, false, List, [], ◌∷◌, ◌++◌, map, Option, Some, None, refl, sym, subst, append_assoc}
+use Rattle.std.specs.Prelude.{codes}
 use Rattle.std.specs.List.{AllByRecursion}
 use Rattle.std.specs.Fmt.{decimal}
 use Rattle.hq_sql_tree.specs.declared.word.Word.{Word}
 use Rattle.hq_sql_tree.specs.declared.word.Word.TheVariants as word
 use Rattle.hq_sql_tree.specs.Word.{word_text}
 use Rattle.hq_sql_tree.specs.Tree as tree
-use Rattle.hq_sql_tree.specs.Tree.{ExprTree, AggTree, OrderTree, JoinTrees, FilterTree}
+use Rattle.hq_sql_tree.specs.Tree.{ExprTree, OrderTree, JoinTrees, FilterTree}
 use Rattle.hq_sql_tree.specs.Form.{is_count}
 use Rattle.hq_sql_tree.specs.Spelling.{quoted, each_after, separated, clause_text, expr_text, order_text, distinct_text, number_text, join_texts, filter_text, pred_text}
 use Rattle.hq_sql_expr.specs.Reading.{after, expr_at, order_with}
@@ -14,6 +15,7 @@ use Rattle.hq_sql_expr.proofs.Sound.{after_again}
 use Rattle.hq_sql_expr.proofs.Literals.{Free}
 use Rattle.hq_sql_expr.proofs.Numbers.{NoDigit, number_again}
 use Rattle.hq_sql_expr.proofs.Exprs.{GoodOrder}
+use Rattle.hq_sql_expr.proofs.Aggregates.{agg_apart}
 use Rattle.hq_sql_expr.proofs.Again.{keys_again, expr_again}
 use Rattle.hq_sql_expr.proofs.Closed.{closed_list_text, close_distinct_closes, closed_exprs_again}
 use Rattle.hq_sql_text.specs.Reading.{clause_with, distinct_at, count_at, counts_with}
@@ -132,16 +134,6 @@ keys_clause d (k ∷ keys) limit offset rest good ends =
 
 -- ---- DISTINCT ON
 
-agg_no_distinct : (a : AggTree) (rest : List ℕ) → Absent word.DistinctOn (expr_text (tree.aggregate a) ++ rest)
-unfolding word_text after
-agg_no_distinct tree.count_all rest = refl
-agg_no_distinct (tree.count e true) rest = refl
-agg_no_distinct (tree.count e false) rest = refl
-agg_no_distinct (tree.sum e) rest = refl
-agg_no_distinct (tree.min e) rest = refl
-agg_no_distinct (tree.max e) rest = refl
-agg_no_distinct (tree.json_agg e os) rest = refl
-
 -- an expression does not begin with DISTINCT ON
 pub expr_no_distinct : (e : ExprTree) (rest : List ℕ) → Absent word.DistinctOn (expr_text e ++ rest)
 unfolding word_text after quoted
@@ -151,7 +143,7 @@ expr_no_distinct (tree.text t) rest = refl
 expr_no_distinct (tree.bool true) rest = refl
 expr_no_distinct (tree.bool false) rest = refl
 expr_no_distinct (tree.object ps) rest = refl
-expr_no_distinct (tree.aggregate a) rest = agg_no_distinct a rest
+expr_no_distinct (tree.aggregate a) rest = agg_apart a 68 (codes "ISTINCT ON (") rest refl
 
 pub distinct_again : (d : ℕ) (es : List ExprTree) (rest : List ℕ) → FitsDistinct d es → Absent word.DistinctOn rest → distinct_at d (distinct_text es ++ rest) ≡ Some (es, rest)
 distinct_again d [] rest fits none = rw none refl

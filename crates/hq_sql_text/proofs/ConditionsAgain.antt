@@ -1,25 +1,28 @@
 -- Conditions: what is spelled so is read again, whatever follows.
-use Rattle.std.proofs.Common.{◌≡◌, ℕ, zero, suc, ◌<◌, Bool, true, false, ◌||◌, List, ◌∷◌, ◌++◌, length, map, Option, Some, refl, ap, ◌∙◌, append_assoc, arith}
+use Rattle.std.proofs.Common.{◌≡◌, ℕ, zero, suc, ◌<◌, Bool, true, false, ◌||◌, List, [], ◌∷◌, ◌++◌, length, map, Option, Some, refl, ap, ◌∙◌, append_assoc, arith}
+use Rattle.std.specs.Prelude.{codes}
 use Rattle.std.specs.List.{AllByRecursion}
-use Rattle.hq_terms.specs.declared.op.Op.{Op}
-use Rattle.hq_terms.specs.declared.op.Op.TheVariants as op
+use Rattle.hq_terms.specs.Tests.{arity}
+use Rattle.hq_terms.specs.declared.test.Test.{Test}
 use Rattle.hq_sql_tree.specs.declared.word.Word.{Word}
 use Rattle.hq_sql_tree.specs.declared.word.Word.TheVariants as word
-use Rattle.hq_sql_tree.specs.Word.{word_text}
+use Rattle.hq_sql_tree.specs.Word.{word_text, test_word, test_close}
 use Rattle.hq_sql_tree.specs.Tree as tree
 use Rattle.hq_sql_tree.specs.Tree.{ExprTree, AggTree, OrderTree, SelectTree, FilterTree, PredTree, PredTrees, preds_of, pred_list}
 use Rattle.hq_sql_tree.specs.Form.{is_rows, is_count}
-use Rattle.hq_sql_tree.specs.Spelling.{quoted, separated, expr_text, op_word, select_text, filter_text, pred_text, pred_texts}
+use Rattle.hq_sql_tree.specs.Spelling.{quoted, separated, expr_text, select_text, filter_text, pred_text, pred_texts}
 use Rattle.hq_sql_expr.specs.Reading.{Reader, nothing, after}
 use Rattle.hq_sql_expr.proofs.Sound.{after_again}
 use Rattle.hq_sql_expr.proofs.Listed.{all_many_again}
 use Rattle.hq_sql_expr.proofs.Fits.{FitsExpr}
-use Rattle.hq_sql_expr.proofs.Exprs.{GoodOrder, closed_text}
+use Rattle.hq_sql_expr.proofs.Exprs.{GoodOrder}
 use Rattle.hq_sql_expr.proofs.Again.{expr_again}
-use Rattle.hq_sql_expr.proofs.Again as expressions
-use Rattle.hq_sql_expr.proofs.Closed.{FitsClosed, closed_list_text, closed_expr_again, close_in_closes, closed_exprs_again}
-use Rattle.hq_sql_text.specs.Reading.{joint_next, member_next, op_at, test_with, tested_at, others_with, joined_with, negated_with, inside_with, exists_with, pred_with, filter_with, end_with}
-use Rattle.hq_sql_text.proofs.Fits.{FitsSelect, FitsFilter, FitsPred, FitsPreds}
+use Rattle.hq_sql_expr.proofs.Aggregates.{agg_apart}
+use Rattle.hq_sql_expr.proofs.Closed.{closed_list_text}
+use Rattle.hq_sql_text.specs.Reading.{joint_next, member_next, test_with, tested_at, others_with, joined_with, negated_with, inside_with, exists_with, pred_with, filter_with, end_with}
+use Rattle.hq_sql_text.proofs.Fits.{FitsOperands, FitsSelect, FitsFilter, FitsPred, FitsPreds}
+use Rattle.hq_sql_text.proofs.Operands.{operands_again}
+use Rattle.hq_sql_text.proofs.Tests.{Asks, test_asks, test_again}
 use Rattle.hq_sql_text.proofs.ClausesAgain.{Ends, close_ends, Absent, counts_text, keys_text, behind_text, no_where_behind, counts_again, keys_clause}
 
 -- a reader of selects, within so many parentheses
@@ -42,13 +45,12 @@ NoMember bytes = Absent word.Not bytes × (member_next bytes ≡ false)
 
 agg_no_member : (a : AggTree) (rest : List ℕ) → NoMember (expr_text (tree.aggregate a) ++ rest)
 unfolding word_text after
-agg_no_member tree.count_all rest = (refl, refl)
-agg_no_member (tree.count e true) rest = (refl, refl)
-agg_no_member (tree.count e false) rest = (refl, refl)
-agg_no_member (tree.sum e) rest = (refl, refl)
-agg_no_member (tree.min e) rest = (refl, refl)
-agg_no_member (tree.max e) rest = (refl, refl)
-agg_no_member (tree.json_agg e os) rest = (refl, refl)
+agg_no_member a rest =
+    let no_open = agg_apart a 40 [] rest refl in
+    let no_exists = agg_apart a 69 (codes "XISTS (") rest refl in
+    let no_true = agg_apart a 84 (codes "RUE") rest refl in
+    let no_false = agg_apart a 70 (codes "ALSE") rest refl in
+    (agg_apart a 78 (codes "OT ") rest refl, rw (no_open, no_exists, no_true, no_false) refl)
 
 expr_no_member : (e : ExprTree) (rest : List ℕ) → joint_next rest ≡ false → NoMember (expr_text e ++ rest)
 unfolding word_text after quoted
@@ -68,10 +70,7 @@ and_member : (p : PredTree) (rest : List ℕ) → Member (pred_text p ++ (word_t
 unfolding word_text after
 and_member tree.always rest = (refl, refl)
 and_member tree.never rest = (refl, refl)
-and_member (tree.compare l o r) rest = (refl, refl)
-and_member (tree.like l r fold) rest = (refl, refl)
-and_member (tree.within e es) rest = (refl, refl)
-and_member (tree.is_null e) rest = (refl, refl)
+and_member (tree.test e t es) rest = (refl, refl)
 and_member (tree.negation p) rest = (refl, refl)
 and_member (tree.all_of ps) rest = (refl, refl)
 and_member (tree.any_of ps) rest = (refl, refl)
@@ -81,104 +80,18 @@ or_member : (p : PredTree) (rest : List ℕ) → Member (pred_text p ++ (word_te
 unfolding word_text after
 or_member tree.always rest = (refl, refl)
 or_member tree.never rest = (refl, refl)
-or_member (tree.compare l o r) rest = (refl, refl)
-or_member (tree.like l r fold) rest = (refl, refl)
-or_member (tree.within e es) rest = (refl, refl)
-or_member (tree.is_null e) rest = (refl, refl)
+or_member (tree.test e t es) rest = (refl, refl)
 or_member (tree.negation p) rest = (refl, refl)
 or_member (tree.all_of ps) rest = (refl, refl)
 or_member (tree.any_of ps) rest = (refl, refl)
 or_member (tree.exists s) rest = (refl, refl)
 
--- ---- what is asked of an expression
+-- ---- what is asked of a value
 
--- what may follow the expression: it goes on neither as an expression nor as a member of AND or OR
-abbrev Asks : List ℕ → Type 0
-Asks rest = expressions.Ends rest × (joint_next rest ≡ false)
-
-op_asks : (o : Op) (rest : List ℕ) → Asks (word_text (op_word o) ++ rest)
-unfolding word_text after
-op_asks op.Eq rest = ((refl, refl), refl)
-op_asks op.Ne rest = ((refl, refl), refl)
-op_asks op.Lt rest = ((refl, refl), refl)
-op_asks op.Le rest = ((refl, refl), refl)
-op_asks op.Gt rest = ((refl, refl), refl)
-op_asks op.Ge rest = ((refl, refl), refl)
-
-like_asks : (rest : List ℕ) → Asks (word_text word.Like ++ rest)
-unfolding word_text after
-like_asks rest = ((refl, refl), refl)
-
-ilike_asks : (rest : List ℕ) → Asks (word_text word.Ilike ++ rest)
-unfolding word_text after
-ilike_asks rest = ((refl, refl), refl)
-
-in_asks : (rest : List ℕ) → Asks (word_text word.In ++ rest)
-unfolding word_text after
-in_asks rest = ((refl, refl), refl)
-
-is_null_asks : (rest : List ℕ) → Asks (word_text word.IsNull ++ rest)
-unfolding word_text after
-is_null_asks rest = ((refl, refl), refl)
-
-op_again : (o : Op) (rest : List ℕ) → op_at (word_text (op_word o) ++ rest) ≡ Some (o, rest)
-unfolding op_at word_text after
-op_again op.Eq rest = refl
-op_again op.Ne rest = refl
-op_again op.Lt rest = refl
-op_again op.Le rest = refl
-op_again op.Gt rest = refl
-op_again op.Ge rest = refl
-
-op_alone : (o : Op) (rest : List ℕ) → Absent word.IsNull (word_text (op_word o) ++ rest) × Absent word.In (word_text (op_word o) ++ rest) × Absent word.Like (word_text (op_word o) ++ rest) × Absent word.Ilike (word_text (op_word o) ++ rest)
-unfolding word_text after
-op_alone op.Eq rest = (refl, refl, refl, refl)
-op_alone op.Ne rest = (refl, refl, refl, refl)
-op_alone op.Lt rest = (refl, refl, refl, refl)
-op_alone op.Le rest = (refl, refl, refl, refl)
-op_alone op.Gt rest = (refl, refl, refl, refl)
-op_alone op.Ge rest = (refl, refl, refl, refl)
-
-like_alone : (rest : List ℕ) → Absent word.IsNull (word_text word.Like ++ rest) × Absent word.In (word_text word.Like ++ rest)
-unfolding word_text after
-like_alone rest = (refl, refl)
-
-ilike_alone : (rest : List ℕ) → Absent word.IsNull (word_text word.Ilike ++ rest) × Absent word.In (word_text word.Ilike ++ rest) × Absent word.Like (word_text word.Ilike ++ rest)
-unfolding word_text after
-ilike_alone rest = (refl, refl, refl)
-
-in_alone : (rest : List ℕ) → Absent word.IsNull (word_text word.In ++ rest)
-unfolding word_text after
-in_alone rest = refl
-
-module _ (d : ℕ) (l : ExprTree) (rest : List ℕ) where
-  compare_again : (o : Op) (r : ExprTree) → FitsExpr r d → test_with d l (word_text (op_word o) ++ (closed_text r ++ rest)) ≡ Some (tree.compare l o r, rest)
-  unfolding test_with
-  compare_again o r fits =
-      let alone = op_alone o (closed_text r ++ rest) in
-      rw (alone.0, alone.1, alone.2, alone.3, op_again o (closed_text r ++ rest), closed_expr_again d r rest fits) refl
-
-  like_again : (r : ExprTree) → FitsExpr r d → test_with d l (word_text word.Like ++ (closed_text r ++ rest)) ≡ Some (tree.like l r false, rest)
-  unfolding test_with
-  like_again r fits =
-      let alone = like_alone (closed_text r ++ rest) in
-      rw (alone.0, alone.1, after_again word.Like (closed_text r ++ rest), closed_expr_again d r rest fits) refl
-
-  ilike_again : (r : ExprTree) → FitsExpr r d → test_with d l (word_text word.Ilike ++ (closed_text r ++ rest)) ≡ Some (tree.like l r true, rest)
-  unfolding test_with
-  ilike_again r fits =
-      let alone = ilike_alone (closed_text r ++ rest) in
-      rw (alone.0, alone.1, alone.2, after_again word.Ilike (closed_text r ++ rest), closed_expr_again d r rest fits) refl
-
-  in_again : (es : List ExprTree) → FitsClosed d es → test_with d l (word_text word.In ++ (closed_list_text word.CloseIn es ++ rest)) ≡ Some (tree.within l es, rest)
-  unfolding test_with
-  in_again es fits =
-      let listed = closed_list_text word.CloseIn es ++ rest in
-      rw (in_alone listed, after_again word.In listed, closed_exprs_again word.CloseIn d es rest close_in_closes fits) refl
-
-  is_null_again : test_with d l (word_text word.IsNull ++ rest) ≡ Some (tree.is_null l, rest)
-  unfolding test_with
-  is_null_again = rw (after_again word.IsNull rest) refl
+test_with_again : (d : ℕ) (value : ExprTree) (t : Test) (es : List ExprTree) (rest : List ℕ) → FitsOperands (arity t) d es
+    → test_with d value (word_text (test_word t) ++ (closed_list_text (test_close t) es ++ rest)) ≡ Some (tree.test value t es, rest)
+unfolding test_with
+test_with_again d value t es rest fits = rw (test_again t (closed_list_text (test_close t) es ++ rest), operands_again (arity t) d es rest fits) refl
 
 -- ---- parentheses
 
@@ -285,10 +198,7 @@ exists_again d query query_again s rest rows fits = rw (query_again s (word_text
 pub pred_zero : Condition zero (pred_with nothing nothing)
 pred_zero tree.always rest fits = always_again nothing nothing rest
 pred_zero tree.never rest fits = never_again nothing nothing rest
-pred_zero (tree.compare l o r) rest fits = absurd fits
-pred_zero (tree.like l r fold) rest fits = absurd fits
-pred_zero (tree.within e es) rest fits = absurd fits
-pred_zero (tree.is_null e) rest fits = absurd fits
+pred_zero (tree.test e t es) rest fits = absurd fits
 pred_zero (tree.negation p) rest fits = absurd fits
 pred_zero (tree.all_of ps) rest fits = absurd fits
 pred_zero (tree.any_of ps) rest fits = absurd fits
@@ -308,19 +218,10 @@ module _ (d : ℕ) (condition : Reader PredTree) (query : Reader SelectTree) (co
   pub pred_deeper : Condition (suc d) deeper
   pred_deeper tree.always rest fits = always_again (inside_with d condition) query rest
   pred_deeper tree.never rest fits = never_again (inside_with d condition) query rest
-  pred_deeper (tree.compare l o r) rest fits =
-      let later = word_text (op_word o) ++ (closed_text r ++ rest) in
-      asked_again (tree.compare l o r) l later (pred_text (tree.compare l o r) ++ rest) rest (simp append_assoc) fits.0 (op_asks o (closed_text r ++ rest)) (compare_again d l rest o r fits.1)
-  pred_deeper (tree.like l r false) rest fits =
-      let later = word_text word.Like ++ (closed_text r ++ rest) in
-      asked_again (tree.like l r false) l later (pred_text (tree.like l r false) ++ rest) rest (simp append_assoc) fits.0 (like_asks (closed_text r ++ rest)) (like_again d l rest r fits.1)
-  pred_deeper (tree.like l r true) rest fits =
-      let later = word_text word.Ilike ++ (closed_text r ++ rest) in
-      asked_again (tree.like l r true) l later (pred_text (tree.like l r true) ++ rest) rest (simp append_assoc) fits.0 (ilike_asks (closed_text r ++ rest)) (ilike_again d l rest r fits.1)
-  pred_deeper (tree.within e es) rest fits =
-      let later = word_text word.In ++ (closed_list_text word.CloseIn es ++ rest) in
-      asked_again (tree.within e es) e later (pred_text (tree.within e es) ++ rest) rest (simp append_assoc) fits.0 (in_asks (closed_list_text word.CloseIn es ++ rest)) (in_again d e rest es fits.1)
-  pred_deeper (tree.is_null e) rest fits = asked_again (tree.is_null e) e (word_text word.IsNull ++ rest) (pred_text (tree.is_null e) ++ rest) rest (simp append_assoc) fits (is_null_asks rest) (is_null_again d e rest)
+  pred_deeper (tree.test e t es) rest fits =
+      let asked_for = closed_list_text (test_close t) es ++ rest in
+      let later = word_text (test_word t) ++ asked_for in
+      asked_again (tree.test e t es) e later (pred_text (tree.test e t es) ++ rest) rest (simp append_assoc) fits.0 (test_asks t asked_for) (test_with_again d e t es rest fits.1)
   pred_deeper (tree.negation p) rest fits =
       let inner = word_text word.Not ++ (pred_text p ++ (word_text word.Close ++ rest)) in
       in_parentheses (tree.negation p) inner (pred_text (tree.negation p) ++ rest) rest (simp append_assoc) (negated_again d condition condition_again p rest fits)

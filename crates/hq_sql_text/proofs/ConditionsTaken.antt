@@ -2,23 +2,24 @@
 use Rattle.std.proofs.Common.{◌≡◌, ℕ, suc, Bool, true, false, cond, List, [], ◌∷◌, ◌++◌, map, Option, Some, None, refl, sym, ap, ◌∙◌, append_assoc}
 use Rattle.std.proofs.lemmas.List.{append-nil}
 use Rattle.std.specs.List.{AllByRecursion}
-use Rattle.hq_terms.specs.declared.op.Op.{Op}
-use Rattle.hq_terms.specs.declared.op.Op.TheVariants as op
+use Rattle.hq_terms.specs.Tests.{arity}
 use Rattle.hq_sql_tree.specs.declared.word.Word.{Word}
 use Rattle.hq_sql_tree.specs.declared.word.Word.TheVariants as word
-use Rattle.hq_sql_tree.specs.Word.{word_text}
+use Rattle.hq_sql_tree.specs.Word.{word_text, test_word, test_close}
 use Rattle.hq_sql_tree.specs.Tree as tree
 use Rattle.hq_sql_tree.specs.Tree.{ExprTree, OrderTree, SelectTree, FilterTree, PredTree, preds_of}
 use Rattle.hq_sql_tree.specs.Form.{is_rows, is_count}
-use Rattle.hq_sql_tree.specs.Spelling.{separated, clause_text, expr_text, order_text, op_word, number_text, select_text, filter_text, pred_text, pred_texts}
-use Rattle.hq_sql_expr.specs.Reading.{◌>>=◌, Reader, below, after, choose, all_many, expr_at, argument_with, order_with, closed_exprs}
-use Rattle.hq_sql_expr.proofs.Sound.{Taken, Sound, Spelled, sound_next, sound_last, sound_word, sound_choose, sound_choose_end, sound_end, sound_pure, sound_nothing}
+use Rattle.hq_sql_tree.specs.Spelling.{separated, clause_text, expr_text, order_text, number_text, select_text, filter_text, pred_text, pred_texts}
+use Rattle.hq_sql_expr.specs.Reading.{◌>>=◌, Reader, after, choose, all_many, expr_at, order_with}
+use Rattle.hq_sql_expr.proofs.Sound.{Taken, Sound, Spelled, sound_next, sound_last, sound_word, sound_choose, sound_choose_end, sound_end, sound_pure}
 use Rattle.hq_sql_expr.proofs.Listed.{AllGood, list_text, all_many_takes}
 use Rattle.hq_sql_expr.proofs.Fits.{FitsExpr}
-use Rattle.hq_sql_expr.proofs.Exprs.{GoodOrder, expr_takes, orders_take, closed_text}
-use Rattle.hq_sql_expr.proofs.Closed.{FitsClosed, closed_list_text, closed_expr_takes, closed_exprs_take}
-use Rattle.hq_sql_text.specs.Reading.{EndTree, clause_with, count_at, op_or, op_at, test_with, tested_at, member_next, others_with, joined_with, negated_with, inside_with, exists_with, pred_with, filter_with, counts_with, end_with}
-use Rattle.hq_sql_text.proofs.Fits.{AtLeastTwo, FitsFilter, FitsPred, FitsPreds}
+use Rattle.hq_sql_expr.proofs.Exprs.{GoodOrder, expr_takes, orders_take}
+use Rattle.hq_sql_expr.proofs.Closed.{closed_list_text}
+use Rattle.hq_sql_text.specs.Reading.{EndTree, clause_with, count_at, test_at, operands_at, test_with, tested_at, member_next, others_with, joined_with, negated_with, inside_with, exists_with, pred_with, filter_with, counts_with, end_with}
+use Rattle.hq_sql_text.proofs.Fits.{AtLeastTwo, FitsOperands, FitsFilter, FitsPred, FitsPreds}
+use Rattle.hq_sql_text.proofs.Operands.{operands_take}
+use Rattle.hq_sql_text.proofs.Tests.{test_at_takes}
 use Rattle.hq_sql_text.proofs.ClausesTaken.{clause_spelled, clause_takes, count_takes}
 
 -- the front is the spelling of a condition that fits
@@ -49,59 +50,19 @@ module _ {A : Type 0} (test : List ℕ → Bool) (p q : Reader A) (R : List ℕ 
   sound_test : Sound p R → Sound q R → Sound (λ bytes. cond (test bytes) (p bytes) (q bytes)) R
   sound_test sound_p sound_q = record { takes = λ bytes. by_test bytes (sound_p.takes bytes) (sound_q.takes bytes) (test bytes) }
 
--- ---- expressions and what is asked of them
+-- ---- values and what is asked of them
 
-abbrev op_text : Op → List ℕ
-op_text o = word_text (op_word o)
-
-abbrev OneOp : List ℕ → Op → Type 0
-OneOp = Spelled op_text (λ o. Unit {0})
-
-one_op : (o : Op) (other : Reader Op) → Sound other OneOp → Sound (λ bytes. op_or o bytes (other bytes)) OneOp
-one_op o other sound_other = sound_choose_end (op_word o) o OneOp (refl, tt) other sound_other
-
-op_takes : Sound op_at OneOp
-unfolding op_at
-op_takes =
-    one_op op.Eq (λ bytes. op_or op.Ne bytes (op_or op.Lt bytes (op_or op.Le bytes (op_or op.Gt bytes (op_or op.Ge bytes None)))))
-    (one_op op.Ne (λ bytes. op_or op.Lt bytes (op_or op.Le bytes (op_or op.Gt bytes (op_or op.Ge bytes None))))
-    (one_op op.Lt (λ bytes. op_or op.Le bytes (op_or op.Gt bytes (op_or op.Ge bytes None)))
-    (one_op op.Le (λ bytes. op_or op.Gt bytes (op_or op.Ge bytes None))
-    (one_op op.Gt (λ bytes. op_or op.Ge bytes None)
-    (one_op op.Ge (λ bytes. None)
-    (sound_nothing {A = Op} OneOp))))))
-
-module _ (d : ℕ) (l : ExprTree) (fits : FitsExpr l d) where
-  -- behind the parenthesis and the expression
+module _ (d : ℕ) (value : ExprTree) (fits : FitsExpr value d) where
+  -- behind the parenthesis and the value
   abbrev Asked : List ℕ → PredTree → Type 0
-  Asked b p = Inside d (expr_text l ++ b) p
+  Asked b p = Inside d (expr_text value ++ b) p
 
-  compared_takes : Sound (λ bytes. op_at bytes >>= λ o. argument_with (expr_at d) o.1 >>= λ r. Some (tree.compare l o.0 r.0, r.1)) Asked
-  compared_takes =
-      sound_next op_at (λ o bytes. argument_with (expr_at d) bytes >>= λ r. Some (tree.compare l o r.0, r.1)) op_text (λ o. Unit {0}) Asked op_takes
-      (λ o u. sound_last (argument_with (expr_at d)) (λ r. tree.compare l o r) closed_text (λ e. FitsExpr e d) (λ b p. Asked (op_text o ++ b) p) (λ r good. (refl, (fits, good))) (closed_expr_takes d))
-
-  ilike_takes : Sound (λ bytes. choose (after word.Ilike bytes) (λ rest. argument_with (expr_at d) rest >>= λ r. Some (tree.like l r.0 true, r.1)) (op_at bytes >>= λ o. argument_with (expr_at d) o.1 >>= λ r. Some (tree.compare l o.0 r.0, r.1))) Asked
-  ilike_takes =
-      sound_choose word.Ilike (λ rest. argument_with (expr_at d) rest >>= λ r. Some (tree.like l r.0 true, r.1)) Asked
-      (sound_last (argument_with (expr_at d)) (λ r. tree.like l r true) closed_text (λ e. FitsExpr e d) (λ b p. Asked (word_text word.Ilike ++ b) p) (λ r good. (refl, (fits, good))) (closed_expr_takes d))
-      (λ bytes. op_at bytes >>= λ o. argument_with (expr_at d) o.1 >>= λ r. Some (tree.compare l o.0 r.0, r.1))
-      compared_takes
-
-  test_takes : Sound (test_with d l) Asked
+  test_takes : Sound (test_with d value) Asked
   unfolding test_with
   test_takes =
-      sound_choose_end word.IsNull (tree.is_null l) Asked (refl, fits)
-      (λ bytes. choose (after word.In bytes) (λ rest. below (closed_exprs word.CloseIn) d rest >>= λ es. Some (tree.within l es.0, es.1)) (choose (after word.Like bytes) (λ rest. argument_with (expr_at d) rest >>= λ r. Some (tree.like l r.0 false, r.1))
-      (choose (after word.Ilike bytes) (λ rest. argument_with (expr_at d) rest >>= λ r. Some (tree.like l r.0 true, r.1)) (op_at bytes >>= λ o. argument_with (expr_at d) o.1 >>= λ r. Some (tree.compare l o.0 r.0, r.1)))))
-      (sound_choose word.In (λ rest. below (closed_exprs word.CloseIn) d rest >>= λ es. Some (tree.within l es.0, es.1)) Asked
-      (sound_last (below (closed_exprs word.CloseIn) d) (λ es. tree.within l es) (closed_list_text word.CloseIn) (FitsClosed d) (λ b p. Asked (word_text word.In ++ b) p) (λ es good. (refl, (fits, good))) (closed_exprs_take word.CloseIn d))
-      (λ bytes. choose (after word.Like bytes) (λ rest. argument_with (expr_at d) rest >>= λ r. Some (tree.like l r.0 false, r.1))
-      (choose (after word.Ilike bytes) (λ rest. argument_with (expr_at d) rest >>= λ r. Some (tree.like l r.0 true, r.1)) (op_at bytes >>= λ o. argument_with (expr_at d) o.1 >>= λ r. Some (tree.compare l o.0 r.0, r.1))))
-      (sound_choose word.Like (λ rest. argument_with (expr_at d) rest >>= λ r. Some (tree.like l r.0 false, r.1)) Asked
-      (sound_last (argument_with (expr_at d)) (λ r. tree.like l r false) closed_text (λ e. FitsExpr e d) (λ b p. Asked (word_text word.Like ++ b) p) (λ r good. (refl, (fits, good))) (closed_expr_takes d))
-      (λ bytes. choose (after word.Ilike bytes) (λ rest. argument_with (expr_at d) rest >>= λ r. Some (tree.like l r.0 true, r.1)) (op_at bytes >>= λ o. argument_with (expr_at d) o.1 >>= λ r. Some (tree.compare l o.0 r.0, r.1)))
-      ilike_takes))
+      sound_next test_at (λ t bytes. operands_at (arity t) d bytes >>= λ es. Some (tree.test value t es.0, es.1)) (λ t. word_text (test_word t)) (λ t. Unit {0}) Asked test_at_takes
+      (λ t u. sound_last (operands_at (arity t) d) (λ es. tree.test value t es) (closed_list_text (test_close t)) (FitsOperands (arity t) d) (λ b p. Asked (word_text (test_word t) ++ b) p)
+      (λ es good. (refl, (fits, good))) (operands_take (arity t) d))
 
 tested_takes : (d : ℕ) → Sound (tested_at d) (Inside d)
 unfolding tested_at

@@ -1,6 +1,9 @@
 -- Selects whose spelling opens at most so many parentheses at once, as one relation.
 use Rattle.std.proofs.Common.{◌≡◌, ℕ, zero, suc, true, false, List, [], ◌∷◌}
 use Rattle.std.specs.List.{AllByRecursion}
+use Rattle.hq_terms.specs.Tests.{arity}
+use Rattle.hq_terms.specs.declared.test.Arity.{Arity}
+use Rattle.hq_terms.specs.declared.test.Arity.TheVariants.{Nothing, One, Many}
 use Rattle.hq_sql_tree.specs.Tree as tree
 use Rattle.hq_sql_tree.specs.Tree.{ExprTree, OrderTree, OutTree, SelectTree, FromTree, JoinTrees, FilterTree, PredTree, PredTrees}
 use Rattle.hq_sql_tree.specs.Form.{holds_agg, is_rows, reads_as_fold, is_count}
@@ -14,6 +17,15 @@ use Rattle.hq_sql_expr.proofs.Closed.{FitsClosed}
 abbrev pub FitsDistinct : ℕ → List ExprTree → Type 0
 FitsDistinct d [] = Unit {0}
 FitsDistinct d (e ∷ es) = FitsClosed d (e ∷ es)
+
+-- as many operands as a test takes; a list stands in a parenthesis of its own
+abbrev pub FitsOperands : Arity → ℕ → List ExprTree → Type 0
+FitsOperands Nothing d [] = Unit {0}
+FitsOperands Nothing d (e ∷ es) = ⊥
+FitsOperands One d [] = ⊥
+FitsOperands One d (e ∷ []) = FitsExpr e d
+FitsOperands One d (e ∷ f ∷ es) = ⊥
+FitsOperands Many d es = FitsClosed d es
 
 -- And and Or have two members or more
 abbrev pub AtLeastTwo : PredTrees → Type 0
@@ -48,14 +60,8 @@ abbrev mutual
   pub FitsPred : PredTree → ℕ → Type 0
   FitsPred tree.always d = Unit {0}
   FitsPred tree.never d = Unit {0}
-  FitsPred (tree.compare l o r) zero = ⊥
-  FitsPred (tree.compare l o r) (suc d) = FitsExpr l d × FitsExpr r d
-  FitsPred (tree.like l r fold) zero = ⊥
-  FitsPred (tree.like l r fold) (suc d) = FitsExpr l d × FitsExpr r d
-  FitsPred (tree.within e es) zero = ⊥
-  FitsPred (tree.within e es) (suc d) = FitsExpr e d × FitsClosed d es
-  FitsPred (tree.is_null e) zero = ⊥
-  FitsPred (tree.is_null e) (suc d) = FitsExpr e d
+  FitsPred (tree.test e t es) zero = ⊥
+  FitsPred (tree.test e t es) (suc d) = FitsExpr e d × FitsOperands (arity t) d es
   FitsPred (tree.negation p) zero = ⊥
   FitsPred (tree.negation p) (suc d) = FitsPred p d
   FitsPred (tree.all_of ps) zero = ⊥

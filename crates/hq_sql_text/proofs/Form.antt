@@ -1,16 +1,18 @@
 -- The relation Fits says what the form, the depth and the values of a select say.
-use Rattle.std.proofs.Common.{◌≡◌, ℕ, zero, suc, ◌+◌, ◌≤◌, Bool, true, false, ◌&&◌, not, List, [], ◌∷◌, map, length, refl, arith}
+use Rattle.std.proofs.Common.{◌≡◌, ℕ, zero, suc, ◌+◌, ◌≤◌, true, ◌&&◌, not, List, [], ◌∷◌, map, length, refl, arith}
 use Rattle.std.specs.List.{AllByRecursion, list_all}
 use Rattle.std.specs.Prelude.{nat_le}
 use Rattle.std.proofs.lemmas.Bool.{leb-true, le-leb}
+use Rattle.hq_terms.specs.Tests.{takes, is_of_nothing}
 use Rattle.hq_sql_tree.specs.Tree as tree
 use Rattle.hq_sql_tree.specs.Tree.{ExprTree, OutTree, SelectTree, FromTree, JoinTrees, FilterTree, PredTree, PredTrees, pred_list}
-use Rattle.hq_sql_tree.specs.Form.{is_text, is_expr, expr_depth, greatest, is_rows, holds_agg, reads_as_fold, is_select, is_from, are_joins, is_filter, is_pred, are_preds, distinct_depth, select_depth, from_depth, joins_depth, filter_depth, pred_depth, preds_depth, expr_fits, out_fits, order_fits, is_count, select_fits, from_fits, joins_fit, filter_fits, pred_fits, preds_fit}
-use Rattle.hq_sql_expr.proofs.Form.{and_both, and_three, both_and, fits_expr, expr_told, fits_out, out_told, fits_outs, outs_told, fits_keys, keys_told}
+use Rattle.hq_sql_tree.specs.Form.{is_text, is_expr, expr_depth, greatest, is_rows, holds_agg, reads_as_fold, is_select, is_from, are_joins, is_filter, is_pred, are_preds, list_parens, distinct_depth, select_depth, from_depth, joins_depth, filter_depth, pred_depth, preds_depth, expr_fits, out_fits, order_fits, is_count, select_fits, from_fits, joins_fit, filter_fits, pred_fits, preds_fit}
+use Rattle.hq_sql_expr.proofs.Form.{and_both, both_and, fits_expr, expr_told, fits_out, out_told, fits_outs, outs_told, fits_keys, keys_told}
 use Rattle.hq_sql_expr.proofs.Listed.{AllGood}
 use Rattle.hq_sql_expr.proofs.Exprs.{GoodOut}
 use Rattle.hq_sql_expr.proofs.Closed.{fits_closed, closed_told}
 use Rattle.hq_sql_text.specs.Readable.{is_readable}
+use Rattle.hq_sql_text.proofs.Operands.{not_true, not_false, fits_operands, operands_told}
 use Rattle.hq_sql_text.proofs.Fits.{FitsDistinct, AtLeastTwo, FitsSelect, FitsFrom, FitsJoins, FitsFilter, FitsPred, FitsPreds}
 
 all_good : (d : ℕ) (os : List OutTree) → nat_le 1 (length os) ≡ true → AllByRecursion (GoodOut d) os → AllGood (GoodOut d) os
@@ -38,14 +40,6 @@ two_told : (ps : PredTrees) → AtLeastTwo ps → nat_le 2 (length (pred_list ps
 two_told tree.no_pred h = absurd h
 two_told (tree.pred p tree.no_pred) h = absurd h
 two_told (tree.pred p (tree.pred q ps)) h = le-leb 2 (length (pred_list (tree.pred p (tree.pred q ps)))) (omega arith)
-
-not_true : (b : Bool) → not b ≡ true → b ≡ false
-not_true true e = absurd cc
-not_true false e = refl
-
-not_false : (b : Bool) → b ≡ false → not b ≡ true
-not_false true e = absurd cc
-not_false false e = refl
 
 -- ---- from the form, the depth and the values to the relation
 
@@ -117,23 +111,13 @@ mutual
   fits_pred : (p : PredTree) (d : ℕ) → is_pred p ≡ true → pred_depth p ≤ d → pred_fits p ≡ true → FitsPred p d
   fits_pred tree.always d form depth fits = tt
   fits_pred tree.never d form depth fits = tt
-  fits_pred (tree.compare l o r) zero form depth fits = absurd (omega arith)
-  fits_pred (tree.compare l o r) (suc d) form depth fits =
-      let f = and_both (is_expr l) (is_expr r) form in
-      let v = and_both (expr_fits l) (expr_fits r) fits in
-      (fits_expr l d f.0 (omega arith) v.0, fits_expr r d f.1 (omega arith) v.1)
-  fits_pred (tree.like l r fold) zero form depth fits = absurd (omega arith)
-  fits_pred (tree.like l r fold) (suc d) form depth fits =
-      let f = and_both (is_expr l) (is_expr r) form in
-      let v = and_both (expr_fits l) (expr_fits r) fits in
-      (fits_expr l d f.0 (omega arith) v.0, fits_expr r d f.1 (omega arith) v.1)
-  fits_pred (tree.within e es) zero form depth fits = absurd (omega arith)
-  fits_pred (tree.within e es) (suc d) form depth fits =
-      let f = and_three (is_expr e) (nat_le 1 (length es)) (list_all is_expr es) form in
+  fits_pred (tree.test e t es) zero form depth fits = absurd (omega arith)
+  fits_pred (tree.test e t es) (suc d) form depth fits =
+      let f2 = and_both (is_expr e && takes t (length es) && not (is_of_nothing t es)) (list_all is_expr es) form in
+      let f1 = and_both (is_expr e && takes t (length es)) (not (is_of_nothing t es)) f2.0 in
+      let f0 = and_both (is_expr e) (takes t (length es)) f1.0 in
       let v = and_both (expr_fits e) (list_all expr_fits es) fits in
-      (fits_expr e d f.0 (omega arith) v.0, fits_closed d es f.1 f.2 (omega arith) v.1)
-  fits_pred (tree.is_null e) zero form depth fits = absurd (omega arith)
-  fits_pred (tree.is_null e) (suc d) form depth fits = fits_expr e d form (omega arith) fits
+      (fits_expr e d f0.0 (omega arith) v.0, fits_operands t d es f0.1 (not_true (is_of_nothing t es) f1.1) f2.1 (omega arith) v.1)
   fits_pred (tree.negation p) zero form depth fits = absurd (omega arith)
   fits_pred (tree.negation p) (suc d) form depth fits = fits_pred p d form (omega arith) fits
   fits_pred (tree.all_of ps) zero form depth fits = absurd (omega arith)
@@ -205,29 +189,13 @@ mutual
   pred_told : (p : PredTree) (d : ℕ) → FitsPred p d → (is_pred p ≡ true) × (pred_depth p ≤ d) × (pred_fits p ≡ true)
   pred_told tree.always d h = (refl, omega arith, refl)
   pred_told tree.never d h = (refl, omega arith, refl)
-  pred_told (tree.compare l o r) zero h = absurd h
-  pred_told (tree.compare l o r) (suc d) h =
-      let k = expr_told l d h.0 in
-      let m = expr_told r d h.1 in
-      let le : expr_depth l ≤ d = k.1 in
-      let more : expr_depth r ≤ d = m.1 in
-      (both_and (is_expr l) (is_expr r) k.0 m.0, omega arith, both_and (expr_fits l) (expr_fits r) k.2 m.2)
-  pred_told (tree.like l r fold) zero h = absurd h
-  pred_told (tree.like l r fold) (suc d) h =
-      let k = expr_told l d h.0 in
-      let m = expr_told r d h.1 in
-      let le : expr_depth l ≤ d = k.1 in
-      let more : expr_depth r ≤ d = m.1 in
-      (both_and (is_expr l) (is_expr r) k.0 m.0, omega arith, both_and (expr_fits l) (expr_fits r) k.2 m.2)
-  pred_told (tree.within e es) zero h = absurd h
-  pred_told (tree.within e es) (suc d) h =
+  pred_told (tree.test e t es) zero h = absurd h
+  pred_told (tree.test e t es) (suc d) h =
       let k = expr_told e d h.0 in
-      let m = closed_told d es h.1 in
+      let m = operands_told t d es h.1 in
       let le : expr_depth e ≤ d = k.1 in
-      let more : 1 + greatest (map expr_depth es) ≤ d = m.2 in
-      (both_and (is_expr e && nat_le 1 (length es)) (list_all is_expr es) (both_and (is_expr e) (nat_le 1 (length es)) k.0 m.0) m.1, omega arith, both_and (expr_fits e) (list_all expr_fits es) k.2 m.3)
-  pred_told (tree.is_null e) zero h = absurd h
-  pred_told (tree.is_null e) (suc d) h = let k = expr_told e d h in let le : expr_depth e ≤ d = k.1 in (k.0, omega arith, k.2)
+      let more : list_parens t + greatest (map expr_depth es) ≤ d = m.3 in
+      (rw (k.0, m.0, m.1, m.2) refl, omega arith, both_and (expr_fits e) (list_all expr_fits es) k.2 m.4)
   pred_told (tree.negation p) zero h = absurd h
   pred_told (tree.negation p) (suc d) h = let k = pred_told p d h in let le : pred_depth p ≤ d = k.1 in (k.0, omega arith, k.2)
   pred_told (tree.all_of ps) zero h = absurd h

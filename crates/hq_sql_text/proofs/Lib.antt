@@ -1,6 +1,8 @@
 pub mod Below
 pub mod Views
 pub mod Fits
+pub mod Operands
+pub mod Tests
 pub mod ClausesTaken
 pub mod ConditionsTaken
 pub mod Takes

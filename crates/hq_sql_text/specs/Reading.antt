@@ -1,14 +1,16 @@
 -- Reading a select from left to right.
-use Rattle.std.specs.Prelude.{ℕ, zero, suc, Bool, true, false, ◌||◌, List, [], ◌∷◌, length, Option, Some, None, is_some, ◌==◌, if◌then◌else◌}
-use Rattle.hq_terms.specs.declared.op.Op.{Op}
-use Rattle.hq_terms.specs.declared.op.Op.TheVariants as op
+use Rattle.std.specs.Prelude.{ℕ, zero, suc, Bool, false, ◌||◌, List, [], ◌∷◌, length, Option, Some, None, is_some, ◌==◌, if◌then◌else◌}
+use Rattle.hq_terms.specs.Tests.{arity}
+use Rattle.hq_terms.specs.declared.test.Test.{Test}
+use Rattle.hq_terms.specs.declared.test.Arity.{Arity}
+use Rattle.hq_terms.specs.declared.test.Arity.TheVariants.{Nothing, One, Many}
 use Rattle.hq_sql_tree.specs.declared.word.Word.{Word}
 use Rattle.hq_sql_tree.specs.declared.word.Word.TheVariants as word
 use Rattle.hq_sql_tree.specs.Form.{is_rows, reads_as_fold}
-use Rattle.hq_sql_tree.specs.Spelling.{op_word}
+use Rattle.hq_sql_tree.specs.Word.{all_tests, test_word}
 use Rattle.hq_sql_tree.specs.Tree as tree
 use Rattle.hq_sql_tree.specs.Tree.{ExprTree, OrderTree, OutTree, SelectTree, FromTree, JoinTree, FilterTree, PredTree, joins_of, preds_of}
-use Rattle.hq_sql_expr.specs.Reading.{◌>>=◌, Reader, nothing, below, choose, after, all_many, name_at, number_at, expr_at, argument_with, order_with, out_with, closed_exprs}
+use Rattle.hq_sql_expr.specs.Reading.{◌>>=◌, Reader, nothing, below, choose, after, first_word, all_many, name_at, number_at, expr_at, argument_with, order_with, out_with, closed_exprs}
 
 -- a list behind a word, or none
 abbrev pub clause_with : {A : Type 0} → (first between : Word) → Reader A → Reader (List A)
@@ -24,22 +26,22 @@ count_at w bytes = choose (after w bytes) (λ rest. number_at rest >>= λ n. Som
 
 -- ---- conditions
 
--- this operator, or else the other way
-abbrev pub op_or : Op → List ℕ → Option (Op × List ℕ) → Option (Op × List ℕ)
-op_or o bytes other = choose (after (op_word o) bytes) (λ rest. Some (o, rest)) other
+-- the test whose operator stands here
+unfoldable pub test_at : Reader Test
+test_at bytes = first_word test_word all_tests bytes
 
--- the operator of a comparison
-unfoldable pub op_at : Reader Op
-op_at bytes = op_or op.Eq bytes (op_or op.Ne bytes (op_or op.Lt bytes (op_or op.Le bytes (op_or op.Gt bytes (op_or op.Ge bytes None)))))
+-- as many operands as a test takes, up to the closing parenthesis
+abbrev pub operands_at : Arity → ℕ → Reader (List ExprTree)
+operands_at Nothing d bytes = after word.Close bytes >>= λ rest. Some ([], rest)
+operands_at One d bytes = argument_with (expr_at d) bytes >>= λ e. Some (e.0 ∷ [], e.1)
+operands_at Many d bytes = below (closed_exprs word.CloseIn) d bytes
 
--- what is asked of an expression, up to the closing parenthesis
+-- what is asked of a value, up to the closing parenthesis
 unfoldable pub test_with : ℕ → ExprTree → Reader PredTree
-test_with d l bytes =
-    choose (after word.IsNull bytes) (λ rest. Some (tree.is_null l, rest))
-    (choose (after word.In bytes) (λ rest. below (closed_exprs word.CloseIn) d rest >>= λ es. Some (tree.within l es.0, es.1))
-    (choose (after word.Like bytes) (λ rest. argument_with (expr_at d) rest >>= λ r. Some (tree.like l r.0 false, r.1))
-    (choose (after word.Ilike bytes) (λ rest. argument_with (expr_at d) rest >>= λ r. Some (tree.like l r.0 true, r.1))
-    (op_at bytes >>= λ o. argument_with (expr_at d) o.1 >>= λ r. Some (tree.compare l o.0 r.0, r.1)))))
+test_with d value bytes = do
+  t ← test_at bytes
+  es ← operands_at (arity t.0) d t.1
+  Some (tree.test value t.0 es.0, es.1)
 
 unfoldable pub tested_at : ℕ → Reader PredTree
 tested_at d bytes = expr_at d bytes >>= λ e. test_with d e.0 e.1

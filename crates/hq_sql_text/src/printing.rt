@@ -4,7 +4,7 @@ ghost use Rattle.hq_sql_tree.specs.Word.{word_text};
 ghost use Rattle.hq_sql_tree.specs.Tree.{joins_of, preds_of};
 ghost use Rattle.hq_sql_tree.specs.Tree as tree;
 ghost use Rattle.hq_sql_tree.specs.View.{expr_view, order_view, out_view, select_view, from_view, join_view, pred_view, filter_view};
-ghost use Rattle.hq_sql_tree.specs.Spelling.{separated, each_after, name_text, clause_text, expr_text, order_text, out_text, op_word, like_word, distinct_text, number_text, select_text, from_text, join_text, join_texts, filter_text, pred_text, pred_texts};
+ghost use Rattle.hq_sql_tree.specs.Spelling.{separated, each_after, name_text, clause_text, order_text, out_text, distinct_text, number_text, select_text, from_text, join_text, join_texts, filter_text, pred_text, pred_texts};
 
 use hq_base::{Bytes, Memory, Txt};
 use hq_sql_expr::{
@@ -13,7 +13,7 @@ use hq_sql_expr::{
 use hq_sql_tree::{
     Expr, ExprList, From, Join, JoinList, OrderList, Out, OutList, Pred, PredList, Select, Word,
 };
-use hq_terms::Op;
+use hq_terms::Test;
 use std::alloc::Global;
 
 fn put_distinct(alloc: Global, out: &mut Vec<u8>, exprs: &ExprList) -> Result<(), Memory>
@@ -204,44 +204,21 @@ fn put_filter(alloc: Global, out: &mut Vec<u8>, filter: &Option<Pred>) -> Result
     Ok(())
 }
 
-fn op_word_of(op: Op) -> Word
-    ensures { result ≡ op_word op }
-{
-    match op {
-        Op::Eq => Word::Equal,
-        Op::Ne => Word::NotEqual,
-        Op::Lt => Word::Less,
-        Op::Le => Word::LessEqual,
-        Op::Gt => Word::Greater,
-        Op::Ge => Word::GreaterEqual,
-    }
-}
-
-// A condition on two expressions, with a word between.
-fn put_two(
+// A test of a value, in parentheses.
+fn put_test(
     alloc: Global,
     out: &mut Vec<u8>,
-    left: &Expr,
-    word: Word,
-    right: &Expr,
+    value: &Expr,
+    test: Test,
+    operands: &ExprList,
 ) -> Result<(), Memory>
-    ensures { OnOk result (out.new.items ≡ out.old.items ++ (word_text Word.Open ++ (expr_text (expr_view left.now) ++ (word_text word ++ (expr_text (expr_view right.now) ++ word_text Word.Close))))) }
-{
-    put_word(out, Word::Open)?;
-    put_expr(alloc, out, left)?;
-    put_word(out, word)?;
-    put_expr(alloc, out, right)?;
-    put_word(out, Word::Close)
-}
-
-fn put_within(alloc: Global, out: &mut Vec<u8>, value: &Expr, list: &ExprList) -> Result<(), Memory>
-    ensures { OnOk result (out.new.items ≡ out.old.items ++ (word_text Word.Open ++ (expr_text (expr_view value.now) ++ (word_text Word.In ++ (separated Word.Comma (map expr_text (map expr_view list.now.items)) ++ word_text Word.CloseIn))))) }
+    ensures { OnOk result (out.new.items ≡ out.old.items ++ pred_text (tree.test (expr_view value.now) test (map expr_view operands.now.items))) }
 {
     put_word(out, Word::Open)?;
     put_expr(alloc, out, value)?;
-    put_word(out, Word::In)?;
-    put_exprs(alloc, out, list)?;
-    put_word(out, Word::CloseIn)
+    put_word(out, Word::of_test(test))?;
+    put_exprs(alloc, out, operands)?;
+    put_word(out, Word::closing(test))
 }
 
 #[cycle(put_select)]
@@ -251,23 +228,11 @@ fn put_pred(alloc: Global, out: &mut Vec<u8>, pred: &Pred) -> Result<(), Memory>
     match pred {
         Pred::True => put_word(out, Word::True),
         Pred::False => put_word(out, Word::False),
-        Pred::Cmp { left, op, right } => put_two(alloc, out, left, op_word_of(*op), right),
-        Pred::Like {
-            left,
-            right,
-            fold: true,
-        } => put_two(alloc, out, left, Word::Ilike, right),
-        Pred::Like {
-            left,
-            right,
-            fold: false,
-        } => put_two(alloc, out, left, Word::Like, right),
-        Pred::Within { value, list } => put_within(alloc, out, value, list),
-        Pred::IsNull(value) => {
-            put_word(out, Word::Open)?;
-            put_expr(alloc, out, value)?;
-            put_word(out, Word::IsNull)
-        }
+        Pred::Test {
+            value,
+            test,
+            operands,
+        } => put_test(alloc, out, value, *test, operands),
         Pred::Not(inner) => {
             put_word(out, Word::Open)?;
             put_word(out, Word::Not)?;

@@ -1,83 +1,79 @@
-//! Reading conditions on expressions.
+//! Reading tests of values.
 ghost use Rattle.std.specs.Prelude.{◌≡◌, List, ℕ, map};
+ghost use Rattle.hq_terms.specs.declared.test.Arity.TheVariants as arities;
 ghost use Rattle.hq_sql_tree.specs.View.{expr_view, pred_view};
 ghost use Rattle.hq_sql_expr.specs.Reading.{Reads, after};
-ghost use Rattle.hq_sql_text.specs.Reading.{joint_behind, joint_next, member_next, op_at, test_with, tested_at};
+ghost use Rattle.hq_sql_text.specs.Reading.{joint_behind, joint_next, member_next, test_at, operands_at, test_with, tested_at};
 
 use crate::parts::boxed;
 use hq_sql_expr::{ReadRefusal, read_closed_expr, read_closed_exprs, read_expr, skip, starts};
-use hq_sql_tree::{Expr, Pred, Word};
-use hq_terms::Op;
+use hq_sql_tree::{Expr, ExprList, Pred, Word};
+use hq_terms::{Arity, Test};
 use std::alloc::Global;
 
-// The operator of a comparison.
-#[tactic(auto, unfolding(crate::specs::Reading::op_at))]
-fn op_of(bytes: &[u8]) -> Result<(Op, &[u8]), ReadRefusal>
-    ensures { Reads (λ x. (x.0, x.1.now)) result (op_at bytes.now) }
+// The test whose operator stands here, and what follows it.
+#[tactic(auto, unfolding(crate::specs::Reading::test_at))]
+fn test_of(bytes: &[u8]) -> Result<(Test, &[u8]), ReadRefusal>
+    ensures { Reads (λ x. (x.0, x.1.now)) result (test_at bytes.now) }
 {
-    if let Some(rest) = starts(bytes, Word::Equal) {
-        return Ok((Op::Eq, rest));
+    for test in Word::tests() {
+        if let Some(rest) = starts(bytes, Word::of_test(test)) {
+            return Ok((test, rest));
+        }
     }
-    if let Some(rest) = starts(bytes, Word::NotEqual) {
-        return Ok((Op::Ne, rest));
-    }
-    if let Some(rest) = starts(bytes, Word::Less) {
-        return Ok((Op::Lt, rest));
-    }
-    if let Some(rest) = starts(bytes, Word::LessEqual) {
-        return Ok((Op::Le, rest));
-    }
-    if let Some(rest) = starts(bytes, Word::Greater) {
-        return Ok((Op::Gt, rest));
-    }
-    let rest = skip(bytes, Word::GreaterEqual)?;
-    Ok((Op::Ge, rest))
+    Err(ReadRefusal::NotSql)
 }
 
-// What is asked of the expression, up to the closing parenthesis. It lies in a box, so that it is let go in one step.
-#[tactic(auto, unfolding(crate::specs::Reading::test_with))]
-fn test_of(
+// The one operand of a test, and the closing parenthesis.
+fn operand_of(alloc: Global, depth: u32, bytes: &[u8]) -> Result<(ExprList, &[u8]), ReadRefusal>
+    ensures { Reads (λ x. (map expr_view x.0.items, x.1.now)) result (operands_at arities.One depth bytes.now) }
+{
+    let (operand, rest) = read_closed_expr(alloc, depth, bytes)?;
+    let mut operands = Vec::new(alloc);
+    operands.push(operand)?;
+    Ok((operands, rest))
+}
+
+// As many operands as a test takes, up to the closing parenthesis.
+fn operands_of(
     alloc: Global,
     depth: u32,
-    left: Box<Expr>,
+    arity: Arity,
+    bytes: &[u8],
+) -> Result<(ExprList, &[u8]), ReadRefusal>
+    ensures { Reads (λ x. (map expr_view x.0.items, x.1.now)) result (operands_at arity depth bytes.now) }
+{
+    match arity {
+        Arity::Nothing => {
+            let rest = skip(bytes, Word::Close)?;
+            Ok((Vec::new(alloc), rest))
+        }
+        Arity::One => operand_of(alloc, depth, bytes),
+        Arity::Many => read_closed_exprs(alloc, depth, Word::CloseIn, bytes),
+    }
+}
+
+// What is asked of the value, up to the closing parenthesis. It lies in a box, so that it is let go in one step.
+#[tactic(auto, unfolding(crate::specs::Reading::test_with))]
+fn asked_of(
+    alloc: Global,
+    depth: u32,
+    value: Box<Expr>,
     bytes: &[u8],
 ) -> Result<(Pred, &[u8]), ReadRefusal>
-    ensures { Reads (λ x. (pred_view x.0, x.1.now)) result (test_with depth (expr_view left.value) bytes.now) }
+    ensures { Reads (λ x. (pred_view x.0, x.1.now)) result (test_with depth (expr_view value.value) bytes.now) }
 {
-    if let Some(rest) = starts(bytes, Word::IsNull) {
-        return Ok((Pred::IsNull(Box::into_inner(left)), rest));
-    }
-    if let Some(rest) = starts(bytes, Word::In) {
-        let (list, rest) = read_closed_exprs(alloc, depth, Word::CloseIn, rest)?;
-        let value = Box::into_inner(left);
-        return Ok((Pred::Within { value, list }, rest));
-    }
-    if let Some(rest) = starts(bytes, Word::Like) {
-        let (right, rest) = read_closed_expr(alloc, depth, rest)?;
-        return Ok((
-            Pred::Like {
-                left: Box::into_inner(left),
-                right,
-                fold: false,
-            },
-            rest,
-        ));
-    }
-    if let Some(rest) = starts(bytes, Word::Ilike) {
-        let (right, rest) = read_closed_expr(alloc, depth, rest)?;
-        return Ok((
-            Pred::Like {
-                left: Box::into_inner(left),
-                right,
-                fold: true,
-            },
-            rest,
-        ));
-    }
-    let (op, rest) = op_of(bytes)?;
-    let (right, rest) = read_closed_expr(alloc, depth, rest)?;
-    let left = Box::into_inner(left);
-    Ok((Pred::Cmp { left, op, right }, rest))
+    let (test, rest) = test_of(bytes)?;
+    let (operands, rest) = operands_of(alloc, depth, test.arity(), rest)?;
+    let value = Box::into_inner(value);
+    Ok((
+        Pred::Test {
+            value,
+            test,
+            operands,
+        },
+        rest,
+    ))
 }
 
 /// An expression and what is asked of it, up to the closing parenthesis.
@@ -90,9 +86,9 @@ pub(crate) fn tested_of(
 ) -> Result<(Box<Pred>, &[u8]), ReadRefusal>
     ensures { Reads (λ x. (pred_view x.0.value, x.1.now)) result (tested_at depth bytes.now) }
 {
-    let (left, rest) = read_expr(alloc, depth, bytes)?;
-    let left = Box::new(alloc, left)?;
-    let (pred, rest) = test_of(alloc, depth, left, rest)?;
+    let (value, rest) = read_expr(alloc, depth, bytes)?;
+    let value = Box::new(alloc, value)?;
+    let (pred, rest) = asked_of(alloc, depth, value, rest)?;
     boxed(alloc, pred, rest)
 }
 

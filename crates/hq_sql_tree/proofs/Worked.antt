@@ -7,6 +7,7 @@ use Rattle.hq_base.specs.declared.value.Val.TheVariants as val
 use Rattle.hq_base.specs.declared.value.Ty.TheVariants as ty
 use Rattle.hq_terms.specs.Database.{Row}
 use Rattle.hq_terms.specs.declared.op.Op.TheVariants as op
+use Rattle.hq_terms.specs.declared.test.Test.TheVariants as test
 use Rattle.hq_terms.specs.declared.table.Table.{Table}
 use Rattle.hq_sql_tree.specs.Tree as tree
 use Rattle.hq_sql_tree.specs.Tree.{ExprTree, SelectTree}
@@ -47,7 +48,7 @@ abbrev chosen : SelectTree
 chosen =
     tree.rows []
     (record { value = tree.object (tree.pair (codes "id") (of_table (codes "id")) (tree.pair (codes "name") (of_table (codes "name")) tree.no_pair)); name = codes "v" } ∷ record { value = of_table (codes "id"); name = codes "o0" } ∷ [])
-    (tree.table (codes "public") (codes "author") (codes "t1")) tree.no_join (tree.filter (tree.compare (tree.column (codes "t1") (codes "name") true) op.Eq (tree.text (codes "O'Hara"))))
+    (tree.table (codes "public") (codes "author") (codes "t1")) tree.no_join (tree.filter (tree.test (tree.column (codes "t1") (codes "name") true) (test.Compare op.Eq) (tree.text (codes "O'Hara") ∷ [])))
     (record { value = of_table (codes "id"); desc = false; nulls_first = false } ∷ []) None None
 
 -- their objects in a list

@@ -3,6 +3,10 @@ use Rattle.std.specs.Prelude.{ℕ, ◌+◌, ◌^◌, ℤ, pos, negsuc, max, Bool
 use Rattle.std.specs.List.{list_all}
 use Rattle.std.specs.Str.{is_utf8}
 use Rattle.hq_base.specs.Text.{has_zero}
+use Rattle.hq_terms.specs.Tests.{arity, takes, is_of_nothing}
+use Rattle.hq_terms.specs.declared.test.Test.{Test}
+use Rattle.hq_terms.specs.declared.test.Arity.{Arity}
+use Rattle.hq_terms.specs.declared.test.Arity.TheVariants.{Many}
 use Rattle.hq_sql_tree.specs.Tree as tree
 use Rattle.hq_sql_tree.specs.Tree.{ExprTree, PairTrees, AggTree, OrderTree, OrderTrees, OutTree, SelectTree, FromTree, JoinTrees, FilterTree, PredTree, PredTrees}
 
@@ -22,9 +26,7 @@ abbrev mutual
   pub is_agg : AggTree → Bool
   is_agg tree.count_all = true
   is_agg (tree.count e distinct) = is_expr e
-  is_agg (tree.sum e) = is_expr e
-  is_agg (tree.min e) = is_expr e
-  is_agg (tree.max e) = is_expr e
+  is_agg (tree.take a e) = is_expr e
   is_agg (tree.json_agg e tree.no_order) = false
   is_agg (tree.json_agg e (tree.order f desc nulls_first os)) = is_expr e && is_expr f && are_orders os
 
@@ -76,7 +78,8 @@ reads_as_fold (tree.rows distinct outs from joins condition keys limit offset) =
 reads_as_fold (tree.fold out inner alias) = false
 
 abbrev mutual
-  -- each select has an output; And and Or have two members or more, IN one or more; EXISTS and a fold are over rows
+  -- each select has an output; And and Or have two members or more, a test as many operands as it takes, IN one or more; EXISTS
+  -- and a fold are over rows
   pub is_select : SelectTree → Bool
   is_select (tree.rows distinct outs from joins condition keys limit offset) =
       list_all is_expr distinct && nat_le 1 (length outs) && list_all (λ o. is_expr o.value) outs && is_from from && are_joins joins && is_filter condition && list_all (λ k. is_expr k.value) keys
@@ -99,10 +102,7 @@ abbrev mutual
   pub is_pred : PredTree → Bool
   is_pred tree.always = true
   is_pred tree.never = true
-  is_pred (tree.compare l o r) = is_expr l && is_expr r
-  is_pred (tree.like l r fold) = is_expr l && is_expr r
-  is_pred (tree.within e es) = is_expr e && nat_le 1 (length es) && list_all is_expr es
-  is_pred (tree.is_null e) = is_expr e
+  is_pred (tree.test e t es) = is_expr e && takes t (length es) && not (is_of_nothing t es) && list_all is_expr es
   is_pred (tree.negation p) = is_pred p
   is_pred (tree.all_of ps) = nat_le 2 (length (tree.pred_list ps)) && are_preds ps
   is_pred (tree.any_of ps) = nat_le 2 (length (tree.pred_list ps)) && are_preds ps
@@ -132,14 +132,20 @@ abbrev mutual
   pub agg_depth : AggTree → ℕ
   agg_depth tree.count_all = 0
   agg_depth (tree.count e distinct) = expr_depth e
-  agg_depth (tree.sum e) = expr_depth e
-  agg_depth (tree.min e) = expr_depth e
-  agg_depth (tree.max e) = expr_depth e
+  agg_depth (tree.take a e) = expr_depth e
   agg_depth (tree.json_agg e os) = 1 + max (expr_depth e) (orders_depth os)
 
   pub orders_depth : OrderTrees → ℕ
   orders_depth tree.no_order = 0
   orders_depth (tree.order e desc nulls_first os) = max (expr_depth e) (orders_depth os)
+
+-- a list of operands stands in a parenthesis of its own
+abbrev pub arity_parens : Arity → ℕ
+arity_parens Many = 1
+arity_parens _ = 0
+
+abbrev pub list_parens : Test → ℕ
+list_parens t = arity_parens (arity t)
 
 -- DISTINCT ON opens one where it stands
 abbrev pub distinct_depth : List ExprTree → ℕ
@@ -168,10 +174,7 @@ abbrev mutual
   pub pred_depth : PredTree → ℕ
   pred_depth tree.always = 0
   pred_depth tree.never = 0
-  pred_depth (tree.compare l o r) = 1 + max (expr_depth l) (expr_depth r)
-  pred_depth (tree.like l r fold) = 1 + max (expr_depth l) (expr_depth r)
-  pred_depth (tree.within e es) = 1 + max (expr_depth e) (1 + greatest (map expr_depth es))
-  pred_depth (tree.is_null e) = 1 + expr_depth e
+  pred_depth (tree.test e t es) = 1 + max (expr_depth e) (list_parens t + greatest (map expr_depth es))
   pred_depth (tree.negation p) = 1 + pred_depth p
   pred_depth (tree.all_of ps) = 1 + preds_depth ps
   pred_depth (tree.any_of ps) = 1 + preds_depth ps
@@ -211,9 +214,7 @@ abbrev mutual
   pub agg_fits : AggTree → Bool
   agg_fits tree.count_all = true
   agg_fits (tree.count e distinct) = expr_fits e
-  agg_fits (tree.sum e) = expr_fits e
-  agg_fits (tree.min e) = expr_fits e
-  agg_fits (tree.max e) = expr_fits e
+  agg_fits (tree.take a e) = expr_fits e
   agg_fits (tree.json_agg e os) = expr_fits e && orders_fit os
 
   pub orders_fit : OrderTrees → Bool
@@ -248,10 +249,7 @@ abbrev mutual
   pub pred_fits : PredTree → Bool
   pred_fits tree.always = true
   pred_fits tree.never = true
-  pred_fits (tree.compare l o r) = expr_fits l && expr_fits r
-  pred_fits (tree.like l r fold) = expr_fits l && expr_fits r
-  pred_fits (tree.within e es) = expr_fits e && list_all expr_fits es
-  pred_fits (tree.is_null e) = expr_fits e
+  pred_fits (tree.test e t es) = expr_fits e && list_all expr_fits es
   pred_fits (tree.negation p) = pred_fits p
   pred_fits (tree.all_of ps) = preds_fit ps
   pred_fits (tree.any_of ps) = preds_fit ps

@@ -9,14 +9,15 @@ use Rattle.hq_base.specs.Json.{JsonTree, MemberTrees, no_member, member, element
 use Rattle.hq_base.specs.Cells as cell
 use Rattle.hq_base.specs.Cells.{CellTree, cell_of, json_of, key_cmp, same_cell}
 use Rattle.hq_base.specs.Lists.{sort, firsts}
-use Rattle.hq_base.specs.Aggregates.{counted, summed, least, greatest}
+use Rattle.hq_base.specs.Aggregates.{counted, aggregated}
 use Rattle.hq_terms.specs.Database.{Row}
-use Rattle.hq_terms.specs.Logic.{is_true, truth_of, not3, and3, or3, compared, among, null_test, matched}
+use Rattle.hq_terms.specs.Logic.{is_true, truth_of, not3, and3, or3}
+use Rattle.hq_terms.specs.Tests.{test_truth}
 use Rattle.hq_terms.specs.declared.truth.Truth.{Truth}
 use Rattle.hq_terms.specs.declared.truth.Truth.TheVariants.{Yes, No}
 use Rattle.hq_terms.specs.declared.table.Column.{Column}
 use Rattle.hq_terms.specs.declared.table.Table.{Table}
-use Rattle.hq_sql_tree.specs.Tree.{ExprTree, column, int, text, bool, object, aggregate, PairTrees, no_pair, pair, AggTree, count_all, count, sum, min, max, json_agg, OrderTrees, no_order, order, OrderTree, OutTree, SelectTree, rows, fold, FromTree, table, sub, one, JoinTrees, no_join, join, FilterTree, no_filter, filter, PredTree, always, never, compare, like, within, is_null, negation, all_of, any_of, exists, PredTrees, no_pred, pred}
+use Rattle.hq_sql_tree.specs.Tree.{ExprTree, column, int, text, bool, object, aggregate, PairTrees, no_pair, pair, AggTree, count_all, count, take as taken_by, json_agg, OrderTrees, no_order, order, OrderTree, OutTree, SelectTree, rows, fold, FromTree, table, sub, one, JoinTrees, no_join, join, FilterTree, no_filter, filter, PredTree, always, never, test, negation, all_of, any_of, exists, PredTrees, no_pred, pred}
 
 -- a row of named cells; a name that it lacks gives NULL
 abbrev pub NamedRow : Type 0
@@ -81,9 +82,7 @@ abbrev mutual
   pub taken : AggTree → List Scope → CellTree
   taken count_all group = cell.int (pos (length group))
   taken (count e distinct) group = counted distinct (map (value e []) group)
-  taken (sum e) group = summed (map (value e []) group)
-  taken (min e) group = least (map (value e []) group)
-  taken (max e) group = greatest (map (value e []) group)
+  taken (taken_by a e) group = aggregated a (map (value e []) group)
   taken (json_agg e os) group = cell.json (tree.arr (elements_of (map (λ scope. json_of (value e [] scope)) (sort (orders_cmp os) group))))
 
   pub orders_cmp : OrderTrees → Scope → Scope → Ordering
@@ -154,10 +153,7 @@ abbrev mutual
   pub truth_at : PredTree → World → Scope → Truth
   truth_at always world scope = Yes
   truth_at never world scope = No
-  truth_at (compare left op right) world scope = compared op (value left [] scope) (value right [] scope)
-  truth_at (like text_value pattern fold_case) world scope = matched fold_case (value text_value [] scope) (value pattern [] scope)
-  truth_at (within e es) world scope = among (map (λ item. value item [] scope) es) (value e [] scope)
-  truth_at (is_null e) world scope = truth_of (null_test (value e [] scope))
+  truth_at (test e t es) world scope = test_truth t (value e [] scope) (map (λ operand. value operand [] scope) es)
   truth_at (negation p) world scope = not3 (truth_at p world scope)
   truth_at (all_of ps) world scope = all_true ps world scope
   truth_at (any_of ps) world scope = any_true ps world scope

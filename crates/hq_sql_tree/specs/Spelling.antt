@@ -1,11 +1,9 @@
 -- The one spelling of each tree (PostgreSQL's SELECT).
 use Rattle.std.specs.Prelude.{ℕ, ℤ, Bool, true, false, List, [], ◌∷◌, ◌++◌, map, Option, Some, None, ◌==◌, if◌then◌else◌}
 use Rattle.std.specs.Fmt.{decimal, signed_decimal}
-use Rattle.hq_terms.specs.declared.op.Op.{Op}
-use Rattle.hq_terms.specs.declared.op.Op.TheVariants as op
 use Rattle.hq_sql_tree.specs.declared.word.Word.{Word}
 use Rattle.hq_sql_tree.specs.declared.word.Word.TheVariants as word
-use Rattle.hq_sql_tree.specs.Word.{word_text}
+use Rattle.hq_sql_tree.specs.Word.{word_text, aggregate_word, test_word, test_close}
 use Rattle.hq_sql_tree.specs.Tree as tree
 use Rattle.hq_sql_tree.specs.Tree.{ExprTree, PairTree, PairTrees, AggTree, OrderTree, OrderTrees, OutTree, SelectTree, FromTree, JoinTree, JoinTrees, FilterTree, PredTree, PredTrees}
 
@@ -83,9 +81,7 @@ abbrev mutual
   pub agg_text : AggTree → List ℕ
   agg_text tree.count_all = word_text word.CountAll
   agg_text (tree.count e distinct) = word_text (count_word distinct) ++ (expr_text e ++ word_text word.Close)
-  agg_text (tree.sum e) = word_text word.Sum ++ (expr_text e ++ word_text word.Close)
-  agg_text (tree.min e) = word_text word.Min ++ (expr_text e ++ word_text word.Close)
-  agg_text (tree.max e) = word_text word.Max ++ (expr_text e ++ word_text word.Close)
+  agg_text (tree.take a e) = word_text (aggregate_word a) ++ (expr_text e ++ word_text word.Close)
   agg_text (tree.json_agg e os) = word_text word.JsonAgg ++ (expr_text e ++ (word_text word.OrderBy ++ (separated word.Comma (order_texts os) ++ word_text word.OrEmptyArray)))
 
   pub order_texts : OrderTrees → List (List ℕ)
@@ -102,18 +98,6 @@ abbrev pub out_text : OutTree → List ℕ
 out_text o = expr_text o.value ++ (word_text word.As ++ name_text o.name)
 
 -- ---- selects and conditions
-
-abbrev pub op_word : Op → Word
-op_word op.Eq = word.Equal
-op_word op.Ne = word.NotEqual
-op_word op.Lt = word.Less
-op_word op.Le = word.LessEqual
-op_word op.Gt = word.Greater
-op_word op.Ge = word.GreaterEqual
-
-abbrev pub like_word : (fold : Bool) → Word
-like_word true = word.Ilike
-like_word false = word.Like
 
 -- DISTINCT ON, where there is one
 abbrev pub distinct_text : List ExprTree → List ℕ
@@ -148,10 +132,7 @@ abbrev mutual
   pub pred_text : PredTree → List ℕ
   pred_text tree.always = word_text word.True
   pred_text tree.never = word_text word.False
-  pred_text (tree.compare l o r) = word_text word.Open ++ (expr_text l ++ (word_text (op_word o) ++ (expr_text r ++ word_text word.Close)))
-  pred_text (tree.like l r fold) = word_text word.Open ++ (expr_text l ++ (word_text (like_word fold) ++ (expr_text r ++ word_text word.Close)))
-  pred_text (tree.within e es) = word_text word.Open ++ (expr_text e ++ (word_text word.In ++ (separated word.Comma (map expr_text es) ++ word_text word.CloseIn)))
-  pred_text (tree.is_null e) = word_text word.Open ++ (expr_text e ++ word_text word.IsNull)
+  pred_text (tree.test e t es) = word_text word.Open ++ (expr_text e ++ (word_text (test_word t) ++ (separated word.Comma (map expr_text es) ++ word_text (test_close t))))
   pred_text (tree.negation p) = word_text word.Open ++ (word_text word.Not ++ (pred_text p ++ word_text word.Close))
   pred_text (tree.all_of ps) = word_text word.Open ++ (separated word.And (pred_texts ps) ++ word_text word.Close)
   pred_text (tree.any_of ps) = word_text word.Open ++ (separated word.Or (pred_texts ps) ++ word_text word.Close)

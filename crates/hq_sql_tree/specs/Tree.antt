@@ -1,6 +1,7 @@
 -- The trees without where they lie in memory.
 use Rattle.std.specs.Prelude.{ℕ, ℤ, Bool, List, [], ◌∷◌, Option}
-use Rattle.hq_terms.specs.declared.op.Op.{Op}
+use Rattle.hq_base.specs.declared.aggregate.Aggregate.{Aggregate}
+use Rattle.hq_terms.specs.declared.test.Test.{Test}
 
 -- expressions: columns of an alias, literals, JSON objects, and aggregates
 mutual
@@ -19,9 +20,7 @@ mutual
   pub data AggTree : Type 0 where
     count_all : AggTree
     count : ExprTree → (distinct : Bool) → AggTree
-    sum : ExprTree → AggTree
-    min : ExprTree → AggTree
-    max : ExprTree → AggTree
+    take : Aggregate → ExprTree → AggTree
     json_agg : ExprTree → OrderTrees → AggTree
 
   pub data OrderTrees : Type 0 where
@@ -66,10 +65,7 @@ mutual
   pub data PredTree : Type 0 where
     always : PredTree
     never : PredTree
-    compare : ExprTree → Op → ExprTree → PredTree
-    like : ExprTree → ExprTree → (fold : Bool) → PredTree
-    within : ExprTree → (list : List ExprTree) → PredTree
-    is_null : ExprTree → PredTree
+    test : ExprTree → Test → (operands : List ExprTree) → PredTree
     negation : PredTree → PredTree
     all_of : PredTrees → PredTree
     any_of : PredTrees → PredTree

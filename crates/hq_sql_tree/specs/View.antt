@@ -19,9 +19,7 @@ use Rattle.hq_sql_tree.specs.Tree.{ExprTree, PairTree, PairTrees, AggTree, Order
 abbrev pub agg_step : Agg-F AggTree ExprTree PairTree OrderTree → AggTree
 agg_step Agg-F.CountAll = tree.count_all
 agg_step (Agg-F.Count e distinct) = tree.count e.value distinct
-agg_step (Agg-F.Sum e) = tree.sum e.value
-agg_step (Agg-F.Min e) = tree.min e.value
-agg_step (Agg-F.Max e) = tree.max e.value
+agg_step (Agg-F.Take a e) = tree.take a e.value
 agg_step (Agg-F.JsonAgg e os) = tree.json_agg e.value (orders_of os.items)
 
 abbrev pub expr_step : Expr-F AggTree ExprTree PairTree OrderTree → ExprTree
@@ -67,10 +65,7 @@ from_step (From-F.One alias) = tree.one alias
 abbrev pub pred_step : Pred-F FromTree PredTree SelectTree JoinTree → PredTree
 pred_step Pred-F.True = tree.always
 pred_step Pred-F.False = tree.never
-pred_step (Pred-F.Cmp l op r) = tree.compare (expr_view l) op (expr_view r)
-pred_step (Pred-F.Like l r fold) = tree.like (expr_view l) (expr_view r) fold
-pred_step (Pred-F.Within e es) = tree.within (expr_view e) (map expr_view es.items)
-pred_step (Pred-F.IsNull e) = tree.is_null (expr_view e)
+pred_step (Pred-F.Test e t es) = tree.test (expr_view e) t (map expr_view es.items)
 pred_step (Pred-F.Not p) = tree.negation p.value
 pred_step (Pred-F.And ps) = tree.all_of (preds_of ps.items)
 pred_step (Pred-F.Or ps) = tree.any_of (preds_of ps.items)

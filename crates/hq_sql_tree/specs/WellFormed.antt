@@ -5,9 +5,13 @@ use Rattle.std.specs.List.{list_all, list_any}
 use Rattle.std.specs.Ordering.{int_cmp, bool_cmp, is_eq}
 use Rattle.hq_base.specs.Lists.{all_differ}
 use Rattle.hq_base.specs.Patterns.{pattern_of}
+use Rattle.hq_base.specs.declared.aggregate.Aggregate.{Aggregate}
+use Rattle.hq_base.specs.declared.aggregate.Aggregate.TheVariants.{Sum}
 use Rattle.hq_base.specs.declared.value.Ty.{Ty}
 use Rattle.hq_base.specs.declared.value.Ty.TheVariants.{Integer, Bigint, Text, Boolean}
 use Rattle.hq_terms.specs.declared.table.Table.{Table}
+use Rattle.hq_terms.specs.declared.test.Test.{Test}
+use Rattle.hq_terms.specs.declared.test.Test.TheVariants.{IsNull, Like}
 use Rattle.hq_sql_tree.specs.Form.{is_select, select_depth, select_fits}
 use Rattle.hq_sql_tree.specs.Tree as tree
 use Rattle.hq_sql_tree.specs.Tree.{ExprTree, PairTrees, AggTree, OrderTrees, OrderTree, OutTree, SelectTree, FromTree, JoinTrees, FilterTree, PredTree, PredTrees}
@@ -59,6 +63,11 @@ abbrev pub not_of_column : Option Kind → Option Kind
 not_of_column (Some (whole of_column)) = Some (whole false)
 not_of_column k = k
 
+-- the kind of what an aggregate gives of values of a kind: a whole number for a sum, and one of the values for the others
+abbrev pub taken_kind : Aggregate → Option Kind → Option Kind
+taken_kind Sum k = Some (whole false)
+taken_kind _ k = not_of_column k
+
 abbrev mutual
   pub kind : Aliases → ExprTree → Option Kind
   kind scope (tree.column alias name collate) = kind_at scope alias name
@@ -71,9 +80,7 @@ abbrev mutual
   pub agg_kind : Aliases → AggTree → Option Kind
   agg_kind scope tree.count_all = Some (whole false)
   agg_kind scope (tree.count e distinct) = Some (whole false)
-  agg_kind scope (tree.sum e) = Some (whole false)
-  agg_kind scope (tree.min e) = not_of_column (kind scope e)
-  agg_kind scope (tree.max e) = not_of_column (kind scope e)
+  agg_kind scope (tree.take a e) = taken_kind a (kind scope e)
   agg_kind scope (tree.json_agg e os) = Some json
 
 abbrev pub is_text_kind : Option Kind → Bool
@@ -97,6 +104,11 @@ has_extremes _ = false
 abbrev pub is_summed : Option Kind → Bool
 is_summed (Some (whole true)) = true
 is_summed _ = false
+
+-- the kinds that an aggregate takes
+abbrev pub takes_kind : Aggregate → Option Kind → Bool
+takes_kind Sum k = is_summed k
+takes_kind _ k = has_extremes k
 
 -- both whole numbers, both texts or both truth values
 abbrev pub compare_kinds : Option Kind → Option Kind → Bool
@@ -141,9 +153,7 @@ abbrev pub is_taken : Aliases → AggTree → Bool
 is_taken scope tree.count_all = true
 is_taken scope (tree.count e false) = is_value scope e
 is_taken scope (tree.count e true) = is_compared scope e
-is_taken scope (tree.sum e) = is_value scope e && is_summed (kind scope e)
-is_taken scope (tree.min e) = is_value scope e && has_extremes (kind scope e) && is_collated scope e
-is_taken scope (tree.max e) = is_value scope e && has_extremes (kind scope e) && is_collated scope e
+is_taken scope (tree.take a e) = is_value scope e && takes_kind a (kind scope e) && is_collated scope e
 is_taken scope (tree.json_agg e os) = is_value scope e && are_keys scope os
 
 -- the output of a fold: its columns stand inside aggregates alone
@@ -204,6 +214,20 @@ is_pattern _ = false
 abbrev pub is_item : Aliases → ExprTree → ExprTree → Bool
 is_item scope e item = is_compared scope item && compare_kinds (kind scope e) (kind scope item)
 
+-- the value of a test is one that is compared; LIKE takes a text, and IS NULL any value
+abbrev pub is_tested : Aliases → Test → ExprTree → Bool
+is_tested scope IsNull e = is_value scope e
+is_tested scope (Like fold) e = is_compared scope e && is_text_kind (kind scope e)
+is_tested scope _ e = is_compared scope e
+
+-- an operand is compared with the value; that of LIKE is a pattern
+abbrev pub is_operand : Aliases → Test → (tested operand : ExprTree) → Bool
+is_operand scope (Like fold) e item = is_pattern item
+is_operand scope _ e item = is_item scope e item
+
+abbrev pub is_typed_test : Aliases → ExprTree → Test → List ExprTree → Bool
+is_typed_test scope e t es = is_tested scope t e && list_all (is_operand scope t e) es
+
 -- the outputs, the keys and DISTINCT ON of rows, in the scope of all aliases of FROM
 abbrev pub are_parts : Aliases → (distinct : List ExprTree) → List OutTree → List OrderTree → Bool
 are_parts scope distinct outs keys =
@@ -234,10 +258,7 @@ abbrev mutual
   pub is_typed_pred : PredTree → List Table → Aliases → Bool
   is_typed_pred tree.always tables scope = true
   is_typed_pred tree.never tables scope = true
-  is_typed_pred (tree.compare l op r) tables scope = is_compared scope l && is_item scope l r
-  is_typed_pred (tree.like l r fold) tables scope = is_compared scope l && is_text_kind (kind scope l) && is_pattern r
-  is_typed_pred (tree.within e es) tables scope = is_compared scope e && list_all (is_item scope e) es
-  is_typed_pred (tree.is_null e) tables scope = is_value scope e
+  is_typed_pred (tree.test e t es) tables scope = is_typed_test scope e t es
   is_typed_pred (tree.negation p) tables scope = is_typed_pred p tables scope
   is_typed_pred (tree.all_of ps) tables scope = are_typed_preds ps tables scope
   is_typed_pred (tree.any_of ps) tables scope = are_typed_preds ps tables scope

@@ -1,5 +1,13 @@
 -- The bytes of each fixed word of the text of a select.
-use Rattle.std.specs.Prelude.{ℕ, List, codes}
+use Rattle.std.specs.Prelude.{ℕ, List, [], ◌∷◌, true, false, codes}
+use Rattle.hq_base.specs.declared.aggregate.Aggregate.{Aggregate}
+use Rattle.hq_base.specs.declared.aggregate.Aggregate.TheVariants as aggregate
+use Rattle.hq_terms.specs.Tests.{arity}
+use Rattle.hq_terms.specs.declared.test.Test.{Test}
+use Rattle.hq_terms.specs.declared.test.Test.TheVariants as test
+use Rattle.hq_terms.specs.declared.op.Op.TheVariants as op
+use Rattle.hq_terms.specs.declared.test.Arity.{Arity}
+use Rattle.hq_terms.specs.declared.test.Arity.TheVariants.{Many}
 use Rattle.hq_sql_tree.specs.declared.word.Word.{Word}
 use Rattle.hq_sql_tree.specs.declared.word.Word.TheVariants as word
 
@@ -51,8 +59,41 @@ word_text word.Like = codes " LIKE "
 word_text word.Ilike = codes " ILIKE "
 word_text word.In = codes " IN ("
 word_text word.CloseIn = codes "))"
-word_text word.IsNull = codes " IS NULL)"
+word_text word.IsNull = codes " IS NULL"
 word_text word.Not = codes "NOT "
 word_text word.And = codes " AND "
 word_text word.Or = codes " OR "
 word_text word.Exists = codes "EXISTS ("
+
+-- the function of an aggregate, and the parenthesis of its argument
+abbrev pub aggregate_word : Aggregate → Word
+aggregate_word aggregate.Max = word.Max
+aggregate_word aggregate.Min = word.Min
+aggregate_word aggregate.Sum = word.Sum
+
+-- all tests that have a word
+abbrev pub all_tests : List Test
+all_tests =
+    test.Compare op.Eq ∷ test.Compare op.Ne ∷ test.Compare op.Lt ∷ test.Compare op.Le ∷ test.Compare op.Gt ∷ test.Compare op.Ge
+    ∷ test.Among ∷ test.IsNull ∷ test.Like false ∷ test.Like true ∷ []
+
+-- the operator of a test, which stands behind its value
+abbrev pub test_word : Test → Word
+test_word (test.Compare op.Eq) = word.Equal
+test_word (test.Compare op.Ne) = word.NotEqual
+test_word (test.Compare op.Lt) = word.Less
+test_word (test.Compare op.Le) = word.LessEqual
+test_word (test.Compare op.Gt) = word.Greater
+test_word (test.Compare op.Ge) = word.GreaterEqual
+test_word test.Among = word.In
+test_word test.IsNull = word.IsNull
+test_word (test.Like false) = word.Like
+test_word (test.Like true) = word.Ilike
+
+-- what stands behind its operands: where they are a list, the parenthesis of that is closed too
+abbrev pub arity_close : Arity → Word
+arity_close Many = word.CloseIn
+arity_close _ = word.Close
+
+abbrev pub test_close : Test → Word
+test_close t = arity_close (arity t)

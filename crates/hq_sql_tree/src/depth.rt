@@ -2,11 +2,12 @@
 ghost use Rattle.std.specs.Prelude.{◌≡◌, ◌+◌, map, max, nat_le};
 ghost use Rattle.hq_sql_tree.specs.Tree.{pairs_of, orders_of, joins_of, preds_of};
 ghost use Rattle.hq_sql_tree.specs.View.{agg_view, expr_view, pair_view, order_view, out_view, select_view, from_view, join_view, pred_view, filter_view};
-ghost use Rattle.hq_sql_tree.specs.Form.{greatest, expr_depth, pairs_depth, agg_depth, orders_depth, distinct_depth, select_depth, from_depth, joins_depth, pred_depth, preds_depth, filter_depth};
+ghost use Rattle.hq_sql_tree.specs.Form.{greatest, expr_depth, pairs_depth, agg_depth, orders_depth, list_parens, distinct_depth, select_depth, from_depth, joins_depth, pred_depth, preds_depth, filter_depth};
 
 use crate::{
     Agg, Expr, ExprList, ExprPairList, From, JoinList, OrderList, OutList, Pred, PredList, Select,
 };
+use hq_terms::{Arity, Test};
 
 // Whether an expression opens at most so many.
 #[cycle(expr_within)]
@@ -40,7 +41,7 @@ fn agg_within(agg: &Agg, room: u32) -> bool
     match agg {
         Agg::CountAll => true,
         Agg::Count { value, .. } => expr_within(value, room),
-        Agg::Sum(value) | Agg::Min(value) | Agg::Max(value) => expr_within(value, room),
+        Agg::Take { value, .. } => expr_within(value, room),
         Agg::JsonAgg { value, order } => {
             room > 0 && expr_within(value, room - 1) && orders_within(order, room - 1)
         }
@@ -161,11 +162,22 @@ fn filter_within(filter: &Option<Pred>, room: u32) -> bool
     }
 }
 
-// Whether IN and its list open at most so many inside the condition's parenthesis.
-fn list_within(value: &Expr, list: &ExprList, room: u32) -> bool
-    ensures { result ≡ nat_le (max (expr_depth (expr_view value.now)) (1 + greatest (map expr_depth (map expr_view list.now.items)))) room }
+// How many parentheses of its own a test opens around its operands: one around a list.
+fn list_parens(test: Test) -> u32
+    ensures { result ≡ list_parens test }
 {
-    expr_within(value, room) && room > 0 && exprs_within(list, room - 1)
+    match test.arity() {
+        Arity::Many => 1,
+        Arity::Nothing | Arity::One => 0,
+    }
+}
+
+// Whether a test opens at most so many inside the condition's parenthesis.
+fn test_within(value: &Expr, test: Test, operands: &ExprList, room: u32) -> bool
+    ensures { result ≡ nat_le (max (expr_depth (expr_view value.now)) (list_parens test + greatest (map expr_depth (map expr_view operands.now.items)))) room }
+{
+    let parens = list_parens(test);
+    expr_within(value, room) && room >= parens && exprs_within(operands, room - parens)
 }
 
 #[cycle(select_within)]
@@ -174,11 +186,11 @@ fn pred_within(pred: &Pred, room: u32) -> bool
 {
     match pred {
         Pred::True | Pred::False => true,
-        Pred::Cmp { left, right, .. } | Pred::Like { left, right, .. } => {
-            room > 0 && expr_within(left, room - 1) && expr_within(right, room - 1)
-        }
-        Pred::Within { value, list } => room > 0 && list_within(value, list, room - 1),
-        Pred::IsNull(value) => room > 0 && expr_within(value, room - 1),
+        Pred::Test {
+            value,
+            test,
+            operands,
+        } => room > 0 && test_within(value, *test, operands, room - 1),
         Pred::Not(inner) => room > 0 && pred_within(inner, room - 1),
         Pred::And(preds) | Pred::Or(preds) => room > 0 && preds_within(preds, room - 1),
         Pred::Exists(select) => room > 0 && select_within(select, room - 1),

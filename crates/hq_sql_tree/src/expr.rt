@@ -1,4 +1,4 @@
-use hq_base::Txt;
+use hq_base::{Aggregate, Txt};
 
 /// Expressions, in order.
 pub type ExprList = Vec<Expr>;
@@ -46,12 +46,20 @@ pub enum Agg {
     /// `count(*)`: the number of rows.
     CountAll,
     /// The number of values that are not NULL; with `distinct` of different ones.
-    Count { value: Box<Expr>, distinct: bool },
-    Sum(Box<Expr>),
-    Min(Box<Expr>),
-    Max(Box<Expr>),
+    Count {
+        value: Box<Expr>,
+        distinct: bool,
+    },
+    /// What this aggregate gives of the values.
+    Take {
+        aggregate: Aggregate,
+        value: Box<Expr>,
+    },
     /// `json_agg` in this order, and `'[]'::json` over no rows.
-    JsonAgg { value: Box<Expr>, order: OrderList },
+    JsonAgg {
+        value: Box<Expr>,
+        order: OrderList,
+    },
 }
 
 /// A sort key: an expression, its direction, and where NULLs stand.

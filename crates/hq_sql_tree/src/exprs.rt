@@ -38,7 +38,7 @@ fn is_agg(agg: &Agg) -> bool
     match agg {
         Agg::CountAll => true,
         Agg::Count { value, .. } => is_expr(value),
-        Agg::Sum(value) | Agg::Min(value) | Agg::Max(value) => is_expr(value),
+        Agg::Take { value, .. } => is_expr(value),
         Agg::JsonAgg { value, order } => {
             if order.is_empty() {
                 return false;

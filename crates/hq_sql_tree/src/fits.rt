@@ -52,7 +52,7 @@ impl Agg {
         match self {
             Agg::CountAll => {}
             Agg::Count { value, .. } => value.fits(),
-            Agg::Sum(value) | Agg::Min(value) | Agg::Max(value) => value.fits(),
+            Agg::Take { value, .. } => value.fits(),
             Agg::JsonAgg { value, order } => {
                 value.fits();
                 aggregate_orders_fit(order);
@@ -209,15 +209,14 @@ impl Pred {
     {
         match self {
             Pred::True | Pred::False => {}
-            Pred::Cmp { left, right, .. } | Pred::Like { left, right, .. } => {
-                left.fits();
-                right.fits();
-            }
-            Pred::Within { value, list } => {
+            Pred::Test {
+                value,
+                operands,
+                ..
+            } => {
                 value.fits();
-                exprs_fit(list);
+                exprs_fit(operands);
             }
-            Pred::IsNull(value) => value.fits(),
             Pred::Not(inner) => inner.fits(),
             Pred::And(preds) | Pred::Or(preds) => preds_fit(preds),
             Pred::Exists(select) => select.fits(),

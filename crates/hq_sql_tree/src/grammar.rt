@@ -1,5 +1,6 @@
 //! Selects of the grammar.
-ghost use Rattle.std.specs.Prelude.{◌≡◌, ◌&&◌, map, length, nat_le};
+ghost use Rattle.std.specs.Prelude.{◌≡◌, ◌&&◌, not, map, length, nat_le};
+ghost use Rattle.hq_terms.specs.Tests.{takes, is_of_nothing};
 ghost use Rattle.std.specs.List.{list_all};
 ghost use Rattle.hq_sql_tree.specs.Tree.{joins_of, preds_of, pred_list};
 ghost use Rattle.hq_sql_tree.specs.View.{expr_view, out_view, select_view, from_view, join_view, pred_view, filter_view};
@@ -8,12 +9,25 @@ ghost use Rattle.hq_sql_tree.specs.Form.{is_expr, is_select, is_from, are_joins,
 use crate::depth::select_within;
 use crate::exprs::{are_exprs, are_key_exprs, are_out_exprs, is_expr};
 use crate::{ExprList, From, JoinList, OutList, Pred, PredList, Select};
+use hq_terms::{Arity, Test};
 
 // Whether there is an output, and these are expressions of the grammar.
 fn has_outputs(distinct: &ExprList, outs: &OutList) -> bool
     ensures { result ≡ (list_all is_expr (map expr_view distinct.now.items) && nat_le 1 (length (map out_view outs.now.items)) && list_all (λ o. is_expr o.value) (map out_view outs.now.items)) }
 {
     are_exprs(distinct) && outs.len() >= 1 && are_out_exprs(outs)
+}
+
+// Whether these are operands of the grammar, as many as a test takes; a list has one or more.
+fn is_taken(test: Test, operands: &ExprList) -> bool
+    ensures { result ≡ (takes test (length (map expr_view operands.now.items)) && not (is_of_nothing test (map expr_view operands.now.items)) && list_all is_expr (map expr_view operands.now.items)) }
+{
+    let are_enough = match test.arity() {
+        Arity::Nothing => operands.is_empty(),
+        Arity::One => operands.len() == 1,
+        Arity::Many => !operands.is_empty(),
+    };
+    are_enough && are_exprs(operands)
 }
 
 // Whether there are two members or more.
@@ -23,7 +37,8 @@ fn has_two(preds: &PredList) -> bool
     preds.len() >= 2
 }
 
-// Whether each select has an output, And and Or two members or more, IN one or more, and EXISTS and folds are over rows.
+// Whether each select has an output, And and Or two members or more, a test as many operands as it takes, IN one or more, and
+// EXISTS and folds are over rows.
 #[cycle(is_select)]
 fn is_select(select: &Select) -> bool
     ensures { result ≡ is_select (select_view select.now) }
@@ -89,11 +104,11 @@ fn is_pred(pred: &Pred) -> bool
 {
     match pred {
         Pred::True | Pred::False => true,
-        Pred::Cmp { left, right, .. } | Pred::Like { left, right, .. } => {
-            is_expr(left) && is_expr(right)
-        }
-        Pred::Within { value, list } => is_expr(value) && !list.is_empty() && are_exprs(list),
-        Pred::IsNull(value) => is_expr(value),
+        Pred::Test {
+            value,
+            test,
+            operands,
+        } => is_expr(value) && is_taken(*test, operands),
         Pred::Not(inner) => is_pred(inner),
         Pred::And(preds) | Pred::Or(preds) => has_two(preds) && are_preds(preds),
         Pred::Exists(select) => select.is_rows() && is_select(select),
@@ -114,8 +129,8 @@ fn are_preds(preds: &PredList) -> bool
 
 impl Select {
     /// Whether the select is one of the grammar and opens at most so many parentheses at once: each select has an output,
-    /// And and Or two members or more, IN one or more, each json_agg a sort key, and EXISTS and folds are over rows. The
-    /// depth comes first: the other walks go as deep as the tree.
+    /// And and Or two members or more, a test as many operands as it takes, IN one or more, each json_agg a sort key, and
+    /// EXISTS and folds are over rows. The depth comes first: the other walks go as deep as the tree.
     #[tactic(auto, using(crate::proofs::Conjunctions::and_true, crate::proofs::Conjunctions::and_false))]
     pub fn has_form(&self, most_open: u32) -> bool
         ensures { result ≡ (is_select (select_view self.now) && nat_le (select_depth (select_view self.now)) most_open) }

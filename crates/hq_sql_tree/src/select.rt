@@ -1,6 +1,6 @@
 use crate::{Expr, ExprList, OrderList};
 use hq_base::Txt;
-use hq_terms::Op;
+use hq_terms::Test;
 
 /// The outputs of a select, in order.
 pub type OutList = Vec<Out>;
@@ -72,12 +72,12 @@ pub struct Join {
 pub enum Pred {
     True,
     False,
-    Cmp { left: Expr, op: Op, right: Expr },
-    /// LIKE; with `fold` ILIKE, which takes the letters A to Z as a to z.
-    Like { left: Expr, right: Expr, fold: bool },
-    /// IN a list.
-    Within { value: Expr, list: ExprList },
-    IsNull(Expr),
+    /// A test of a value, with as many operands as it takes.
+    Test {
+        value: Expr,
+        test: Test,
+        operands: ExprList,
+    },
     Not(Box<Pred>),
     And(PredList),
     Or(PredList),

@@ -1,6 +1,9 @@
 //! The fixed words of the text of a select.
 ghost use Rattle.std.specs.Prelude.{◌≡◌};
-ghost use Rattle.hq_sql_tree.specs.Word.{word_text};
+ghost use Rattle.hq_sql_tree.specs.Word.{word_text, aggregate_word, all_tests, test_word, test_close};
+
+use hq_base::Aggregate;
+use hq_terms::{Arity, Op, Test};
 
 /// A fixed piece of the text of a select: keywords with the spaces and parentheses beside them.
 #[derive(Clone, Copy)]
@@ -60,6 +63,63 @@ pub enum Word {
 }
 
 impl Word {
+    /// The function of an aggregate, and the parenthesis of its argument.
+    pub fn of_aggregate(aggregate: Aggregate) -> Word
+        ensures { result ≡ aggregate_word aggregate }
+    {
+        match aggregate {
+            Aggregate::Max => Word::Max,
+            Aggregate::Min => Word::Min,
+            Aggregate::Sum => Word::Sum,
+        }
+    }
+
+    /// The operator of a test, which stands behind its value.
+    pub fn of_test(test: Test) -> Word
+        ensures { result ≡ test_word test }
+    {
+        match test {
+            Test::Compare(Op::Eq) => Word::Equal,
+            Test::Compare(Op::Ne) => Word::NotEqual,
+            Test::Compare(Op::Lt) => Word::Less,
+            Test::Compare(Op::Le) => Word::LessEqual,
+            Test::Compare(Op::Gt) => Word::Greater,
+            Test::Compare(Op::Ge) => Word::GreaterEqual,
+            Test::Among => Word::In,
+            Test::IsNull => Word::IsNull,
+            Test::Like { fold: false } => Word::Like,
+            Test::Like { fold: true } => Word::Ilike,
+        }
+    }
+
+    /// All tests that have a word.
+    pub fn tests() -> [Test; 10]
+        ensures { result ≡ all_tests }
+    {
+        [
+            Test::Compare(Op::Eq),
+            Test::Compare(Op::Ne),
+            Test::Compare(Op::Lt),
+            Test::Compare(Op::Le),
+            Test::Compare(Op::Gt),
+            Test::Compare(Op::Ge),
+            Test::Among,
+            Test::IsNull,
+            Test::Like { fold: false },
+            Test::Like { fold: true },
+        ]
+    }
+
+    /// What stands behind the operands of a test: where they are a list, the parenthesis of that is closed too.
+    pub fn closing(test: Test) -> Word
+        ensures { result ≡ test_close test }
+    {
+        match test.arity() {
+            Arity::Many => Word::CloseIn,
+            Arity::Nothing | Arity::One => Word::Close,
+        }
+    }
+
     /// Its bytes.
     #[tactic(auto, unfolding(crate::specs::Word::word_text))]
     pub fn bytes(self) -> &'static [u8]
@@ -113,7 +173,7 @@ impl Word {
             Word::Ilike => b" ILIKE ",
             Word::In => b" IN (",
             Word::CloseIn => b"))",
-            Word::IsNull => b" IS NULL)",
+            Word::IsNull => b" IS NULL",
             Word::Not => b"NOT ",
             Word::And => b" AND ",
             Word::Or => b" OR ",

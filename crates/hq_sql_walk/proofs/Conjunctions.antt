@@ -4,7 +4,7 @@ use Rattle.std.proofs.lemmas.List.{at_drop_more}
 use Rattle.hq_terms.specs.declared.truth.Truth.{Truth}
 use Rattle.hq_terms.specs.declared.truth.Truth.TheVariants.{Yes, No, Unknown}
 use Rattle.hq_terms.specs.Logic.{and3}
-use Rattle.hq_sql_tree.specs.Tree.{PredTree, always, never, compare, like, within, is_null, negation, all_of, any_of, exists, PredTrees, no_pred, pred, preds_of}
+use Rattle.hq_sql_tree.specs.Tree.{PredTree, always, never, test, negation, all_of, any_of, exists, PredTrees, no_pred, pred, preds_of}
 use Rattle.hq_sql_tree.specs.View.{pred_view}
 use Rattle.hq_sql_tree.specs.declared.select.Pred.{Pred}
 use Rattle.hq_sql_tree.specs.Meaning.{Scope, World, truth_at, all_true}
@@ -50,10 +50,7 @@ module _ (w : World) (n : Scope) where
     part_is : (p : PredTree) → and3 (and3 (part_at Plain p w n) (part_at Nested p w n)) (part_at Rows p w n) ≡ truth_at p w n
     part_is always = refl
     part_is never = refl
-    part_is (compare l op r) = and3_yes (and3 (truth_at (compare l op r) w n) Yes) ∙ and3_yes (truth_at (compare l op r) w n)
-    part_is (like l r f) = and3_yes (and3 (truth_at (like l r f) w n) Yes) ∙ and3_yes (truth_at (like l r f) w n)
-    part_is (within e es) = and3_yes (and3 (truth_at (within e es) w n) Yes) ∙ and3_yes (truth_at (within e es) w n)
-    part_is (is_null e) = and3_yes (and3 (truth_at (is_null e) w n) Yes) ∙ and3_yes (truth_at (is_null e) w n)
+    part_is (test e t es) = and3_yes (and3 (truth_at (test e t es) w n) Yes) ∙ and3_yes (truth_at (test e t es) w n)
     part_is (negation p) = and3_yes (truth_at (negation p) w n)
     part_is (any_of ps) = and3_yes (truth_at (any_of ps) w n)
     part_is (exists s) = refl

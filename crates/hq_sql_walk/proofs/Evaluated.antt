@@ -1,5 +1,5 @@
 -- Steps of the evaluation of a select.
-use Rattle.std.proofs.Common.{◌≡◌, ◌==◌, ◌≤◌, ◌<◌, ◌+◌, ℕ, zero, suc, List, [], ◌∷◌, ◌++◌, map, filter, flat_map, take, drop, length, get_or, Bool, true, false, cond, Option, Some, None, Ordering, refl, sym, ap, ap₂, ◌∙◌, append-nil, append_assoc, add-one, is_gt, arith}
+use Rattle.std.proofs.Common.{◌≡◌, ◌==◌, ◌≤◌, ◌<◌, ◌+◌, ℕ, zero, suc, List, [], ◌∷◌, ◌++◌, map, filter, flat_map, take, drop, length, get_or, Bool, true, false, cond, Option, Some, None, refl, sym, ap, ap₂, ◌∙◌, append-nil, append_assoc, add-one, arith}
 use Rattle.std.proofs.lemmas.List.{map-append, take-append-drop, take_all}
 use Rattle.std.proofs.lemmas.Bool.{ne_eqb, false≢true}
 use Rattle.std.specs.Global.{Vec}
@@ -8,10 +8,11 @@ use Rattle.std.proofs.lemmas.List.Elements.{filter-append}
 use Rattle.std.proofs.lemmas.Grind.{flat_map-append}
 use Rattle.hq_base.specs.Json.{member, members_of}
 use Rattle.hq_base.specs.Cells.{json_of}
-use Rattle.hq_base.specs.Lists.{sort, put}
+use Rattle.hq_base.specs.Lists.{sort}
 use Rattle.hq_base.proofs.Lists.{map_map}
 use Rattle.hq_sql_tree.specs.Tree.{ExprTree, PairTree, pairs_of, OutTree, OrderTree, SelectTree, rows, FromTree, table, sub, one, JoinTrees, join, FilterTree}
 use Rattle.hq_sql_tree.specs.Meaning.{NamedRow, Scope, with_alias, World, rows_of, value, members, outputs, joined, order_cmp, distinct_on, limited, offset_by, kept, scopes_of, has_rows}
+use Rattle.hq_sql_closed.proofs.Depends.{select_has}
 use Rattle.hq_sql_rows.specs.declared.scope.Source.{Source}
 use Rattle.hq_sql_rows.specs.View.{first_row, beside, row_in, joined_view, place_of, names_at}
 use Rattle.hq_sql_rows.specs.declared.row.Made.{Made}
@@ -157,31 +158,6 @@ no_images f g (x ∷ xs) e = absurd (false≢true (sym (ne_eqb (length (x ∷ xs
 pub some_images : {A B C : Type 0} (f : B → C) (g : A → B) (xs : List A) → (length xs == 0) ≡ false → has_items (map f (map g xs)) ≡ true
 some_images f g [] e = cc
 some_images f g (x ∷ xs) e = refl
-
--- ---- ORDER BY and DISTINCT ON
-
-put_has : (R : Scope → Scope → Ordering) (x : Scope) (xs : List Scope) → has_items (put R x xs) ≡ true
-put_has R x [] = refl
-put_has R x (y ∷ ys) =
-    let go : (b : Bool) → has_items (cond b (y ∷ put R x ys) (x ∷ (y ∷ ys))) ≡ true = elim [ true ↦ refl | false ↦ refl ] in
-    go (is_gt (R x y))
-
-sort_has : (R : Scope → Scope → Ordering) (xs : List Scope) → has_items (sort R xs) ≡ has_items xs
-sort_has R [] = refl
-sort_has R (x ∷ xs) = put_has R x (sort R xs)
-
-distinct_has : (es : List ExprTree) (xs : List Scope) → has_items (distinct_on es xs) ≡ has_items xs
-distinct_has [] xs = refl
-distinct_has (e ∷ es) [] = refl
-distinct_has (e ∷ es) (x ∷ xs) = refl
-
-map_has : (f : Scope → NamedRow) (xs : List Scope) → has_rows (map f xs) ≡ has_items xs
-map_has f [] = refl
-map_has f (x ∷ xs) = refl
-
--- a select without LIMIT and OFFSET has a row where WHERE keeps one
-pub select_has : (os : List OutTree) (es : List ExprTree) (ks : List OrderTree) (xs : List Scope) → has_rows (map (outputs os []) (distinct_on es (sort (order_cmp ks) xs))) ≡ has_items xs
-select_has os es ks xs = map_has (outputs os []) (distinct_on es (sort (order_cmp ks) xs)) ∙ distinct_has es (sort (order_cmp ks) xs) ∙ sort_has (order_cmp ks) xs
 
 -- ---- whole selects
 

@@ -8,8 +8,8 @@ ghost use Rattle.hq_sql_walk.specs.Selected.{names_each};
 
 use crate::values::{keys, value};
 use hq_base::{Json, Memory, Txt};
-use hq_sql_cells::{Cell, Kept, counted, greatest, least};
-use hq_sql_rows::cells::{sorted, sum_of};
+use hq_sql_cells::{Cell, Kept, aggregated, counted};
+use hq_sql_rows::cells::sorted;
 use hq_sql_rows::pinned::Pinned;
 use hq_sql_rows::row::{Made, Row};
 use hq_sql_rows::scope::{Group, Scope};
@@ -37,9 +37,13 @@ pub fn taken<'d>(
             *distinct,
             each_value(alloc, expr, world, alias, rows, scope)?,
         ),
-        Agg::Sum(expr) => sum_of(each_value(alloc, expr, world, alias, rows, scope)?),
-        Agg::Min(expr) => Ok(least(each_value(alloc, expr, world, alias, rows, scope)?)),
-        Agg::Max(expr) => Ok(greatest(each_value(alloc, expr, world, alias, rows, scope)?)),
+        Agg::Take {
+            aggregate,
+            value: expr,
+        } => aggregated(
+            *aggregate,
+            each_value(alloc, expr, world, alias, rows, scope)?,
+        ),
         Agg::JsonAgg { value: expr, order } => {
             let kept = each_json(alloc, expr, order, world, alias, rows, scope)?;
             Ok(Cell::Json(Json::Arr(sorted(alloc, order, kept)?)))

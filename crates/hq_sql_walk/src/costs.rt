@@ -50,11 +50,6 @@ pub fn conjunct_at<'d>(pred: &'d Pred, cost: Cost) -> Conjunct<'d>
         Pred::And(preds) => Conjunct::Opened(preds),
         Pred::Exists(_) => tried_if(pred, Cost::Rows, cost),
         Pred::Not(_) | Pred::Or(_) => tried_if(pred, Cost::Nested, cost),
-        Pred::True
-        | Pred::False
-        | Pred::Cmp { .. }
-        | Pred::Like { .. }
-        | Pred::Within { .. }
-        | Pred::IsNull(_) => tried_if(pred, Cost::Plain, cost),
+        Pred::True | Pred::False | Pred::Test { .. } => tried_if(pred, Cost::Plain, cost),
     }
 }

@@ -10,7 +10,7 @@ mod scans;
 mod truths;
 mod values;
 
-pub use clauses::{first, rows};
+pub use clauses::{first, made_of, rows};
 pub use pages::{page, page_sorted};
 pub use scans::{Piece, any_row, scan_from};
 pub use truths::truth;

@@ -1,7 +1,7 @@
 //! Truths of conditions.
 ghost use Rattle.std.specs.Prelude.{◌≡◌, map, IfOk};
 ghost use Rattle.hq_terms.specs.Logic.{and3};
-ghost use Rattle.hq_sql_tree.specs.Tree.{preds_of, compare, like, within};
+ghost use Rattle.hq_sql_tree.specs.Tree.{preds_of, test as tested};
 ghost use Rattle.hq_sql_tree.specs.View.{expr_view, select_view, pred_view, filter_view};
 ghost use Rattle.hq_sql_tree.specs.Meaning.{kept, truth_at, any_true, has_rows, rows_of};
 ghost use Rattle.hq_sql_closed.specs.Conjuncts.{all_kept, lent_views};
@@ -13,15 +13,16 @@ use crate::costs::{Conjunct, Cost, conjunct_at};
 use crate::scans::any_row;
 use crate::values::{value, values};
 use hq_base::Memory;
-use hq_sql_cells::{among, compared, matched};
+use hq_sql_cells::test_truth;
 use hq_sql_rows::known::known_of;
 use hq_sql_rows::pinned::Pinned;
 use hq_sql_rows::scope::{Group, Scope, alias_of, source_of};
 use hq_sql_rows::single::is_whole;
 use hq_sql_rows::stages::{Parts, stages};
 use hq_sql_tree::{Expr, ExprList, Pred, PredList, Select};
-use hq_terms::{Op, Truth};
+use hq_terms::{Test, Truth};
 use std::alloc::Global;
+use std::slice;
 
 /// Whether a WHERE keeps a row: neither where it is false nor where it is unknown.
 #[cycle(eval)]
@@ -52,13 +53,11 @@ pub fn truth<'d>(
     match pred {
         Pred::True => Ok(Truth::Yes),
         Pred::False => Ok(Truth::No),
-        Pred::Cmp { left, op, right } => comparison(alloc, left, *op, right, world, scope),
-        Pred::Like { left, right, fold } => likeness(alloc, left, right, *fold, world, scope),
-        Pred::Within { value: expr, list } => membership(alloc, expr, list, world, scope),
-        Pred::IsNull(expr) => {
-            let cell = value(alloc, expr, world, Group::Alone, scope)?;
-            Ok(Truth::of(cell.is_null()))
-        }
+        Pred::Test {
+            value,
+            test,
+            operands,
+        } => tested(alloc, value, *test, operands, world, scope),
         Pred::Not(inner) => Ok(truth(alloc, inner, world, scope)?.negated()),
         Pred::And(preds) => {
             let plain = all_true(alloc, preds, Cost::Plain, Truth::Yes, world, scope)?;
@@ -70,54 +69,25 @@ pub fn truth<'d>(
     }
 }
 
-// A comparison of two expressions.
+// What a test says of an expression. A single operand is put into no list.
 #[cycle(eval)]
-fn comparison<'d>(
-    alloc: Global,
-    left: &'d Expr,
-    op: Op,
-    right: &'d Expr,
-    world: &Pinned<'d>,
-    scope: &Scope<'_, 'd>,
-) -> Result<Truth, Memory>
-    ensures { IfOk result (λ t. t ≡ truth_at (compare (expr_view left.now) op (expr_view right.now)) (world_of world.now) (names_of scope.now world.now)) }
-{
-    let left = value(alloc, left, world, Group::Alone, scope)?;
-    let right = value(alloc, right, world, Group::Alone, scope)?;
-    Ok(compared(op, &left, &right))
-}
-
-// LIKE and ILIKE.
-#[cycle(eval)]
-fn likeness<'d>(
-    alloc: Global,
-    left: &'d Expr,
-    right: &'d Expr,
-    fold: bool,
-    world: &Pinned<'d>,
-    scope: &Scope<'_, 'd>,
-) -> Result<Truth, Memory>
-    ensures { IfOk result (λ t. t ≡ truth_at (like (expr_view left.now) (expr_view right.now) fold) (world_of world.now) (names_of scope.now world.now)) }
-{
-    let left = value(alloc, left, world, Group::Alone, scope)?;
-    let right = value(alloc, right, world, Group::Alone, scope)?;
-    matched(alloc, fold, &left, &right)
-}
-
-// IN.
-#[cycle(eval)]
-fn membership<'d>(
+fn tested<'d>(
     alloc: Global,
     expr: &'d Expr,
-    list: &'d ExprList,
+    test: Test,
+    operands: &'d ExprList,
     world: &Pinned<'d>,
     scope: &Scope<'_, 'd>,
 ) -> Result<Truth, Memory>
-    ensures { IfOk result (λ t. t ≡ truth_at (within (expr_view expr.now) (map expr_view list.now.items)) (world_of world.now) (names_of scope.now world.now)) }
+    ensures { IfOk result (λ t. t ≡ truth_at (tested (expr_view expr.now) test (map expr_view operands.now.items)) (world_of world.now) (names_of scope.now world.now)) }
 {
-    let item = value(alloc, expr, world, Group::Alone, scope)?;
-    let items = values(alloc, list, world, scope)?;
-    Ok(among(&items, &item))
+    let cell = value(alloc, expr, world, Group::Alone, scope)?;
+    if let [operand] = operands.as_slice() {
+        let operand = value(alloc, operand, world, Group::Alone, scope)?;
+        return test_truth(alloc, test, &cell, slice::from_ref(&operand));
+    }
+    let operands = values(alloc, operands, world, scope)?;
+    test_truth(alloc, test, &cell, &operands)
 }
 
 // AND of this truth and of those of a list that have a cost, which ends where it is false.

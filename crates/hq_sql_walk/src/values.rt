@@ -77,7 +77,7 @@ pub fn value<'d>(
             Ok(Cell::Json(Json::Obj(members)))
         }
         Expr::Agg(agg) => match group {
-            Group::Alone => Ok(over_none(alloc, agg)),
+            Group::Alone => over_none(alloc, agg),
             Group::Of { alias, rows } => taken(alloc, agg, world, alias, rows, scope),
         },
     }

@@ -9,17 +9,16 @@ ghost use Rattle.hq_sql_write.specs.Texts.{grouped_text, lent_fold, pairs_text};
 
 use crate::listed::{output_of, rows_in};
 use crate::parts::{put_cell, put_separator};
-use crate::places::{Placed, made_of, placed_rows, places_of};
+use crate::places::{Placed, placed_rows, places_of};
 use hq_base::{Bytes, Memory, Txt, put_quoted};
-use hq_sql_cells::{Cell, counted, greatest, least};
-use hq_sql_rows::cells::sum_of;
+use hq_sql_cells::{Cell, aggregated, counted};
 use hq_sql_rows::pinned::Pinned;
 use hq_sql_rows::place::Place;
 use hq_sql_rows::row::cell_at;
 use hq_sql_rows::scope::{Group, Scope, alias_of, row_at};
 use hq_sql_rows::stages::stages;
 use hq_sql_tree::{Agg, Expr, ExprPairList, Out, Select};
-use hq_sql_walk::{rows, value};
+use hq_sql_walk::{made_of, rows, value};
 use std::alloc::Global;
 
 /// The rows of a select under an alias, as places.
@@ -108,16 +107,11 @@ fn taken_at<'d>(
             Some(cells) => Ok(Some(counted(*distinct, cells)?)),
             None => Ok(None),
         },
-        Agg::Sum(expr) => match values_of(alloc, expr, group, world, scope)? {
-            Some(cells) => Ok(Some(sum_of(cells)?)),
-            None => Ok(None),
-        },
-        Agg::Min(expr) => match values_of(alloc, expr, group, world, scope)? {
-            Some(cells) => Ok(Some(least(cells))),
-            None => Ok(None),
-        },
-        Agg::Max(expr) => match values_of(alloc, expr, group, world, scope)? {
-            Some(cells) => Ok(Some(greatest(cells))),
+        Agg::Take {
+            aggregate,
+            value: expr,
+        } => match values_of(alloc, expr, group, world, scope)? {
+            Some(cells) => Ok(Some(aggregated(*aggregate, cells)?)),
             None => Ok(None),
         },
         Agg::JsonAgg { .. } => Ok(None),
@@ -137,7 +131,7 @@ fn is_plain(agg: &Agg, alias: &Txt, outs: &[Out], from: &Txt) -> bool {
     match agg {
         Agg::CountAll => true,
         Agg::Count { value, .. } => is_column(value, alias, outs, from),
-        Agg::Sum(value) | Agg::Min(value) | Agg::Max(value) => is_column(value, alias, outs, from),
+        Agg::Take { value, .. } => is_column(value, alias, outs, from),
         Agg::JsonAgg { .. } => false,
     }
 }

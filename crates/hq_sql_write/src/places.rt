@@ -4,7 +4,7 @@ ghost use Rattle.hq_sql_tree.specs.Meaning.{Scope as Names, scopes_of};
 ghost use Rattle.hq_sql_tree.specs.View.{from_view};
 ghost use Rattle.hq_sql_rows.specs.Positions.{positions_of};
 ghost use Rattle.hq_sql_rows.specs.Sources.{made_rows, has_items};
-ghost use Rattle.hq_sql_rows.specs.View.{made_view, names_of, world_of};
+ghost use Rattle.hq_sql_rows.specs.View.{made_view, world_of};
 ghost use Rattle.hq_sql_write.specs.Placed.{AreSorted, Continues, names_there, from_in, found_at};
 ghost use Rattle.hq_sql_write.specs.Selected.{page_at};
 
@@ -17,8 +17,8 @@ use hq_sql_rows::positions::Positions;
 use hq_sql_rows::row::Made;
 use hq_sql_rows::scope::{Scope, Source, alias_of, source_of};
 use hq_sql_rows::stages::Stage;
-use hq_sql_tree::{From, Join, Pred};
-use hq_sql_walk::{Piece, page, page_sorted, rows, scan_from};
+use hq_sql_tree::{Join, Pred};
+use hq_sql_walk::{Piece, page, page_sorted, scan_from};
 use std::alloc::Global;
 
 /// The rows of a FROM under its alias, with the joins beside them and when each is evaluated.
@@ -37,21 +37,6 @@ pub enum Wanted {
     First,
     /// All, with commas between.
     All,
-}
-
-/// The rows of a sub-select that a FROM names, none where it names another thing.
-pub fn made_of<'d>(
-    alloc: Global,
-    from: &'d From,
-    world: &Pinned<'d>,
-    scope: &Scope<'_, 'd>,
-) -> Result<Vec<Made<'d>>, Memory>
-    ensures { IfOk result (λ made. map made_view made.items ≡ made_rows (from_view from.now) (world_of world.now) (names_of scope.now world.now)) }
-{
-    match from {
-        From::Sub { select, .. } => rows(alloc, select, world, scope),
-        From::Table { .. } | From::One { .. } => Ok(Vec::new(alloc)),
-    }
 }
 
 /// The rows of a select, where FROM gives these rows of a sub-select.

@@ -9,7 +9,7 @@ ghost use Rattle.hq_sql_write.specs.Selected.{scopes_in};
 ghost use Rattle.hq_sql_write.specs.Texts.{IsFirstObject, named_pair};
 
 use crate::listed::{Rows, object_named};
-use crate::places::{Placed, made_of, placed_rows, places_of};
+use crate::places::{Placed, placed_rows, places_of};
 use crate::written::write_place;
 use hq_answer::{Answer, AnswerMember};
 use hq_base::{Bytes, Memory, Txt};
@@ -19,7 +19,7 @@ use hq_sql_rows::row::cell_taken;
 use hq_sql_rows::scope::Scope;
 use hq_sql_rows::stages::{Parts, stages};
 use hq_sql_tree::{ExprPairList, Select};
-use hq_sql_walk::first;
+use hq_sql_walk::{first, made_of};
 use std::alloc::Global;
 
 // The name of a statement's output.

@@ -12,7 +12,7 @@ use crate::grouped::write_fold;
 use crate::listed::{Listed, Rows, list_of, output_named};
 use crate::parts::{put_cell, put_separator};
 use crate::places::{
-    Found, Placed, Wanted, found_rows, has_begun, made_of, placed_rows, places_of, stretch,
+    Found, Placed, Wanted, found_rows, has_begun, placed_rows, places_of, stretch,
 };
 use hq_base::{Bytes, Memory, Txt, put_quoted};
 use hq_sql_rows::pinned::Pinned;
@@ -22,7 +22,7 @@ use hq_sql_rows::row::{Made, Row, cell_at};
 use hq_sql_rows::scope::{Group, Scope, row_at};
 use hq_sql_rows::stages::{Parts, Stage, first_stage, stages};
 use hq_sql_tree::{Expr, ExprPairList, Join, Pred, Select};
-use hq_sql_walk::{first, value};
+use hq_sql_walk::{first, made_of, value};
 use std::alloc::Global;
 
 /// The JSON of an expression in its scope.

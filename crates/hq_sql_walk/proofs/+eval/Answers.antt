@@ -7,7 +7,7 @@ use Rattle.hq_base.specs.Cells as cell
 use Rattle.hq_base.specs.Cells.{json_of}
 use Rattle.hq_base.specs.Json as json
 use Rattle.hq_base.specs.Json.{json_view, member_view, members_of, elements_of}
-use Rattle.hq_base.specs.Aggregates.{counted, summed, least, greatest}
+use Rattle.hq_base.specs.Aggregates.{counted, aggregated}
 use Rattle.hq_base.specs.Lists.{sort}
 use Rattle.hq_sql_cells.specs.View.{cell_view}
 use Rattle.hq_sql_tree.specs.declared.select.Join.{the_lemmas as join_lemmas}
@@ -19,6 +19,7 @@ use Rattle.hq_sql_tree.specs.declared.select.Select.{the_lemmas as select_lemmas
 use Rattle.hq_sql_tree.specs.declared.select.Pred.{the_lemmas as pred_lemmas}
 use Rattle.hq_terms.specs.Logic.{and3, or3, is_true}
 use Rattle.hq_sql_cells.proofs.Truths.{or3_assoc}
+use Rattle.hq_sql_tree.specs.Tree as tree
 use Rattle.hq_sql_tree.specs.Tree.{pairs_of, orders_of, joins_of, preds_of, rows}
 use Rattle.hq_sql_tree.specs.View.{agg_view, expr_view, pair_view, order_view, out_view, pred_view, select_view, from_view, join_view, filter_view}
 use Rattle.hq_sql_tree.specs.Meaning.{with_alias, truth_at, all_true, value, members, taken, orders_cmp, order_cmp, distinct_on, limited, offset_by, outputs, has_rows, kept, rows_of, joined, any_true}
@@ -125,35 +126,16 @@ aggregates::taken-returns-in_ok-each_value-in-Count t c =
     let rhs : taken (agg_view c.args.agg.now) ns ≡ counted d (map (value (expr_view e) []) ns) = search (rules, agg_lemmas) in
     IfOk-weaker c.counted.result _ _ (λ cell h. h ∙ ap (counted d) cells ∙ sym rhs) c.counted.ensures.value
 
-pub aggregates::taken-returns-in_ok-each_value-in-Sum : goal.aggregates::taken-returns-in_ok-each_value-in-Sum
-aggregates::taken-returns-in_ok-each_value-in-Sum t c =
-    let e = c.in-Sum.expr.value in
+pub aggregates::taken-returns-in_ok-each_value-in-Take : goal.aggregates::taken-returns-in_ok-each_value-in-Take
+aggregates::taken-returns-in_ok-each_value-in-Take t c =
+    let a = c.in-Take.aggregate in
+    let e = c.in-Take.expr.value in
     let ns = map (with_alias (names_of c.args.scope.now c.args.world.now) c.args.alias.now) (map made_view c.args.rows.now) in
-    let lent : c.deref-in-Sum.result.now ≡ e = search rules in
-    let cells : map cell_view c.in_ok-each_value-in-Sum.field-0.items ≡ map (value (expr_view e) []) ns =
-    subst (λ x. map cell_view c.in_ok-each_value-in-Sum.field-0.items ≡ map (value (expr_view x) []) ns) lent c.in_ok-each_value-in-Sum.ensures in
-    let rhs : taken (agg_view c.args.agg.now) ns ≡ summed (map (value (expr_view e) []) ns) = search (rules, agg_lemmas) in
-    IfOk-weaker c.sum_of.result _ _ (λ cell h. h ∙ ap summed cells ∙ sym rhs) c.sum_of.ensures
-
-pub aggregates::taken-returns-in_ok-each_value-in-Min : goal.aggregates::taken-returns-in_ok-each_value-in-Min
-aggregates::taken-returns-in_ok-each_value-in-Min t c =
-    let e = c.in-Min.expr.value in
-    let ns = map (with_alias (names_of c.args.scope.now c.args.world.now) c.args.alias.now) (map made_view c.args.rows.now) in
-    let lent : c.deref-in-Min.result.now ≡ e = search rules in
-    let cells : map cell_view c.in_ok-each_value-in-Min.field-0.items ≡ map (value (expr_view e) []) ns =
-    subst (λ x. map cell_view c.in_ok-each_value-in-Min.field-0.items ≡ map (value (expr_view x) []) ns) lent c.in_ok-each_value-in-Min.ensures in
-    let rhs : taken (agg_view c.args.agg.now) ns ≡ least (map (value (expr_view e) []) ns) = search (rules, agg_lemmas) in
-    c.least.ensures ∙ ap least cells ∙ sym rhs
-
-pub aggregates::taken-returns-in_ok-each_value-in-Max : goal.aggregates::taken-returns-in_ok-each_value-in-Max
-aggregates::taken-returns-in_ok-each_value-in-Max t c =
-    let e = c.in-Max.expr.value in
-    let ns = map (with_alias (names_of c.args.scope.now c.args.world.now) c.args.alias.now) (map made_view c.args.rows.now) in
-    let lent : c.deref-in-Max.result.now ≡ e = search rules in
-    let cells : map cell_view c.in_ok-each_value-in-Max.field-0.items ≡ map (value (expr_view e) []) ns =
-    subst (λ x. map cell_view c.in_ok-each_value-in-Max.field-0.items ≡ map (value (expr_view x) []) ns) lent c.in_ok-each_value-in-Max.ensures in
-    let rhs : taken (agg_view c.args.agg.now) ns ≡ greatest (map (value (expr_view e) []) ns) = search (rules, agg_lemmas) in
-    c.greatest.ensures ∙ ap greatest cells ∙ sym rhs
+    let lent : c.deref-in-Take.result.now ≡ e = search rules in
+    let cells : map cell_view c.in_ok-each_value-in-Take.field-0.items ≡ map (value (expr_view e) []) ns =
+    subst (λ x. map cell_view c.in_ok-each_value-in-Take.field-0.items ≡ map (value (expr_view x) []) ns) lent c.in_ok-each_value-in-Take.ensures in
+    let is : agg_view c.args.agg.now ≡ tree.take a (expr_view e) = search (rules, agg_lemmas) in
+    IfOk-weaker c.aggregated.result _ _ (λ cell h. h ∙ ap (aggregated a) cells ∙ ap (λ g. taken g ns) (sym is)) c.aggregated.ensures.value
 
 -- ---- AND of a list
 

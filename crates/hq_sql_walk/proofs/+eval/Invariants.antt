@@ -121,14 +121,8 @@ decreases-truths::kept l = filter_weight l.filter.now + scope_weight l.scope.now
 abbrev pub decreases-truths::truth : goal.decreases-truths::truth
 decreases-truths::truth l = pred_weight l.pred.now + scope_weight l.scope.now
 
-abbrev pub decreases-truths::comparison : goal.decreases-truths::comparison
-decreases-truths::comparison l = 1 + (expr_weight l.left.now + (expr_weight l.right.now + scope_weight l.scope.now))
-
-abbrev pub decreases-truths::likeness : goal.decreases-truths::likeness
-decreases-truths::likeness l = 1 + (expr_weight l.left.now + (expr_weight l.right.now + scope_weight l.scope.now))
-
-abbrev pub decreases-truths::membership : goal.decreases-truths::membership
-decreases-truths::membership l = 2 + (expr_weight l.expr.now + (total (map expr_weight l.list.now.items) + scope_weight l.scope.now))
+abbrev pub decreases-truths::tested : goal.decreases-truths::tested
+decreases-truths::tested l = 2 + (expr_weight l.expr.now + (total (map expr_weight l.operands.now.items) + scope_weight l.scope.now))
 
 abbrev pub decreases-truths::all_true : goal.decreases-truths::all_true
 decreases-truths::all_true l = 1 + (total (map pred_weight l.preds.now.items) + scope_weight l.scope.now)

@@ -1,8 +1,9 @@
 use Rattle.std.proofs.Common.{rules, ◌≡◌, [], IfSome, map, subst, sym, ap, ◌∙◌}
-use Rattle.hq_base.specs.Aggregates.{counted, summed, least, greatest}
+use Rattle.hq_base.specs.Aggregates.{counted, aggregated}
 use Rattle.hq_sql_cells.specs.View.{cell_view}
 use Rattle.hq_sql_tree.specs.declared.expr.Agg.{the_lemmas as agg_lemmas}
 use Rattle.hq_sql_tree.specs.Meaning.{taken, value}
+use Rattle.hq_sql_tree.specs.Tree as tree
 use Rattle.hq_sql_tree.specs.View.{agg_view, expr_view}
 use Rattle.hq_sql_rows.specs.View.{world_of, names_of}
 use Rattle.hq_sql_write.specs.Grouped.{group_in}
@@ -19,35 +20,14 @@ returns-in_ok-counted-in-Some c =
     let whole : taken (agg_view c.args.agg.now) ns ≡ counted c.in-Count.distinct (map (value e []) ns) = search (rules, agg_lemmas) in
     c.in_ok-counted-in-Some.ensures.value ∙ ap (counted c.in-Count.distinct) found ∙ sym whole
 
-pub returns-in_ok-sum_of-in-Some-2 : goal.returns-in_ok-sum_of-in-Some-2
-returns-in_ok-sum_of-in-Some-2 c =
+pub returns-in_ok-aggregated-in-Some-2 : goal.returns-in_ok-aggregated-in-Some-2
+returns-in_ok-aggregated-in-Some-2 c =
     let ns = group_in c.args.group.now (world_of c.args.world.now) (names_of c.args.scope.now c.args.world.now) in
-    let e = expr_view c.in-Sum.expr.value in
-    let lent : c.deref-in-Sum.result.now ≡ c.in-Sum.expr.value = search rules in
+    let a = c.in-Take.aggregate in
+    let e = expr_view c.in-Take.expr.value in
+    let lent : c.deref-in-Take.result.now ≡ c.in-Take.expr.value = search rules in
     let found : map cell_view c.in-Some-2.cells.items ≡ map (value e []) ns =
     subst (λ x. map cell_view c.in-Some-2.cells.items ≡ map (value (expr_view x) []) ns) lent
-    (subst (λ o. IfSome o (λ cells. map cell_view cells.items ≡ map (value (expr_view c.deref-in-Sum.result.now) []) ns)) c.in-Some-2.is c.in_ok-cells-in-Sum.ensures) in
-    let whole : taken (agg_view c.args.agg.now) ns ≡ summed (map (value e []) ns) = search (rules, agg_lemmas) in
-    c.in_ok-sum_of-in-Some-2.ensures ∙ ap summed found ∙ sym whole
-
-pub returns-in-Some-3 : goal.returns-in-Some-3
-returns-in-Some-3 c =
-    let ns = group_in c.args.group.now (world_of c.args.world.now) (names_of c.args.scope.now c.args.world.now) in
-    let e = expr_view c.in-Min.expr.value in
-    let lent : c.deref-in-Min.result.now ≡ c.in-Min.expr.value = search rules in
-    let found : map cell_view c.in-Some-3.cells.items ≡ map (value e []) ns =
-    subst (λ x. map cell_view c.in-Some-3.cells.items ≡ map (value (expr_view x) []) ns) lent
-    (subst (λ o. IfSome o (λ cells. map cell_view cells.items ≡ map (value (expr_view c.deref-in-Min.result.now) []) ns)) c.in-Some-3.is c.in_ok-cells-in-Min.ensures) in
-    let whole : taken (agg_view c.args.agg.now) ns ≡ least (map (value e []) ns) = search (rules, agg_lemmas) in
-    c.least.ensures ∙ ap least found ∙ sym whole
-
-pub returns-in-Some-4 : goal.returns-in-Some-4
-returns-in-Some-4 c =
-    let ns = group_in c.args.group.now (world_of c.args.world.now) (names_of c.args.scope.now c.args.world.now) in
-    let e = expr_view c.in-Max.expr.value in
-    let lent : c.deref-in-Max.result.now ≡ c.in-Max.expr.value = search rules in
-    let found : map cell_view c.in-Some-4.cells.items ≡ map (value e []) ns =
-    subst (λ x. map cell_view c.in-Some-4.cells.items ≡ map (value (expr_view x) []) ns) lent
-    (subst (λ o. IfSome o (λ cells. map cell_view cells.items ≡ map (value (expr_view c.deref-in-Max.result.now) []) ns)) c.in-Some-4.is c.in_ok-cells-in-Max.ensures) in
-    let whole : taken (agg_view c.args.agg.now) ns ≡ greatest (map (value e []) ns) = search (rules, agg_lemmas) in
-    c.greatest.ensures ∙ ap greatest found ∙ sym whole
+    (subst (λ o. IfSome o (λ cells. map cell_view cells.items ≡ map (value (expr_view c.deref-in-Take.result.now) []) ns)) c.in-Some-2.is c.in_ok-cells-in-Take.ensures) in
+    let is : agg_view c.args.agg.now ≡ tree.take a e = search (rules, agg_lemmas) in
+    c.in_ok-aggregated-in-Some-2.ensures.value ∙ ap (aggregated a) found ∙ ap (λ g. taken g ns) (sym is)
