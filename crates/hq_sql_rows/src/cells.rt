@@ -1,15 +1,23 @@
 //! What an aggregate gives over no rows; the directions of sort keys, and kept rows by their keys.
 ghost use Rattle.std.specs.Prelude.{◌≡◌, [], map, IfOk};
+ghost use Rattle.hq_base.specs.Aggregates.{aggregated};
 ghost use Rattle.hq_base.specs.Lists.{sort};
 ghost use Rattle.hq_sql_cells.specs.View.{cell_view};
 ghost use Rattle.hq_sql_tree.specs.View.{agg_view, expr_view, order_view};
 ghost use Rattle.hq_sql_tree.specs.Meaning.{taken};
 ghost use Rattle.hq_sql_rows.specs.Keys.{directions_of, row_of, by_keys, distinct_kept};
 
-use hq_base::{Json, Memory};
+use hq_base::{Aggregate, Json, Memory};
 use hq_sql_cells::{Cell, Direction, Kept, aggregated, first_kept, rows_of, sort_kept};
 use hq_sql_tree::{Agg, ExprList, OrderList};
 use std::alloc::Global;
+
+fn of_none<'d>(alloc: Global, aggregate: Aggregate) -> Result<Cell<'d>, Memory>
+    ensures { IfOk result (λ cell. cell_view cell ≡ aggregated aggregate []) }
+{
+    let none = Vec::new(alloc);
+    aggregated(aggregate, none)
+}
 
 /// An aggregate over no rows.
 pub fn over_none<'d>(alloc: Global, agg: &Agg) -> Result<Cell<'d>, Memory>
@@ -17,7 +25,7 @@ pub fn over_none<'d>(alloc: Global, agg: &Agg) -> Result<Cell<'d>, Memory>
 {
     match agg {
         Agg::CountAll | Agg::Count { .. } => Ok(Cell::Int(0)),
-        Agg::Take { aggregate, .. } => aggregated(*aggregate, Vec::new(alloc)),
+        Agg::Take { aggregate, .. } => of_none(alloc, *aggregate),
         Agg::JsonAgg { .. } => Ok(Cell::Json(Json::Arr(Vec::new(alloc)))),
     }
 }

@@ -3,6 +3,7 @@ use Rattle.hq_base.specs.Aggregates.{counted, aggregated}
 use Rattle.hq_sql_cells.specs.View.{cell_view}
 use Rattle.hq_sql_tree.specs.declared.expr.Agg.{the_lemmas as agg_lemmas}
 use Rattle.hq_sql_tree.specs.Meaning.{taken, value}
+use Rattle.hq_sql_tree.specs.Tree as tree
 use Rattle.hq_sql_tree.specs.View.{agg_view, expr_view}
 use Rattle.hq_sql_rows.specs.View.{world_of, names_of}
 use Rattle.hq_sql_write.specs.Grouped.{group_in}
@@ -28,5 +29,5 @@ returns-in_ok-aggregated-in-Some-2 c =
     let found : map cell_view c.in-Some-2.cells.items ≡ map (value e []) ns =
     subst (λ x. map cell_view c.in-Some-2.cells.items ≡ map (value (expr_view x) []) ns) lent
     (subst (λ o. IfSome o (λ cells. map cell_view cells.items ≡ map (value (expr_view c.deref-in-Take.result.now) []) ns)) c.in-Some-2.is c.in_ok-cells-in-Take.ensures) in
-    let whole : taken (agg_view c.args.agg.now) ns ≡ aggregated a (map (value e []) ns) = search (rules, agg_lemmas) in
-    c.in_ok-aggregated-in-Some-2.ensures.value ∙ ap (aggregated a) found ∙ sym whole
+    let is : agg_view c.args.agg.now ≡ tree.take a e = search (rules, agg_lemmas) in
+    c.in_ok-aggregated-in-Some-2.ensures.value ∙ ap (aggregated a) found ∙ ap (λ g. taken g ns) (sym is)
