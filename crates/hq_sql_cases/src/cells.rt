@@ -1,9 +1,9 @@
 //! What the evaluator does with cells. The text `{}` stands for an empty JSON object.
 
-use hq_base::{Json, Memory, Val};
+use hq_base::{Aggregate, Json, Memory, Val};
 use hq_case::{Case, Stop, Words, push_json, value};
-use hq_sql_cells::{Cell, among, compared, counted, greatest, least, matched, summed};
-use hq_terms::{Op, Truth};
+use hq_sql_cells::{Cell, aggregated, counted, test_truth};
+use hq_terms::{Op, Test, Truth};
 use std::alloc::Global;
 
 /// The values of a list.
@@ -31,58 +31,39 @@ fn cell_of<'d>(alloc: Global, value: &'d Val) -> Cell<'d> {
     }
 }
 
-fn truth(alloc: Global, op: &str, cells: &[Cell<'_>]) -> Result<Truth, Stop> {
-    match op {
-        "IN" => is_among(cells),
-        "LIKE" => is_like(alloc, false, cells),
-        "ILIKE" => is_like(alloc, true, cells),
-        op => comparison(op, cells),
-    }
-}
-
-fn truth_of(alloc: Global, case: &Case, op: &str) -> Result<Truth, Stop> {
-    let values = values(alloc, case.list("in")?)?;
-    let cells = cells(alloc, &values)?;
-    truth(alloc, op, &cells)
-}
-
-/// A comparison of two cells, whether the first is among those behind it, or is like the second.
-pub fn tell_test(alloc: Global, case: &Case, words: &mut Words) -> Result<(), Stop> {
-    let op = case.text(alloc, "op")?;
-    let truth = truth_of(alloc, case, op.as_str())?;
-    words.push_debug(&truth);
-    Ok(())
-}
-
-fn is_among(cells: &[Cell<'_>]) -> Result<Truth, Stop> {
+fn truth(alloc: Global, test: Test, cells: &[Cell<'_>]) -> Result<Truth, Stop> {
     match cells {
-        [value, items @ ..] => Ok(among(items, value)),
+        [cell, operands @ ..] => Ok(test_truth(alloc, test, cell, operands)?),
         [] => Err(Stop::Shape),
     }
 }
 
-fn is_like(alloc: Global, fold: bool, cells: &[Cell<'_>]) -> Result<Truth, Stop> {
-    match cells {
-        [text, pattern] => Ok(matched(alloc, fold, text, pattern)?),
-        _ => Err(Stop::Shape),
-    }
+fn truth_of(alloc: Global, case: &Case, test: Test) -> Result<Truth, Stop> {
+    let values = values(alloc, case.list("in")?)?;
+    let cells = cells(alloc, &values)?;
+    truth(alloc, test, &cells)
 }
 
-fn comparison(op: &str, cells: &[Cell<'_>]) -> Result<Truth, Stop> {
-    match cells {
-        [left, right] => Ok(compared(op_of(op)?, left, right)),
-        _ => Err(Stop::Shape),
-    }
+/// What a test says of the first cell, beside those behind it.
+pub fn tell_test(alloc: Global, case: &Case, words: &mut Words) -> Result<(), Stop> {
+    let name = case.text(alloc, "op")?;
+    let truth = truth_of(alloc, case, test_of(name.as_str())?)?;
+    words.push_debug(&truth);
+    Ok(())
 }
 
-fn op_of(op: &str) -> Result<Op, Stop> {
-    match op {
-        "=" => Ok(Op::Eq),
-        "<>" => Ok(Op::Ne),
-        "<" => Ok(Op::Lt),
-        "<=" => Ok(Op::Le),
-        ">" => Ok(Op::Gt),
-        ">=" => Ok(Op::Ge),
+fn test_of(name: &str) -> Result<Test, Stop> {
+    match name {
+        "=" => Ok(Test::Compare(Op::Eq)),
+        "<>" => Ok(Test::Compare(Op::Ne)),
+        "<" => Ok(Test::Compare(Op::Lt)),
+        "<=" => Ok(Test::Compare(Op::Le)),
+        ">" => Ok(Test::Compare(Op::Gt)),
+        ">=" => Ok(Test::Compare(Op::Ge)),
+        "IN" => Ok(Test::Among),
+        "IS NULL" => Ok(Test::IsNull),
+        "LIKE" => Ok(Test::Like { fold: false }),
+        "ILIKE" => Ok(Test::Like { fold: true }),
         _ => Err(Stop::Shape),
     }
 }
@@ -106,46 +87,40 @@ pub fn tell_json(alloc: Global, case: &Case, words: &mut Words) -> Result<(), St
     push_copies(alloc, &cells(alloc, &values)?, words)
 }
 
-/// What an aggregate function makes of cells.
+/// A function of cells: their number, or an aggregate.
 #[derive(Clone, Copy)]
-pub enum Aggregate {
-    Count,
-    CountDistinct,
-    Least,
-    Greatest,
-    Sum,
+pub enum Function {
+    Count { distinct: bool },
+    Take(Aggregate),
 }
 
-fn made_of<'d>(aggregate: Aggregate, cells: Vec<Cell<'d>>) -> Result<Cell<'d>, Memory> {
-    match aggregate {
-        Aggregate::Count => counted(false, cells),
-        Aggregate::CountDistinct => counted(true, cells),
-        Aggregate::Least => Ok(least(cells)),
-        Aggregate::Greatest => Ok(greatest(cells)),
-        Aggregate::Sum => summed(&cells),
+fn made_of<'d>(function: Function, cells: Vec<Cell<'d>>) -> Result<Cell<'d>, Memory> {
+    match function {
+        Function::Count { distinct } => counted(distinct, cells),
+        Function::Take(aggregate) => aggregated(aggregate, cells),
     }
 }
 
 fn push_aggregate(
     alloc: Global,
-    aggregate: Aggregate,
+    function: Function,
     values: &[Val],
     words: &mut Words,
 ) -> Result<(), Stop> {
     let cells = cells(alloc, values)?;
-    push_cell(alloc, made_of(aggregate, cells)?, words)
+    push_cell(alloc, made_of(function, cells)?, words)
 }
 
-/// What these aggregate functions make of the cells of a case.
+/// What these functions make of the cells of a case.
 pub fn tell_aggregates(
     alloc: Global,
-    aggregates: &[Aggregate],
+    functions: &[Function],
     case: &Case,
     words: &mut Words,
 ) -> Result<(), Stop> {
     let values = values(alloc, case.list("in")?)?;
-    for aggregate in aggregates {
-        push_aggregate(alloc, *aggregate, &values, words)?;
+    for function in functions {
+        push_aggregate(alloc, *function, &values, words)?;
     }
     Ok(())
 }

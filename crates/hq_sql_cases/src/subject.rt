@@ -1,6 +1,7 @@
-use crate::cells::Aggregate;
+use crate::cells::Function;
 use crate::texts::Look;
 use crate::{cells, rows, texts};
+use hq_base::Aggregate;
 use hq_case::{Case, Stop, Subject, Words};
 
 /// What cases are about: a file of cases, and the public calls that these go through.
@@ -19,14 +20,14 @@ pub enum About {
 }
 
 // What is told of cells, in the order of the words.
-static AGGREGATES: [Aggregate; 4] = [
-    Aggregate::Count,
-    Aggregate::CountDistinct,
-    Aggregate::Least,
-    Aggregate::Greatest,
+static FUNCTIONS: [Function; 4] = [
+    Function::Count { distinct: false },
+    Function::Count { distinct: true },
+    Function::Take(Aggregate::Min),
+    Function::Take(Aggregate::Max),
 ];
 
-static SUM: [Aggregate; 1] = [Aggregate::Sum];
+static SUM: [Function; 1] = [Function::Take(Aggregate::Sum)];
 
 impl About {
     /// Each subject, in the order of its line.
@@ -68,7 +69,7 @@ impl Subject for About {
             About::Scans => texts::tell(alloc, Look::Scans, case, words),
             About::Tests => cells::tell_test(alloc, case, words),
             About::Cells => cells::tell_json(alloc, case, words),
-            About::AggregateFunctions => cells::tell_aggregates(alloc, &AGGREGATES, case, words),
+            About::AggregateFunctions => cells::tell_aggregates(alloc, &FUNCTIONS, case, words),
             About::Sums => cells::tell_aggregates(alloc, &SUM, case, words),
             About::Pages => rows::tell_page(alloc, case, words),
             About::Sorts => rows::tell_sort(alloc, case, words),
