@@ -5,8 +5,7 @@ ghost use Rattle.hq_base.specs.Compact.{compact};
 ghost use Rattle.hq_base.specs.Json.{JsonTree, json_view, member_view, members_of};
 ghost use Rattle.hq_answer.specs.Answers.{IsAnswer, answer_view, answer_text, named_text, named_texts, member_text};
 
-use crate::{put_comma, put_quoted};
-use hq_base::{Bytes, Json, Members, Memory, Txt};
+use hq_base::{Bytes, Json, Members, Memory, Txt, put_comma, put_quoted};
 use std::alloc::Global;
 
 /// A member of a JSON object: its name, and the compact text of its value.

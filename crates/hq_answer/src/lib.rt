@@ -2,7 +2,5 @@
 #![tactic(auto)]
 
 mod answer;
-mod parts;
 
 pub use answer::{Answer, AnswerMember};
-pub use parts::{put_comma, put_quoted};

@@ -14,6 +14,7 @@ use Rattle.hq_coerce.specs.Faults.{fault_of}
 use Rattle.hq_coerce.specs.Variables.{VarTree}
 use Rattle.hq_coerce.specs.declared.refusal.CoerceRefusal.{CoerceRefusal}
 use Rattle.hq_coerce.specs.declared.refusal.CoerceRefusal.TheVariants as refusal
+use Rattle.hq_collect.specs.FieldNodes.{is_bounded}
 use Rattle.hq_collect.specs.Keys.{is_narrow}
 use Rattle.hq_collect.specs.Size.{is_small}
 use Rattle.hq_collect.specs.Tree.{CollectedTrees, collected_tree}
@@ -34,15 +35,15 @@ abbrev pub operation_of : Option OperationTree → Due OperationTree
 operation_of None = Err (refusal.Fault no_operation)
 operation_of (Some o) = Ok o
 
--- the collected fields, where they are within the limits
-abbrev pub within_limits : (at : ℕ) → (small : Bool) → CollectedTrees → Due CollectedTrees
-within_limits at small fs = cond (small && is_narrow fs) (Ok fs) (Err (refusal.Fault (fault_of rule.RequestSize (Some at))))
+-- the collected fields of the operation at a place, where they are within the limits
+abbrev pub within_limits : (at : ℕ) → List VarTree → (small : Bool) → CollectedTrees → Due CollectedTrees
+within_limits at vars small fs = cond (small && is_narrow fs && is_bounded vars fs) (Ok fs) (Err (refusal.Fault (fault_of rule.RequestSize (Some at))))
 
 abbrev pub collected_fields : DocumentTree → List VarTree → OperationTree → CollectedTrees
 collected_fields d vars o = collected_tree (record { document = d; vars = vars }) (selections_in o.selections)
 
 abbrev pub collected_due : DocumentTree → List VarTree → OperationTree → Due CollectedTrees
-collected_due d vars o = within_limits o.at (is_small d (selections_in o.selections)) (collected_fields d vars o)
+collected_due d vars o = within_limits o.at vars (is_small d (selections_in o.selections)) (collected_fields d vars o)
 
 -- the typed root fields; at the root no table's row stands, so its place is behind all tables
 abbrev pub root_due : List VarTree → SchemaTree → Schema → (root : ℕ) → CollectedTrees → Due FieldTrees

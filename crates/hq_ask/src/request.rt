@@ -1,5 +1,5 @@
 //! The typed request of an operation for a session.
-ghost use Rattle.std.specs.Prelude.{◌≡◌, map, length, IfOk, Ok, Some, true};
+ghost use Rattle.std.specs.Prelude.{◌≡◌, map, length, IfOk, Some, true};
 ghost use Rattle.hq_base.specs.Due.{Gives};
 ghost use Rattle.hq_ask.specs.Due.{operation_of, within_limits, collected_fields, collected_due, root_due, binding_fault, bound_in, build_due};
 ghost use Rattle.hq_collect.specs.FieldNodes.{is_bounded};
@@ -74,31 +74,22 @@ fn tree_of<'b, 'a>(
     collected_tree(alloc, &request, &operation.selections)
 }
 
-// Collected fields, where no object has too many.
+// Collected fields, where no object has too many and their arguments have not too many nodes.
 fn within_limits<'a>(
+    vars: &VarValues,
     operation: &Operation,
     fields: CollectedList<'a>,
 ) -> Result<CollectedList<'a>, AskRefusal>
-    ensures { Gives (λ v. trees_of (map collected_view v.items)) refusal.Memory (within_limits (operation_view operation.now).at true (trees_of (map collected_view fields.entry.items))) result }
+    ensures due { Gives (λ v. trees_of (map collected_view v.items)) refusal.Memory (within_limits (operation_view operation.now).at (map var_view vars.now) true (trees_of (map collected_view fields.entry.items))) result }
+    ensures bounded { IfOk result (λ v. is_bounded (map var_view vars.now) (trees_of (map collected_view v.items)) ≡ true) }
 {
-    if is_narrow(&fields) {
+    if is_narrow(&fields) && is_bounded(vars, &fields) {
         return Ok(fields);
     }
     Err(too_large(operation))
 }
 
-// Collected fields, where their arguments have not too many nodes for memory.
-fn bounded<'a>(vars: &VarValues, fields: CollectedList<'a>) -> Result<CollectedList<'a>, AskRefusal>
-    ensures due { Gives (λ v. trees_of (map collected_view v.items)) refusal.Memory (Ok (trees_of (map collected_view fields.entry.items))) result }
-    ensures bounded { IfOk result (λ v. is_bounded (map var_view vars.now) (trees_of (map collected_view v.items)) ≡ true) }
-{
-    if is_bounded(vars, &fields) {
-        return Ok(fields);
-    }
-    Err(CoerceRefusal::Memory)
-}
-
-// The collected fields of an operation, where they are within the limits. Memory where their arguments have too many nodes.
+// The collected fields of an operation, where they are within the limits.
 fn collected<'b, 'a>(
     alloc: Global,
     fragments: &'b Fragments<'a>,
@@ -110,8 +101,7 @@ fn collected<'b, 'a>(
 {
     if is_small_operation(fragments, operation) {
         let fields = tree_of(alloc, fragments, vars, operation)?;
-        let fields = within_limits(operation, fields)?;
-        return bounded(vars, fields);
+        return within_limits(vars, operation, fields);
     }
     Err(too_large(operation))
 }

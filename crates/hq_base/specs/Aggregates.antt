@@ -1,5 +1,5 @@
 -- Aggregates of a list of cells (PostgreSQL, aggregate functions): each passes over NULL.
-use Rattle.std.specs.Prelude.{ℕ, ℤ, pos, List, [], ◌∷◌, filter, length, fold, Bool, true, false, cond, ◌||◌, ◌+ℤ◌, codes}
+use Rattle.std.specs.Prelude.{ℕ, pos, List, [], ◌∷◌, filter, length, fold, Bool, true, false, cond, ◌||◌, ◌+ℤ◌, codes}
 use Rattle.std.specs.Ordering.{flip_args}
 use Rattle.hq_base.specs.Cells.{CellTree, null, int, text, bool, json, int_in, cell_cmp, same_cell}
 use Rattle.hq_base.specs.Lists.{sort, firsts}

@@ -1,11 +1,11 @@
-ghost use Rattle.std.specs.Prelude.{◌≡◌, ◌++◌, ◌∷◌, ◌<◌, ◌==◌, [], if◌then◌else◌, OnOk, OnErr, map};
-ghost use Rattle.std.specs.Char.{digit_char};
+ghost use Rattle.std.specs.Prelude.{◌≡◌, ◌++◌, OnOk, OnErr, map};
 ghost use Rattle.std.specs.Fmt.{signed_decimal};
 ghost use Rattle.std.specs.List.{join_with_byte};
 ghost use Rattle.hq_base.specs.Json.{json_view, member_view, elements_of, members_of, bool};
-ghost use Rattle.hq_base.specs.Compact.{compact, quoted, escaped, short_escape, element_texts, member_texts};
+ghost use Rattle.hq_base.specs.Compact.{compact, element_texts, member_texts};
 
-use crate::{Bytes, Json, JsonList, Members, Memory, Txt};
+use crate::parts::{put_comma, put_quoted};
+use crate::{Bytes, Json, JsonList, Members, Memory};
 use itoa::Buffer;
 use std::alloc::Global;
 
@@ -30,7 +30,7 @@ fn put(out: &mut Bytes, json: &Json) -> Result<(), Memory>
         Json::Null => out.append(b"null"),
         Json::Bool(b) => put_bool(out, *b),
         Json::Int(whole) => put_whole(out, *whole),
-        Json::Str(text) => put_text(out, text),
+        Json::Str(text) => put_quoted(out, text),
         Json::Arr(elements) => {
             out.push(b'[')?;
             put_elements(out, elements)?;
@@ -61,18 +61,11 @@ fn put_members(out: &mut Bytes, members: &Members) -> Result<(), Memory>
 {
     for (at, member) in members.iter().enumerate() {
         put_comma(out, at)?;
-        put_text(out, &member.name)?;
+        put_quoted(out, &member.name)?;
         out.push(b':')?;
         put(out, &member.value)?;
     }
     Ok(())
-}
-
-// A comma before each part but the first.
-fn put_comma(out: &mut Bytes, at: usize) -> Result<(), Memory>
-    ensures { OnOk result (out.new ≡ out.old ++ (if at == 0 then [] else 44 ∷ [])) }
-{
-    if at == 0 { Ok(()) } else { out.push(b',') }
 }
 
 fn put_bool(out: &mut Bytes, b: bool) -> Result<(), Memory>
@@ -90,57 +83,4 @@ fn put_whole(out: &mut Bytes, whole: i128) -> Result<(), Memory>
 {
     let mut buffer = Buffer::new();
     out.append(buffer.format(whole).as_bytes())
-}
-
-// The text in quotes.
-fn put_text(out: &mut Bytes, text: &Txt) -> Result<(), Memory>
-    ensures { OnOk result (out.new ≡ out.old ++ quoted text.now) }
-{
-    out.push(b'"')?;
-    for byte in text.as_bytes() {
-        put_escaped(out, *byte)?;
-    }
-    out.push(b'"')
-}
-
-#[tactic(auto, unfolding(crate::specs::Compact::escaped))]
-fn put_escaped(out: &mut Bytes, byte: u8) -> Result<(), Memory>
-    ensures { OnOk result (out.new ≡ out.old ++ escaped byte) }
-{
-    if let Some(letter) = short_escape(byte) {
-        out.push(b'\\')?;
-        out.push(letter)
-    } else if byte < 32 {
-        out.append(b"\\u00")?;
-        out.push(hex_digit(byte / 16))?;
-        out.push(hex_digit(byte % 16))
-    } else {
-        out.push(byte)
-    }
-}
-
-// The letter of the byte's short escape.
-fn short_escape(byte: u8) -> Option<u8>
-    ensures { result ≡ short_escape byte }
-{
-    match byte {
-        b'"' | b'\\' => Some(byte),
-        8 => Some(b'b'),
-        12 => Some(b'f'),
-        b'\n' => Some(b'n'),
-        b'\r' => Some(b'r'),
-        b'\t' => Some(b't'),
-        _ => None,
-    }
-}
-
-fn hex_digit(digit: u8) -> u8
-    requires { digit < 16 }
-    ensures { result ≡ digit_char digit }
-{
-    if digit < 10 {
-        b'0' + digit
-    } else {
-        b'a' + (digit - 10)
-    }
 }

@@ -4,3 +4,4 @@ pub mod Walks
 pub mod Lists
 pub mod Nodes
 mod Marking
+pub mod SameMembers

@@ -7,9 +7,9 @@ ghost use Rattle.hq_reply.specs.RootObject.{own_value, no_queries_text};
 ghost use Rattle.hq_reply.specs.RootTexts.{field_text, keyed_text, members_text, texts_behind, texts_in, texts_of};
 
 use crate::tables::put_next;
-use hq_answer::{AnswerMember, put_comma, put_quoted};
+use hq_answer::AnswerMember;
 use hq_ask_tree::{AskField, AskFields, KeyedAskField};
-use hq_base::{Bytes, Json, Memory, Txt};
+use hq_base::{Bytes, Json, Memory, Txt, put_comma, put_quoted};
 use hq_introspect::answer;
 use hq_schema::Schema;
 use std::alloc::Global;

@@ -7,10 +7,7 @@ use Rattle.hq_gql_nodes.specs.Least.{earlier, least_of}
 use Rattle.hq_gql_nodes.specs.Reach.{has}
 use Rattle.hq_gql_nodes.proofs.Grown.{or_split}
 use Rattle.hq_gql_nodes.proofs.Walks.{has_behind}
-
--- the two lists have the same members
-abbrev pub SameMembers : List ℕ → List ℕ → Type 0
-SameMembers xs ys = (q : ℕ) → has xs q ≡ has ys q
+pub use Rattle.hq_gql_nodes.proofs.SameMembers.{SameMembers, same_test, any_same}
 
 -- a place is none but at or behind another
 abbrev AtMost : Option ℕ → ℕ → Type 0
@@ -69,41 +66,6 @@ pub least_same : (f : ℕ → Option ℕ) (xs ys : List ℕ) → SameMembers xs 
 least_same f xs ys same = both_ways (least_of f xs) (least_of f ys)
     (λ p e. let r = least_of_member f ys p e in least_below_member f xs r.0 p (same r.0 ∙ r.1) r.2)
     (λ p e. let r = least_of_member f xs p e in least_below_member f ys r.0 p (sym (same r.0) ∙ r.1) r.2)
-
--- a member that passes
-any_member : (p : ℕ → Bool) (xs : List ℕ) → list_any p xs ≡ true → (q : ℕ) × (has xs q ≡ true) × (p q ≡ true)
-any_member p [] h = absurd (cc)
-any_member p (x ∷ xs) h = (elim (or_split (p x) (list_any p xs) h) [
-  | inl e ↦ (x, grind (arith, common_steps), e)
-  | inr m ↦ let r = any_member p xs m in (r.0, has_behind (x ∷ []) xs r.0 r.1, r.2)
-])
-
-or_right : (a b : Bool) → b ≡ true → (a || b) ≡ true
-or_right true b h = refl
-or_right false b h = h
-
-or_left : (a b : Bool) → a ≡ true → (a || b) ≡ true
-or_left true b h = refl
-or_left false b h = absurd (cc)
-
-member_any : (p : ℕ → Bool) (xs : List ℕ) (q : ℕ) → has xs q ≡ true → p q ≡ true → list_any p xs ≡ true
-member_any p [] q h e = absurd (cc)
-member_any p (x ∷ xs) q h e = (elim (or_split (nat_eq q x) (has xs q) h) [
-  | inl s ↦ let same : q ≡ x = grind (arith, common_steps) in or_left (p x) (list_any p xs) (ap p (sym same) ∙ e)
-  | inr m ↦ or_right (p x) (list_any p xs) (member_any p xs q m e)
-])
-
--- two tests that hold together are equal
-pub same_test : (a b : Bool) → (a ≡ true → b ≡ true) → (b ≡ true → a ≡ true) → a ≡ b
-same_test true true f h = refl
-same_test true false f h = sym (f refl)
-same_test false true f h = h refl
-same_test false false f h = refl
-
-pub any_same : (p : ℕ → Bool) (xs ys : List ℕ) → SameMembers xs ys → list_any p xs ≡ list_any p ys
-any_same p xs ys same = same_test (list_any p xs) (list_any p ys)
-    (λ h. let r = any_member p xs h in member_any p ys r.0 (sym (same r.0) ∙ r.1) r.2)
-    (λ h. let r = any_member p ys h in member_any p xs r.0 (same r.0 ∙ r.1) r.2)
 
 -- an item of a list of lists that passes
 pub list_any-flat_map : {A : Type 0} (p : A → Bool) (f : ℕ → List A) (xs : List ℕ) → list_any p (flat_map f xs) ≡ list_any (λ x. list_any p (f x)) xs

@@ -24,12 +24,7 @@ fn is_pattern(alloc: Global, value: &Expr) -> Result<bool, Memory>
 }
 
 // Whether the value is one of which the test is.
-fn is_tested(
-    alloc: Global,
-    scope: &Scope<'_, '_>,
-    test: Test,
-    value: &Expr,
-) -> Result<bool, Memory>
+fn is_tested(alloc: Global, scope: &Scope<'_, '_>, test: Test, value: &Expr) -> Result<bool, Memory>
     ensures { IfOk result (λ well. well ≡ is_tested (scope_view scope.now) test (expr_view value.now)) }
 {
     match test {

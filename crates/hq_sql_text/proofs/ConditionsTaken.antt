@@ -10,8 +10,8 @@ use Rattle.hq_sql_tree.specs.Tree as tree
 use Rattle.hq_sql_tree.specs.Tree.{ExprTree, OrderTree, SelectTree, FilterTree, PredTree, preds_of}
 use Rattle.hq_sql_tree.specs.Form.{is_rows, is_count}
 use Rattle.hq_sql_tree.specs.Spelling.{separated, clause_text, expr_text, order_text, number_text, select_text, filter_text, pred_text, pred_texts}
-use Rattle.hq_sql_expr.specs.Reading.{◌>>=◌, Reader, below, after, choose, all_many, expr_at, order_with}
-use Rattle.hq_sql_expr.proofs.Sound.{Taken, Sound, Spelled, sound_next, sound_last, sound_word, sound_choose, sound_choose_end, sound_end, sound_pure, sound_nothing}
+use Rattle.hq_sql_expr.specs.Reading.{◌>>=◌, Reader, after, choose, all_many, expr_at, order_with}
+use Rattle.hq_sql_expr.proofs.Sound.{Taken, Sound, Spelled, sound_next, sound_last, sound_word, sound_choose, sound_choose_end, sound_end, sound_pure}
 use Rattle.hq_sql_expr.proofs.Listed.{AllGood, list_text, all_many_takes}
 use Rattle.hq_sql_expr.proofs.Fits.{FitsExpr}
 use Rattle.hq_sql_expr.proofs.Exprs.{GoodOrder, expr_takes, orders_take}

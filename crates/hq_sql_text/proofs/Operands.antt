@@ -1,5 +1,5 @@
 -- The operands of a test, by how many it takes: their form, depth and values, and their text both ways.
-use Rattle.std.proofs.Common.{◌≡◌, ◌∙◌, sym, ap, ℕ, ◌+◌, ◌≤◌, Bool, true, false, ◌&&◌, not, List, [], ◌∷◌, ◌++◌, map, length, Some, refl, arith}
+use Rattle.std.proofs.Common.{◌≡◌, ◌∙◌, sym, ap, ℕ, ◌+◌, ◌≤◌, Bool, true, false, not, List, [], ◌∷◌, ◌++◌, map, length, Some, refl, arith}
 use Rattle.std.specs.List.{list_all}
 use Rattle.std.proofs.lemmas.Bool.{le-leb, ne_eqb, false≢true}
 use Rattle.std.proofs.lemmas.List.{append-nil}
@@ -13,7 +13,7 @@ use Rattle.hq_sql_tree.specs.Word.{word_text, arity_close}
 use Rattle.hq_sql_tree.specs.Tree.{ExprTree}
 use Rattle.hq_sql_tree.specs.Form.{is_expr, expr_depth, greatest, expr_fits, arity_parens, list_parens}
 use Rattle.hq_sql_tree.specs.Spelling.{expr_text}
-use Rattle.hq_sql_expr.specs.Reading.{◌>>=◌, expr_at, argument_with}
+use Rattle.hq_sql_expr.specs.Reading.{expr_at, argument_with}
 use Rattle.hq_sql_expr.proofs.Sound.{Sound, Spelled, sound_last, sound_end, after_again}
 use Rattle.hq_sql_expr.proofs.Fits.{FitsExpr}
 use Rattle.hq_sql_expr.proofs.Exprs.{closed_text}
@@ -65,7 +65,7 @@ arity_told One d (e ∷ []) h =
     let le : expr_depth e ≤ d = k.1 in
     (refl, refl, both_and (is_expr e) true k.0 refl, omega arith, both_and (expr_fits e) true k.2 refl)
 arity_told One d (e ∷ f ∷ es) h = absurd h
-arity_told Many d [] h = absurd (false≢true (sym (closed_told d [] h).0))
+arity_told Many d [] h = absurd (false≢true (closed_told d [] h).0)
 arity_told Many d (e ∷ es) h = let k = closed_told d (e ∷ es) h in (refl, refl, k.1, k.2, k.3)
 
 pub operands_told : (t : Test) (d : ℕ) (es : List ExprTree) → FitsOperands (arity t) d es → (takes t (length es) ≡ true) × (is_of_nothing t es ≡ false) × (list_all is_expr es ≡ true) × (list_parens t + greatest (map expr_depth es) ≤ d) × (list_all expr_fits es ≡ true)

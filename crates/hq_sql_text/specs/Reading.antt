@@ -1,5 +1,5 @@
 -- Reading a select from left to right.
-use Rattle.std.specs.Prelude.{ℕ, zero, suc, Bool, true, false, ◌||◌, List, [], ◌∷◌, length, Option, Some, None, is_some, ◌==◌, if◌then◌else◌}
+use Rattle.std.specs.Prelude.{ℕ, zero, suc, Bool, false, ◌||◌, List, [], ◌∷◌, length, Option, Some, None, is_some, ◌==◌, if◌then◌else◌}
 use Rattle.hq_terms.specs.Tests.{arity}
 use Rattle.hq_terms.specs.declared.test.Test.{Test}
 use Rattle.hq_terms.specs.declared.test.Arity.{Arity}

@@ -4,8 +4,7 @@ ghost use Rattle.hq_base.specs.Cells.{json_of};
 ghost use Rattle.hq_base.specs.Compact.{compact};
 ghost use Rattle.hq_sql_cells.specs.View.{cell_view};
 
-use hq_answer::put_quoted;
-use hq_base::{Bytes, Memory};
+use hq_base::{Bytes, Memory, put_quoted};
 use hq_sql_cells::Cell;
 use itoa::Buffer;
 use std::alloc::Global;

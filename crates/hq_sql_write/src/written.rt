@@ -14,8 +14,7 @@ use crate::parts::{put_cell, put_separator};
 use crate::places::{
     Found, Placed, Wanted, found_rows, has_begun, placed_rows, places_of, stretch,
 };
-use hq_answer::put_quoted;
-use hq_base::{Bytes, Memory, Txt};
+use hq_base::{Bytes, Memory, Txt, put_quoted};
 use hq_sql_rows::pinned::Pinned;
 use hq_sql_rows::place::Place;
 use hq_sql_rows::positions::{Positions, number_of};

@@ -3,7 +3,7 @@ ghost use Rattle.std.specs.Prelude.{◌≡◌, ◌++◌, ◌∷◌, ◌==◌, �
 ghost use Rattle.std.specs.Char.{digit_char};
 ghost use Rattle.hq_base.specs.Compact.{quoted, escaped, short_escape};
 
-use hq_base::{Bytes, Memory, Txt};
+use crate::{Bytes, Memory, Txt};
 
 /// Appends a comma before each part but the first, which stands at place 0.
 pub fn put_comma(out: &mut Bytes, at: usize) -> Result<(), Memory>
@@ -23,7 +23,7 @@ pub fn put_quoted(out: &mut Bytes, text: &Txt) -> Result<(), Memory>
     out.push(b'"')
 }
 
-#[tactic(auto, unfolding(hq_base::specs::Compact::escaped))]
+#[tactic(auto, unfolding(crate::specs::Compact::escaped))]
 fn put_escaped(out: &mut Bytes, byte: u8) -> Result<(), Memory>
     ensures { OnOk result (out.new ≡ out.old ++ escaped byte) }
 {
