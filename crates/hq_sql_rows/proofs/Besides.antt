@@ -1,14 +1,26 @@
 -- What is in scope beside joins: the last one of them is the innermost.
-use Rattle.std.proofs.Common.{◌≡◌, ◌∙◌, ◌+◌, ◌<◌, ◌≤◌, ℕ, zero, suc, List, [], ◌∷◌, ◌++◌, map, length, Bool, true, false, cond, Option, Some, None, unwrap_or, option_map, bytes_eq, get_or, set, take, refl, sym, ap, ap₂, arith}
+use Rattle.std.proofs.Common.{rules, ◌≡◌, ◌∙◌, ◌+◌, ◌<◌, ◌≤◌, ℕ, zero, suc, List, [], ◌∷◌, ◌++◌, map, length, true, false, cond, Option, Some, None, unwrap_or, option_map, bytes_eq, get_or, set, take, refl, sym, ap, ap₂, arith}
 use Rattle.std.proofs.lemmas.List.{map-append, length-map, take-map, get_or-map}
-use Rattle.hq_sql_closed.specs.Weight.{total, join_weight}
+use Rattle.hq_sql_closed.specs.Weight.{total, join_weight, select_weight}
 use Rattle.hq_sql_tree.specs.Tree.{JoinTree, joins_of}
-use Rattle.hq_sql_tree.specs.View.{join_view}
-use Rattle.hq_sql_tree.specs.declared.select.Join.{Join}
+use Rattle.hq_sql_tree.specs.View.{join_view, select_view}
+use Rattle.hq_sql_tree.specs.declared.select.Join.{Join, the_lemmas as join_lemmas}
 use Rattle.hq_sql_tree.specs.Meaning.{NamedRow, Scope as Names, World, rows_of, with_alias}
 use Rattle.hq_sql_rows.specs.Joined.{joined_at, put_joined}
 use Rattle.hq_sql_rows.specs.View.{beside, first_row, made_view}
 use Rattle.hq_sql_rows.specs.declared.row.Made.{Made}
+
+-- the row of a join, where it has one
+pub joined_there : (rows : List (Option Made)) (at : ℕ) (row : Option Made) → at < length rows → row ≡ get_or rows at row → option_map made_view row ≡ joined_at (map (option_map made_view) rows) at
+joined_there [] at row lt is = absurd (omega arith)
+joined_there (r ∷ rows) zero row lt is = ap (option_map made_view) is
+joined_there (r ∷ rows) (suc at) row lt is = joined_there rows at row (omega arith) is
+
+-- none behind the last one
+pub joined_past : (rows : List (Option Made)) (at : ℕ) → length rows ≤ at → None ≡ joined_at (map (option_map made_view) rows) at
+joined_past [] at past = refl
+joined_past (r ∷ rows) zero past = absurd (omega arith)
+joined_past (r ∷ rows) (suc at) past = joined_past rows at (omega arith)
 
 -- one more join behind the others
 beside_last : (js : List JoinTree) (j : JoinTree) (w : World) (n : Names) (rs : List (Option NamedRow))
@@ -83,6 +95,17 @@ beside_filled joins at join w n rs row lt item off is =
 total_append : (ms ns : List ℕ) → total (ms ++ ns) ≡ total ms + total ns
 total_append [] ns = omega arith
 total_append (m ∷ ms) ns = let later = total_append ms ns in omega (arith, later)
+
+-- a join weighs more than its select
+pub join_weighs : (join : Join) → join_weight join ≡ 8 + select_weight join.select.value
+join_weighs join = search (rules, join_lemmas)
+
+-- its alias and its select
+pub join_alias : (join : Join) → (join_view join).alias ≡ join.alias
+join_alias join = search (rules, join_lemmas)
+
+pub join_select : (join : Join) → (join_view join).select ≡ select_view join.select.value
+join_select join = search (rules, join_lemmas)
 
 -- joins weigh as much as the last one and those before it
 pub weight_last : (all before : List Join) (join : Join) → all ≡ before ++ join ∷ [] → total (map join_weight all) ≡ total (map join_weight before) + join_weight join

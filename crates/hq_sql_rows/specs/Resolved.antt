@@ -1,5 +1,5 @@
 -- What an alias in scope stands for.
-use Rattle.std.specs.Prelude.{ℕ, ◌+◌, List, []}
+use Rattle.std.specs.Prelude.{ℕ, ◌+◌, []}
 use Rattle.hq_sql_closed.specs.Weight.{select_weight}
 use Rattle.hq_sql_tree.specs.Meaning.{NamedRow, World, rows_of}
 use Rattle.hq_sql_tree.specs.View.{select_view}

@@ -106,7 +106,8 @@ pub fn joined_at<'s, 'd>(joined: &'s [Option<Made<'d>>], at: usize) -> Option<&'
 {
     match joined.get(at) {
         Some(Some(row)) => Some(row),
-        _ => None,
+        Some(None) => None,
+        None => None,
     }
 }
 
