@@ -172,7 +172,7 @@ fn first_beside<'d>(
 
 /// Copies of these rows of joins, beside those of the joins that are evaluated behind LIMIT. What is in scope stays the same.
 #[cycle(eval)]
-pub fn evaluated<'d>(
+pub fn with_due<'d>(
     alloc: Global,
     joins: &'d [Join],
     stages: &[Stage],
@@ -206,7 +206,7 @@ pub fn outputs_at<'d>(
     ensures { IfOk result (λ made. made_view made ≡ outputs_of (map out_view outs.now.items) (names_joined joins.now joined.now world.now (names_of scope.now world.now))) }
 {
     if has_due(stages) {
-        let all = evaluated(alloc, joins, stages, joined, world, scope)?;
+        let all = with_due(alloc, joins, stages, joined, world, scope)?;
         return outputs_beside(alloc, outs, joins, &all, world, scope);
     }
     outputs_beside(alloc, outs, joins, joined, world, scope)

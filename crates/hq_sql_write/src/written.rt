@@ -23,7 +23,7 @@ use hq_sql_rows::row::{Made, cell_at};
 use hq_sql_rows::scope::{Group, Scope, row_at};
 use hq_sql_rows::stages::{Parts, has_due, stages};
 use hq_sql_tree::{Expr, ExprPairList, Join, Pred, Select};
-use hq_sql_walk::{evaluated, made_of, value};
+use hq_sql_walk::{made_of, value, with_due};
 use std::alloc::Global;
 
 /// The JSON of an expression in its scope.
@@ -321,7 +321,7 @@ fn write_at<'d>(
     ensures { OnOk result (out.new ≡ out.old ++ text_of (expr_view expr.now) (names_joined placed.now.joins.now joined.now world.now (names_of scope.now world.now))) }
 {
     if has_due(placed.stages) {
-        let all = evaluated(alloc, placed.joins, placed.stages, joined, world, scope)?;
+        let all = with_due(alloc, placed.joins, placed.stages, joined, world, scope)?;
         return write_beside(alloc, expr, placed.joins, &all, world, scope, out);
     }
     write_beside(alloc, expr, placed.joins, joined, world, scope, out)

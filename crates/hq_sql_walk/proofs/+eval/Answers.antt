@@ -24,7 +24,7 @@ use Rattle.hq_sql_tree.specs.Tree.{pairs_of, orders_of, joins_of, preds_of, rows
 use Rattle.hq_sql_tree.specs.View.{agg_view, expr_view, pair_view, order_view, out_view, pred_view, select_view, from_view, join_view, filter_view}
 use Rattle.hq_sql_tree.specs.Meaning.{with_alias, truth_at, all_true, value, members, taken, orders_cmp, order_cmp, distinct_on, limited, offset_by, outputs, has_rows, kept, rows_of, joined, any_true}
 use Rattle.hq_sql_rows.specs.View.{made_view, named_view, first_row, source_view, row_in, row_view, joined_view, world_of, names_of, names_at, group_of, beside}
-use Rattle.hq_sql_rows.specs.Joined.{join_in}
+use Rattle.hq_sql_rows.specs.Joined.{join_in, joined_at}
 use Rattle.hq_sql_rows.proofs.Besides.{beside_filled, weight_before}
 use Rattle.hq_sql_walk.specs.Gathered.{names_joined}
 use Rattle.hq_sql_rows.specs.Keys.{with_json, json_at, outputs_of, output_at, key_values, member_at, with_cells, taken_at}
@@ -45,6 +45,7 @@ use Rattle.hq_sql_walk.proofs.Loops.{map_more, scope_more, value_more, holds_nex
 use Rattle.hq_sql_walk.proofs.Told.{none_in, tells_at}
 use Rattle.hq_terms.specs.declared.truth.Truth.TheVariants.{Yes}
 use Rattle.hq_sql_walk.proofs.+eval.Goals.{truths::all_true-in-Opened+in_ok-all-in-Opened, truths::all_true-in-Tried+in_ok-truth-in-Tried, truths::all_true-in-Other}
+use Rattle.hq_sql_walk.proofs.+eval.Goals.{joins::with_due-then-is_due+in_ok-row+in_ok-all-2, joins::with_due-else-is_due}
 use Rattle.hq_sql_walk.proofs.+eval.Goals as goal
 
 -- ---- an item weighs at most its list
@@ -229,14 +230,30 @@ joins::first_beside-returns t c =
     let scope = names_joined c.args.before.now c.args.joined.now c.args.world.now (names_of c.args.scope.now c.args.world.now) in
     IfOk-weaker c.first.result _ _ (λ row h. h ∙ ap (λ s. first_row (rows_of s (world_of c.args.world.now) scope)) lent) c.first.ensures
 
-pub joins::evaluated-first_beside-requires : goal.joins::evaluated-first_beside-requires
-joins::evaluated-first_beside-requires t c =
+pub joins::with_due-first_beside-requires : goal.joins::with_due-first_beside-requires
+joins::with_due-first_beside-requires t c =
     let js = c.args.joins.now in
-    let front : total (map join_weight (take c.loop-at.at js)) + join_weight c.join-item.result ≤ total (map join_weight js) = weight_before js c.loop-at.at c.join-item.result c.loop-at-test.true c.join-item.is in
+    let join = c.index-joins-at.result in
+    let front : total (map join_weight (take c.loop-at.at js)) + join_weight join ≤ total (map join_weight js) = weight_before js c.loop-at.at join c.loop-at-test.true c.index-joins-at.is in
     omega (arith, front)
 
-pub joins::evaluated-loop-at-preserved : goal.joins::evaluated-loop-at-preserved
-joins::evaluated-loop-at-preserved t c = ?
+pub joins::with_due-loop-at-preserved : goal.joins::with_due-loop-at-preserved
+joins::with_due-loop-at-preserved t c =
+    let js = c.args.joins.now in
+    let w = world_of c.args.world.now in
+    let n = names_of c.args.scope.now c.args.world.now in
+    let at = c.loop-at.at in
+    let join = c.index-joins-at.result in
+    let rows = joined_view c.loop-at.all in
+    let N = beside (joins_of (map join_view js)) w n in
+    elim c.if-is_due.branch [
+      | joins::with_due-then-is_due+in_ok-row+in_ok-all-2 v ↦
+          let off : joined_at rows at ≡ None = ap (λ l. joined_at (map (option_map made_view) l) at) (sym c.deref.ensures.value) ∙ c.is_due.ensures v.if-is_due.true in
+          let row : made_view v.in_ok-row.row ≡ first_row (rows_of (join_view join).select w (beside (joins_of (map join_view (take at js))) w n rows)) =
+          v.in_ok-row.ensures ∙ ap (λ l. first_row (rows_of (join_view join).select w (beside (joins_of (map join_view (take at js))) w n (map (option_map made_view) l)))) v.deref-then-is_due.ensures.value in
+          ap (λ a. N (joined_view a)) v.all-is ∙ ap N v.in_ok-all-2.ensures ∙ beside_filled js at join w n rows (made_view v.in_ok-row.row) c.loop-at-test.true c.index-joins-at.is off row ∙ c.loop-at.invariant
+      | joins::with_due-else-is_due v ↦ ap (λ a. N (joined_view a)) v.all-is ∙ c.loop-at.invariant
+    ]
 
 -- ---- rows of FROM
 

@@ -89,8 +89,8 @@ invariant-clauses::all_outputs-loop-place l =
     map made_view l.made.items
     ≡ map (outputs_of (map out_view l.outs.items)) (map (names_at l.source l.alias (joins_of (map join_view l.joins)) (world_of l.world) (names_of l.scope l.world)) (take l.place-index l.places))
 
-abbrev pub invariant-joins::evaluated-loop-at : goal.invariant-joins::evaluated-loop-at
-invariant-joins::evaluated-loop-at l =
+abbrev pub invariant-joins::with_due-loop-at : goal.invariant-joins::with_due-loop-at
+invariant-joins::with_due-loop-at l =
     names_joined l.joins l.all.items l.world (names_of l.scope l.world) ≡ names_joined l.joins l.joined l.world (names_of l.scope l.world)
 
 -- ---- measures: what is left to evaluate
@@ -161,8 +161,8 @@ decreases-joins::gather_beside l = 5 + (total (map join_weight l.rest.now) + (fi
 abbrev pub decreases-joins::first_beside : goal.decreases-joins::first_beside
 decreases-joins::first_beside l = join_weight l.join.now + (total (map join_weight l.before.now) + scope_weight l.scope.now)
 
-abbrev pub decreases-joins::evaluated : goal.decreases-joins::evaluated
-decreases-joins::evaluated l = 1 + (total (map join_weight l.joins.now) + scope_weight l.scope.now)
+abbrev pub decreases-joins::with_due : goal.decreases-joins::with_due
+decreases-joins::with_due l = 1 + (total (map join_weight l.joins.now) + scope_weight l.scope.now)
 
 abbrev pub decreases-joins::outputs_at : goal.decreases-joins::outputs_at
 decreases-joins::outputs_at l = 4 + (total (map out_weight l.outs.now.items) + (total (map join_weight l.joins.now) + scope_weight l.scope.now))
