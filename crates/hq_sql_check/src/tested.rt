@@ -30,7 +30,7 @@ fn is_tested(alloc: Global, scope: &Scope<'_, '_>, test: Test, value: &Expr) -> 
     match test {
         Test::IsNull => is_value(alloc, scope, value),
         Test::Like { .. } => Ok(is_compared(alloc, scope, value)? && is_text(kind(scope, value))),
-        Test::Compare(_) | Test::Among => is_compared(alloc, scope, value),
+        _ => is_compared(alloc, scope, value),
     }
 }
 
@@ -46,7 +46,7 @@ fn is_operand(
 {
     match test {
         Test::Like { .. } => is_pattern(alloc, operand),
-        Test::Compare(_) | Test::Among | Test::IsNull => is_item(alloc, scope, value, operand),
+        _ => is_item(alloc, scope, value, operand),
     }
 }
 

@@ -27,7 +27,7 @@ fn taken_kind(aggregate: Aggregate, kind: Option<Kind>) -> Option<Kind>
 {
     match aggregate {
         Aggregate::Sum => Some(Kind::Whole { of_column: false }),
-        Aggregate::Max | Aggregate::Min => not_of_column(kind),
+        _ => not_of_column(kind),
     }
 }
 
@@ -95,7 +95,7 @@ pub(crate) fn takes_kind(aggregate: Aggregate, kind: Option<Kind>) -> bool
 {
     match aggregate {
         Aggregate::Sum => is_summed(kind),
-        Aggregate::Max | Aggregate::Min => has_extremes(kind),
+        _ => has_extremes(kind),
     }
 }
 

@@ -1,9 +1,10 @@
--- Texts of aggregates: what they begin with.
+-- Texts of aggregates: what they begin with. Each fact is computed for each aggregate; one has a clause of its own, so that the last
+-- clause goes over all others.
 use Rattle.std.proofs.Common.{◌≡◌, ℕ, ◌≤◌, Bool, true, false, ◌&&◌, not, List, ◌∷◌, ◌++◌, Some, None, refl, arith, lit≤}
 use Rattle.std.specs.Prelude.{◌==◌, nat_lt}
 use Rattle.std.proofs.lemmas.Bool.{ne_eqb, ltb-true}
 use Rattle.hq_base.specs.declared.aggregate.Aggregate.{Aggregate}
-use Rattle.hq_base.specs.declared.aggregate.Aggregate.TheVariants.{Max, Min, Sum}
+use Rattle.hq_base.specs.declared.aggregate.Aggregate.TheVariants.{Max}
 use Rattle.hq_sql_tree.specs.Word.{word_text, aggregate_word}
 use Rattle.hq_sql_tree.specs.Tree as tree
 use Rattle.hq_sql_tree.specs.Tree.{ExprTree, AggTree}
@@ -17,14 +18,13 @@ use Rattle.hq_sql_expr.proofs.Form.{and_both}
 pub head_taken : (a : Aggregate) (rest : List ℕ) → head_at (word_text (aggregate_word a) ++ rest) ≡ Some (head.Take a, rest)
 unfolding head_at after word_text
 head_taken Max rest = refl
-head_taken Min rest = refl
-head_taken Sum rest = refl
+head_taken _ rest = refl
 
-pub with_taken : (inside : Head → Reader ExprTree) (a : Aggregate) (rest : List ℕ) → expr_with inside (word_text (aggregate_word a) ++ rest) ≡ (head_at (word_text (aggregate_word a) ++ rest) >>= λ x. inside x.0 x.1)
+pub with_taken : (inside : Head → Reader ExprTree) (a : Aggregate) (rest : List ℕ)
+    → expr_with inside (word_text (aggregate_word a) ++ rest) ≡ (head_at (word_text (aggregate_word a) ++ rest) >>= λ x. inside x.0 x.1)
 unfolding expr_with after word_text
 with_taken inside Max rest = refl
-with_taken inside Min rest = refl
-with_taken inside Sum rest = refl
+with_taken inside _ rest = refl
 
 -- a byte that no text of an aggregate begins with: neither a small letter nor the C of COALESCE
 abbrev is_apart : ℕ → Bool
@@ -48,7 +48,6 @@ unfolding word_text
 agg_apart tree.count_all c w rest apart = small_letter 99 c _ w (lit≤ tt) apart
 agg_apart (tree.count e true) c w rest apart = small_letter 99 c _ w (lit≤ tt) apart
 agg_apart (tree.count e false) c w rest apart = small_letter 99 c _ w (lit≤ tt) apart
-agg_apart (tree.take Max e) c w rest apart = small_letter 109 c _ w (lit≤ tt) apart
-agg_apart (tree.take Min e) c w rest apart = small_letter 109 c _ w (lit≤ tt) apart
-agg_apart (tree.take Sum e) c w rest apart = small_letter 115 c _ w (lit≤ tt) apart
+agg_apart (tree.take Max e) c w rest apart = small_letter _ c _ w (lit≤ tt) apart
+agg_apart (tree.take _ e) c w rest apart = small_letter _ c _ w (lit≤ tt) apart
 agg_apart (tree.json_agg e os) c w rest apart = other_byte 67 c _ w (not_true (67 == c) (and_both (nat_lt c 97) (not (67 == c)) apart).1)

@@ -87,7 +87,8 @@ aggregate_head bytes = first_word aggregate_word all_aggregates bytes >>= λ a. 
 
 aggregate_head_takes : Sound aggregate_head OneHead
 aggregate_head_takes =
-    sound_last (first_word aggregate_word all_aggregates) (λ a. head.Take a) (λ a. word_text (aggregate_word a)) (λ a. Unit {0}) OneHead (λ a u. (refl, tt)) (first_word_takes aggregate_word all_aggregates)
+    sound_last (first_word aggregate_word all_aggregates) (λ a. head.Take a) (λ a. word_text (aggregate_word a)) (λ a. Unit {0}) OneHead (λ a u. (refl, tt))
+    (first_word_takes aggregate_word all_aggregates)
 
 pub head_takes : Sound head_at OneHead
 unfolding head_at
@@ -177,7 +178,8 @@ module _ (d : ℕ) (expr : Reader ExprTree) (expr_takes : Sound expr (OneExpr d)
   inside_takes ordered sound_ordered head.CountDistinct = sound_last (argument_with expr) (λ e. tree.aggregate (tree.count e true)) closed_text Fits (Behind (suc d) head.CountDistinct) (λ e fits. (refl, fits)) argument_takes
   inside_takes ordered sound_ordered head.Count = sound_last (argument_with expr) (λ e. tree.aggregate (tree.count e false)) closed_text Fits (Behind (suc d) head.Count) (λ e fits. (refl, fits)) argument_takes
   inside_takes ordered sound_ordered head.JsonAgg = sound_ordered
-  inside_takes ordered sound_ordered (head.Take a) = sound_last (argument_with expr) (λ e. tree.aggregate (tree.take a e)) closed_text Fits (Behind (suc d) (head.Take a)) (λ e fits. (refl, fits)) argument_takes
+  inside_takes ordered sound_ordered (head.Take a) =
+      sound_last (argument_with expr) (λ e. tree.aggregate (tree.take a e)) closed_text Fits (Behind (suc d) (head.Take a)) (λ e fits. (refl, fits)) argument_takes
 
 -- ---- expressions
 

@@ -46,7 +46,11 @@ NoMember bytes = Absent word.Not bytes × (member_next bytes ≡ false)
 agg_no_member : (a : AggTree) (rest : List ℕ) → NoMember (expr_text (tree.aggregate a) ++ rest)
 unfolding word_text after
 agg_no_member a rest =
-    (agg_apart a 78 (codes "OT ") rest refl, rw (agg_apart a 40 [] rest refl, agg_apart a 69 (codes "XISTS (") rest refl, agg_apart a 84 (codes "RUE") rest refl, agg_apart a 70 (codes "ALSE") rest refl) refl)
+    let no_open = agg_apart a 40 [] rest refl in
+    let no_exists = agg_apart a 69 (codes "XISTS (") rest refl in
+    let no_true = agg_apart a 84 (codes "RUE") rest refl in
+    let no_false = agg_apart a 70 (codes "ALSE") rest refl in
+    (agg_apart a 78 (codes "OT ") rest refl, rw (no_open, no_exists, no_true, no_false) refl)
 
 expr_no_member : (e : ExprTree) (rest : List ℕ) → joint_next rest ≡ false → NoMember (expr_text e ++ rest)
 unfolding word_text after quoted
@@ -84,7 +88,8 @@ or_member (tree.exists s) rest = (refl, refl)
 
 -- ---- what is asked of a value
 
-test_with_again : (d : ℕ) (value : ExprTree) (t : Test) (es : List ExprTree) (rest : List ℕ) → FitsOperands (arity t) d es → test_with d value (word_text (test_word t) ++ (closed_list_text (test_close t) es ++ rest)) ≡ Some (tree.test value t es, rest)
+test_with_again : (d : ℕ) (value : ExprTree) (t : Test) (es : List ExprTree) (rest : List ℕ) → FitsOperands (arity t) d es
+    → test_with d value (word_text (test_word t) ++ (closed_list_text (test_close t) es ++ rest)) ≡ Some (tree.test value t es, rest)
 unfolding test_with
 test_with_again d value t es rest fits = rw (test_again t (closed_list_text (test_close t) es ++ rest), operands_again (arity t) d es rest fits) refl
 
@@ -215,7 +220,8 @@ module _ (d : ℕ) (condition : Reader PredTree) (query : Reader SelectTree) (co
   pred_deeper tree.never rest fits = never_again (inside_with d condition) query rest
   pred_deeper (tree.test e t es) rest fits =
       let asked_for = closed_list_text (test_close t) es ++ rest in
-      asked_again (tree.test e t es) e (word_text (test_word t) ++ asked_for) (pred_text (tree.test e t es) ++ rest) rest (simp append_assoc) fits.0 (test_asks t asked_for) (test_with_again d e t es rest fits.1)
+      let later = word_text (test_word t) ++ asked_for in
+      asked_again (tree.test e t es) e later (pred_text (tree.test e t es) ++ rest) rest (simp append_assoc) fits.0 (test_asks t asked_for) (test_with_again d e t es rest fits.1)
   pred_deeper (tree.negation p) rest fits =
       let inner = word_text word.Not ++ (pred_text p ++ (word_text word.Close ++ rest)) in
       in_parentheses (tree.negation p) inner (pred_text (tree.negation p) ++ rest) rest (simp append_assoc) (negated_again d condition condition_again p rest fits)

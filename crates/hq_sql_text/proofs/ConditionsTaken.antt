@@ -61,7 +61,8 @@ module _ (d : ℕ) (value : ExprTree) (fits : FitsExpr value d) where
   unfolding test_with
   test_takes =
       sound_next test_at (λ t bytes. operands_at (arity t) d bytes >>= λ es. Some (tree.test value t es.0, es.1)) (λ t. word_text (test_word t)) (λ t. Unit {0}) Asked test_at_takes
-      (λ t u. sound_last (operands_at (arity t) d) (λ es. tree.test value t es) (closed_list_text (test_close t)) (FitsOperands (arity t) d) (λ b p. Asked (word_text (test_word t) ++ b) p) (λ es good. (refl, (fits, good))) (operands_take (arity t) d))
+      (λ t u. sound_last (operands_at (arity t) d) (λ es. tree.test value t es) (closed_list_text (test_close t)) (FitsOperands (arity t) d) (λ b p. Asked (word_text (test_word t) ++ b) p)
+      (λ es good. (refl, (fits, good))) (operands_take (arity t) d))
 
 tested_takes : (d : ℕ) → Sound (tested_at d) (Inside d)
 unfolding tested_at

@@ -5,7 +5,7 @@ use Rattle.std.proofs.lemmas.Bool.{le-leb, ne_eqb, false≢true}
 use Rattle.std.proofs.lemmas.List.{append-nil}
 use Rattle.hq_terms.specs.Tests.{arity, has_arity, takes, is_of_nothing}
 use Rattle.hq_terms.specs.declared.test.Test.{Test}
-use Rattle.hq_terms.specs.declared.test.Test.TheVariants.{Compare, Among, IsNull, Like}
+use Rattle.hq_terms.specs.declared.test.Test.TheVariants.{Among}
 use Rattle.hq_terms.specs.declared.test.Arity.{Arity}
 use Rattle.hq_terms.specs.declared.test.Arity.TheVariants.{Nothing, One, Many}
 use Rattle.hq_sql_tree.specs.declared.word.Word.TheVariants as word
@@ -38,13 +38,12 @@ is_none_of Many [] = true
 is_none_of _ _ = false
 
 nothing_is : (t : Test) (es : List ExprTree) → is_of_nothing t es ≡ is_none_of (arity t) es
-nothing_is (Compare op) es = refl
 nothing_is Among [] = refl
 nothing_is Among (e ∷ es) = refl
-nothing_is IsNull es = refl
-nothing_is (Like fold) es = refl
+nothing_is _ es = refl
 
-fits_arity : (a : Arity) (d : ℕ) (es : List ExprTree) → has_arity a (length es) ≡ true → is_none_of a es ≡ false → list_all is_expr es ≡ true → arity_parens a + greatest (map expr_depth es) ≤ d → list_all expr_fits es ≡ true → FitsOperands a d es
+fits_arity : (a : Arity) (d : ℕ) (es : List ExprTree)
+    → has_arity a (length es) ≡ true → is_none_of a es ≡ false → list_all is_expr es ≡ true → arity_parens a + greatest (map expr_depth es) ≤ d → list_all expr_fits es ≡ true → FitsOperands a d es
 fits_arity Nothing d [] as_many some form depth fits = tt
 fits_arity Nothing d (e ∷ es) as_many some form depth fits = absurd (false≢true (sym (ne_eqb (length (e ∷ es)) 0 (λ k. absurd (omega arith))) ∙ as_many))
 fits_arity One d [] as_many some form depth fits = absurd cc
@@ -53,10 +52,12 @@ fits_arity One d (e ∷ f ∷ es) as_many some form depth fits = absurd (false�
 fits_arity Many d [] as_many some form depth fits = absurd cc
 fits_arity Many d (e ∷ es) as_many some form depth fits = fits_closed d (e ∷ es) (le-leb 1 (length (e ∷ es)) (omega arith)) form depth fits
 
-pub fits_operands : (t : Test) (d : ℕ) (es : List ExprTree) → takes t (length es) ≡ true → is_of_nothing t es ≡ false → list_all is_expr es ≡ true → list_parens t + greatest (map expr_depth es) ≤ d → list_all expr_fits es ≡ true → FitsOperands (arity t) d es
+pub fits_operands : (t : Test) (d : ℕ) (es : List ExprTree)
+    → takes t (length es) ≡ true → is_of_nothing t es ≡ false → list_all is_expr es ≡ true → list_parens t + greatest (map expr_depth es) ≤ d → list_all expr_fits es ≡ true → FitsOperands (arity t) d es
 fits_operands t d es as_many some form depth fits = fits_arity (arity t) d es as_many (sym (nothing_is t es) ∙ some) form depth fits
 
-arity_told : (a : Arity) (d : ℕ) (es : List ExprTree) → FitsOperands a d es → (has_arity a (length es) ≡ true) × (is_none_of a es ≡ false) × (list_all is_expr es ≡ true) × (arity_parens a + greatest (map expr_depth es) ≤ d) × (list_all expr_fits es ≡ true)
+arity_told : (a : Arity) (d : ℕ) (es : List ExprTree) → FitsOperands a d es
+    → (has_arity a (length es) ≡ true) × (is_none_of a es ≡ false) × (list_all is_expr es ≡ true) × (arity_parens a + greatest (map expr_depth es) ≤ d) × (list_all expr_fits es ≡ true)
 arity_told Nothing d [] h = (refl, refl, refl, omega arith, refl)
 arity_told Nothing d (e ∷ es) h = absurd h
 arity_told One d [] h = absurd h
@@ -68,7 +69,8 @@ arity_told One d (e ∷ f ∷ es) h = absurd h
 arity_told Many d [] h = absurd (false≢true (closed_told d [] h).0)
 arity_told Many d (e ∷ es) h = let k = closed_told d (e ∷ es) h in (refl, refl, k.1, k.2, k.3)
 
-pub operands_told : (t : Test) (d : ℕ) (es : List ExprTree) → FitsOperands (arity t) d es → (takes t (length es) ≡ true) × (is_of_nothing t es ≡ false) × (list_all is_expr es ≡ true) × (list_parens t + greatest (map expr_depth es) ≤ d) × (list_all expr_fits es ≡ true)
+pub operands_told : (t : Test) (d : ℕ) (es : List ExprTree) → FitsOperands (arity t) d es
+    → (takes t (length es) ≡ true) × (is_of_nothing t es ≡ false) × (list_all is_expr es ≡ true) × (list_parens t + greatest (map expr_depth es) ≤ d) × (list_all expr_fits es ≡ true)
 operands_told t d es h = let k = arity_told (arity t) d es h in (k.0, nothing_is t es ∙ k.1, k.2, k.3, k.4)
 
 -- ---- the text
@@ -80,7 +82,8 @@ one_text e = ap (λ t. t ++ word_text word.Close) (sym (append-nil (expr_text e)
 -- what is read is spelled so
 pub operands_take : (a : Arity) (d : ℕ) → Sound (operands_at a d) (Spelled (closed_list_text (arity_close a)) (FitsOperands a d))
 operands_take Nothing d = sound_end word.Close [] (Spelled (closed_list_text word.Close) (FitsOperands Nothing d)) (refl, tt)
-operands_take One d = sound_last (argument_with (expr_at d)) (λ e. e ∷ []) closed_text (λ e. FitsExpr e d) (Spelled (closed_list_text word.Close) (FitsOperands One d)) (λ e fits. (one_text e, fits)) (closed_expr_takes d)
+operands_take One d =
+    sound_last (argument_with (expr_at d)) (λ e. e ∷ []) closed_text (λ e. FitsExpr e d) (Spelled (closed_list_text word.Close) (FitsOperands One d)) (λ e fits. (one_text e, fits)) (closed_expr_takes d)
 operands_take Many d = closed_exprs_take word.CloseIn d
 
 -- what is spelled so is read again

@@ -10,7 +10,8 @@ returns-then-not-branch c =
     let items = c.deref-operand-items.result.now in
     let i = c.loop-operand.operand-index in
     let within : i < length items = omega arith in
-    all_fail (is_operand (scope_view c.args.scope.now) c.args.test (expr_view c.args.value.now)) expr_view items c.args.operands.now.items i c.operand-item.result c.deref-operand-items.ensures.value within c.operand-item.is c.loop-operand.invariant
+    let taken = is_operand (scope_view c.args.scope.now) c.args.test (expr_view c.args.value.now) in
+    all_fail taken expr_view items c.args.operands.now.items i c.operand-item.result c.deref-operand-items.ensures.value within c.operand-item.is c.loop-operand.invariant
     (sym c.in_ok-is_operand.ensures ∙ c.if-not-branch.true)
 
 pub loop-operand-preserved : goal.loop-operand-preserved
@@ -18,4 +19,5 @@ loop-operand-preserved c =
     let items = c.deref-operand-items.result.now in
     let i = c.loop-operand.operand-index in
     let within : i < length items = omega arith in
-    all_pass (is_operand (scope_view c.args.scope.now) c.args.test (expr_view c.args.value.now)) expr_view items i c.operand-item.result within c.operand-item.is c.loop-operand.invariant (sym c.in_ok-is_operand.ensures ∙ c.if-not-branch.false)
+    let taken = is_operand (scope_view c.args.scope.now) c.args.test (expr_view c.args.value.now) in
+    all_pass taken expr_view items i c.operand-item.result within c.operand-item.is c.loop-operand.invariant (sym c.in_ok-is_operand.ensures ∙ c.if-not-branch.false)

@@ -8,4 +8,5 @@ use Rattle.hq_sql_check.proofs.tested.are_operands.Given as goal
 -- those that are left tell what all do
 abbrev pub invariant-loop-operand : goal.invariant-loop-operand
 invariant-loop-operand l =
-    list_all (is_operand (scope_view l.scope) l.test (expr_view l.value)) (map expr_view (drop l.operand-index l.operand-items)) ≡ list_all (is_operand (scope_view l.scope) l.test (expr_view l.value)) (map expr_view l.operand-items)
+    let taken = is_operand (scope_view l.scope) l.test (expr_view l.value) in
+    list_all taken (map expr_view (drop l.operand-index l.operand-items)) ≡ list_all taken (map expr_view l.operand-items)
