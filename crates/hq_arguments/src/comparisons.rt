@@ -48,7 +48,11 @@ fn tested(
                 col,
                 test,
                 operands: List::new(alloc),
-                negated: if holds { operator.negated } else { !operator.negated },
+                negated: if holds {
+                    operator.negated
+                } else {
+                    !operator.negated
+                },
             })
         }
         Arity::One => {
@@ -156,9 +160,7 @@ pub fn comparisons(
     ensures { Gives bexp_view refusal.Memory (comparisons_due (context_view context.now) p col ty (json_view json.now)) result }
 {
     match json.as_object() {
-        Some(members) => Ok(Bexp::all_of(conditions(
-            alloc, context, p, col, ty, members,
-        )?)),
+        Some(members) => Ok(Bexp::all_of(conditions(alloc, context, p, col, ty, members)?)),
         None => Err(misfit(json)),
     }
 }

@@ -25,7 +25,7 @@ use Rattle.hq_terms.specs.declared.operator.Operator.{Operator}
 use Rattle.hq_terms.specs.declared.test.Arity.{Arity}
 use Rattle.hq_terms.specs.declared.test.Arity.TheVariants.{Nothing, One, Many}
 use Rattle.hq_terms.specs.declared.test.Test.{Test}
-use Rattle.hq_terms.specs.declared.test.Test.TheVariants.{Compare, Among, IsNull, Like}
+use Rattle.hq_terms.specs.declared.test.Test.TheVariants.{Like}
 use Rattle.hq_terms.proofs.Fitting.{constant_read}
 use Rattle.hq_terms.specs.declared.meta.Rel.{Rel}
 use Rattle.hq_terms.specs.declared.role.Role.{Role}
@@ -91,10 +91,8 @@ pattern_due-fits fold ty (str s) o e = by (is_ok (pattern_of s)) refl e
 
 -- an operand that is read fits its test and its column's type
 operand_read : (t : Test) (ty : Ty) (j : JsonTree) (o : Operand) → operand_due t ty j ≡ Ok o → OperandFits t ty o
-operand_read (Compare op) ty j o e = constant_due-fits (Compare op) ty (λ v h. h) j o e
-operand_read Among ty j o e = constant_due-fits Among ty (λ v h. h) j o e
-operand_read IsNull ty j o e = constant_due-fits IsNull ty (λ v h. h) j o e
 operand_read (Like fold) ty j o e = pattern_due-fits fold ty j o e
+operand_read t ty j o e = constant_due-fits t ty (λ v h. h) j o e
 
 operands_all : (t : Test) (ty : Ty) (os : List Operand) → Each (OperandFits t ty) os → (list_all (operand_fits t ty) os ≡ true) × (list_all is_constant os ≡ true)
 operands_all t ty [] h = (refl, refl)
