@@ -1,0 +1,18 @@
+//! Live queries: subscriptions, each of which is sent every reply that differs from the one that it was sent before.
+#![tactic(auto)]
+
+mod answer;
+mod asker;
+mod body;
+mod ending;
+mod event;
+mod keeping;
+mod live;
+mod refusal;
+mod telling;
+
+pub use asker::{Asked, Asker, Reloaded};
+pub use body::Body;
+pub use event::{Event, Sends, Sent, Subscription, What};
+pub use live::Live;
+pub use refusal::StepRefusal;
