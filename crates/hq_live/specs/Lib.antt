@@ -2,3 +2,4 @@ pub mod Asking
 pub mod Answers
 pub mod Steps
 pub mod LiveRun
+pub mod Runs

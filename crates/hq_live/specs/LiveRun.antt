@@ -76,21 +76,31 @@ concerns w (event.Gone who) = who == w
 abbrev pub moments_of : (who : ℕ) → List Moment → List Moment
 moments_of who moments = filter (λ m. concerns who m.event) moments
 
--- an event begins subscriptions of these sessions alone
-abbrev pub BeginsOnly : (Session → Type 0) → Event → Type 0
-BeginsOnly P (event.Subscribe who id session body) = P session
-BeginsOnly P event.Tick = ⊤
-BeginsOnly P event.Reload = ⊤
-BeginsOnly P (event.Complete who id) = ⊤
-BeginsOnly P (event.Gone who) = ⊤
+-- the sessions that an event begins a subscription with
+abbrev pub begins_with : Event → List Session
+begins_with (event.Subscribe who id session body) = session ∷ []
+begins_with event.Tick = []
+begins_with event.Reload = []
+begins_with (event.Complete who id) = []
+begins_with (event.Gone who) = []
 
--- two databases give these sessions the same replies
-abbrev pub SameReplies : (Session → Type 0) → Due → Due → Type 0
-SameReplies P d e = (session : Session) → (body : List ℕ) → P session → d session body ≡ e session body
+-- the sessions of the subscriptions that begin
+abbrev pub sessions_of : List Moment → List Session
+sessions_of moments = flat_map (λ m. begins_with m.event) moments
 
--- the same events, of these sessions alone, over databases that give these sessions the same replies, event by event
-abbrev pub Alike : (Session → Type 0) → List Moment → List Moment → Type 0
-Alike P [] [] = ⊤
-Alike P [] (n ∷ ns) = ⊥
-Alike P (m ∷ ms) [] = ⊥
-Alike P (m ∷ ms) (n ∷ ns) = (n.event ≡ m.event) × BeginsOnly P m.event × SameReplies P m.due n.due × Alike P ms ns
+-- over two databases, the same replies are due to these sessions
+abbrev pub SameReplies : List Session → Due → Due → Type 0
+SameReplies [] d e = ⊤
+SameReplies (session ∷ sessions) d e = ((body : List ℕ) → d session body ≡ e session body) × SameReplies sessions d e
+
+-- the same events, over databases over which the same replies are due to these sessions, event by event
+abbrev pub Alike : List Session → List Moment → List Moment → Type 0
+Alike sessions [] [] = ⊤
+Alike sessions [] (n ∷ ns) = ⊥
+Alike sessions (m ∷ ms) [] = ⊥
+Alike sessions (m ∷ ms) (n ∷ ns) = (n.event ≡ m.event) × SameReplies sessions m.due n.due × Alike sessions ms ns
+
+-- a subscriber's own events, the ticks and the reloads of two runs are the same, over databases over which the same replies are
+-- due to each of his sessions, event by event
+abbrev pub AlikeFor : (who : ℕ) → List Moment → List Moment → Type 0
+AlikeFor who ms ns = Alike (sessions_of (moments_of who ms)) (moments_of who ms) (moments_of who ns)

@@ -1,5 +1,5 @@
 -- What an event does to live queries, and when it is refused.
-use Rattle.std.specs.Prelude.{◌≡◌, ◌≤◌, ◌++◌, ◌∷◌, [], ◌==◌, ◌&&◌, nat_eq, not, ℕ, List, Bool, None, Some, Result, Ok, Err, filter, count_by, false, ⊤}
+use Rattle.std.specs.Prelude.{◌≡◌, ◌≤◌, ◌++◌, ◌∷◌, [], ◌==◌, ◌&&◌, nat_eq, not, ℕ, List, Bool, None, Result, Ok, Err, filter, count_by, false, ⊤}
 use Rattle.std.specs.Cmp.Lexicographic.{pointwise}
 use Rattle.std.specs.List.{list_any}
 use Rattle.hq_terms.specs.declared.session.Session.{Session}

@@ -7,12 +7,15 @@ mod body;
 mod ending;
 mod event;
 mod keeping;
+mod laws;
 mod live;
 mod refusal;
+mod run;
 mod telling;
 
 pub use asker::{Asked, Asker, Reloaded};
 pub use body::Body;
 pub use event::{Event, Sends, Sent, Subscription, What};
+pub use laws::{others_change_nothing, what_he_cannot_tell_apart_changes_nothing};
 pub use live::Live;
 pub use refusal::StepRefusal;
