@@ -3,3 +3,4 @@ pub mod Answers
 pub mod Steps
 pub mod LiveRun
 pub mod Runs
+pub mod Memory
