@@ -10,7 +10,9 @@ ghost use Rattle.hq_app.specs.Runs.{ReadCause, Runs, opens_door, outside, reads_
 use crate::laws::outputs_agree;
 use crate::{Ran, World};
 use hq_base::Txt;
-use hq_commands::{Done, Refusal, check, generate_and_answer, query, reply_to, serve, show, sql, tell};
+use hq_commands::{
+    Done, Refusal, check, generate_and_answer, query, reply_to, serve, show, sql, tell,
+};
 use hq_db::SqlDb;
 use hq_engine::Engine;
 use hq_link::Database;
