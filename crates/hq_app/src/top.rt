@@ -10,7 +10,9 @@ ghost use Rattle.hq_app.specs.Runs.{ReadCause, Runs, opens_door, outside, reads_
 use crate::laws::outputs_agree;
 use crate::{Ran, World};
 use hq_base::Txt;
-use hq_commands::{Done, Refusal, check, generate_and_answer, query, reply_to, serve, show, sql, tell};
+use hq_commands::{
+    Done, Refusal, check, generate_and_answer, query, reply_to, serve, show, sql, tell,
+};
 use hq_db::SqlDb;
 use hq_engine::Engine;
 use hq_link::Database;
@@ -99,6 +101,10 @@ pub fn answer_one<T: Tables, S: Source, K: Sink, E: Sink>(
 
     // Nothing is written at a status other than 0, 1 and 5.
     ensures silent { result ≢ 0 → result ≢ 1 → result ≢ 5 → K.written out.new ≡ K.written out.old }
+
+    // It ends neither by its words nor by a file.
+    ensures words { result ≢ 2 }
+    ensures file { result ≢ 3 }
 
     // A failure is told only where the count of that object rose.
     ensures read { result ≡ 4 → Rose (S.faults input.old) (S.faults input.new) }

@@ -1,4 +1,3 @@
-mod Steps
 mod Different
 mod Distinct
 mod Objects

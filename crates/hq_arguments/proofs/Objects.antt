@@ -4,7 +4,8 @@ use Rattle.hq_base.specs.Due.{mapped}
 use Rattle.hq_base.specs.Json.{JsonTree, null, bool, int, str, arr, obj}
 use Rattle.hq_base.specs.Look.{object_in}
 use Rattle.hq_base.specs.declared.value.Ty.{Ty}
-use Rattle.hq_arguments.specs.Comparisons.{conjunction, named_due, comparisons_due}
+use Rattle.hq_terms.specs.Bexp.{conjunction}
+use Rattle.hq_arguments.specs.Comparisons.{named_due, comparisons_due}
 use Rattle.hq_arguments.specs.Context.{Context}
 use Rattle.hq_arguments.specs.Reading.{each, misfit}
 

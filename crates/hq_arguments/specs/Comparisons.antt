@@ -1,5 +1,5 @@
 -- The conditions that the comparisons of a column write (Hasura, API reference: GraphQL API, operators).
-use Rattle.std.specs.Prelude.{ℕ, List, [], ◌∷◌, Bool, if◌then◌else◌, Option, Some, None, option_and_then, Err}
+use Rattle.std.specs.Prelude.{ℕ, List, [], ◌∷◌, not, cond, if◌then◌else◌, Option, Some, None, option_and_then, Err}
 use Rattle.hq_base.specs.Due.{mapped}
 use Rattle.hq_base.specs.Json.{JsonTree, obj}
 use Rattle.hq_base.specs.Look.{member_list}
@@ -8,31 +8,26 @@ use Rattle.hq_gql_tree.specs.declared.rule.RuleId.TheVariants.{InputObjectFieldN
 use Rattle.hq_schema.specs.Look.{input_field_of}
 use Rattle.hq_schema.specs.declared.origin.ArgOrigin.{ArgOrigin}
 use Rattle.hq_schema.specs.declared.origin.ArgOrigin.TheVariants as stands
-use Rattle.hq_schema.specs.declared.origin.Operator.{Operator}
-use Rattle.hq_schema.specs.declared.origin.Operator.TheVariants.{Compare, Within, NullTest, Like}
-use Rattle.hq_terms.specs.Bexp.{BexpTree, always, and_of, comparison, within, is_null, like, bexps_of}
-use Rattle.hq_terms.specs.Database.{is_text}
+use Rattle.hq_terms.specs.Bexp.{BexpTree, test, conjunction}
+use Rattle.hq_terms.specs.Tests.{arity, applies}
+use Rattle.hq_terms.specs.declared.operator.Operator.{Operator}
+use Rattle.hq_terms.specs.declared.test.Arity.{Arity}
+use Rattle.hq_terms.specs.declared.test.Arity.TheVariants.{Nothing, One, Many}
 use Rattle.hq_arguments.specs.Context.{Context}
-use Rattle.hq_arguments.specs.Operands.{operand_due, pattern_due, truth_due}
+use Rattle.hq_arguments.specs.Operands.{operand_due, truth_due}
 use Rattle.hq_arguments.specs.Reading.{Read, each, items_in, misfit}
 use Rattle.hq_arguments.specs.declared.refusal.ArgRefusal.TheVariants.{Rule}
 
--- all of a list: nothing is asked where it is empty, and one expression stands for itself
-unfoldable pub conjunction : List BexpTree → BexpTree
-conjunction [] = always
-conjunction (b ∷ []) = b
-conjunction (b ∷ d ∷ bs) = and_of (bexps_of (b ∷ d ∷ bs))
+-- the test of an operator on column c of a type, by how many operands it takes: without any, its value tells whether it is to
+-- hold, or its opposite
+abbrev pub tested_due : (column : ℕ) → Ty → Operator → JsonTree → Arity → Read BexpTree
+tested_due c ty o j Nothing = mapped (λ holds. test c o.test [] (cond holds o.negated (not o.negated))) (truth_due j)
+tested_due c ty o j One = mapped (λ v. test c o.test (v ∷ []) o.negated) (operand_due o.test ty j)
+tested_due c ty o j Many = mapped (λ vs. test c o.test vs o.negated) (each (operand_due o.test ty) (items_in j))
 
--- a pattern is of texts alone
-abbrev pub like_due : (column : ℕ) → Ty → (fold negated : Bool) → JsonTree → Read BexpTree
-like_due c ty fold negated j = if is_text ty then mapped (like c fold negated) (pattern_due j) else Err (Rule ValuesOfCorrectType)
-
--- the condition of an operator on column c of a type
+-- the condition of an operator, which must be one of the type
 abbrev pub operator_due : (column : ℕ) → Ty → Operator → JsonTree → Read BexpTree
-operator_due c ty (Compare op) j = mapped (comparison c op) (operand_due ty j)
-operator_due c ty (Within negated) j = mapped (λ os. within c os negated) (each (operand_due ty) (items_in j))
-operator_due c ty NullTest j = mapped (is_null c) (truth_due j)
-operator_due c ty (Like fold negated) j = like_due c ty fold negated j
+operator_due c ty o j = if applies o.test ty then tested_due c ty o j (arity o.test) else Err (Rule ValuesOfCorrectType)
 
 -- the operator for which an input field stands
 abbrev pub operator_of : ArgOrigin → Option Operator

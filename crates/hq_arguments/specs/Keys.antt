@@ -9,9 +9,9 @@ use Rattle.hq_gql_tree.specs.declared.rule.RuleId.TheVariants.{RequiredArguments
 use Rattle.hq_schema.specs.Schema.{ArgTree}
 use Rattle.hq_schema.specs.declared.origin.ArgOrigin.{ArgOrigin}
 use Rattle.hq_schema.specs.declared.origin.ArgOrigin.TheVariants as stands
+use Rattle.hq_terms.specs.Constants.{constant_in}
 use Rattle.hq_terms.specs.Schema.{table, column}
 use Rattle.hq_arguments.specs.Context.{Context}
-use Rattle.hq_arguments.specs.Operands.{constant_in}
 use Rattle.hq_arguments.specs.Reading.{Read, each, Given, argument_named, given}
 use Rattle.hq_arguments.specs.declared.refusal.ArgRefusal.TheVariants.{Rule}
 

@@ -8,9 +8,9 @@ use Rattle.hq_schema.specs.Look.{input_field_of}
 use Rattle.hq_schema.specs.Schema.{base, ArgTree}
 use Rattle.hq_schema.specs.declared.origin.ArgOrigin.{ArgOrigin}
 use Rattle.hq_schema.specs.declared.origin.ArgOrigin.TheVariants as stands
-use Rattle.hq_terms.specs.Bexp.{BexpTree, always, and_of, or_of, not_of, through, bexps_of}
+use Rattle.hq_terms.specs.Bexp.{BexpTree, always, and_of, or_of, not_of, through, bexps_of, conjunction}
 use Rattle.hq_terms.specs.Schema.{column, rel}
-use Rattle.hq_arguments.specs.Comparisons.{conjunction, comparisons_due}
+use Rattle.hq_arguments.specs.Comparisons.{comparisons_due}
 use Rattle.hq_arguments.specs.Context.{Context}
 use Rattle.hq_arguments.specs.Reading.{Read, misfit, Given}
 use Rattle.hq_arguments.specs.declared.refusal.ArgRefusal.TheVariants.{Rule}

@@ -3,71 +3,80 @@ ghost use Rattle.std.specs.Prelude.{◌≡◌, map};
 ghost use Rattle.hq_base.specs.Due.{Gives};
 ghost use Rattle.hq_base.specs.Json.{json_view, member_view};
 ghost use Rattle.hq_terms.specs.Bexp.{bexp_view};
-ghost use Rattle.hq_arguments.specs.Comparisons.{conjunction, like_due, operator_due, operator_of, operator_named, named_due, comparisons_due};
+ghost use Rattle.hq_terms.specs.Tests.{arity};
+ghost use Rattle.hq_arguments.specs.Comparisons.{tested_due, operator_due, operator_of, operator_named, named_due, comparisons_due};
 ghost use Rattle.hq_arguments.specs.Context.{context_view};
 ghost use Rattle.hq_arguments.specs.Operands.{operand_due};
 ghost use Rattle.hq_arguments.specs.Reading.{each};
 ghost use Rattle.hq_arguments.specs.declared.refusal.ArgRefusal.TheVariants as refusal;
 
-use crate::operands::{operand, pattern, truth};
+use crate::operands::{one, operand, truth};
 use crate::reading::{items_in, misfit};
 use crate::{ArgRefusal, Context};
 use hq_base::{Json, List, Member, Txt, Ty};
 use hq_gql_tree::RuleId;
-use hq_schema::{ArgOrigin, Operator, TypeId};
-use hq_terms::{Bexp, BexpList, ColId, Operands};
+use hq_schema::{ArgOrigin, TypeId};
+use hq_terms::{Arity, Bexp, BexpList, ColId, Operands, Operator, Test};
 use std::alloc::Global;
 
-/// All of a list: True where it is empty, and one expression for itself.
-#[tactic(auto, unfolding(crate::specs::Comparisons::conjunction))]
-pub fn conjunction(bexps: BexpList) -> Bexp
-    ensures { bexp_view result ≡ conjunction (map bexp_view bexps.items) }
-{
-    let mut bexps = bexps;
-    if bexps.len() > 1 {
-        return Bexp::And(bexps);
-    }
-    match bexps.pop() {
-        Some(bexp) => bexp,
-        None => Bexp::True,
-    }
-}
-
-// The operands of a list.
-fn operands(alloc: Global, ty: Ty, items: &[Json]) -> Result<Operands, ArgRefusal>
-    ensures { Gives (λ os. os) refusal.Memory (each (operand_due ty) (map json_view items.now)) result }
+// The operands of a list, for a test of a column of a type.
+fn operands(alloc: Global, test: Test, ty: Ty, items: &[Json]) -> Result<Operands, ArgRefusal>
+    ensures { Gives (λ os. os) refusal.Memory (each (operand_due test ty) (map json_view items.now)) result }
 {
     let mut operands = List::new(alloc);
     for json in items {
-        operands.push(operand(alloc, ty, json)?)?;
+        operands.push(operand(alloc, test, ty, json)?)?;
     }
     Ok(operands)
 }
 
-// A pattern is of texts alone.
-fn like(
+// The test of an operator that is one of the type, by how many operands it takes.
+fn tested(
     alloc: Global,
     col: ColId,
     ty: Ty,
-    fold: bool,
-    negated: bool,
+    operator: Operator,
     json: &Json,
 ) -> Result<Bexp, ArgRefusal>
-    ensures { Gives bexp_view refusal.Memory (like_due col ty fold negated (json_view json.now)) result }
+    ensures { Gives bexp_view refusal.Memory (tested_due col ty operator (json_view json.now) (arity operator.test)) result }
 {
-    if ty != Ty::Text {
-        return Err(ArgRefusal::Rule(RuleId::ValuesOfCorrectType));
+    let test = operator.test;
+    match test.arity() {
+        Arity::Nothing => {
+            let holds = truth(json)?;
+            Ok(Bexp::Test {
+                col,
+                test,
+                operands: List::new(alloc),
+                negated: if holds {
+                    operator.negated
+                } else {
+                    !operator.negated
+                },
+            })
+        }
+        Arity::One => {
+            let operand = operand(alloc, test, ty, json)?;
+            Ok(Bexp::Test {
+                col,
+                test,
+                operands: one(alloc, operand)?,
+                negated: operator.negated,
+            })
+        }
+        Arity::Many => {
+            let operands = operands(alloc, test, ty, items_in(json))?;
+            Ok(Bexp::Test {
+                col,
+                test,
+                operands,
+                negated: operator.negated,
+            })
+        }
     }
-    let operand = pattern(alloc, json)?;
-    Ok(Bexp::Like {
-        col,
-        fold,
-        negated,
-        operand,
-    })
 }
 
-// The condition of an operator.
+// The condition of an operator, which must be one of the type.
 fn condition(
     alloc: Global,
     col: ColId,
@@ -77,25 +86,10 @@ fn condition(
 ) -> Result<Bexp, ArgRefusal>
     ensures { Gives bexp_view refusal.Memory (operator_due col ty operator (json_view json.now)) result }
 {
-    match operator {
-        Operator::Compare(op) => {
-            let operand = operand(alloc, ty, json)?;
-            Ok(Bexp::Cmp { col, op, operand })
-        }
-        Operator::Within { negated } => {
-            let operands = operands(alloc, ty, items_in(json))?;
-            Ok(Bexp::Within {
-                col,
-                operands,
-                negated,
-            })
-        }
-        Operator::NullTest => {
-            let yes = truth(json)?;
-            Ok(Bexp::IsNull { col, yes })
-        }
-        Operator::Like { fold, negated } => like(alloc, col, ty, fold, negated, json),
+    if !operator.test.applies(ty) {
+        return Err(ArgRefusal::Rule(RuleId::ValuesOfCorrectType));
     }
+    tested(alloc, col, ty, operator, json)
 }
 
 fn operator_of(origin: ArgOrigin) -> Option<Operator>
@@ -166,7 +160,7 @@ pub fn comparisons(
     ensures { Gives bexp_view refusal.Memory (comparisons_due (context_view context.now) p col ty (json_view json.now)) result }
 {
     match json.as_object() {
-        Some(members) => Ok(conjunction(conditions(alloc, context, p, col, ty, members)?)),
+        Some(members) => Ok(Bexp::all_of(conditions(alloc, context, p, col, ty, members)?)),
         None => Err(misfit(json)),
     }
 }

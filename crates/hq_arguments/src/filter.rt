@@ -8,7 +8,7 @@ ghost use Rattle.hq_arguments.specs.Given.{given_view};
 ghost use Rattle.hq_arguments.specs.Where.{by_origin, named_due, filter_due, filters_due, elements_due, members_due, by_filter, where_due};
 ghost use Rattle.hq_arguments.specs.declared.refusal.ArgRefusal.TheVariants as refusal;
 
-use crate::comparisons::{comparisons, conjunction};
+use crate::comparisons::comparisons;
 use crate::reading::{Given, misfit};
 use crate::{ArgRefusal, Context};
 use hq_base::{Json, JsonList, Member, Members, Memory};
@@ -29,7 +29,7 @@ fn filter(
     ensures { Gives bexp_view refusal.Memory (filter_due (json_view json.now) (context_view context.now) p t) result }
 {
     match json {
-        Json::Obj(members) => Ok(conjunction(member_filters(alloc, context, p, t, members)?)),
+        Json::Obj(members) => Ok(Bexp::all_of(member_filters(alloc, context, p, t, members)?)),
         _ => Err(misfit(json)),
     }
 }
@@ -49,7 +49,7 @@ fn filters(
         Json::Arr(elements) => element_filters(alloc, context, p, t, elements),
         Json::Obj(members) => {
             let bexps = member_filters(alloc, context, p, t, members)?;
-            Ok(one(alloc, conjunction(bexps))?)
+            Ok(one(alloc, Bexp::all_of(bexps))?)
         }
         _ => Err(misfit(json)),
     }

@@ -12,14 +12,13 @@ ghost use Rattle.hq_arguments.specs.Keys.{is_for, key_argument, key_value, given
 ghost use Rattle.hq_arguments.specs.Reading.{each};
 ghost use Rattle.hq_arguments.specs.declared.refusal.ArgRefusal.TheVariants as refusal;
 
-use crate::operands::constant_in;
 use crate::reading::{Given, argument_named, given_of};
 use crate::{ArgRefusal, Context};
 use hq_ask_tree::ValList;
 use hq_base::{Json, List, Memory, Ty, Val};
 use hq_gql_tree::{Argument, RuleId};
 use hq_schema::{ArgDef, ArgOrigin};
-use hq_terms::{ColId, Scope, TableId};
+use hq_terms::{ColId, Scope, TableId, constant_in};
 use std::alloc::Global;
 
 // Whether an argument is for a column.

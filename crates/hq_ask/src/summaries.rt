@@ -14,7 +14,7 @@ ghost use Rattle.hq_collect.specs.TreeSeen.{collected_view, trees_of, parts_seen
 use crate::known::{Known, count_of, known_field_of, refused, type_name_at};
 use hq_arguments::{Context, FieldArgs};
 use hq_ask_tree::{AggCol, AggCols, AggField, AggFields, KeyedAggCol, KeyedAggField};
-use hq_base::List;
+use hq_base::{Aggregate, List};
 use hq_coerce::CoerceRefusal;
 use hq_collect::{CollectedField, CollectedList};
 use hq_gql_tree::RuleId;
@@ -22,7 +22,7 @@ use hq_schema::{FieldOrigin, TypeId};
 use hq_terms::TableId;
 use std::alloc::Global;
 
-// A field of `sum`, `min` or `max`, by what it stands for.
+// A field of what one aggregate gives, by what it stands for.
 fn taken_by(
     alloc: Global,
     context: &Context<'_>,
@@ -55,7 +55,7 @@ fn ask_taken(
     taken_by(alloc, context, place, known.def.origin, field)
 }
 
-// The fields of `sum`, `min` or `max`, in the type of a place.
+// The fields of what one aggregate gives, in the type of a place.
 fn ask_all_taken(
     alloc: Global,
     context: &Context<'_>,
@@ -74,7 +74,7 @@ fn ask_all_taken(
     Ok(taken)
 }
 
-// The fields of `sum`, `min` or `max` below a field of `aggregate`.
+// Those below a field of `aggregate`.
 fn taken_below(
     alloc: Global,
     context: &Context<'_>,
@@ -108,43 +108,19 @@ fn type_name(
     Ok(AggField::Typename { name })
 }
 
-// A `sum`.
-fn sum(
+// What one aggregate gives of columns.
+fn columns(
     alloc: Global,
     context: &Context<'_>,
     place: TypeId,
     t: TableId,
+    aggregate: Aggregate,
     field: &CollectedField<'_>,
 ) -> Result<AggField, CoerceRefusal>
-    ensures { Gives (λ a. a) refusal.Memory (mapped take.Sum (taken_due (context_view context.now) place t (parts_seen field.now).below)) result }
+    ensures { Gives (λ a. a) refusal.Memory (mapped (take.Columns aggregate) (taken_due (context_view context.now) place t (parts_seen field.now).below)) result }
 {
-    Ok(AggField::Sum(taken_below(alloc, context, place, t, field)?))
-}
-
-// A `min`.
-fn min(
-    alloc: Global,
-    context: &Context<'_>,
-    place: TypeId,
-    t: TableId,
-    field: &CollectedField<'_>,
-) -> Result<AggField, CoerceRefusal>
-    ensures { Gives (λ a. a) refusal.Memory (mapped take.Min (taken_due (context_view context.now) place t (parts_seen field.now).below)) result }
-{
-    Ok(AggField::Min(taken_below(alloc, context, place, t, field)?))
-}
-
-// A `max`.
-fn max(
-    alloc: Global,
-    context: &Context<'_>,
-    place: TypeId,
-    t: TableId,
-    field: &CollectedField<'_>,
-) -> Result<AggField, CoerceRefusal>
-    ensures { Gives (λ a. a) refusal.Memory (mapped take.Max (taken_due (context_view context.now) place t (parts_seen field.now).below)) result }
-{
-    Ok(AggField::Max(taken_below(alloc, context, place, t, field)?))
+    let columns = taken_below(alloc, context, place, t, field)?;
+    Ok(AggField::Columns { aggregate, columns })
 }
 
 // A field of `aggregate`, by what it stands for and its arguments.
@@ -161,9 +137,7 @@ fn summary_by(
     let to = known.def.ty.base();
     match known.def.origin {
         FieldOrigin::Count => count(&known.args, field),
-        FieldOrigin::Sum => sum(alloc, context, to, t, field),
-        FieldOrigin::Min => min(alloc, context, to, t, field),
-        FieldOrigin::Max => max(alloc, context, to, t, field),
+        FieldOrigin::Aggregated(aggregate) => columns(alloc, context, to, t, aggregate, field),
         FieldOrigin::TypeName => type_name(alloc, context, place, field),
         _ => Err(refused(RuleId::FieldSelections, field)),
     }

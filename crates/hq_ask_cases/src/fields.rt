@@ -48,9 +48,9 @@ fn push_taken(word: &str, taken: &[KeyedAggCol], words: &mut Words) {
 fn push_summary(field: &AggField, words: &mut Words) {
     match field {
         AggField::Count { col, distinct } => push_count(*col, *distinct, words),
-        AggField::Sum(taken) => push_taken("sum", taken.as_slice(), words),
-        AggField::Min(taken) => push_taken("min", taken.as_slice(), words),
-        AggField::Max(taken) => push_taken("max", taken.as_slice(), words),
+        AggField::Columns { aggregate, columns } => {
+            push_taken(aggregate.name(), columns.as_slice(), words)
+        }
         AggField::Typename { name } => push_type(name, words),
     }
 }

@@ -3,19 +3,21 @@
 use Rattle.std.proofs.Common.{◌≡◌, ℕ, List, [], ◌∷◌, map, filter, Bool, true, ◌&&◌, Option, Some, None, pos, refl, ap, ap₂, ◌∙◌}
 use Rattle.std.specs.Ordering.{ordering_then}
 use Rattle.std.specs.Prelude.{option_map, unwrap_or, slice_get}
-use Rattle.hq_base.specs.Aggregates.{counted, summed, least, greatest}
-use Rattle.hq_base.specs.Cells.{CellTree, null, int, cell_of, json_of, key_cmp, same_cell}
+use Rattle.hq_base.specs.Aggregates.{counted, aggregated}
+use Rattle.hq_base.specs.Cells.{null, int, cell_of, json_of, key_cmp, same_cell}
 use Rattle.hq_base.specs.Json.{arr, obj, elements_of, member}
 use Rattle.hq_base.specs.Lists.{Zip}
+use Rattle.hq_base.specs.declared.aggregate.Aggregate.{Aggregate}
 use Rattle.hq_base.specs.declared.value.Val.{Val}
 use Rattle.hq_base.proofs.Zips.{zip_filter, zip_sort, zip_firsts, zip_take, zip_drop, zip_any, zip_length, zip_map}
-use Rattle.hq_terms.specs.Bexp.{BexpTree, always, and_of, or_of, not_of, comparison, within, is_null, like, through, BexpTrees, no_bexp, bexp}
-use Rattle.hq_terms.specs.Logic.{is_true, truth_of, not3, and3, or3, negated_if, compared, among, equal, matched}
+use Rattle.hq_terms.specs.Bexp.{BexpTree, always, and_of, or_of, not_of, test, through, BexpTrees, no_bexp, bexp}
+use Rattle.hq_terms.specs.Logic.{is_true, truth_of, not3, and3, or3, negated_if, equal}
 use Rattle.hq_terms.specs.Related.{related}
 use Rattle.hq_terms.specs.Schema.{Schema, table, rel}
 use Rattle.hq_terms.specs.Seen.{Sees}
 use Rattle.hq_terms.specs.Selected.{SortKey, ListArguments, sort_cell, sorts_cmp, ascending, sorts_or, entries, same_cells, distinct_rows, offset_by, limited, smaller, selected}
-use Rattle.hq_terms.specs.Truth.{operand_cell, null_test_as, truth, truth_of_all, truth_of_any, keeps}
+use Rattle.hq_terms.specs.Tests.{test_truth}
+use Rattle.hq_terms.specs.Truth.{operand_cell, truth, truth_of_all, truth_of_any, keeps}
 use Rattle.hq_ask_tree.specs.Allowed.{Allowed}
 use Rattle.hq_ask_tree.specs.Everywhere.{Below, EveryPart, BelowPart}
 use Rattle.hq_ask_tree.specs.Fields.{Origin, from_table, along, FieldTrees, no_field, field, FieldTree, column, typename, no_queries, object, list, by_key, aggregate, introspect, PartTrees, no_part, part, PartTree, summary, nodes, part_typename}
@@ -63,10 +65,7 @@ module _ {R S : Type 0} {s : Schema} {A : Sees R} {B : Sees S} {ok : Allowed} {Q
     truth_alike (and_of es) t x y u q = all_true_alike es t x y u q
     truth_alike (or_of es) t x y u q = any_true_alike es t x y u q
     truth_alike (not_of e) t x y u q = ap not3 (truth_alike e t x y u q)
-    truth_alike (comparison c op v) t x y u q = ap (λ d. compared op d (operand_cell v)) (a.cells t c x y u q)
-    truth_alike (within c vs negated) t x y u q = ap (λ d. negated_if negated (among (map operand_cell vs) d)) (a.cells t c x y u q)
-    truth_alike (is_null c wanted) t x y u q = ap (null_test_as wanted) (a.cells t c x y u q)
-    truth_alike (like c fold negated v) t x y u q = ap (λ d. negated_if negated (matched fold d (operand_cell v))) (a.cells t c x y u q)
+    truth_alike (test c tested vs negated) t x y u q = ap (λ d. negated_if negated (test_truth tested d (map operand_cell vs))) (a.cells t c x y u q)
     truth_alike (through r e) t x y u q =
         ap truth_of (zip_any (Q (rel s t r).remote) (λ far. A.linked t r x far && is_true (truth e s A (rel s t r).remote far)) (λ far. B.linked t r y far && is_true (truth e s B (rel s t r).remote far))
         (λ far near h. ap₂ (λ b c. b && c) (a.links t r x y far near u.0 q h) (ap is_true (truth_alike e (rel s t r).remote far near u.1 h)))
@@ -143,13 +142,13 @@ module _ {R S : Type 0} {s : Schema} {A : Sees R} {B : Sees S} {ok : Allowed} {Q
   cells_alike : (c t : ℕ) → ok.column t c ≡ true → (xs : List R) (ys : List S) → Zip (Q t) xs ys → cells_of A t xs c ≡ cells_of B t ys c
   cells_alike c t u xs ys h = zip_map (Q t) (λ x. A.cell t x c) (λ y. B.cell t y c) (λ x y q. a.cells t c x y u q) xs ys h
 
-  taken_one : (take : List CellTree → CellTree) (c : AggCol) (t : ℕ) → UsesOneTaken c ok t → (xs : List R) (ys : List S) → Zip (Q t) xs ys → taken_value take c A t xs ≡ taken_value take c B t ys
-  taken_one take (of.Column c) t u xs ys h = ap (λ l. json_of (take l)) (cells_alike c t u xs ys h)
-  taken_one take (of.Typename name) t u xs ys h = refl
+  taken_one : (f : Aggregate) (c : AggCol) (t : ℕ) → UsesOneTaken c ok t → (xs : List R) (ys : List S) → Zip (Q t) xs ys → taken_value f c A t xs ≡ taken_value f c B t ys
+  taken_one f (of.Column c) t u xs ys h = ap (λ l. json_of (aggregated f l)) (cells_alike c t u xs ys h)
+  taken_one f (of.Typename name) t u xs ys h = refl
 
-  taken_alike : (take : List CellTree → CellTree) (cs : List KeyedAggCol) (t : ℕ) → UsesTaken cs ok t → (xs : List R) (ys : List S) → Zip (Q t) xs ys → taken_members take cs A t xs ≡ taken_members take cs B t ys
-  taken_alike take [] t u xs ys h = refl
-  taken_alike take (c ∷ cs) t u xs ys h = ap₂ (member c.key) (taken_one take c.field t u.0 xs ys h) (taken_alike take cs t u.1 xs ys h)
+  taken_alike : (f : Aggregate) (cs : List KeyedAggCol) (t : ℕ) → UsesTaken cs ok t → (xs : List R) (ys : List S) → Zip (Q t) xs ys → taken_members f cs A t xs ≡ taken_members f cs B t ys
+  taken_alike f [] t u xs ys h = refl
+  taken_alike f (c ∷ cs) t u xs ys h = ap₂ (member c.key) (taken_one f c.field t u.0 xs ys h) (taken_alike f cs t u.1 xs ys h)
 
   count_alike : (c : Option ℕ) (distinct : Bool) (t : ℕ) → UsesCounted c ok t → (xs : List R) (ys : List S) → Zip (Q t) xs ys → count_of c distinct A t xs ≡ count_of c distinct B t ys
   count_alike None distinct t u xs ys h = ap (λ n. int (pos n)) (zip_length (Q t) xs ys h)
@@ -157,9 +156,7 @@ module _ {R S : Type 0} {s : Schema} {A : Sees R} {B : Sees S} {ok : Allowed} {Q
 
   summary_one : (f : AggField) (t : ℕ) → UsesOneSummary f ok t → (xs : List R) (ys : List S) → Zip (Q t) xs ys → summary_value f A t xs ≡ summary_value f B t ys
   summary_one (fold.Count c distinct) t u xs ys h = ap json_of (count_alike c distinct t u xs ys h)
-  summary_one (fold.Sum cs) t u xs ys h = ap obj (taken_alike summed cs t u xs ys h)
-  summary_one (fold.Min cs) t u xs ys h = ap obj (taken_alike least cs t u xs ys h)
-  summary_one (fold.Max cs) t u xs ys h = ap obj (taken_alike greatest cs t u xs ys h)
+  summary_one (fold.Columns f cs) t u xs ys h = ap obj (taken_alike f cs t u xs ys h)
   summary_one (fold.Typename name) t u xs ys h = refl
 
   summary_alike : (fs : List KeyedAggField) (t : ℕ) → UsesSummary fs ok t → (xs : List R) (ys : List S) → Zip (Q t) xs ys → summary_members fs A t xs ≡ summary_members fs B t ys

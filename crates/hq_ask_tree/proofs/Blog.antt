@@ -4,7 +4,7 @@ use Rattle.hq_base.specs.Compact.{compact}
 use Rattle.hq_base.specs.declared.value.Ty.TheVariants.{Integer, Bigint, Text, Boolean}
 use Rattle.hq_base.specs.declared.value.Val.{Val}
 use Rattle.hq_base.specs.declared.value.Val.TheVariants as val
-use Rattle.hq_terms.specs.Bexp.{BexpTree, always, or_of, comparison, no_bexp, bexp}
+use Rattle.hq_terms.specs.Bexp.{BexpTree, always, or_of, test, no_bexp, bexp}
 use Rattle.hq_terms.specs.Database.{Row}
 use Rattle.hq_terms.specs.Grants.{Grants, grants_of}
 use Rattle.hq_terms.specs.Meta.{MetaTree, PermTree}
@@ -13,6 +13,7 @@ use Rattle.hq_terms.specs.Selected.{ListArguments}
 use Rattle.hq_terms.specs.declared.bexp.Operand.TheVariants as operand
 use Rattle.hq_terms.specs.declared.meta.RootNames.{RootNames}
 use Rattle.hq_terms.specs.declared.op.Op.TheVariants.{Eq}
+use Rattle.hq_terms.specs.declared.test.Test.TheVariants.{Compare}
 use Rattle.hq_terms.specs.declared.session.Session.{Session}
 use Rattle.hq_terms.specs.declared.table.Table.{Table}
 use Rattle.hq_ask_tree.specs.Fields.{FieldTrees, no_field, field, FieldTree, column}
@@ -76,8 +77,8 @@ database = authors ∷ articles_rated (number 5) (number 5) (number 7) ∷ []
 -- the articles that are published or the user's own
 abbrev own_or_published : BexpTree
 own_or_published =
-    or_of (bexp (comparison 3 Eq (operand.Const (val.Bool true)))
-    (bexp (comparison 1 Eq (operand.Session (codes "x-hasura-user-id"))) no_bexp))
+    or_of (bexp (test 3 (Compare Eq) (operand.Const (val.Bool true) ∷ []) false)
+    (bexp (test 1 (Compare Eq) (operand.Session (codes "x-hasura-user-id") ∷ []) false) no_bexp))
 
 -- the names of root fields
 abbrev roots_with : (select select_aggregate select_by_pk : List ℕ) → RootNames
@@ -115,7 +116,7 @@ meta =
     ∷ record {
       role = codes "reader";
       cols = 0 ∷ 1 ∷ [];
-      filter = comparison 0 Eq (operand.Const (number 1));
+      filter = test 0 (Compare Eq) (operand.Const (number 1) ∷ []) false;
       limit = None;
       aggregations = false;
     } ∷ [])

@@ -6,7 +6,7 @@ use Rattle.hq_base.specs.Json.{obj}
 use Rattle.hq_base.specs.Lists.{Each, Zip}
 use Rattle.hq_base.proofs.Lists.{each_all}
 use Rattle.hq_base.proofs.Zips.{zip_same}
-use Rattle.hq_terms.specs.Bexp.{BexpTree, always, and_of, or_of, not_of, comparison, within, is_null, like, through, BexpTrees, no_bexp, bexp}
+use Rattle.hq_terms.specs.Bexp.{BexpTree, always, and_of, or_of, not_of, test, through, BexpTrees, no_bexp, bexp}
 use Rattle.hq_terms.specs.Database.{Row}
 use Rattle.hq_terms.specs.Grants.{Grants, grant, limits}
 use Rattle.hq_terms.specs.Permission.{Permission}
@@ -62,10 +62,7 @@ module _ (s : Schema) (is : ℕ → Bool) where
     condition_used (and_of bs) t h = conditions_used bs t h
     condition_used (or_of bs) t h = conditions_used bs t h
     condition_used (not_of b) t h = condition_used b t h
-    condition_used (comparison c op v) t h = refl
-    condition_used (within c vs negated) t h = refl
-    condition_used (is_null c wanted) t h = refl
-    condition_used (like c fold negated v) t h = refl
+    condition_used (test c tested vs negated) t h = refl
     condition_used (through r b) t h = (h.0, condition_used b (rel s t r).remote h.1)
 
     conditions_used : (bs : BexpTrees) (t : ℕ) → Are (conditions_tables bs s t) → UsesConditions bs s ok t
@@ -107,9 +104,7 @@ module _ (s : Schema) (is : ℕ → Bool) where
 
   summary_one_used : (f : AggField) (u : ℕ) → UsesOneSummary f ok u
   summary_one_used (fold.Count c distinct) u = counted_used c u
-  summary_one_used (fold.Sum cs) u = taken_used cs u
-  summary_one_used (fold.Min cs) u = taken_used cs u
-  summary_one_used (fold.Max cs) u = taken_used cs u
+  summary_one_used (fold.Columns a cs) u = taken_used cs u
   summary_one_used (fold.Typename name) u = tt
 
   summary_used : (fs : List KeyedAggField) (u : ℕ) → UsesSummary fs ok u

@@ -1,6 +1,6 @@
 -- What uses what is allowed uses what is allowed more widely.
 use Rattle.std.proofs.Common.{◌≡◌, ℕ, List, [], ◌∷◌, true, Option, Some, None}
-use Rattle.hq_terms.specs.Bexp.{BexpTree, always, and_of, or_of, not_of, comparison, within, is_null, like, through, BexpTrees, no_bexp, bexp}
+use Rattle.hq_terms.specs.Bexp.{BexpTree, always, and_of, or_of, not_of, test, through, BexpTrees, no_bexp, bexp}
 use Rattle.hq_terms.specs.Schema.{Schema, table, rel}
 use Rattle.hq_terms.specs.Selected.{SortKey, ListArguments}
 use Rattle.hq_ask_tree.specs.Allowed.{Allowed}
@@ -59,10 +59,7 @@ module _ (s : Schema) (ok more : Allowed) (wider : Wider ok more) where
     condition_weaken (and_of bs) t u = conditions_weaken bs t u
     condition_weaken (or_of bs) t u = conditions_weaken bs t u
     condition_weaken (not_of b) t u = condition_weaken b t u
-    condition_weaken (comparison c op v) t u = wider.column t c u
-    condition_weaken (within c vs negated) t u = wider.column t c u
-    condition_weaken (is_null c wanted) t u = wider.column t c u
-    condition_weaken (like c fold negated v) t u = wider.column t c u
+    condition_weaken (test c tested vs negated) t u = wider.column t c u
     condition_weaken (through r b) t u = (wider.relationship t r u.0, condition_weaken b (rel s t r).remote u.1)
 
     conditions_weaken : (bs : BexpTrees) (t : ℕ) → UsesConditions bs s ok t → UsesConditions bs s more t
@@ -98,9 +95,7 @@ module _ (s : Schema) (ok more : Allowed) (wider : Wider ok more) where
 
   summary_one_weaken : (f : AggField) (u : ℕ) → UsesOneSummary f ok u → UsesOneSummary f more u
   summary_one_weaken (fold.Count c distinct) u h = counted_weaken c u h
-  summary_one_weaken (fold.Sum cs) u h = taken_weaken cs u h
-  summary_one_weaken (fold.Min cs) u h = taken_weaken cs u h
-  summary_one_weaken (fold.Max cs) u h = taken_weaken cs u h
+  summary_one_weaken (fold.Columns a cs) u h = taken_weaken cs u h
   summary_one_weaken (fold.Typename name) u h = tt
 
   summary_weaken : (fs : List KeyedAggField) (u : ℕ) → UsesSummary fs ok u → UsesSummary fs more u

@@ -2,14 +2,16 @@
 use Rattle.std.specs.Prelude.{◌≡◌, ℕ, Bool, List, [], ◌∷◌, true, false, Some, None, codes, refl}
 use Rattle.std.specs.Fmt.{digits}
 use Rattle.hq_base.specs.Compact.{compact, escaped}
+use Rattle.hq_base.specs.declared.aggregate.Aggregate.TheVariants.{Max, Min, Sum}
 use Rattle.hq_base.specs.declared.value.Ty.TheVariants.{Integer, Text}
 use Rattle.hq_base.specs.declared.value.Val.TheVariants as val
-use Rattle.hq_terms.specs.Bexp.{always, not_of, comparison, within, through}
+use Rattle.hq_terms.specs.Bexp.{always, not_of, test, through}
 use Rattle.hq_terms.specs.Grants.{Grants}
 use Rattle.hq_terms.specs.Schema.{Schema}
 use Rattle.hq_terms.specs.Selected.{SortKey, ListArguments}
 use Rattle.hq_terms.specs.declared.bexp.Operand.TheVariants.{Const}
 use Rattle.hq_terms.specs.declared.op.Op.TheVariants.{Eq, Ne}
+use Rattle.hq_terms.specs.declared.test.Test.TheVariants.{Compare, Among}
 use Rattle.hq_ask_tree.specs.Fields.{from_table, along, FieldTrees, field, column, typename, object, list, by_key, aggregate, PartTrees, no_part, part, summary, nodes}
 use Rattle.hq_ask_tree.specs.Resolve.{resolved}
 use Rattle.hq_ask_tree.specs.declared.aggregate.AggCol.TheVariants as of
@@ -100,7 +102,7 @@ distinct_sorted = refl
 
 -- where: { rating: { _neq: 5 } }
 abbrev not_5 : ListArguments
-not_5 = record plain { wanted = comparison 4 Ne (Const (number 5)) }
+not_5 = record plain { wanted = test 4 (Compare Ne) (Const (number 5) ∷ []) false }
 
 not_5_for_1 : given user_1 (listed not_5) ≡ codes "{\"article\":[{\"id\":13}]}"
 unfolding digits escaped
@@ -116,7 +118,7 @@ not_5_for_admin = refl
 
 -- where: { _not: { rating: { _eq: 5 } } }
 abbrev unequal_5 : ListArguments
-unequal_5 = record plain { wanted = not_of (comparison 4 Eq (Const (number 5))) }
+unequal_5 = record plain { wanted = not_of (test 4 (Compare Eq) (Const (number 5) ∷ []) false) }
 
 unequal_5_for_1 : given user_1 (listed unequal_5) ≡ codes "{\"article\":[{\"id\":13}]}"
 unfolding digits escaped
@@ -159,7 +161,7 @@ abbrev pub by_ann : FieldTrees
 by_ann =
     only (codes "article")
     (list (from_table 1) (record plain {
-      wanted = through 0 (comparison 1 Eq (Const (val.Text (codes "Ann"))));
+      wanted = through 0 (test 1 (Compare Eq) (Const (val.Text (codes "Ann")) ∷ []) false);
       sorts = record { through = 0 ∷ []; column = 1; desc = false; nulls_first = false } ∷ [];
     }) (field (codes "id") (column 0) (only (codes "author") (object 0 (only (codes "name") (column 1))))))
 
@@ -250,13 +252,13 @@ abbrev count : KeyedAggField
 count = record { key = codes "count"; field = fold.Count None false }
 
 abbrev sum : KeyedAggField
-sum = record { key = codes "sum"; field = fold.Sum rating }
+sum = record { key = codes "sum"; field = fold.Columns Sum rating }
 
 -- count, sum, min and max
 abbrev all_four : PartTrees
 all_four =
     part (codes "aggregate")
-    (summary (count ∷ sum ∷ record { key = codes "min"; field = fold.Min rating } ∷ record { key = codes "max"; field = fold.Max rating } ∷ [])) no_part
+    (summary (count ∷ sum ∷ record { key = codes "min"; field = fold.Columns Min rating } ∷ record { key = codes "max"; field = fold.Columns Max rating } ∷ [])) no_part
 
 -- an aggregate over articles
 abbrev taken : ListArguments → PartTrees → FieldTrees
@@ -279,7 +281,7 @@ four_for_admin = refl
 -- over no row: where: { id: { _in: [] } }
 abbrev over_none : FieldTrees
 over_none =
-    taken (record plain { wanted = within 0 [] false })
+    taken (record plain { wanted = test 0 Among [] false })
     (part (codes "aggregate") (summary (count ∷ sum ∷ [])) (part (codes "nodes") (nodes ids) no_part))
 
 none_for_1 : given user_1 over_none
@@ -295,7 +297,7 @@ none_for_admin : given admin over_none ≡ codes "{\"article_aggregate\":{\"aggr
 unfolding digits escaped
 none_for_admin = refl
 
-four_over_none : given user_1 (taken (record plain { wanted = within 0 [] false }) all_four)
+four_over_none : given user_1 (taken (record plain { wanted = test 0 Among [] false }) all_four)
     ≡ codes "{\"article_aggregate\":{\"aggregate\":{\"count\":0,\"sum\":{\"rating\":null},\"min\":{\"rating\":null},\"max\":{\"rating\":null}}}}"
 unfolding digits escaped
 four_over_none = refl
@@ -382,8 +384,8 @@ masked =
       limit = None;
       aggregations = true;
       masks =
-          record { column = 0; shown = comparison 0 Ne (Const (number 12)) }
-          ∷ record { column = 4; shown = comparison 1 Eq (Const (number 1)) } ∷ [];
+          record { column = 0; shown = test 0 (Compare Ne) (Const (number 12) ∷ []) false }
+          ∷ record { column = 4; shown = test 1 (Compare Eq) (Const (number 1) ∷ []) false } ∷ [];
     }) ∷ []
 
 -- columns, sums and conditions read what is shown

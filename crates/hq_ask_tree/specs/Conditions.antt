@@ -1,14 +1,14 @@
 -- Conditions, sorts, keys and aggregates of a request are of their columns' types (Hasura, API reference: boolean
 -- expressions, order_by, distinct_on, aggregates).
-use Rattle.std.specs.Prelude.{◌≡◌, ℕ, List, [], ◌∷◌, take, length, Bool, true, false, not, ◌&&◌, ◌==◌, nat_le}
+use Rattle.std.specs.Prelude.{◌≡◌, ℕ, List, [], ◌∷◌, take, length, Bool, true, false, ◌&&◌, ◌==◌, nat_le}
 use Rattle.std.specs.List.{list_all, list_any}
+use Rattle.hq_base.specs.Aggregates.{is_aggregate_of}
 use Rattle.hq_base.specs.Lists.{firsts}
+use Rattle.hq_base.specs.declared.aggregate.Aggregate.{Aggregate}
 use Rattle.hq_base.specs.declared.value.Val.{Val}
-use Rattle.hq_terms.specs.Bexp.{BexpTree, always, and_of, or_of, not_of, comparison, within, is_null, like, through, BexpTrees, no_bexp, bexp, depth}
-use Rattle.hq_terms.specs.Database.{is_boolean}
+use Rattle.hq_terms.specs.Bexp.{BexpTree, always, and_of, or_of, not_of, test, through, BexpTrees, no_bexp, bexp, depth}
 use Rattle.hq_terms.specs.Filters.{column_ty, constant_fits, is_filter, of_type}
 use Rattle.hq_terms.specs.Schema.{Schema, table}
-use Rattle.hq_terms.specs.SchemaNames.{is_whole}
 use Rattle.hq_terms.specs.Selected.{SortKey, ListArguments}
 use Rattle.hq_terms.specs.declared.bexp.Operand.{Operand}
 use Rattle.hq_terms.specs.declared.bexp.Operand.TheVariants.{Const, Session}
@@ -32,10 +32,7 @@ abbrev mutual
   is_bound (and_of bs) = are_bound bs
   is_bound (or_of bs) = are_bound bs
   is_bound (not_of b) = is_bound b
-  is_bound (comparison c op v) = is_constant v
-  is_bound (within c vs negated) = list_all is_constant vs
-  is_bound (is_null c wanted) = true
-  is_bound (like c fold negated v) = is_constant v
+  is_bound (test c tested vs negated) = list_all is_constant vs
   is_bound (through r b) = is_bound b
 
   pub are_bound : BexpTrees → Bool
@@ -81,21 +78,15 @@ is_key s t [] [] = true
 is_key s t (c ∷ cs) (v ∷ vs) = of_type (λ ty. constant_fits ty v) (column_ty s t c) && is_key s t cs vs
 is_key s t _ _ = false
 
--- the columns that are summed hold whole numbers; those with a least and a greatest value are not boolean
-abbrev pub is_summed : Schema → ℕ → AggCol → Bool
-is_summed s t (of.Column c) = of_type is_whole (column_ty s t c)
-is_summed s t (of.Typename name) = true
-
-abbrev pub is_ordered : Schema → ℕ → AggCol → Bool
-is_ordered s t (of.Column c) = of_type (λ ty. not (is_boolean ty)) (column_ty s t c)
-is_ordered s t (of.Typename name) = true
+-- a column of an aggregate is of a type that this is of
+abbrev pub is_taken : Schema → ℕ → Aggregate → AggCol → Bool
+is_taken s t a (of.Column c) = of_type (is_aggregate_of a) (column_ty s t c)
+is_taken s t a (of.Typename name) = true
 
 -- a field of aggregate over rows of table t
 abbrev pub is_summary : Schema → ℕ → AggField → Bool
 is_summary s t (fold.Count c distinct) = true
-is_summary s t (fold.Sum cs) = list_all (λ c. is_summed s t c.field) cs
-is_summary s t (fold.Min cs) = list_all (λ c. is_ordered s t c.field) cs
-is_summary s t (fold.Max cs) = list_all (λ c. is_ordered s t c.field) cs
+is_summary s t (fold.Columns a cs) = list_all (λ c. is_taken s t a c.field) cs
 is_summary s t (fold.Typename name) = true
 
 -- a field at a row of table t, without what stands below it

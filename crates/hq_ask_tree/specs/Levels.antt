@@ -16,7 +16,7 @@ abbrev mutual
   looks_levels no_look = 0
   looks_levels (looks key f fs) = max (look_levels f) (looks_levels fs)
 
--- the fields of sum, min or max
+-- the columns of an aggregate
 abbrev pub taken_levels : List KeyedAggCol → ℕ
 taken_levels [] = 0
 taken_levels (c ∷ cs) = 1
@@ -24,9 +24,7 @@ taken_levels (c ∷ cs) = 1
 -- the fields of aggregate
 abbrev pub one_summary_levels : AggField → ℕ
 one_summary_levels (take.Count c distinct) = 1
-one_summary_levels (take.Sum cs) = suc (taken_levels cs)
-one_summary_levels (take.Min cs) = suc (taken_levels cs)
-one_summary_levels (take.Max cs) = suc (taken_levels cs)
+one_summary_levels (take.Columns a cs) = suc (taken_levels cs)
 one_summary_levels (take.Typename name) = 1
 
 abbrev pub summary_levels : List KeyedAggField → ℕ

@@ -1,9 +1,10 @@
 -- What nested resolvers give (GraphQL October 2021, section 6: executing selection sets, value completion; Hasura, Queries),
 -- over what is seen of a database. There is no SQL here.
 use Rattle.std.specs.Prelude.{ℕ, List, [], ◌∷◌, map, filter, Bool, true, ◌&&◌, Option, Some, None, length, pos}
-use Rattle.hq_base.specs.Aggregates.{counted, summed, least, greatest}
+use Rattle.hq_base.specs.Aggregates.{counted, aggregated}
 use Rattle.hq_base.specs.Cells.{CellTree, int, cell_of, json_of}
 use Rattle.hq_base.specs.Json.{JsonTree, null, str, arr, obj, elements_of, MemberTrees, no_member, member}
+use Rattle.hq_base.specs.declared.aggregate.Aggregate.{Aggregate}
 use Rattle.hq_base.specs.declared.value.Val.{Val}
 use Rattle.hq_terms.specs.Database.{Row}
 use Rattle.hq_terms.specs.Grants.{Grants, limits}
@@ -46,14 +47,14 @@ first_or_null (j ∷ js) = j
 abbrev pub cells_of : {R : Type 0} → Sees R → ℕ → List R → ℕ → List CellTree
 cells_of S t xs c = map (λ x. S.cell t x c) xs
 
--- a field of sum, min or max, of which take is the aggregate
-abbrev pub taken_value : {R : Type 0} → (take : List CellTree → CellTree) → AggCol → Sees R → ℕ → List R → JsonTree
-taken_value take (of.Column c) S t xs = json_of (take (cells_of S t xs c))
-taken_value take (of.Typename name) S t xs = str name
+-- a column of an aggregate
+abbrev pub taken_value : {R : Type 0} → Aggregate → AggCol → Sees R → ℕ → List R → JsonTree
+taken_value a (of.Column c) S t xs = json_of (aggregated a (cells_of S t xs c))
+taken_value a (of.Typename name) S t xs = str name
 
-abbrev pub taken_members : {R : Type 0} → (take : List CellTree → CellTree) → List KeyedAggCol → Sees R → ℕ → List R → MemberTrees
-taken_members take [] S t xs = no_member
-taken_members take (c ∷ cs) S t xs = member c.key (taken_value take c.field S t xs) (taken_members take cs S t xs)
+abbrev pub taken_members : {R : Type 0} → Aggregate → List KeyedAggCol → Sees R → ℕ → List R → MemberTrees
+taken_members a [] S t xs = no_member
+taken_members a (c ∷ cs) S t xs = member c.key (taken_value a c.field S t xs) (taken_members a cs S t xs)
 
 -- the number of rows, or of the cells of a column that are not NULL, perhaps of different ones only
 abbrev pub count_of : {R : Type 0} → Option ℕ → (distinct : Bool) → Sees R → ℕ → List R → CellTree
@@ -63,9 +64,7 @@ count_of (Some c) distinct S t xs = counted distinct (cells_of S t xs c)
 -- a field of an aggregate over rows
 abbrev pub summary_value : {R : Type 0} → AggField → Sees R → ℕ → List R → JsonTree
 summary_value (take.Count c distinct) S t xs = json_of (count_of c distinct S t xs)
-summary_value (take.Sum cs) S t xs = obj (taken_members summed cs S t xs)
-summary_value (take.Min cs) S t xs = obj (taken_members least cs S t xs)
-summary_value (take.Max cs) S t xs = obj (taken_members greatest cs S t xs)
+summary_value (take.Columns a cs) S t xs = obj (taken_members a cs S t xs)
 summary_value (take.Typename name) S t xs = str name
 
 abbrev pub summary_members : {R : Type 0} → List KeyedAggField → Sees R → ℕ → List R → MemberTrees

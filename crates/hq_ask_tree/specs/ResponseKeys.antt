@@ -22,16 +22,14 @@ abbrev pub part_keys : PartTrees → List (List ℕ)
 part_keys no_part = []
 part_keys (part key p ps) = key ∷ part_keys ps
 
--- the columns of sum, min or max
+-- the columns of an aggregate
 abbrev pub TakenKeys : List KeyedAggCol → Type 0
 TakenKeys cs = are_keys (map (λ c. c.key) cs) ≡ true
 
 -- below each field of aggregate
 abbrev pub OneSummaryKeys : AggField → Type 0
 OneSummaryKeys (take.Count c distinct) = Unit {0}
-OneSummaryKeys (take.Sum cs) = TakenKeys cs
-OneSummaryKeys (take.Min cs) = TakenKeys cs
-OneSummaryKeys (take.Max cs) = TakenKeys cs
+OneSummaryKeys (take.Columns a cs) = TakenKeys cs
 OneSummaryKeys (take.Typename name) = Unit {0}
 
 abbrev pub EachSummaryKeys : List KeyedAggField → Type 0

@@ -2,7 +2,7 @@
 -- `order_by` reaches, then those of the fields below it.
 use Rattle.std.specs.Prelude.{ℕ, List, [], ◌∷◌, ◌++◌, flat_map, ◌==◌}
 use Rattle.hq_base.specs.Lists.{firsts}
-use Rattle.hq_terms.specs.Bexp.{BexpTree, always, and_of, or_of, not_of, comparison, within, is_null, like, through, BexpTrees, no_bexp, bexp}
+use Rattle.hq_terms.specs.Bexp.{BexpTree, always, and_of, or_of, not_of, test, through, BexpTrees, no_bexp, bexp}
 use Rattle.hq_terms.specs.Schema.{Schema, rel}
 use Rattle.hq_terms.specs.Selected.{ListArguments}
 use Rattle.hq_ask_tree.specs.Fields.{FieldTrees, no_field, field, FieldTree, column, typename, no_queries, object, list, by_key, aggregate, introspect, PartTrees, no_part, part, PartTree, summary, nodes, part_typename}
@@ -15,10 +15,7 @@ abbrev mutual
   condition_tables (and_of bs) s t = conditions_tables bs s t
   condition_tables (or_of bs) s t = conditions_tables bs s t
   condition_tables (not_of b) s t = condition_tables b s t
-  condition_tables (comparison c op v) s t = []
-  condition_tables (within c vs negated) s t = []
-  condition_tables (is_null c wanted) s t = []
-  condition_tables (like c fold negated v) s t = []
+  condition_tables (test c tested vs negated) s t = []
   condition_tables (through r b) s t = (rel s t r).remote ∷ condition_tables b s (rel s t r).remote
 
   pub conditions_tables : BexpTrees → Schema → ℕ → List ℕ

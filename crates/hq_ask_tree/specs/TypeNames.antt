@@ -1,6 +1,7 @@
 -- A `__typename` has the name of the type that it stands in (GraphQL October 2021, 4.4: type name introspection; Hasura, API
 -- reference: GraphQL API).
 use Rattle.std.specs.Prelude.{◌≡◌, ℕ, List, [], ◌∷◌, ◌++◌, true, bytes_eq, codes, option_map, unwrap_or}
+use Rattle.hq_base.specs.Aggregates.{aggregate_suffix}
 use Rattle.hq_terms.specs.Meta.{MetaTree, tracked_table}
 use Rattle.hq_terms.specs.Schema.{Schema}
 use Rattle.hq_ask_tree.specs.Everywhere.{FromRoot}
@@ -20,7 +21,7 @@ SameName name wanted = bytes_eq name wanted ≡ true
 abbrev pub row_type_name : MetaTree → ℕ → List ℕ
 row_type_name m t = unwrap_or (option_map (λ k. k.name) (tracked_table m t)) []
 
--- the fields of sum, min or max, whose type has this name
+-- the columns of an aggregate, whose type has this name
 abbrev pub OneTakenNamed : (type : List ℕ) → AggCol → Type 0
 OneTakenNamed type (of.Column c) = Unit {0}
 OneTakenNamed type (of.Typename name) = SameName name type
@@ -32,9 +33,7 @@ TakenNamed type (c ∷ cs) = OneTakenNamed type c.field × TakenNamed type cs
 -- the fields of aggregate, where the table's type has this name
 abbrev pub OneSummaryNamed : (row_type : List ℕ) → AggField → Type 0
 OneSummaryNamed n (take.Count c distinct) = Unit {0}
-OneSummaryNamed n (take.Sum cs) = TakenNamed (n ++ codes "_sum_fields") cs
-OneSummaryNamed n (take.Min cs) = TakenNamed (n ++ codes "_min_fields") cs
-OneSummaryNamed n (take.Max cs) = TakenNamed (n ++ codes "_max_fields") cs
+OneSummaryNamed n (take.Columns a cs) = TakenNamed (n ++ aggregate_suffix a) cs
 OneSummaryNamed n (take.Typename name) = SameName name (n ++ codes "_aggregate_fields")
 
 abbrev pub SummaryNamed : (row_type : List ℕ) → List KeyedAggField → Type 0

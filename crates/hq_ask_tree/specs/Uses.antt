@@ -1,7 +1,7 @@
 -- A request uses what is allowed, and no more: each column, relationship, table and aggregate of its fields, conditions,
 -- sorts and keys (Hasura, Authorization: select permissions).
 use Rattle.std.specs.Prelude.{◌≡◌, ℕ, List, [], ◌∷◌, true, Option, Some, None}
-use Rattle.hq_terms.specs.Bexp.{BexpTree, always, and_of, or_of, not_of, comparison, within, is_null, like, through, BexpTrees, no_bexp, bexp}
+use Rattle.hq_terms.specs.Bexp.{BexpTree, always, and_of, or_of, not_of, test, through, BexpTrees, no_bexp, bexp}
 use Rattle.hq_terms.specs.Schema.{Schema, table, rel}
 use Rattle.hq_terms.specs.Selected.{SortKey, ListArguments}
 use Rattle.hq_ask_tree.specs.Allowed.{Allowed}
@@ -27,10 +27,7 @@ abbrev mutual
   UsesCondition (and_of bs) s ok t = UsesConditions bs s ok t
   UsesCondition (or_of bs) s ok t = UsesConditions bs s ok t
   UsesCondition (not_of b) s ok t = UsesCondition b s ok t
-  UsesCondition (comparison c op v) s ok t = ok.column t c ≡ true
-  UsesCondition (within c vs negated) s ok t = ok.column t c ≡ true
-  UsesCondition (is_null c wanted) s ok t = ok.column t c ≡ true
-  UsesCondition (like c fold negated v) s ok t = ok.column t c ≡ true
+  UsesCondition (test c tested vs negated) s ok t = ok.column t c ≡ true
   UsesCondition (through r b) s ok t = (ok.relationship t r ≡ true) × UsesCondition b s ok (rel s t r).remote
 
   pub UsesConditions : BexpTrees → Schema → Allowed → ℕ → Type 0
@@ -56,7 +53,7 @@ abbrev pub UsesOrigin : Origin → Allowed → ℕ → Type 0
 UsesOrigin (from_table u) ok t = ok.rows u ≡ true
 UsesOrigin (along r) ok t = ok.relationship t r ≡ true
 
--- the fields of sum, min or max over rows of table u
+-- the columns of an aggregate over rows of table u
 abbrev pub UsesOneTaken : AggCol → Allowed → ℕ → Type 0
 UsesOneTaken (of.Column c) ok u = ok.column u c ≡ true
 UsesOneTaken (of.Typename name) ok u = Unit {0}
@@ -73,9 +70,7 @@ UsesCounted (Some c) ok u = ok.column u c ≡ true
 -- the fields of aggregate over rows of table u
 abbrev pub UsesOneSummary : AggField → Allowed → ℕ → Type 0
 UsesOneSummary (take.Count c distinct) ok u = UsesCounted c ok u
-UsesOneSummary (take.Sum cs) ok u = UsesTaken cs ok u
-UsesOneSummary (take.Min cs) ok u = UsesTaken cs ok u
-UsesOneSummary (take.Max cs) ok u = UsesTaken cs ok u
+UsesOneSummary (take.Columns a cs) ok u = UsesTaken cs ok u
 UsesOneSummary (take.Typename name) ok u = Unit {0}
 
 abbrev pub UsesSummary : List KeyedAggField → Allowed → ℕ → Type 0

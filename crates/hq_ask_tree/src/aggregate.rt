@@ -1,15 +1,22 @@
-use hq_base::{List, Txt};
+use hq_base::{Aggregate, List, Txt};
 use hq_terms::ColId;
 
 /// A field of `aggregate` (Hasura, Queries: aggregate fields), over the selected rows.
 #[derive(Drop)]
 pub enum AggField {
     /// The number of rows, or of the values of a column that are not NULL; of different ones where `distinct`.
-    Count { col: Option<ColId>, distinct: bool },
-    Sum(AggCols),
-    Min(AggCols),
-    Max(AggCols),
-    Typename { name: Txt },
+    Count {
+        col: Option<ColId>,
+        distinct: bool,
+    },
+    /// An aggregate of each of these columns.
+    Columns {
+        aggregate: Aggregate,
+        columns: AggCols,
+    },
+    Typename {
+        name: Txt,
+    },
 }
 
 /// A field of `aggregate` under its response key.
@@ -22,19 +29,19 @@ pub struct KeyedAggField {
 /// The fields of `aggregate`, in collected order.
 pub type AggFields = List<KeyedAggField>;
 
-/// A field of `sum`, `min` or `max`.
+/// A column of an aggregate, as a field of its object.
 #[derive(Drop)]
 pub enum AggCol {
     Column { col: ColId },
     Typename { name: Txt },
 }
 
-/// A field of `sum`, `min` or `max` under its response key.
+/// A column of an aggregate under its response key.
 #[derive(Drop)]
 pub struct KeyedAggCol {
     pub key: Txt,
     pub field: AggCol,
 }
 
-/// The fields of `sum`, `min` or `max`, in collected order.
+/// The columns of an aggregate, in collected order.
 pub type AggCols = List<KeyedAggCol>;

@@ -35,11 +35,7 @@ fn touch_condition(
     ensures { OnOk result (touched.new.keys ≡ joined touched.old.keys (condition_tables (bexp_view bexp.now) (scope_schema scope.now) t)) }
 {
     match bexp {
-        Bexp::True
-        | Bexp::Cmp { .. }
-        | Bexp::Within { .. }
-        | Bexp::IsNull { .. }
-        | Bexp::Like { .. } => Ok(()),
+        Bexp::True | Bexp::Test { .. } => Ok(()),
         Bexp::And(bexps) => touch_conditions(touched, scope, t, bexps),
         Bexp::Or(bexps) => touch_conditions(touched, scope, t, bexps),
         Bexp::Not(inner) => touch_condition(touched, scope, t, inner),

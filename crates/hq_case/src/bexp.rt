@@ -2,7 +2,7 @@
 //! with their name.
 
 use crate::{Words, push_value};
-use hq_terms::{Bexp, BexpList, Op, Operand};
+use hq_terms::{Arity, Bexp, BexpList, Op, Operand, Test};
 
 fn push_operand(operand: &Operand, words: &mut Words) {
     match operand {
@@ -27,12 +27,18 @@ fn sign(op: Op) -> &'static str {
     }
 }
 
-fn like_word(fold: bool, negated: bool) -> &'static str {
-    match (fold, negated) {
-        (false, false) => " like ",
-        (false, true) => " not like ",
-        (true, false) => " ilike ",
-        (true, true) => " not ilike ",
+// What is said of a column by a test, or by its opposite.
+fn test_word(test: Test, negated: bool) -> &'static str {
+    match (test, negated) {
+        (Test::Compare(op), _) => sign(op),
+        (Test::Among, false) => " in ",
+        (Test::Among, true) => " not in ",
+        (Test::IsNull, false) => " is null",
+        (Test::IsNull, true) => " is not null",
+        (Test::Like { fold: false }, false) => " like ",
+        (Test::Like { fold: false }, true) => " not like ",
+        (Test::Like { fold: true }, false) => " ilike ",
+        (Test::Like { fold: true }, true) => " not ilike ",
     }
 }
 
@@ -52,19 +58,16 @@ fn push_operands(operands: &[Operand], words: &mut Words) {
     words.push("]");
 }
 
-// A column, a word and an operand.
-fn push_test(col: usize, word: &str, operand: &Operand, words: &mut Words) {
-    push_column(col, word, words);
-    push_operand(operand, words);
-}
-
-fn push_within(col: usize, negated: bool, operands: &[Operand], words: &mut Words) {
-    push_column(col, if negated { " not in " } else { " in " }, words);
-    push_operands(operands, words);
-}
-
-fn push_null(col: usize, yes: bool, words: &mut Words) {
-    push_column(col, if yes { " is null" } else { " is not null" }, words);
+// A column, what is said of it, and the operands, in brackets where they are a list.
+fn push_test(col: usize, test: Test, operands: &[Operand], negated: bool, words: &mut Words) {
+    push_column(col, test_word(test, negated), words);
+    if test.arity() == Arity::Many {
+        push_operands(operands, words);
+    } else {
+        for operand in operands {
+            push_operand(operand, words);
+        }
+    }
 }
 
 #[cycle(bexp)]
@@ -96,19 +99,12 @@ pub fn push_bexp(bexp: &Bexp, words: &mut Words) {
             words.push("not ");
             push_bexp(inner, words);
         }
-        Bexp::Cmp { col, op, operand } => push_test(col.at(), sign(*op), operand, words),
-        Bexp::Within {
+        Bexp::Test {
             col,
+            test,
             operands,
             negated,
-        } => push_within(col.at(), *negated, operands.as_slice(), words),
-        Bexp::IsNull { col, yes } => push_null(col.at(), *yes, words),
-        Bexp::Like {
-            col,
-            fold,
-            negated,
-            operand,
-        } => push_test(col.at(), like_word(*fold, *negated), operand, words),
+        } => push_test(col.at(), *test, operands.as_slice(), *negated, words),
         Bexp::Through { rel, inner } => push_through(rel.at(), inner, words),
     }
 }

@@ -5,8 +5,8 @@ use Rattle.hq_base.specs.Due.{◌>>=◌}
 use Rattle.hq_base.specs.Json.{JsonTree}
 use Rattle.hq_base.specs.Look.{bool_in, str_in, array_in}
 use Rattle.hq_base.specs.Path.{top_path}
+use Rattle.hq_base.specs.Types.{type_named}
 use Rattle.hq_base.specs.declared.value.Ty.{Ty}
-use Rattle.hq_base.specs.declared.value.Ty.TheVariants.{Integer, Bigint, Text, Boolean}
 use Rattle.hq_terms.specs.declared.table.Column.{Column}
 use Rattle.hq_catalog_read.specs.declared.field.Field.TheVariants.{Tables, Schema, Name, Columns, PrimaryKey, ForeignKeys, ColumnType, Nullable, Table, References}
 use Rattle.hq_catalog_read.specs.declared.refusal.CatalogRefusal.{CatalogRefusal}
@@ -16,15 +16,7 @@ use Rattle.hq_catalog_read.specs.declared.written.WrittenTable.{WrittenTable}
 use Rattle.hq_catalog_read.specs.Each.{each}
 use Rattle.hq_catalog_read.specs.Node.{required, at, value_of, object_at, text_member, list_member, names_member, object_member}
 
--- the type of this name
-unfoldable pub type_named : (name : List ℕ) → Option Ty
-type_named name =
-    if bytes_eq name (codes "integer") then Some Integer
-    else (if bytes_eq name (codes "bigint") then Some Bigint
-    else (if bytes_eq name (codes "text") then Some Text
-    else (if bytes_eq name (codes "boolean") then Some Boolean else None)))
-
--- a column's type, which must be one of the four
+-- a column's type, which must be there
 unfoldable pub type_member : (path : List ℕ) → JsonTree → Result Ty CatalogRefusal
 type_member path object =
     required (at path ColumnType) (option_and_then type_named (option_and_then str_in (value_of object ColumnType)))

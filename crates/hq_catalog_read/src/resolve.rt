@@ -1,7 +1,7 @@
 ghost use Rattle.std.specs.Prelude.{◌≡◌, ◌&&◌, map, slice_get, IfOk, option_copied, bytes_eq};
 ghost use Rattle.std.specs.List.{list_all, position, zip};
 ghost use Rattle.hq_base.specs.Due.{Gives};
-ghost use Rattle.hq_terms.specs.Catalog.{comparable, can_pair, type_of};
+ghost use Rattle.hq_terms.specs.Catalog.{can_pair, type_of};
 ghost use Rattle.hq_catalog_read.specs.Each.{each};
 ghost use Rattle.hq_catalog_read.specs.Node.{at};
 ghost use Rattle.hq_catalog_read.specs.Resolved.{column_named, table_named, columns_at, can_refer, foreign_key_of, settled, table_of, resolved};
@@ -10,9 +10,10 @@ use crate::CatalogRefusal;
 use crate::field::Field;
 use crate::node::misshaped;
 use crate::written::{WrittenForeignKey, WrittenTable};
-use hq_base::{List, Memory, Txt, Ty, item_path, member_path, top_path};
+use hq_base::{List, Memory, Txt, item_path, member_path, top_path};
 use hq_terms::{
     ColId, ColList, Column, ColumnList, ForeignKey, ForeignKeyList, Table, TableId, TableList,
+    can_pair,
 };
 use std::alloc::Global;
 
@@ -115,28 +116,6 @@ fn columns_at(tables: &[WrittenTable], table: TableId) -> &[Column]
     match tables.get(table.at()) {
         Some(table) => table.columns.as_slice(),
         None => &[],
-    }
-}
-
-// Whether values of the two types can be compared.
-fn are_comparable(a: Ty, b: Ty) -> bool
-    ensures { result ≡ comparable a b }
-{
-    match (a, b) {
-        (Ty::Integer | Ty::Bigint, Ty::Integer | Ty::Bigint) => true,
-        (Ty::Text, Ty::Text) => true,
-        (Ty::Boolean, Ty::Boolean) => true,
-        _ => false,
-    }
-}
-
-// Whether both columns are there, and their values can be compared.
-fn can_pair(own: &[Column], remote: &[Column], column: ColId, reference: ColId) -> bool
-    ensures { result ≡ can_pair (type_of (slice_get own.now column)) (type_of (slice_get remote.now reference)) }
-{
-    match (own.get(column.at()), remote.get(reference.at())) {
-        (Some(column), Some(reference)) => are_comparable(column.ty, reference.ty),
-        _ => false,
     }
 }
 

@@ -2,9 +2,10 @@ ghost use Rattle.std.specs.Prelude.{◌≡◌, map, option_and_then};
 ghost use Rattle.hq_base.specs.Due.{Gives};
 ghost use Rattle.hq_base.specs.Json.{json_view};
 ghost use Rattle.hq_base.specs.Look.{str_in};
+ghost use Rattle.hq_base.specs.Types.{type_named};
 ghost use Rattle.hq_catalog_read.specs.Each.{each};
 ghost use Rattle.hq_catalog_read.specs.Node.{value_of};
-ghost use Rattle.hq_catalog_read.specs.Shape.{type_named, type_member, nullable_member, column_at, columns_member, foreign_key_at, foreign_keys_member, table_at, written_tables};
+ghost use Rattle.hq_catalog_read.specs.Shape.{type_member, nullable_member, column_at, columns_member, foreign_key_at, foreign_keys_member, table_at, written_tables};
 
 use crate::CatalogRefusal;
 use crate::field::Field;
@@ -16,31 +17,17 @@ use hq_base::{Json, List, Txt, Ty, item_path, member_path, top_path};
 use hq_terms::{Column, ColumnList};
 use std::alloc::Global;
 
-// The type of this name.
-#[tactic(auto, unfolding(crate::specs::Shape::type_named))]
-fn type_named(name: &str) -> Option<Ty>
-    ensures { result ≡ type_named name.now }
-{
-    match name {
-        "integer" => Some(Ty::Integer),
-        "bigint" => Some(Ty::Bigint),
-        "text" => Some(Ty::Text),
-        "boolean" => Some(Ty::Boolean),
-        _ => None,
-    }
-}
-
-// The type of a column, where the file has one of the four.
+// The type of a column, where the file has one.
 fn type_in(object: &Json) -> Option<Ty>
     ensures { result ≡ option_and_then type_named (option_and_then str_in (value_of (json_view object.now) Field.ColumnType)) }
 {
     match text_in(object, Field::ColumnType) {
-        Some(name) => type_named(name.as_str()),
+        Some(name) => Ty::named(name.as_str()),
         None => None,
     }
 }
 
-// The type of a column, which must be one of the four.
+// The type of a column, which must be there.
 #[tactic(auto, unfolding(crate::specs::Shape::type_member))]
 fn type_member(alloc: Global, path: &Txt, object: &Json) -> Result<Ty, CatalogRefusal>
     ensures { Gives (λ ty. ty) CatalogRefusal.Memory (type_member path.now (json_view object.now)) result }

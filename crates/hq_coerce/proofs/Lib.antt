@@ -1,6 +1,5 @@
 mod Lists
 mod Operations
-mod SameMembers
+mod NoNames
 mod Steps
 mod ValueSteps
-pub mod Refusals

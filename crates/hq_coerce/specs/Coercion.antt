@@ -2,11 +2,10 @@
 -- it is no value of the type.
 use Rattle.std.specs.Prelude.{ℕ, List, [], ◌∷◌, ◌++◌, Bool, true, false, not, ◌&&◌, if◌then◌else◌, Option, Some, None, option_map, option_and_then, bytes_eq}
 use Rattle.std.specs.List.{filter_map, list_any}
+use Rattle.hq_base.specs.Cells.{cell_of, json_of}
 use Rattle.hq_base.specs.Json.{JsonTree, null, bool, int, str, arr, obj, ElementTrees, no_element, element, MemberTrees, no_member, member, elements_of, members_of, names_of}
 use Rattle.hq_base.specs.declared.value.Ty.{Ty}
-use Rattle.hq_base.specs.declared.value.Ty.TheVariants.{Bigint, Text, Boolean}
-use Rattle.hq_terms.specs.Database.{int_fits}
-use Rattle.hq_terms.specs.Reading.{whole_number}
+use Rattle.hq_terms.specs.Constants.{constant_in}
 use Rattle.hq_schema.specs.Look.{type_at, input_field_of, enum_value_of}
 use Rattle.hq_schema.specs.Schema.{TypeRefTree, named, list_of, non_null, base, ArgTree, TypeTree, SchemaTree}
 use Rattle.hq_schema.specs.declared.origin.TypeOrigin.{TypeOrigin}
@@ -27,13 +26,9 @@ is_null j = false
 abbrev pub null_value : TypeRefTree → Option JsonTree
 null_value r = if is_non_null r then None else Some null
 
--- a value of a scalar: a whole number of 32 bits, one of 64 bits or a text that spells one, a text, or a truth value
+-- a value of a scalar: a constant of the column's type that the scalar stands for, as JSON
 abbrev pub scalar_value : Ty → JsonTree → Option JsonTree
-scalar_value ty (int n) = if int_fits ty n then Some (int n) else None
-scalar_value Bigint (str s) = option_map int (whole_number Bigint s)
-scalar_value Text (str s) = Some (str s)
-scalar_value Boolean (bool b) = Some (bool b)
-scalar_value ty j = None
+scalar_value ty j = option_map (λ v. json_of (cell_of v)) (constant_in ty j)
 
 -- a value of an enum: the text of one of its names
 abbrev pub enum_value : SchemaTree → (type : ℕ) → JsonTree → Option JsonTree

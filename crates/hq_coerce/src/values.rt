@@ -1,16 +1,16 @@
 //! JSON values at the types of a schema.
 ghost use Rattle.std.specs.Prelude.{◌≡◌, ◌++◌, map, IfOk, OnOk, Some, None, option_map, option_and_then, bytes_eq, is_some};
 ghost use Rattle.std.specs.List.{filter_map, list_any};
+ghost use Rattle.hq_base.specs.Cells.{cell_of, json_of};
 ghost use Rattle.hq_base.specs.Json.{arr, json_view, member_view, elements_of, members_of, names_of};
 ghost use Rattle.hq_gql_nodes.specs.Known.{element_type, input_at};
 ghost use Rattle.hq_schema.specs.Schema.{base, arg_view, schema_view, type_ref_view};
-ghost use Rattle.hq_terms.specs.Database.{int_fits};
 ghost use Rattle.hq_coerce.specs.Coercion.{is_non_null, is_null, null_value, scalar_value, enum_value, leaf_value, in_lists, is_given, is_lacking, default_member, object_of, inputs_at, coerced, coerced_elements, coerced_members};
 
-use hq_base::{Json, JsonList, Member, Members, Memory, Txt, Ty};
+use hq_base::{Json, JsonList, Member, Members, Memory, Txt, Ty, Val};
 use hq_gql_nodes::{element_type, input_at};
 use hq_schema::{ArgDef, Schema, TypeId, TypeOrigin, TypeRef};
-use hq_terms::whole_number;
+use hq_terms::constant_in;
 use std::alloc::Global;
 
 /// Whether a type is without null.
@@ -42,59 +42,24 @@ fn null_value(ty: &TypeRef) -> Option<Json>
     Some(Json::Null)
 }
 
-// Whether a type holds a whole number.
-fn int_fits(ty: Ty, n: i128) -> bool
-    ensures { result ≡ int_fits ty n }
+// A value as JSON.
+fn value_json(value: Val) -> Json
+    ensures { json_view result ≡ json_of (cell_of value) }
 {
-    match ty {
-        Ty::Integer => i128::from(i32::MIN) <= n && n <= i128::from(i32::MAX),
-        Ty::Bigint => i128::from(i64::MIN) <= n && n <= i128::from(i64::MAX),
-        Ty::Text | Ty::Boolean => false,
-    }
-}
-
-// A whole number as a value of a scalar.
-fn number_value(ty: Ty, n: i128) -> Option<Json>
-    ensures { option_map json_view result ≡ scalar_value ty (json_view (Json.Int n)) }
-{
-    if int_fits(ty, n) {
-        return Some(Json::Int(n));
-    }
-    None
-}
-
-// A text as a value of a scalar.
-fn text_value(alloc: Global, ty: Ty, text: &Txt) -> Result<Option<Json>, Memory>
-    ensures { IfOk result (λ o. option_map json_view o ≡ scalar_value ty (json_view (Json.Str text.now))) }
-{
-    match ty {
-        Ty::Text => Ok(Some(Json::Str(text.copy(alloc)?))),
-        Ty::Bigint => match whole_number(Ty::Bigint, text.as_str()) {
-            Some(n) => Ok(Some(Json::Int(i128::from(n)))),
-            None => Ok(None),
-        },
-        Ty::Integer | Ty::Boolean => Ok(None),
-    }
-}
-
-// A truth value as a value of a scalar.
-fn truth_value(ty: Ty, b: bool) -> Option<Json>
-    ensures { option_map json_view result ≡ scalar_value ty (json_view (Json.Bool b)) }
-{
-    match ty {
-        Ty::Boolean => Some(Json::Bool(b)),
-        Ty::Integer | Ty::Bigint | Ty::Text => None,
+    match value {
+        Val::Null => Json::Null,
+        Val::Int(n) => Json::Int(i128::from(n)),
+        Val::Text(text) => Json::Str(text),
+        Val::Bool(b) => Json::Bool(b),
     }
 }
 
 fn scalar_value(alloc: Global, ty: Ty, json: &Json) -> Result<Option<Json>, Memory>
     ensures { IfOk result (λ o. option_map json_view o ≡ scalar_value ty (json_view json.now)) }
 {
-    match json {
-        Json::Int(n) => Ok(number_value(ty, *n)),
-        Json::Str(text) => text_value(alloc, ty, text),
-        Json::Bool(b) => Ok(truth_value(ty, *b)),
-        Json::Null | Json::Arr(_) | Json::Obj(_) => Ok(None),
+    match constant_in(alloc, ty, json)? {
+        Some(value) => Ok(Some(value_json(value))),
+        None => Ok(None),
     }
 }
 

@@ -5,7 +5,7 @@ use Rattle.hq_terms.specs.Selected.{ListArguments, smaller}
 use Rattle.hq_sql_tree.specs.Tree.{ExprTree, column, object, aggregate, json_agg, orders_of, PairTree, pairs_of, OrderTree, OutTree, SelectTree, rows, fold, table as from_table, JoinTree, joins_of, FilterTree, PredTree}
 use Rattle.hq_sql_tree.specs.View.{expr_view, order_view, out_view, pair_view, join_view, pred_view}
 use Rattle.hq_compiled.specs.Conditions.{with_member, where_of}
-use Rattle.hq_compiled.specs.Lists.{list_sorts, sorts_from, distinct_columns}
+use Rattle.hq_compiled.specs.Lists.{once, list_sorts, sorts_from, distinct_columns}
 use Rattle.hq_compiled.specs.Looks.{own_look}
 use Rattle.hq_compiled.specs.Masks.{filter_predicate, where_mode}
 use Rattle.hq_compiled.specs.Names.{table_alias, fold_alias, value_name}
@@ -59,6 +59,10 @@ parts_tree s g t a n m = record {
   outputs = key_outputs (list_sorts s t a) s g (own_look (table s t).columns n) t n m 0;
 }
 
+-- its DISTINCT ON
+abbrev pub distinct_tree : Schema → (t : ℕ) → ListArguments → (n : ℕ) → List ExprTree
+distinct_tree s t a n = distinct_columns (table s t).columns (own_look (table s t).columns n) (once a).distinct
+
 -- the members of WHERE of such a list: its tie, the filter, and its own `where`
 abbrev pub members_tree : Schema → Rights → (t : ℕ) → ListArguments → (n : ℕ) → (tie : PredTree) → List PredTree
 members_tree s g t a n tie =
@@ -68,7 +72,7 @@ members_tree s g t a n tie =
 -- the body of such a list
 unfoldable pub body_tree : Schema → Rights → (t : ℕ) → ListArguments → (n : ℕ) → (tie : PredTree) → BodyTree
 body_tree s g t a n tie = record {
-  distinct = distinct_columns (table s t).columns (own_look (table s t).columns n) a.distinct;
+  distinct = distinct_tree s t a n;
   condition = where_of (members_tree s g t a n tie);
   orders = (parts_tree s g t a n (sorts_from s g t [] a n)).orders;
   joins = (parts_tree s g t a n (sorts_from s g t [] a n)).joins;

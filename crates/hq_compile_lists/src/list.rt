@@ -9,7 +9,7 @@ ghost use Rattle.hq_compiled.specs.Lists.{list_sorts, distinct_columns, sorts_fr
 ghost use Rattle.hq_compiled.specs.Names.{fold_alias, value_name};
 ghost use Rattle.hq_compiled.specs.Sorts.{sorts_numbers, output_orders};
 ghost use Rattle.hq_compile_context.specs.Contexts.{context_schema, context_rights};
-ghost use Rattle.hq_compile_lists.specs.Bodies.{body_view, body_tree, parts_view, parts_tree, members_tree, array_tree, row_view, rows_tree, object_rows_tree, list_tree};
+ghost use Rattle.hq_compile_lists.specs.Bodies.{body_view, body_tree, parts_view, parts_tree, distinct_tree, members_tree, array_tree, row_view, rows_tree, object_rows_tree, list_tree};
 
 use crate::row::{Row, object};
 use hq_ask_tree::Args;
@@ -17,7 +17,9 @@ use hq_base::{Memory, Txt};
 use hq_compile_context::{Context, RowUse, fold_alias, row_limit, value_name, wide};
 use hq_compile_predicates::{row_members, where_predicate};
 use hq_compile_sorts::{SortParts, list_sorts, output_orders, sort_parts};
-use hq_compile_tables::{compared_column, from_table, value_output, where_of, with_member};
+use hq_compile_tables::{
+    compared_column, each_once, from_table, value_output, where_of, with_member,
+};
 use hq_sql_tree::{Agg, Expr, ExprList, JoinList, OrderList, Out, OutList, Pred, PredList, Select};
 use hq_terms::{ColId, Column, TableId};
 use std::alloc::Global;
@@ -45,6 +47,20 @@ fn distinct_columns(
         exprs.push(compared_column(alloc, columns, number, *column)?)?;
     }
     Ok(exprs)
+}
+
+// DISTINCT ON of a list of rows of table t at the alias of number n.
+fn list_distinct(
+    alloc: Global,
+    context: &Context,
+    t: TableId,
+    n: u64,
+    args: &Args,
+) -> Result<ExprList, Memory>
+    ensures { IfOk result (λ es. map expr_view es.items ≡ distinct_tree (context_schema context.now) t (arguments_view args.now) n) }
+{
+    let once = each_once(alloc, args.distinct.as_slice())?;
+    distinct_columns(alloc, context.columns(t), n, once.as_slice())
 }
 
 // The members of WHERE of a list of rows of table t at the alias of number n.
@@ -101,7 +117,7 @@ pub fn list_body(
     ensures numbers { OnOk result (next.new ≡ children_from (context_schema context.now) (context_rights context.now) t [] (arguments_view args.now) n) }
 {
     let members = list_members(alloc, context, t, n, tie, args, next)?;
-    let distinct = distinct_columns(alloc, context.columns(t), n, args.distinct.as_slice())?;
+    let distinct = list_distinct(alloc, context, t, n, args)?;
     let sorts = list_parts(alloc, context, t, n, args, next)?;
     Ok(ListBody {
         distinct,

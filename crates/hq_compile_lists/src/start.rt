@@ -1,7 +1,8 @@
 //! Where the rows of a field begin.
-ghost use Rattle.std.specs.Prelude.{◌≡◌, ◌+◌, [], IfOk, OnOk, map, IfErr};
+ghost use Rattle.std.specs.Prelude.{◌≡◌, ◌+◌, ◌∷◌, [], IfOk, OnOk, map, IfErr};
 ghost use Rattle.hq_terms.specs.Schema.{table, rel};
 ghost use Rattle.hq_terms.specs.declared.op.Op.TheVariants.{Eq};
+ghost use Rattle.hq_terms.specs.declared.test.Test.TheVariants.{Compare};
 ghost use Rattle.hq_ask_tree.specs.Fields.{origin_of};
 ghost use Rattle.hq_ask_tree.specs.Resolve.{origin_table};
 ghost use Rattle.hq_sql_tree.specs.Tree as tree;
@@ -16,7 +17,7 @@ ghost use Rattle.hq_compile_lists.specs.Starts.{start_origin, start_table, start
 use hq_ask_tree::Args;
 use hq_base::{Memory, Val};
 use hq_compile_context::{Context, take_number};
-use hq_compile_tables::{compared_column, joined_by_and, link, literal};
+use hq_compile_tables::{compared_column, comparison, joined_by_and, link, literal};
 use hq_sql_tree::{Pred, PredList};
 use hq_terms::{ColId, Column, Op, RelId, TableId};
 use std::alloc::Global;
@@ -60,15 +61,11 @@ fn key_member(
     column: ColId,
     value: &Val,
 ) -> Result<Pred, Memory>
-    ensures { IfOk result (λ p. pred_view p ≡ tree.compare (compared_at columns.now (own_look columns.now number column) column) Eq (literal value.now)) }
+    ensures { IfOk result (λ p. pred_view p ≡ tree.test (compared_at columns.now (own_look columns.now number column) column) (Compare Eq) (literal value.now ∷ [])) }
 {
     let left = compared_column(alloc, columns, number, column)?;
     let right = literal(alloc, value)?;
-    Ok(Pred::Cmp {
-        left,
-        op: Op::Eq,
-        right,
-    })
+    comparison(alloc, left, Op::Eq, right)
 }
 
 // The columns of a key equal these values.

@@ -14,8 +14,8 @@ ghost use Rattle.hq_compile_predicates.specs.Unmasked.{unmasked, own_predicate, 
 use hq_base::Memory;
 use hq_compile_context::{Context, take_number};
 use hq_compile_tables::{
-    comparison, exists_where, first_member, is_null, joined_by_and, joined_by_or, like, link,
-    negation, with_member, within,
+    column_test, exists_where, first_member, joined_by_and, joined_by_or, link, negation,
+    with_member,
 };
 use hq_sql_tree::{Pred, PredList};
 use hq_terms::{Bexp, BexpList, RelId, TableId};
@@ -121,28 +121,20 @@ fn predicate<C: Counted>(
             let inner = predicate(alloc, context, counted, t, p, inner, next)?;
             negation(alloc, inner)
         }
-        Bexp::Cmp { col, op, operand } => {
-            comparison(alloc, context.columns(t), p, *col, *op, operand)
-        }
-        Bexp::Within {
+        Bexp::Test {
             col,
+            test,
             operands,
             negated,
-        } => within(
+        } => column_test(
             alloc,
             context.columns(t),
             p,
             *col,
+            *test,
             operands.as_slice(),
             *negated,
         ),
-        Bexp::IsNull { col, yes } => is_null(alloc, context.columns(t), p, *col, *yes),
-        Bexp::Like {
-            col,
-            fold,
-            negated,
-            operand,
-        } => like(alloc, context.columns(t), p, *col, *fold, *negated, operand),
         Bexp::Through { rel, inner } => {
             remote_row(alloc, context, counted, t, p, *rel, inner, next)
         }

@@ -3,13 +3,14 @@ ghost use Rattle.std.specs.Prelude.{◌≡◌, ◌++◌, [], IfOk, OnOk, map, tr
 ghost use Rattle.hq_terms.specs.Selected.{ascending, entries, sorts_or};
 ghost use Rattle.hq_ask_tree.specs.Arguments.{arguments_view, sort_view};
 ghost use Rattle.hq_compiled.specs.Sorts.{shown_sorts, own_sorts};
-ghost use Rattle.hq_compiled.specs.Lists.{list_sorts};
+ghost use Rattle.hq_compiled.specs.Lists.{once, list_sorts};
 ghost use Rattle.hq_compile_context.specs.Contexts.{context_schema};
 ghost use Rattle.hq_compile_sorts.specs.RowSorts.{row_sort_view};
 
 use hq_ask_tree::{Args, RelIdList, Sort};
 use hq_base::{List, Memory};
 use hq_compile_context::Context;
+use hq_compile_tables::each_once;
 use hq_terms::{ColId, TableId};
 use std::alloc::Global;
 
@@ -91,13 +92,16 @@ fn push_key(alloc: Global, sorts: &mut RowSortList, key: &[ColId]) -> Result<(),
     Ok(())
 }
 
-// The entries that count: with none in `order_by`, those of the distinct columns.
+// The entries that count: with none in `order_by`, those of the distinct columns, each once.
 fn entry_sorts(alloc: Global, args: &Args) -> Result<RowSortList, Memory>
-    ensures { IfOk result (λ sorts. map row_sort_view sorts ≡ shown_sorts (entries (arguments_view args.now)) []) }
+    ensures { IfOk result (λ sorts. map row_sort_view sorts ≡ shown_sorts (entries (once (arguments_view args.now))) []) }
 {
     let mut sorts = List::new(alloc);
     match args.sorts.as_slice() {
-        [] => push_distinct(alloc, &mut sorts, args.distinct.as_slice())?,
+        [] => {
+            let columns = each_once(alloc, args.distinct.as_slice())?;
+            push_distinct(alloc, &mut sorts, columns.as_slice())?
+        }
         entries => push_entries(alloc, &mut sorts, entries)?,
     }
     Ok(sorts)

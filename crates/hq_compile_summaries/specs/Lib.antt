@@ -1,2 +1,1 @@
-pub mod Takings
 pub mod SummaryTrees

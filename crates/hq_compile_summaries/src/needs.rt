@@ -1,28 +1,12 @@
 //! The columns that aggregates need, each once, in order of first need; and whether an aggregate occurs.
 ghost use Rattle.std.specs.Prelude.{◌≡◌, [], IfOk, OnOk};
-ghost use Rattle.hq_compiled.specs.Looks.{is_used};
-ghost use Rattle.hq_compiled.specs.Aggregates.{add_new, add_column, add_columns, add_counted, add_field, needed, place_of, is_taken, some_taken, is_aggregate, some_aggregate};
+ghost use Rattle.hq_compiled.specs.Aggregates.{add_column, add_columns, add_counted, add_field, needed, place_of, is_taken, some_taken, is_aggregate, some_aggregate};
 
 use hq_ask_tree::{AggCol, AggField, KeyedAggCol, KeyedAggField};
 use hq_base::{List, Memory};
+use hq_compile_tables::add_new;
 use hq_terms::{ColId, ColList};
 use std::alloc::Global;
-
-fn is_used(column: ColId, columns: &[ColId]) -> bool
-    ensures { result ≡ is_used column columns.now }
-{
-    columns.iter().any(|other| column.at() == other.at())
-}
-
-fn add_new(column: ColId, columns: &mut ColList) -> Result<(), Memory>
-    ensures { OnOk result (columns.new ≡ add_new column columns.old) }
-{
-    if is_used(column, columns.as_slice()) {
-        return Ok(());
-    }
-    columns.push(column)?;
-    Ok(())
-}
 
 fn add_column(field: &AggCol, columns: &mut ColList) -> Result<(), Memory>
     ensures { OnOk result (columns.new ≡ add_column field.now columns.old) }
@@ -56,9 +40,10 @@ fn add_field(field: &AggField, columns: &mut ColList) -> Result<(), Memory>
 {
     match field {
         AggField::Count { col, .. } => add_counted(*col, columns),
-        AggField::Sum(fields) => add_columns(fields.as_slice(), columns),
-        AggField::Min(fields) => add_columns(fields.as_slice(), columns),
-        AggField::Max(fields) => add_columns(fields.as_slice(), columns),
+        AggField::Columns {
+            columns: fields,
+            ..
+        } => add_columns(fields.as_slice(), columns),
         AggField::Typename { .. } => Ok(()),
     }
 }
@@ -108,9 +93,7 @@ fn is_aggregate(field: &AggField) -> bool
 {
     match field {
         AggField::Count { .. } => true,
-        AggField::Sum(fields) => some_taken(fields.as_slice()),
-        AggField::Min(fields) => some_taken(fields.as_slice()),
-        AggField::Max(fields) => some_taken(fields.as_slice()),
+        AggField::Columns { columns, .. } => some_taken(columns.as_slice()),
         AggField::Typename { .. } => false,
     }
 }

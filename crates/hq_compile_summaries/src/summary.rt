@@ -11,11 +11,10 @@ ghost use Rattle.hq_compiled.specs.Lists.{children_from};
 ghost use Rattle.hq_compile_context.specs.Contexts.{context_schema, context_rights};
 ghost use Rattle.hq_compile_lists.specs.Starts.{start_tie};
 ghost use Rattle.hq_compile_summaries.specs.SummaryTrees.{needed_rows_tree, folded_tree, summary_tree};
-ghost use Rattle.hq_compile_summaries.specs.Takings.{taking_of};
 
 use crate::needs::{needed, place_of, some_aggregate};
 use hq_ask_tree::{AggCol, AggField, KeyedAggCol, KeyedAggField};
-use hq_base::Memory;
+use hq_base::{Aggregate, Memory};
 use hq_compile_context::{
     Context, RowUse, fold_alias, needed_name, row_limit, unit_name, value_name,
 };
@@ -24,14 +23,6 @@ use hq_compile_tables::{is_text, own_column};
 use hq_sql_tree::{Agg, Expr, ExprPair, ExprPairList, Out, OutList, Select};
 use hq_terms::{ColId, Column, TableId};
 use std::alloc::Global;
-
-/// What is taken over the values of a column.
-#[derive(Clone, Copy)]
-pub enum Taking {
-    Sum,
-    Min,
-    Max,
-}
 
 // A needed column at the fold of number n.
 fn needed_cell(
@@ -52,32 +43,28 @@ fn needed_cell(
     })
 }
 
-fn taken(alloc: Global, taking: Taking, value: Expr) -> Result<Expr, Memory>
-    ensures { IfOk result (λ e. expr_view e ≡ tree.aggregate (taking_of taking (expr_view value))) }
+fn taken(alloc: Global, aggregate: Aggregate, value: Expr) -> Result<Expr, Memory>
+    ensures { IfOk result (λ e. expr_view e ≡ tree.aggregate (tree.take aggregate (expr_view value))) }
 {
     let value = Box::new(alloc, value)?;
-    match taking {
-        Taking::Sum => Ok(Expr::Agg(Agg::Sum(value))),
-        Taking::Min => Ok(Expr::Agg(Agg::Min(value))),
-        Taking::Max => Ok(Expr::Agg(Agg::Max(value))),
-    }
+    Ok(Expr::Agg(Agg::Take { aggregate, value }))
 }
 
-// A field of sum, min or max.
+// A column of an aggregate.
 fn taken_value(
     alloc: Global,
-    taking: Taking,
+    aggregate: Aggregate,
     columns: &[Column],
     n: u64,
     needed: &[ColId],
     field: &AggCol,
 ) -> Result<Expr, Memory>
-    ensures { IfOk result (λ e. expr_view e ≡ taken_value (taking_of taking) columns.now n needed.now field.now) }
+    ensures { IfOk result (λ e. expr_view e ≡ taken_value aggregate columns.now n needed.now field.now) }
 {
     match field {
         AggCol::Column { col } => {
             let value = needed_cell(alloc, n, needed, *col, is_text(columns, *col))?;
-            taken(alloc, taking, value)
+            taken(alloc, aggregate, value)
         }
         AggCol::Typename { name } => Ok(Expr::Text(name.copy(alloc)?)),
     }
@@ -85,48 +72,48 @@ fn taken_value(
 
 fn taken_pair(
     alloc: Global,
-    taking: Taking,
+    aggregate: Aggregate,
     columns: &[Column],
     n: u64,
     needed: &[ColId],
     keyed: &KeyedAggCol,
 ) -> Result<ExprPair, Memory>
-    ensures { IfOk result (λ pair. pair_view pair ≡ record { name = keyed.now.key; value = taken_value (taking_of taking) columns.now n needed.now keyed.now.field }) }
+    ensures { IfOk result (λ pair. pair_view pair ≡ record { name = keyed.now.key; value = taken_value aggregate columns.now n needed.now keyed.now.field }) }
 {
     let name = keyed.key.copy(alloc)?;
-    let value = taken_value(alloc, taking, columns, n, needed, &keyed.field)?;
+    let value = taken_value(alloc, aggregate, columns, n, needed, &keyed.field)?;
     Ok(ExprPair { name, value })
 }
 
 fn taken_pairs(
     alloc: Global,
-    taking: Taking,
+    aggregate: Aggregate,
     columns: &[Column],
     n: u64,
     needed: &[ColId],
     fields: &[KeyedAggCol],
 ) -> Result<ExprPairList, Memory>
-    ensures { IfOk result (λ pairs. map pair_view pairs.items ≡ taken_pairs (taking_of taking) columns.now n needed.now fields.now) }
+    ensures { IfOk result (λ pairs. map pair_view pairs.items ≡ taken_pairs aggregate columns.now n needed.now fields.now) }
 {
     let mut pairs = Vec::new(alloc);
     for keyed in fields {
-        pairs.push(taken_pair(alloc, taking, columns, n, needed, keyed)?)?;
+        pairs.push(taken_pair(alloc, aggregate, columns, n, needed, keyed)?)?;
     }
     Ok(pairs)
 }
 
-// The object of sum, min or max.
+// The object of the columns of an aggregate.
 fn taken_object(
     alloc: Global,
-    taking: Taking,
+    aggregate: Aggregate,
     columns: &[Column],
     n: u64,
     needed: &[ColId],
     fields: &[KeyedAggCol],
 ) -> Result<Expr, Memory>
-    ensures { IfOk result (λ e. expr_view e ≡ tree.object (tree.pairs_of (taken_pairs (taking_of taking) columns.now n needed.now fields.now))) }
+    ensures { IfOk result (λ e. expr_view e ≡ tree.object (tree.pairs_of (taken_pairs aggregate columns.now n needed.now fields.now))) }
 {
-    let pairs = taken_pairs(alloc, taking, columns, n, needed, fields)?;
+    let pairs = taken_pairs(alloc, aggregate, columns, n, needed, fields)?;
     Ok(object(pairs))
 }
 
@@ -173,30 +160,10 @@ fn summary_value(
         AggField::Count { col, distinct } => {
             count_value(alloc, columns, n, needed, *col, *distinct)
         }
-        AggField::Sum(fields) => taken_object(
-            alloc,
-            Taking::Sum,
-            columns,
-            n,
-            needed,
-            fields.as_slice(),
-        ),
-        AggField::Min(fields) => taken_object(
-            alloc,
-            Taking::Min,
-            columns,
-            n,
-            needed,
-            fields.as_slice(),
-        ),
-        AggField::Max(fields) => taken_object(
-            alloc,
-            Taking::Max,
-            columns,
-            n,
-            needed,
-            fields.as_slice(),
-        ),
+        AggField::Columns {
+            aggregate,
+            columns: fields,
+        } => taken_object(alloc, *aggregate, columns, n, needed, fields.as_slice()),
         AggField::Typename { name } => Ok(Expr::Text(name.copy(alloc)?)),
     }
 }

@@ -1,16 +1,13 @@
 -- The members of a WHERE, one after the other.
 use Rattle.std.proofs.Common.{◌≡◌, ◌∙◌, List, [], ◌++◌, refl, ap}
-use Rattle.hq_sql_tree.specs.Tree.{PredTree, always, never, compare, like, within, is_null, negation, all_of, any_of, exists}
+use Rattle.hq_sql_tree.specs.Tree.{PredTree, always, never, test, negation, all_of, any_of, exists}
 use Rattle.hq_compiled.specs.Conditions.{with_member}
 
 -- what stands behind a member stands behind those that follow it
 pub member_behind : (p : PredTree) (ps qs : List PredTree) → with_member p ps ++ qs ≡ with_member p (ps ++ qs)
 member_behind always ps qs = refl
 member_behind never ps qs = refl
-member_behind (compare a op b) ps qs = refl
-member_behind (like a b fold) ps qs = refl
-member_behind (within e es) ps qs = refl
-member_behind (is_null e) ps qs = refl
+member_behind (test e t es) ps qs = refl
 member_behind (negation p) ps qs = refl
 member_behind (all_of ps) qs rs = refl
 member_behind (any_of ps) qs rs = refl

@@ -1,14 +1,14 @@
 //! Columns at an alias.
-ghost use Rattle.std.specs.Prelude.{◌≡◌, IfOk, false};
+ghost use Rattle.std.specs.Prelude.{◌≡◌, [], IfOk, OnOk, false};
 ghost use Rattle.hq_sql_tree.specs.Tree as tree;
 ghost use Rattle.hq_sql_tree.specs.View.{expr_view};
-ghost use Rattle.hq_compiled.specs.Looks.{name_of, is_text_column, own_look, cell_at, compared_at};
+ghost use Rattle.hq_compiled.specs.Looks.{name_of, is_text_column, own_look, cell_at, compared_at, compares, tested_at, is_used, add_new, add_all};
 ghost use Rattle.hq_compiled.specs.Masks.{value_place};
 
-use hq_base::{Memory, Txt, Ty};
+use hq_base::{List, Memory, Txt, Ty};
 use hq_compile_context::{join_alias, table_alias, value_name};
 use hq_sql_tree::Expr;
-use hq_terms::{ColId, Column};
+use hq_terms::{ColId, ColList, Column, Test};
 use std::alloc::Global;
 
 // The name of a column; empty beyond the table's columns.
@@ -75,6 +75,27 @@ pub fn compared_column(
     column_at(alloc, columns, number, column, collate)
 }
 
+// Whether a test compares the value that it looks at.
+fn compares(test: Test) -> bool
+    ensures { result ≡ compares test }
+{
+    !matches!(test, Test::IsNull)
+}
+
+/// The same column, as a test looks at it.
+pub(crate) fn tested_column(
+    alloc: Global,
+    columns: &[Column],
+    number: u64,
+    column: ColId,
+    test: Test,
+) -> Result<Expr, Memory>
+    ensures { IfOk result (λ e. expr_view e ≡ tested_at columns.now (own_look columns.now number column) column test) }
+{
+    let collate = compares(test) && is_text(columns, column);
+    column_at(alloc, columns, number, column, collate)
+}
+
 /// The value that the join of this number gives, with COLLATE "C" or without.
 pub fn value_at(alloc: Global, number: u64, collate: bool) -> Result<Expr, Memory>
     ensures { IfOk result (λ e. expr_view e ≡ tree.column (value_place number).alias (value_place number).name collate) }
@@ -93,4 +114,32 @@ pub fn value_column(alloc: Global, number: u64) -> Result<Expr, Memory>
     ensures { IfOk result (λ e. expr_view e ≡ cell_at (value_place number)) }
 {
     value_at(alloc, number, false)
+}
+
+fn is_used(column: ColId, columns: &[ColId]) -> bool
+    ensures { result ≡ is_used column columns.now }
+{
+    columns.iter().any(|other| column.at() == other.at())
+}
+
+/// A column behind others, where it is not among them.
+pub fn add_new(column: ColId, columns: &mut ColList) -> Result<(), Memory>
+    ensures { OnOk result (columns.new ≡ add_new column columns.old) }
+{
+    if is_used(column, columns.as_slice()) {
+        return Ok(());
+    }
+    columns.push(column)?;
+    Ok(())
+}
+
+/// Columns, each once, in order of first occurrence.
+pub fn each_once(alloc: Global, columns: &[ColId]) -> Result<ColList, Memory>
+    ensures { IfOk result (λ once. once ≡ add_all columns.now []) }
+{
+    let mut once = List::new(alloc);
+    for column in columns {
+        add_new(*column, &mut once)?;
+    }
+    Ok(once)
 }

@@ -1,14 +1,16 @@
-//! Conditions: literals, lists of conditions in one, WHERE, and tests of one column.
-ghost use Rattle.std.specs.Prelude.{◌≡◌, ◌++◌, [], IfOk, map, not, cond};
+//! Conditions: literals, lists of conditions in one, WHERE, and a test of one column.
+ghost use Rattle.std.specs.Prelude.{◌≡◌, ◌++◌, ◌∷◌, [], IfOk, map, cond};
+ghost use Rattle.hq_terms.specs.Tests.{is_of_nothing};
+ghost use Rattle.hq_terms.specs.declared.test.Test.TheVariants.{Compare};
 ghost use Rattle.hq_sql_tree.specs.Tree as tree;
 ghost use Rattle.hq_sql_tree.specs.View.{expr_view, pred_view, filter_view};
-ghost use Rattle.hq_compiled.specs.Conditions.{literal, operand_literal, joined_by_and, joined_by_or, with_member, where_of, negation_if, within_list};
-ghost use Rattle.hq_compiled.specs.Looks.{own_look, cell_at, compared_at};
+ghost use Rattle.hq_compiled.specs.Conditions.{literal, operand_literal, joined_by_and, joined_by_or, with_member, where_of, negation_if, first_literal, literals_for, test_of};
+ghost use Rattle.hq_compiled.specs.Looks.{own_look, tested_at};
 
-use crate::columns::{compared_column, own_column};
+use crate::columns::tested_column;
 use hq_base::{Memory, Val};
 use hq_sql_tree::{Expr, ExprList, Pred, PredList};
-use hq_terms::{ColId, Column, Op, Operand};
+use hq_terms::{Arity, ColId, Column, Op, Operand, Test};
 use std::alloc::Global;
 
 /// The literal of a value.
@@ -41,6 +43,16 @@ fn operand_literals(alloc: Global, operands: &[Operand]) -> Result<ExprList, Mem
         literals.push(operand_literal(alloc, operand)?)?;
     }
     Ok(literals)
+}
+
+// The literal of the first operand; that of NULL where there is none.
+fn first_literal(alloc: Global, operands: &[Operand]) -> Result<Expr, Memory>
+    ensures { IfOk result (λ e. expr_view e ≡ first_literal operands.now) }
+{
+    match operands {
+        [] => literal(alloc, &Val::Null),
+        [first, ..] => operand_literal(alloc, first),
+    }
 }
 
 /// Conditions that all hold, as one.
@@ -117,89 +129,76 @@ fn negation_if(alloc: Global, negated: bool, pred: Pred) -> Result<Pred, Memory>
     }
 }
 
-/// A comparison of a column at the alias of this number.
-pub fn comparison(
-    alloc: Global,
-    columns: &[Column],
-    number: u64,
-    column: ColId,
-    op: Op,
-    operand: &Operand,
-) -> Result<Pred, Memory>
-    ensures { IfOk result (λ p. pred_view p ≡ tree.compare (compared_at columns.now (own_look columns.now number column) column) op (operand_literal operand.now)) }
+// One expression, alone.
+fn one_expr(alloc: Global, expr: Expr) -> Result<ExprList, Memory>
+    ensures { IfOk result (λ es. map expr_view es.items ≡ expr_view expr ∷ []) }
 {
-    let left = compared_column(alloc, columns, number, column)?;
-    let right = operand_literal(alloc, operand)?;
-    Ok(Pred::Cmp { left, op, right })
+    let mut exprs = Vec::new(alloc);
+    exprs.push(expr)?;
+    Ok(exprs)
 }
 
-// IN no value: nothing is in it.
-fn within_nothing(negated: bool) -> Pred
+/// A comparison of two values.
+pub fn comparison(alloc: Global, left: Expr, op: Op, right: Expr) -> Result<Pred, Memory>
+    ensures { IfOk result (λ p. pred_view p ≡ tree.test (expr_view left) (Compare op) (expr_view right ∷ [])) }
+{
+    let operands = one_expr(alloc, right)?;
+    Ok(Pred::Test {
+        value: left,
+        test: Test::Compare(op),
+        operands,
+    })
+}
+
+// The literals of as many operands as are taken; one that is absent is NULL.
+fn literals_for(alloc: Global, arity: Arity, operands: &[Operand]) -> Result<ExprList, Memory>
+    ensures { IfOk result (λ es. map expr_view es.items ≡ literals_for arity operands.now) }
+{
+    match arity {
+        Arity::Nothing => Ok(Vec::new(alloc)),
+        Arity::One => {
+            let first = first_literal(alloc, operands)?;
+            one_expr(alloc, first)
+        }
+        Arity::Many => operand_literals(alloc, operands),
+    }
+}
+
+// Whether a value is tested to be one of none, for which it is not looked at.
+fn is_of_nothing(test: Test, operands: &[Operand]) -> bool
+    ensures { result ≡ is_of_nothing test operands.now }
+{
+    matches!(test, Test::Among) && operands.is_empty()
+}
+
+// No value is one of none.
+fn one_of_nothing(negated: bool) -> Pred
     ensures { pred_view result ≡ cond negated tree.always tree.never }
 {
     if negated { Pred::True } else { Pred::False }
 }
 
-// IN for a value and a list.
-fn within_values(
-    alloc: Global,
-    value: Expr,
-    operands: &[Operand],
-    negated: bool,
-) -> Result<Pred, Memory>
-    ensures { IfOk result (λ p. pred_view p ≡ negation_if negated (tree.within (expr_view value) (map operand_literal operands.now))) }
-{
-    let list = operand_literals(alloc, operands)?;
-    negation_if(alloc, negated, Pred::Within { value, list })
-}
-
-/// IN for a column at the alias of this number.
-pub fn within(
+/// A test of a column at the alias of this number, or its opposite where negated.
+pub fn column_test(
     alloc: Global,
     columns: &[Column],
     number: u64,
     column: ColId,
+    test: Test,
     operands: &[Operand],
     negated: bool,
 ) -> Result<Pred, Memory>
-    ensures { IfOk result (λ p. pred_view p ≡ within_list (compared_at columns.now (own_look columns.now number column) column) operands.now negated) }
+    ensures { IfOk result (λ p. pred_view p ≡ test_of (tested_at columns.now (own_look columns.now number column) column test) test operands.now negated) }
 {
-    match operands {
-        [] => Ok(within_nothing(negated)),
-        [_, ..] => {
-            let value = compared_column(alloc, columns, number, column)?;
-            within_values(alloc, value, operands, negated)
-        }
+    if is_of_nothing(test, operands) {
+        return Ok(one_of_nothing(negated));
     }
-}
-
-/// IS NULL for a column at the alias of this number, or its opposite.
-pub fn is_null(
-    alloc: Global,
-    columns: &[Column],
-    number: u64,
-    column: ColId,
-    wanted: bool,
-) -> Result<Pred, Memory>
-    ensures { IfOk result (λ p. pred_view p ≡ negation_if (not wanted) (tree.is_null (cell_at (own_look columns.now number column)))) }
-{
-    let value = own_column(alloc, columns, number, column)?;
-    negation_if(alloc, !wanted, Pred::IsNull(value))
-}
-
-/// LIKE for a column at the alias of this number, or its opposite.
-pub fn like(
-    alloc: Global,
-    columns: &[Column],
-    number: u64,
-    column: ColId,
-    fold: bool,
-    negated: bool,
-    operand: &Operand,
-) -> Result<Pred, Memory>
-    ensures { IfOk result (λ p. pred_view p ≡ negation_if negated (tree.like (compared_at columns.now (own_look columns.now number column) column) (operand_literal operand.now) fold)) }
-{
-    let left = compared_column(alloc, columns, number, column)?;
-    let right = operand_literal(alloc, operand)?;
-    negation_if(alloc, negated, Pred::Like { left, right, fold })
+    let value = tested_column(alloc, columns, number, column, test)?;
+    let operands = literals_for(alloc, test.arity(), operands)?;
+    let pred = Pred::Test {
+        value,
+        test,
+        operands,
+    };
+    negation_if(alloc, negated, pred)
 }

@@ -5,10 +5,12 @@ mod columns;
 mod condition;
 mod table;
 
-pub use columns::{column_at, compared_column, is_text, own_column, value_at, value_column};
+pub use columns::{
+    add_new, column_at, compared_column, each_once, is_text, own_column, value_at, value_column,
+};
 pub use condition::{
-    comparison, first_member, is_null, joined_by_and, joined_by_or, like, literal, negation,
-    where_of, with_member, within,
+    column_test, comparison, first_member, joined_by_and, joined_by_or, literal, negation,
+    where_of, with_member,
 };
 pub use table::{
     exists_where, first_row, first_select, from_table, key_orders, link, one_join, value_output,

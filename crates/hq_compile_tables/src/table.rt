@@ -2,6 +2,7 @@
 ghost use Rattle.std.specs.Prelude.{◌≡◌, ◌∷◌, [], IfOk, map, Some, None, true, false};
 ghost use Rattle.hq_terms.specs.Schema.{table, rel};
 ghost use Rattle.hq_terms.specs.declared.op.Op.TheVariants.{Eq};
+ghost use Rattle.hq_terms.specs.declared.test.Test.TheVariants.{Compare};
 ghost use Rattle.hq_sql_tree.specs.Tree as tree;
 ghost use Rattle.hq_sql_tree.specs.View.{expr_view, order_view, out_view, select_view, join_view, from_view, pred_view, filter_view};
 ghost use Rattle.hq_compiled.specs.Looks.{own_look, compared_at};
@@ -14,7 +15,7 @@ ghost use Rattle.hq_compile_context.specs.Contexts.{context_schema};
 ghost use Rattle.hq_compile_tables.specs.Selects.{exists_where, first_row};
 
 use crate::columns::compared_column;
-use crate::condition::{joined_by_and, where_of};
+use crate::condition::{comparison, joined_by_and, where_of};
 use hq_base::{Memory, Txt};
 use hq_compile_context::{Context, join_alias, table_alias, unit_name, value_name};
 use hq_sql_tree::{
@@ -65,16 +66,12 @@ fn link_member(
     q: u64,
     pair: Pair,
 ) -> Result<Pred, Memory>
-    ensures { IfOk result (λ pred. pred_view pred ≡ tree.compare (compared_at remote.now (own_look remote.now q pair.remote) pair.remote) Eq
-        (compared_at columns.now (own_look columns.now p pair.own) pair.own)) }
+    ensures { IfOk result (λ pred. pred_view pred ≡ tree.test (compared_at remote.now (own_look remote.now q pair.remote) pair.remote) (Compare Eq)
+        (compared_at columns.now (own_look columns.now p pair.own) pair.own ∷ [])) }
 {
     let left = compared_column(alloc, remote, q, pair.remote)?;
     let right = compared_column(alloc, columns, p, pair.own)?;
-    Ok(Pred::Cmp {
-        left,
-        op: Op::Eq,
-        right,
-    })
+    comparison(alloc, left, Op::Eq, right)
 }
 
 fn link_members(

@@ -1,10 +1,12 @@
 -- The aliases of a statement differ: each part binds aliases with the numbers of its range alone, and each once.
-use Rattle.std.proofs.Common.{◌≡◌, ℕ, ◌<◌, ◌≤◌, ◌^◌, List, [], ◌∷◌, ◌++◌, length, Bool, true, false, cond, not, bytes_eq, ◌+◌, refl, ap, sym, ◌∙◌, arith, append_assoc, append-nil}
+use Rattle.std.proofs.Common.{◌≡◌, ℕ, ◌<◌, ◌≤◌, ◌^◌, List, [], ◌∷◌, ◌++◌, length, Bool, true, false, cond, bytes_eq, ◌+◌, refl, ap, sym, ◌∙◌, arith, append_assoc, append-nil}
 use Rattle.std.specs.List.{list_any}
 use Rattle.hq_base.specs.Lists.{all_differ}
 use Rattle.hq_base.specs.declared.value.Val.{Val}
-use Rattle.hq_terms.specs.Bexp.{BexpTree, always, and_of, or_of, not_of, comparison, within, is_null, like, through, BexpTrees, no_bexp, bexp}
+use Rattle.hq_terms.specs.Bexp.{BexpTree, always, and_of, or_of, not_of, test, through, BexpTrees, no_bexp, bexp}
 use Rattle.hq_terms.specs.Permission.{Mask}
+use Rattle.hq_terms.specs.Tests.{arity, is_of_nothing}
+use Rattle.hq_terms.specs.declared.test.Test.{Test}
 use Rattle.hq_terms.specs.Schema.{Schema, table, rel}
 use Rattle.hq_terms.specs.Selected.{ListArguments}
 use Rattle.hq_terms.specs.declared.bexp.Operand.{Operand}
@@ -19,7 +21,7 @@ use Rattle.hq_sql_tree.specs.WellFormed.{aliases_in, aliases_in_joins, aliases_i
 use Rattle.hq_compiled.specs.Names.{table_alias, fold_alias, join_alias}
 use Rattle.hq_compiled.specs.Looks.{Look}
 use Rattle.hq_compiled.specs.Rights.{Rights}
-use Rattle.hq_compiled.specs.Conditions.{joined_by_and, joined_by_or, with_member, where_of, negation_if, within_list}
+use Rattle.hq_compiled.specs.Conditions.{joined_by_and, joined_by_or, with_member, where_of, negation_if, literals_for, test_of}
 use Rattle.hq_compiled.specs.Predicates.{link_members, link, Mode, columns_in, guard_from, inner_from, numbers, numbers_all, predicate, predicates, filter_mode, own_numbers, own_predicate}
 use Rattle.hq_compiled.specs.Masks.{mask_numbers, mask_joins, mask_select, used_masks, masks, filter_predicate, shown_look, where_mode}
 use Rattle.hq_compiled.specs.Selects.{filter_from, behind_filter, first_select}
@@ -171,10 +173,7 @@ of_where (p ∷ ps) l = of_and (p ∷ ps) l
 of_member : (p : PredTree) (ps : List PredTree) (l : Texts) → lists_in (with_member p ps) l ≡ aliases_in_pred p (lists_in ps l)
 of_member tree.always ps l = refl
 of_member tree.never ps l = refl
-of_member (tree.compare x o y) ps l = refl
-of_member (tree.like x y fold) ps l = refl
-of_member (tree.within x xs) ps l = refl
-of_member (tree.is_null x) ps l = refl
+of_member (tree.test x t xs) ps l = refl
 of_member (tree.negation p) ps l = refl
 of_member (tree.all_of qs) ps l = refl
 of_member (tree.any_of qs) ps l = refl
@@ -210,14 +209,11 @@ key_none columns look cs vs l = of_and (key_members columns look cs vs) l ∙ go
     go (c ∷ cs) [] = refl
     go (c ∷ cs) (v ∷ vs) = go cs vs
 
-negation_none : (negated : Bool) (p : PredTree) (l : Texts) → aliases_in_pred p l ≡ l → aliases_in_pred (negation_if negated p) l ≡ l
-negation_none true p l e = e
-negation_none false p l e = e
-
-within_none : (e : ExprTree) (os : List Operand) (negated : Bool) (l : Texts) → aliases_in_pred (within_list e os negated) l ≡ l
-within_none e [] true l = refl
-within_none e [] false l = refl
-within_none e (o ∷ os) negated l = negation_none negated _ l refl
+test_none : (e : ExprTree) (t : Test) (vs : List Operand) (negated : Bool) (l : Texts) → aliases_in_pred (test_of e t vs negated) l ≡ l
+test_none e t vs negated l =
+    let go : (b c : Bool) → aliases_in_pred (cond b (cond c tree.always tree.never) (negation_if c (tree.test e t (literals_for (arity t) vs)))) l ≡ l =
+    elim [ true ↦ elim [ true ↦ refl | false ↦ refl ] | false ↦ elim [ true ↦ refl | false ↦ refl ] ] in
+    go (is_of_nothing t vs) negated
 
 -- ---- joins in front of others
 
@@ -270,10 +266,7 @@ module _ (s : Schema) (m : Mode) (ok : ModeBinds m) where
     predicate_binds (or_of bs) look t p n bound =
         binds_as n (n + numbers_all bs s m t) (lists_in (predicates bs s m look t p n)) _ (of_or (predicates bs s m look t p n)) (predicates_bind bs look t p n bound)
     predicate_binds (not_of b) look t p n bound = predicate_binds b look t p n bound
-    predicate_binds (comparison c op v) look t p n bound = binds_none n (n + 0)
-    predicate_binds (within c vs negated) look t p n bound = binds_as n (n + 0) (λ l. l) _ (within_none _ vs negated) (binds_none n (n + 0))
-    predicate_binds (is_null c wanted) look t p n bound = binds_as n (n + 0) (λ l. l) _ (λ l. negation_none (not wanted) _ l refl) (binds_none n (n + 0))
-    predicate_binds (like c fold negated v) look t p n bound = binds_as n (n + 0) (λ l. l) _ (λ l. negation_none negated _ l refl) (binds_none n (n + 0))
+    predicate_binds (test c tested vs negated) look t p n bound = binds_as n (n + 0) (λ l. l) _ (test_none _ tested vs negated) (binds_none n (n + 0))
     predicate_binds (through r b) look t p n bound =
         let u : ℕ = (rel s t r).remote in
         let cs : List ℕ = columns_in b in

@@ -12,7 +12,7 @@ use Rattle.hq_ask_tree.specs.Allowed.{existing}
 use Rattle.hq_ask_tree.specs.Conditions.{FieldFits, PartFits}
 use Rattle.hq_ask_tree.specs.Everywhere.{Everywhere}
 use Rattle.hq_ask_tree.specs.Laws.{UsesExisting, GrantsDecide}
-use Rattle.hq_ask_tree.specs.ResponseKeys.{FieldKeys, PartKeys}
+use Rattle.hq_ask_tree.specs.ResponseKeys.{keys_of, FieldKeys, PartKeys}
 use Rattle.hq_ask_tree.specs.Uses.{UsesHere, UsesPart}
 use Rattle.hq_ask_tree.specs.WellFormed.{IsRequest}
 use Rattle.hq_ask_tree.specs.Fields.{FieldTrees}
@@ -25,7 +25,7 @@ use Rattle.hq_compiled.proofs.Meaning.{means_resolved}
 use Rattle.hq_compiled.proofs.WellFormed.{is_well_formed}
 use Rattle.hq_compiled.specs.Asked.{asked_rights, table_request, IsAsked, MeansAsked}
 use Rattle.hq_compiled.proofs.Relationships.{rel_fine}
-use Rattle.hq_compiled.proofs.FineRequests.{fields_fine, fields_apart}
+use Rattle.hq_compiled.proofs.FineRequests.{fields_fine, keys_differ}
 use Rattle.hq_compiled.proofs.FineGrants.{grant_fine}
 use Rattle.hq_compiled.proofs.LowRequests.{height_levels, fields_low}
 use Rattle.hq_compiled.proofs.TableRequests.{tables_asked}
@@ -54,7 +54,7 @@ well_asked tables m a there catalog fitting request bare held fits =
     let low : LowRights g 300 = (λ t. (granted t).low, λ t. subst (Each (λ x. depth x.shown ≤ 300)) (sym (granted t).unmasked) tt) in
     let high = height_levels fs in
     let few : 2 * fields_height fs + (2 * 400 + 2 * 300 + 200 + 6) ≤ 2000 = let l = r.shallow in omega (arith, high, l) in
-    is_well_formed fs tables m g 300 400 200 catalog rights fine (fields_apart fs r.keys.0) held.0 low (fields_low s fs (length tables) r.fit) few fits
+    is_well_formed fs tables m g 300 400 200 catalog rights fine (keys_differ (keys_of fs) r.keys.0) held.0 low (fields_low s fs (length tables) r.fit) few fits
 
 pub means_asked : (tables : List Table) (m : MetaTree) (session : Session) (a : AskTree) (d : List (List Row)) → GrantsDecide tables m session (table_request a) d → MeansAsked tables m session a d
 means_asked tables m session a d decide catalog database request is held =

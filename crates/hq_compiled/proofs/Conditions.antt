@@ -1,20 +1,23 @@
--- What lists of conditions and tests of one column mean.
-use Rattle.std.proofs.Common.{◌≡◌, List, [], ◌∷◌, map, Bool, true, false, not, ◌&&◌, refl, sym, ap, ap₂, ◌∙◌}
+-- What lists of conditions and tests of a value mean.
+use Rattle.std.proofs.Common.{◌≡◌, List, [], ◌∷◌, map, Bool, true, false, cond, ◌&&◌, refl, sym, ap, ap₂, ◌∙◌}
 use Rattle.hq_base.specs.Cells.{CellTree, cell_of, null, int, text, bool, json}
 use Rattle.hq_base.specs.declared.value.Val.{Val}
 use Rattle.hq_base.specs.declared.value.Val.TheVariants as val
 use Rattle.hq_terms.specs.declared.truth.Truth.{Truth}
 use Rattle.hq_terms.specs.declared.truth.Truth.TheVariants.{Yes, No, Unknown}
 use Rattle.hq_terms.specs.declared.op.Op.TheVariants.{Eq}
-use Rattle.hq_terms.specs.Logic.{is_true, truth_of, not3, and3, or3, negated_if, compared, among, null_test, matched}
-use Rattle.hq_terms.specs.Truth.{operand_cell, null_test_as}
+use Rattle.hq_terms.specs.Logic.{is_true, and3, or3, negated_if, compared, among, matched}
+use Rattle.hq_terms.specs.Tests.{arity, is_of_nothing, test_truth}
+use Rattle.hq_terms.specs.declared.test.Test.{Test}
+use Rattle.hq_terms.specs.declared.test.Test.TheVariants.{Compare, Among, IsNull, Like}
+use Rattle.hq_terms.specs.Truth.{operand_cell}
 use Rattle.hq_terms.specs.declared.bexp.Operand.{Operand}
 use Rattle.hq_terms.specs.declared.bexp.Operand.TheVariants.{Const, Session}
 use Rattle.hq_terms.specs.declared.op.Op.{Op}
 use Rattle.hq_sql_tree.specs.Tree as tree
 use Rattle.hq_sql_tree.specs.Tree.{ExprTree, PredTree, preds_of}
 use Rattle.hq_sql_tree.specs.Meaning.{Scope, World, value, kept, truth_at, all_true, any_true}
-use Rattle.hq_compiled.specs.Conditions.{literal, operand_literal, joined_by_and, joined_by_or, with_member, where_of, negation_if, within_list}
+use Rattle.hq_compiled.specs.Conditions.{literal, operand_literal, joined_by_and, joined_by_or, with_member, where_of, negation_if, literals_for, test_of}
 
 -- ---- truth
 
@@ -88,10 +91,7 @@ module _ (w : World) (scope : Scope) where
   pub kept_member : (p : PredTree) (ps : List PredTree) → all_kept (with_member p ps) ≡ (is_true (truth_at p w scope) && all_kept ps)
   kept_member tree.always ps = refl
   kept_member tree.never ps = refl
-  kept_member (tree.compare l op r) ps = refl
-  kept_member (tree.like l r fold) ps = refl
-  kept_member (tree.within e es) ps = refl
-  kept_member (tree.is_null e) ps = refl
+  kept_member (tree.test e t es) ps = refl
   kept_member (tree.negation p) ps = refl
   kept_member (tree.all_of qs) ps = refl
   kept_member (tree.any_of qs) ps = refl
@@ -125,7 +125,7 @@ module _ (w : World) (scope : Scope) where
   compares_null : (op : Op) (a : CellTree) → compared op a (value (literal val.Null) [] scope) ≡ compared op a null
   compares_null op a = compares op a val.Null
 
-  pub compares_operand : (op : Op) (a : CellTree) (o : Operand) → compared op a (value (operand_literal o) [] scope) ≡ compared op a (operand_cell o)
+  compares_operand : (op : Op) (a : CellTree) (o : Operand) → compared op a (value (operand_literal o) [] scope) ≡ compared op a (operand_cell o)
   compares_operand op a (Const v) = compares op a v
   compares_operand op a (Session name) = compares_null op a
 
@@ -139,7 +139,7 @@ module _ (w : World) (scope : Scope) where
   matches fold a (val.Text s) = refl
   matches fold a (val.Bool b) = refl
 
-  pub matches_operand : (fold : Bool) (a : CellTree) (o : Operand) → matched fold a (value (operand_literal o) [] scope) ≡ matched fold a (operand_cell o)
+  matches_operand : (fold : Bool) (a : CellTree) (o : Operand) → matched fold a (value (operand_literal o) [] scope) ≡ matched fold a (operand_cell o)
   matches_operand fold a (Const v) = matches fold a v
   matches_operand fold a (Session name) = matches fold a val.Null
 
@@ -147,20 +147,37 @@ module _ (w : World) (scope : Scope) where
   among_literals a [] = refl
   among_literals a (o ∷ os) = ap₂ or3 (compares_operand Eq a o) (among_literals a os)
 
-  -- ---- negations
+  -- ---- tests
 
-  pub negation_means : (negated : Bool) (p : PredTree) → truth_at (negation_if negated p) w scope ≡ negated_if negated (truth_at p w scope)
+  -- a test of the literals of its operands is one of their cells
+  operands_mean : (t : Test) (a : CellTree) (vs : List Operand) → test_truth t a (map (λ e. value e [] scope) (literals_for (arity t) vs)) ≡ test_truth t a (map operand_cell vs)
+  operands_mean (Compare op) a [] = compares op a val.Null
+  operands_mean (Compare op) a (v ∷ vs) = compares_operand op a v
+  operands_mean Among a vs = among_literals a vs
+  operands_mean IsNull a vs = refl
+  operands_mean (Like fold) a [] = matches fold a val.Null
+  operands_mean (Like fold) a (v ∷ vs) = matches_operand fold a v
+
+  nothing_no : (t : Test) (a : CellTree) (vs : List Operand) → is_of_nothing t vs ≡ true → test_truth t a (map operand_cell vs) ≡ No
+  nothing_no Among a [] h = refl
+  nothing_no Among a (v ∷ vs) h = absurd cc
+  nothing_no _ a vs h = absurd cc
+
+  nothing_means : (negated : Bool) → truth_at (cond negated tree.always tree.never) w scope ≡ negated_if negated No
+  nothing_means true = refl
+  nothing_means false = refl
+
+  negation_means : (negated : Bool) (p : PredTree) → truth_at (negation_if negated p) w scope ≡ negated_if negated (truth_at p w scope)
   negation_means true p = refl
   negation_means false p = refl
 
-  pub within_means : (e : ExprTree) (os : List Operand) (negated : Bool) → truth_at (within_list e os negated) w scope ≡ negated_if negated (among (map operand_cell os) (value e [] scope))
-  within_means e [] true = refl
-  within_means e [] false = refl
-  within_means e (o ∷ os) negated =
-      negation_means negated (tree.within e (map operand_literal (o ∷ os))) ∙ ap (negated_if negated) (among_literals (value e [] scope) (o ∷ os))
-
-  pub null_means : (e : ExprTree) (wanted : Bool) → truth_at (negation_if (not wanted) (tree.is_null e)) w scope ≡ null_test_as wanted (value e [] scope)
-  null_means e true = refl
-  null_means e false =
-      let go : (b : Bool) → not3 (truth_of b) ≡ truth_of (not b) = elim [ true ↦ refl | false ↦ refl ] in
-      go (null_test (value e [] scope))
+  -- a test has the truth of the cell that its value shows, which matters only where it is looked at
+  pub test_means : (e : ExprTree) (cell : CellTree) (t : Test) (vs : List Operand) (negated : Bool) → (is_of_nothing t vs ≡ false → value e [] scope ≡ cell)
+      → truth_at (test_of e t vs negated) w scope ≡ negated_if negated (test_truth t cell (map operand_cell vs))
+  test_means e cell t vs negated shows =
+      let p : PredTree = tree.test e t (literals_for (arity t) vs) in
+      let go : (b : Bool) → is_of_nothing t vs ≡ b → truth_at (cond b (cond negated tree.always tree.never) (negation_if negated p)) w scope ≡ negated_if negated (test_truth t cell (map operand_cell vs)) = elim [
+        | true ↦ λ h. nothing_means negated ∙ ap (negated_if negated) (sym (nothing_no t cell vs h))
+        | false ↦ λ h. negation_means negated p ∙ ap (negated_if negated) (operands_mean t (value e [] scope) vs ∙ ap (λ c. test_truth t c (map operand_cell vs)) (shows h))
+      ] in
+      go (is_of_nothing t vs) refl

@@ -5,8 +5,9 @@ use Rattle.std.proofs.lemmas.Bool.{and_parts, false≢true, eq-eqb, eqb-true}
 use Rattle.hq_base.specs.Lists.{firsts}
 use Rattle.hq_terms.specs.Selected.{SortKey, ascending, sorts_or}
 use Rattle.hq_ask_tree.specs.Conditions.{is_plain_sort, fits_distinct}
-use Rattle.hq_compiled.specs.Looks.{is_used}
+use Rattle.hq_compiled.specs.Looks.{is_used, add_all}
 use Rattle.hq_compiled.specs.Fine.{begin_columns}
+use Rattle.hq_compiled.proofs.Once.{used_once, all_once}
 
 -- equality of numbers is symmetric
 same_sym : (c d : ℕ) → (c == d) ≡ (d == c)
@@ -98,9 +99,13 @@ by_themselves ds =
 
 -- ---- the entries that count
 
-pub entries_begin : (distinct : List ℕ) (ks : List SortKey) → fits_distinct distinct ks ≡ true → begin_columns distinct [] (sorts_or ks (ascending distinct)) ≡ true
-entries_begin distinct [] h = by_themselves distinct
+pub entries_begin : (distinct : List ℕ) (ks : List SortKey) → fits_distinct distinct ks ≡ true → begin_columns (add_all distinct []) [] (sorts_or ks (ascending (add_all distinct []))) ≡ true
+entries_begin distinct [] h = by_themselves (add_all distinct [])
 entries_begin distinct (k ∷ ks) h =
     let n : ℕ = length (firsts (λ c d. c == d) distinct) in
     let parts = and_parts _ _ (and_parts _ _ h).1 in
-    begun distinct [] n (k ∷ ks) (plain_used distinct (take n (k ∷ ks)) parts.0) parts.1
+    let lead : List SortKey = take n (k ∷ ks) in
+    let plain : list_all (λ j. is_plain_sort j && is_used j.column (add_all distinct [])) lead ≡ true =
+    all_weaken (λ j. is_plain_sort j && is_used j.column distinct) (λ j. is_plain_sort j && is_used j.column (add_all distinct [])) lead
+    (λ j g. subst (λ b. (is_plain_sort j && b) ≡ true) (sym (used_once j.column distinct)) g) (plain_used distinct lead parts.0) in
+    begun (add_all distinct []) [] n (k ∷ ks) plain (all_once (λ c. list_any (λ j. j.column == c) lead) distinct ∙ parts.1)

@@ -1,76 +1,112 @@
 -- A condition over a table of the catalog is one whose columns, operands and relationships are there and of their kinds.
-use Rattle.std.proofs.Common.{◌≡◌, ℕ, List, [], ◌∷◌, Bool, true, Option, Some, None, is_some, refl, sym, subst, ◌∙◌, ◌≤◌}
-use Rattle.std.specs.Prelude.{slice_get, nat_le}
+use Rattle.std.proofs.Common.{◌≡◌, ℕ, List, [], ◌∷◌, length, map, Bool, true, ◌&&◌, Option, Some, None, is_some, refl, sym, subst, ◌≤◌}
+use Rattle.std.specs.Prelude.{slice_get, nat_le, codes}
 use Rattle.std.specs.List.{list_all}
 use Rattle.std.proofs.lemmas.Bool.{and_parts, leb-true, false≢true}
-use Rattle.hq_base.specs.Lists.{Each}
 use Rattle.hq_base.specs.declared.value.Ty.{Ty}
 use Rattle.hq_base.specs.declared.value.Ty.TheVariants.{Integer, Bigint, Text, Boolean}
 use Rattle.hq_base.specs.declared.value.Val.{Val}
 use Rattle.hq_base.specs.declared.value.Val.TheVariants as val
-use Rattle.hq_terms.specs.Bexp.{BexpTree, always, and_of, or_of, not_of, comparison, within, is_null, like, through, BexpTrees, no_bexp, bexp, depth}
+use Rattle.hq_terms.specs.Bexp.{BexpTree, always, and_of, or_of, not_of, test, through, BexpTrees, no_bexp, bexp, depth}
+use Rattle.hq_terms.specs.Filters.{column_ty, constant_fits, is_pattern, test_fits, operand_fits, is_test, of_type, is_filter, are_filters}
 use Rattle.hq_terms.specs.Database.{is_text}
-use Rattle.hq_terms.specs.Filters.{column_ty, constant_fits, operand_fits, pattern_fits, of_type, is_filter, are_filters}
 use Rattle.hq_terms.specs.Schema.{Schema, table, rel}
+use Rattle.hq_terms.specs.Tests.{arity, has_arity, takes, applies}
 use Rattle.hq_terms.specs.declared.bexp.Operand.{Operand}
 use Rattle.hq_terms.specs.declared.bexp.Operand.TheVariants.{Const, Session}
+use Rattle.hq_terms.specs.declared.test.Arity.{Arity}
+use Rattle.hq_terms.specs.declared.test.Arity.TheVariants.{Nothing, One, Many}
+use Rattle.hq_terms.specs.declared.test.Test.{Test}
+use Rattle.hq_terms.specs.declared.test.Test.TheVariants.{IsNull, Like}
 use Rattle.hq_ask_tree.specs.Conditions.{is_constant, is_bound, are_bound, is_condition}
-use Rattle.hq_sql_tree.specs.WellFormed.{Kind, kind_of_type, text}
-use Rattle.hq_compiled.specs.Fine.{OperandFits, PatternFits, FineRel, FineBexp, FineBexps}
-use Rattle.hq_compiled.proofs.Relationships.{column_is, column_there}
+use Rattle.hq_sql_tree.specs.Tree as tree
+use Rattle.hq_sql_tree.specs.Tree.{ExprTree}
+use Rattle.hq_sql_tree.specs.WellFormed as well
+use Rattle.hq_sql_tree.specs.WellFormed.{Aliases, kind_of_type, kind, is_item, is_tested, is_operand}
+use Rattle.hq_compiled.specs.Looks.{compares}
+use Rattle.hq_compiled.specs.Conditions.{literal, operand_literal, literals_for}
+use Rattle.hq_compiled.specs.Fine.{column_alone, TestFits, FineRel, FineBexp, FineBexps}
+use Rattle.hq_compiled.proofs.Relationships.{column_is}
+use Rattle.hq_compiled.proofs.Scopes.{compared_of}
+use Rattle.hq_compiled.proofs.TypedConditions.{two}
 
 -- a number that is tested to be at most another is
 pub at_most : (n k : ℕ) → nat_le n k ≡ true → n ≤ k
 at_most n k h = leb-true n k h
 
--- ---- operands
+-- ---- tests of columns
 
-pub constant_fine : (ty : Ty) (v : Val) → constant_fits ty v ≡ true → OperandFits (kind_of_type ty) (Const v)
-constant_fine ty val.Null h = absurd (false≢true h)
-constant_fine Integer (val.Int n) h = refl
-constant_fine Bigint (val.Int n) h = refl
-constant_fine Text (val.Int n) h = absurd (false≢true h)
-constant_fine Boolean (val.Int n) h = absurd (false≢true h)
-constant_fine Integer (val.Text s) h = absurd (false≢true h)
-constant_fine Bigint (val.Text s) h = absurd (false≢true h)
-constant_fine Text (val.Text s) h = refl
-constant_fine Boolean (val.Text s) h = absurd (false≢true h)
-constant_fine Integer (val.Bool b) h = absurd (false≢true h)
-constant_fine Bigint (val.Bool b) h = absurd (false≢true h)
-constant_fine Text (val.Bool b) h = absurd (false≢true h)
-constant_fine Boolean (val.Bool b) h = refl
+-- a constant is compared with a value of its type's kind
+constant_item : (scope : Aliases) (e : ExprTree) (ty : Ty) (v : Val) → kind scope e ≡ Some (kind_of_type ty) → constant_fits ty v ≡ true → is_item scope e (literal v) ≡ true
+constant_item scope e ty val.Null h f = cc
+constant_item scope e Integer (val.Int n) h f = rw h refl
+constant_item scope e Bigint (val.Int n) h f = rw h refl
+constant_item scope e Text (val.Int n) h f = cc
+constant_item scope e Boolean (val.Int n) h f = cc
+constant_item scope e Integer (val.Text s) h f = cc
+constant_item scope e Bigint (val.Text s) h f = cc
+constant_item scope e Text (val.Text s) h f = rw h refl
+constant_item scope e Boolean (val.Text s) h f = cc
+constant_item scope e Integer (val.Bool b) h f = cc
+constant_item scope e Bigint (val.Bool b) h f = cc
+constant_item scope e Text (val.Bool b) h f = cc
+constant_item scope e Boolean (val.Bool b) h f = rw h refl
 
-operand_fine : (ty : Ty) (v : Operand) → operand_fits ty v ≡ true → is_constant v ≡ true → OperandFits (kind_of_type ty) v
-operand_fine ty (Const v) h g = constant_fine ty v h
-operand_fine ty (Session name) h g = absurd (false≢true g)
+pattern_item : (v : Val) → is_pattern v ≡ true → well.is_pattern (literal v) ≡ true
+pattern_item val.Null f = cc
+pattern_item (val.Int n) f = cc
+pattern_item (val.Text s) f = f
+pattern_item (val.Bool b) f = cc
 
-operands_fine : (ty : Ty) (vs : List Operand) → list_all (operand_fits ty) vs ≡ true → list_all is_constant vs ≡ true → Each (OperandFits (kind_of_type ty)) vs
-operands_fine ty [] h g = tt
-operands_fine ty (v ∷ vs) h g =
-    let a = and_parts (operand_fits ty v) (list_all (operand_fits ty) vs) h in
-    let b = and_parts (is_constant v) (list_all is_constant vs) g in
-    (operand_fine ty v a.0 b.0, operands_fine ty vs a.1 b.1)
+-- an operand that fits a test of a column is one of the test of a value of the column's kind
+module _ (scope : Aliases) (e : ExprTree) (ty : Ty) (t : Test) (h : kind scope e ≡ Some (kind_of_type ty)) where
+  operand_const : (t : Test) (v : Val) → test_fits t ty v ≡ true → is_operand scope t e (literal v) ≡ true
+  operand_const (Like fold) v f = pattern_item v f
+  operand_const _ v f = constant_item scope e ty v h f
 
-pattern_fine : (v : Operand) → pattern_fits v ≡ true → is_constant v ≡ true → PatternFits v
-pattern_fine (Const val.Null) h g = absurd (false≢true h)
-pattern_fine (Const (val.Int n)) h g = absurd (false≢true h)
-pattern_fine (Const (val.Text s)) h g = h
-pattern_fine (Const (val.Bool b)) h g = absurd (false≢true h)
-pattern_fine (Session name) h g = absurd (false≢true g)
+  operand_typed : (v : Operand) → operand_fits t ty v ≡ true → is_constant v ≡ true → is_operand scope t e (operand_literal v) ≡ true
+  operand_typed (Const v) f g = operand_const t v f
+  operand_typed (Session name) f g = cc
+
+  operands_typed : (vs : List Operand) → list_all (operand_fits t ty) vs ≡ true → list_all is_constant vs ≡ true → list_all (is_operand scope t e) (map operand_literal vs) ≡ true
+  operands_typed [] f g = refl
+  operands_typed (v ∷ vs) f g =
+      let a = and_parts (operand_fits t ty v) (list_all (operand_fits t ty) vs) f in
+      let b = and_parts (is_constant v) (list_all is_constant vs) g in
+      two (is_operand scope t e (operand_literal v)) (list_all (is_operand scope t e) (map operand_literal vs)) (operand_typed v a.0 b.0) (operands_typed vs a.1 b.1)
+
+  literals_typed : (k : Arity) (vs : List Operand) → has_arity k (length vs) ≡ true → list_all (operand_fits t ty) vs ≡ true → list_all is_constant vs ≡ true → list_all (is_operand scope t e) (literals_for k vs) ≡ true
+  literals_typed Nothing vs n f g = refl
+  literals_typed One [] n f g = cc
+  literals_typed One (v ∷ vs) n f g =
+      two (is_operand scope t e (operand_literal v)) true
+      (operand_typed v (and_parts (operand_fits t ty v) (list_all (operand_fits t ty) vs) f).0 (and_parts (is_constant v) (list_all is_constant vs) g).0) refl
+  literals_typed Many vs n f g = operands_typed vs f g
+
+-- a column of a type that a test applies to
+value_alone : (ty : Ty) (t : Test) → applies t ty ≡ true → is_tested (column_alone ty) t (tree.column (codes "t") (codes "c") (compares t && is_text ty)) ≡ true
+value_alone Integer (Like fold) f = cc
+value_alone Bigint (Like fold) f = cc
+value_alone Text (Like fold) f = refl
+value_alone Boolean (Like fold) f = cc
+value_alone ty IsNull f = refl
+value_alone ty _ f = compared_of (column_alone ty) (codes "t") (codes "c") ty refl
+
+-- a test of a column of a type, of constants
+pub test_fine : (ty : Ty) (t : Test) (vs : List Operand) → is_test t vs ty ≡ true → list_all is_constant vs ≡ true → TestFits t ty vs
+test_fine ty t vs f g =
+    let e : ExprTree = tree.column (codes "t") (codes "c") (compares t && is_text ty) in
+    let parts = and_parts (takes t (length vs) && applies t ty) (list_all (operand_fits t ty) vs) f in
+    let of = and_parts (takes t (length vs)) (applies t ty) parts.0 in
+    two (is_tested (column_alone ty) t e) (list_all (is_operand (column_alone ty) t e) (literals_for (arity t) vs)) (value_alone ty t of.1) (literals_typed (column_alone ty) e ty t refl (arity t) vs of.0 parts.1 g)
 
 -- ---- columns whose type passes a test
 
-pub of_column : (P : Ty → Type 0) (test : Ty → Bool) (s : Schema) (t c : ℕ) → ((ty : Ty) → test ty ≡ true → P ty) → of_type test (column_ty s t c) ≡ true → (ty : Ty) × (column_ty s t c ≡ Some ty) × P ty
-of_column P test s t c step h =
-    let by : (o : Option Ty) → column_ty s t c ≡ o → of_type test o ≡ true → (ty : Ty) × (column_ty s t c ≡ Some ty) × P ty =
+pub of_column : (P : Ty → Type 0) (passes : Ty → Bool) (s : Schema) (t c : ℕ) → ((ty : Ty) → passes ty ≡ true → P ty) → of_type passes (column_ty s t c) ≡ true → (ty : Ty) × (column_ty s t c ≡ Some ty) × P ty
+of_column P passes s t c step h =
+    let by : (o : Option Ty) → column_ty s t c ≡ o → of_type passes o ≡ true → (ty : Ty) × (column_ty s t c ≡ Some ty) × P ty =
     elim [ None ↦ λ is g. absurd (false≢true g) | Some ty ↦ λ is g. (ty, is, step ty g) ] in
     by (column_ty s t c) refl h
-
-text_kind : (ty : Ty) → is_text ty ≡ true → kind_of_type ty ≡ text
-text_kind Integer h = absurd (false≢true h)
-text_kind Bigint h = absurd (false≢true h)
-text_kind Text h = refl
-text_kind Boolean h = absurd (false≢true h)
 
 -- ---- conditions
 
@@ -81,20 +117,10 @@ module _ (s : Schema) (rels : (t r : ℕ) → is_some (slice_get (table s t).rel
     filter_fine (and_of bs) t h g = filters_fine bs t h g
     filter_fine (or_of bs) t h g = filters_fine bs t h g
     filter_fine (not_of b) t h g = filter_fine b t h g
-    filter_fine (comparison c op v) t h g =
-        let at = of_column (λ ty. OperandFits (kind_of_type ty) v) (λ ty. operand_fits ty v) s t c (λ ty f. operand_fine ty v f g) h in
+    filter_fine (test c tested vs negated) t h g =
+        let at = of_column (λ ty. TestFits tested ty vs) (is_test tested vs) s t c (λ ty f. test_fine ty tested vs f g) h in
         let is = column_is s t c at.0 at.1 in
-        (is.0, subst (λ (k : Kind). OperandFits k v) (sym is.1) at.2)
-    filter_fine (within c vs negated) t h g =
-        let at = of_column (λ ty. Each (OperandFits (kind_of_type ty)) vs) (λ ty. list_all (operand_fits ty) vs) s t c (λ ty f. operands_fine ty vs f g) h in
-        let is = column_is s t c at.0 at.1 in
-        (is.0, subst (λ (k : Kind). Each (OperandFits k) vs) (sym is.1) at.2)
-    filter_fine (is_null c wanted) t h g = column_there s t c h
-    filter_fine (like c fold negated v) t h g =
-        let parts = and_parts _ _ h in
-        let at = of_column (λ ty. kind_of_type ty ≡ text) is_text s t c text_kind parts.0 in
-        let is = column_is s t c at.0 at.1 in
-        (is.0, is.1 ∙ at.2, pattern_fine v parts.1 g)
+        (is.0, subst (λ (ty : Ty). TestFits tested ty vs) (sym is.1) at.2)
     filter_fine (through r b) t h g =
         let parts = and_parts _ _ h in
         (rels t r parts.0, filter_fine b (rel s t r).remote parts.1 g)

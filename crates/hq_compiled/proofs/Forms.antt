@@ -1,19 +1,25 @@
 -- The statement is a tree of the grammar: no list that must not be empty is so, and aggregates stand in folds.
-use Rattle.std.proofs.Common.{◌≡◌, ℕ, suc, ◌+◌, ◌<◌, ◌≤◌, List, [], ◌∷◌, ◌++◌, length, Bool, true, false, cond, ◌&&◌, ◌||◌, not, Option, Some, None, map, refl, ap, arith}
+use Rattle.std.proofs.Common.{◌≡◌, ℕ, suc, ◌+◌, ◌<◌, ◌≤◌, List, [], ◌∷◌, ◌++◌, length, Bool, true, false, cond, ◌&&◌, ◌||◌, Option, Some, None, map, refl, ap, arith}
 use Rattle.std.specs.Prelude.{nat_le}
 use Rattle.std.specs.List.{list_all}
 use Rattle.std.proofs.lemmas.Bool.{le-leb}
+use Rattle.hq_base.specs.declared.aggregate.Aggregate.{Aggregate}
 use Rattle.hq_base.specs.declared.value.Val.{Val}
 use Rattle.hq_base.specs.declared.value.Val.TheVariants as val
-use Rattle.hq_terms.specs.Bexp.{BexpTree, always, and_of, or_of, not_of, comparison, within, is_null, like, through, BexpTrees, no_bexp, bexp}
+use Rattle.hq_terms.specs.Bexp.{BexpTree, always, and_of, or_of, not_of, test, through, BexpTrees, no_bexp, bexp}
 use Rattle.hq_terms.specs.Permission.{Mask}
 use Rattle.hq_terms.specs.Schema.{Schema, table, rel}
+use Rattle.hq_terms.specs.Tests.{arity, has_arity, is_of_nothing}
 use Rattle.hq_terms.specs.Selected.{SortKey, ListArguments, entries, smaller}
 use Rattle.hq_terms.specs.declared.bexp.Operand.{Operand}
 use Rattle.hq_terms.specs.declared.bexp.Operand.TheVariants.{Const, Session}
 use Rattle.hq_terms.specs.declared.meta.Pair.{Pair}
 use Rattle.hq_terms.specs.declared.meta.Rel.{Rel}
 use Rattle.hq_terms.specs.declared.table.Column.{Column}
+use Rattle.hq_terms.specs.declared.test.Arity.{Arity}
+use Rattle.hq_terms.specs.declared.test.Arity.TheVariants.{Nothing, One, Many}
+use Rattle.hq_terms.specs.declared.test.Test.{Test}
+use Rattle.hq_terms.specs.declared.test.Test.TheVariants.{Among}
 use Rattle.hq_ask_tree.specs.Fields.{Origin, from_table, along, FieldTrees, no_field, field, FieldTree, column, typename, no_queries, object, list, by_key, aggregate, introspect, PartTrees, no_part, part, PartTree, summary, nodes, part_typename}
 use Rattle.hq_ask_tree.specs.Resolve.{origin_table}
 use Rattle.hq_ask_tree.specs.declared.aggregate.AggCol.{AggCol}
@@ -28,14 +34,14 @@ use Rattle.hq_sql_tree.specs.Form.{is_expr, are_pairs, is_agg, are_orders, holds
 use Rattle.hq_compiled.specs.Names.{table_alias, fold_alias, value_name, unit_name}
 use Rattle.hq_compiled.specs.Looks.{Look, own_look, cell_at}
 use Rattle.hq_compiled.specs.Rights.{Rights}
-use Rattle.hq_compiled.specs.Conditions.{literal, operand_literal, joined_by_and, joined_by_or, with_member, where_of, negation_if, within_list}
+use Rattle.hq_compiled.specs.Conditions.{literal, operand_literal, joined_by_and, joined_by_or, with_member, where_of, negation_if, first_literal, literals_for, test_of}
 use Rattle.hq_compiled.specs.Predicates.{link_members, link, Mode, columns_in, guard_from, inner_from, numbers, predicate, predicates, filter_mode, own_numbers, own_predicate}
 use Rattle.hq_compiled.specs.Masks.{mask_joins, used_masks, masks, filter_predicate, shown_look, where_mode}
 use Rattle.hq_compiled.specs.Selects.{key_orders, filter_from, behind_filter, first_select}
 use Rattle.hq_compiled.specs.Sorts.{Sort, shown_sorts, own_sorts, last_used, sort_place, sort_numbers, sort_joins, sorts_joins, orders, key_outputs, output_orders}
-use Rattle.hq_compiled.specs.Lists.{list_sorts, list_used, sorts_from, children_from, distinct_columns, list_rows, list_outputs, list_select}
+use Rattle.hq_compiled.specs.Lists.{once, list_sorts, list_used, sorts_from, children_from, distinct_columns, list_rows, list_outputs, list_select}
 use Rattle.hq_compiled.specs.Aggregates.{is_taken, some_taken, is_aggregate, some_aggregate, taken_value, taken_pairs, count_value, summary_value, summary_pairs, needed, needed_columns, needed_outputs, summary_used, folded_select, plain_select, summary_select}
-use Rattle.hq_compiled.specs.Fields.{fields_used, key_used, origin_tie, key_members, field_value, fields_values, part_value, parts_values, field_numbers, part_numbers, fields_joins, field_joins, parts_joins, part_joins}
+use Rattle.hq_compiled.specs.Fields.{fields_used, key_used, origin_tie, key_members, field_value, fields_values, part_value, parts_values, field_numbers, part_numbers, fields_joins, field_joins, parts_joins, part_joins, kids_from}
 use Rattle.hq_compiled.specs.Statement.{statement}
 use Rattle.hq_compiled.specs.Correct.{HasKey, AreKeyed, IsKeyed, AreKeyedParts, IsKeyedPart}
 
@@ -74,10 +80,7 @@ where_form (p ∷ ps) h = and_form (p ∷ ps) h
 member_form : (p : PredTree) (ps : List PredTree) → is_pred p ≡ true → Forms ps → Forms (with_member p ps)
 member_form tree.always ps e h = h
 member_form tree.never ps e h = (e, h)
-member_form (tree.compare l o r) ps e h = (e, h)
-member_form (tree.like l r fold) ps e h = (e, h)
-member_form (tree.within x xs) ps e h = (e, h)
-member_form (tree.is_null x) ps e h = (e, h)
+member_form (tree.test x t xs) ps e h = (e, h)
 member_form (tree.negation p) ps e h = (e, h)
 member_form (tree.all_of qs) ps e h = (e, h)
 member_form (tree.any_of qs) ps e h = (e, h)
@@ -109,12 +112,38 @@ negation_form : (b : Bool) (p : PredTree) → is_pred p ≡ true → is_pred (ne
 negation_form true p e = e
 negation_form false p e = e
 
-within_form : (alias name : List ℕ) (collate : Bool) (os : List Operand) (b : Bool) → is_pred (within_list (tree.column alias name collate) os b) ≡ true
-within_form alias name collate [] true = refl
-within_form alias name collate [] false = refl
-within_form alias name collate (o ∷ os) b =
-    let some : nat_le 1 (length (map operand_literal (o ∷ os))) ≡ true = some_of 1 _ (omega arith) in
-    negation_form b (tree.within (tree.column alias name collate) (map operand_literal (o ∷ os))) (rw some (operands_form (o ∷ os)))
+first_literal_form : (os : List Operand) → is_expr (first_literal os) ≡ true
+first_literal_form [] = refl
+first_literal_form (o ∷ os) = operand_form o
+
+-- as many literals as are taken, each an expression, and none only where there is no operand
+literals_form : (k : Arity) (os : List Operand) → list_all is_expr (literals_for k os) ≡ true
+literals_form Nothing os = refl
+literals_form One os = rw (first_literal_form os) refl
+literals_form Many os = operands_form os
+
+literals_taken : (k : Arity) (os : List Operand) → has_arity k (length (literals_for k os)) ≡ true
+literals_taken Nothing os = refl
+literals_taken One os = refl
+literals_taken Many os = refl
+
+nothing_left : (t : Test) (os : List Operand) → is_of_nothing t (literals_for (arity t) os) ≡ is_of_nothing t os
+nothing_left Among [] = refl
+nothing_left Among (o ∷ os) = refl
+nothing_left _ os = refl
+
+nothing_form : (b : Bool) → is_pred (cond b tree.always tree.never) ≡ true
+nothing_form true = refl
+nothing_form false = refl
+
+test_form : (alias name : List ℕ) (collate : Bool) (t : Test) (os : List Operand) (negated : Bool) → is_pred (test_of (tree.column alias name collate) t os negated) ≡ true
+test_form alias name collate t os negated =
+    let p : PredTree = tree.test (tree.column alias name collate) t (literals_for (arity t) os) in
+    let go : (b : Bool) → is_of_nothing t os ≡ b → is_pred (cond b (cond negated tree.always tree.never) (negation_if negated p)) ≡ true = elim [
+      | true ↦ λ h. nothing_form negated
+      | false ↦ λ h. negation_form negated p (rw (literals_taken (arity t) os, nothing_left t os, h, literals_form (arity t) os) refl)
+    ] in
+    go (is_of_nothing t os) refl
 
 link_form : (columns remote : List Column) (p q : ℕ) (xs : List Pair) → Forms (link_members columns remote p q xs)
 link_form columns remote p q [] = tt
@@ -169,10 +198,7 @@ module _ (s : Schema) (m : Mode) (h : ModeForms m) where
     predicate_form (and_of bs) look t p n = and_form (predicates bs s m look t p n) (predicates_form bs look t p n)
     predicate_form (or_of bs) look t p n = or_form (predicates bs s m look t p n) (predicates_form bs look t p n)
     predicate_form (not_of b) look t p n = predicate_form b look t p n
-    predicate_form (comparison c op v) look t p n = operand_form v
-    predicate_form (within c vs negated) look t p n = within_form _ _ _ vs negated
-    predicate_form (is_null c wanted) look t p n = negation_form (not wanted) _ refl
-    predicate_form (like c fold negated v) look t p n = negation_form negated _ (operand_form v)
+    predicate_form (test c tested vs negated) look t p n = test_form _ _ _ tested vs negated
     predicate_form (through r b) look t p n =
         let u : ℕ = (rel s t r).remote in
         let cs : List ℕ = columns_in b in
@@ -261,15 +287,15 @@ parts_form (part key p ps) s g u a n = rw (part_form p n) (parts_form ps s g u a
 key_form : (columns : List Column) (look : Look) (cs : List ℕ) (vs : List Val) → Forms (key_members columns look cs vs)
 key_form columns look [] vs = tt
 key_form columns look (c ∷ cs) [] = tt
-key_form columns look (c ∷ cs) (v ∷ vs) = (literal_form v, key_form columns look cs vs)
+key_form columns look (c ∷ cs) (v ∷ vs) = (rw (literal_form v) refl, key_form columns look cs vs)
 
 -- ---- aggregates
 
-module _ (f : ExprTree → AggTree) (form : (e : ExprTree) → is_expr e ≡ true → is_agg (f e) ≡ true) where
+module _ (f : Aggregate) where
   taken_form : (columns : List Column) (n : ℕ) (cs : List ℕ) (ks : List KeyedAggCol) → are_pairs (pairs_of (taken_pairs f columns n cs ks)) ≡ true
   taken_form columns n cs [] = refl
   taken_form columns n cs (k ∷ ks) =
-      let go : (c : AggCol) → is_expr (taken_value f columns n cs c) ≡ true = elim [ of.Column c ↦ form _ refl | of.Typename name ↦ refl ] in
+      let go : (c : AggCol) → is_expr (taken_value f columns n cs c) ≡ true = elim [ of.Column c ↦ refl | of.Typename name ↦ refl ] in
       rw (go k.field) (taken_form columns n cs ks)
 
   taken_agg : (columns : List Column) (n : ℕ) (cs : List ℕ) (ks : List KeyedAggCol) → some_taken ks ≡ true → hold_agg (pairs_of (taken_pairs f columns n cs ks)) ≡ true
@@ -289,9 +315,7 @@ count_agg columns n cs (Some c) distinct = refl
 
 summary_form : (columns : List Column) (n : ℕ) (cs : List ℕ) (f : AggField) → is_expr (summary_value columns n cs f) ≡ true
 summary_form columns n cs (take.Count c distinct) = count_form columns n cs c distinct
-summary_form columns n cs (take.Sum ks) = taken_form tree.sum (λ e h. h) columns n cs ks
-summary_form columns n cs (take.Min ks) = taken_form tree.min (λ e h. h) columns n cs ks
-summary_form columns n cs (take.Max ks) = taken_form tree.max (λ e h. h) columns n cs ks
+summary_form columns n cs (take.Columns f ks) = taken_form f columns n cs ks
 summary_form columns n cs (take.Typename name) = refl
 
 summaries_form : (columns : List Column) (n : ℕ) (cs : List ℕ) (fs : List KeyedAggField) → are_pairs (pairs_of (summary_pairs columns n cs fs)) ≡ true
@@ -300,9 +324,7 @@ summaries_form columns n cs (f ∷ fs) = rw (summary_form columns n cs f.field) 
 
 summary_agg : (columns : List Column) (n : ℕ) (cs : List ℕ) (f : AggField) → is_aggregate f ≡ true → holds_agg (summary_value columns n cs f) ≡ true
 summary_agg columns n cs (take.Count c distinct) e = count_agg columns n cs c distinct
-summary_agg columns n cs (take.Sum ks) e = taken_agg tree.sum (λ e h. h) columns n cs ks e
-summary_agg columns n cs (take.Min ks) e = taken_agg tree.min (λ e h. h) columns n cs ks e
-summary_agg columns n cs (take.Max ks) e = taken_agg tree.max (λ e h. h) columns n cs ks e
+summary_agg columns n cs (take.Columns f ks) e = taken_agg f columns n cs ks e
 summary_agg columns n cs (take.Typename name) e = e
 
 summaries_agg : (columns : List Column) (n : ℕ) (cs : List ℕ) (fs : List KeyedAggField) → some_aggregate fs ≡ true → hold_agg (pairs_of (summary_pairs columns n cs fs)) ≡ true
@@ -368,8 +390,8 @@ module _ (s : Schema) (g : Rights) where
       let A : PredTree = filter_predicate s g t n from in
       let B : PredTree = predicate a.wanted s (where_mode s g) look t n next in
       let js : List JoinTree = masks s g t cs n ++ (sorts_joins ks s g t n first ++ children) in
-      rows_form (distinct_columns (table s t).columns look a.distinct) outs (table s t).schema (table s t).name (table_alias n) (joins_of js) (where_of (with_member tie (with_member A (with_member B []))))
-      (orders ks s g look t n first) limit a.offset (distinct_form (table s t).columns look a.distinct) some v
+      rows_form (distinct_columns (table s t).columns look (once a).distinct) outs (table s t).schema (table s t).name (table_alias n) (joins_of js) (where_of (with_member tie (with_member A (with_member B []))))
+      (orders ks s g look t n first) limit a.offset (distinct_form (table s t).columns look (once a).distinct) some v
       (joins_form js (append_form (masks s g t cs n) (sorts_joins ks s g t n first ++ children) (masks_form (used_masks g t cs) s t n (n + 1)) (append_form (sorts_joins ks s g t n first) children (sorts_form ks t n first) j)))
       (three_form tie A B e (own_form (g.filter t) s t n from) (predicate_form s (where_mode s g) where_forms a.wanted look t n next)) (orders_form ks s g look t n first)
 
@@ -377,7 +399,7 @@ module _ (s : Schema) (g : Rights) where
       → is_select (list_select s g t cs a n tie values children) ≡ true
   list_form t cs a n tie values children key e v j =
       rw (
-        array_form (list_sorts s t a) s t n (fold_alias n) value_name (sorts_count (entries a) (table s t).key key),
+        array_form (list_sorts s t a) s t n (fold_alias n) value_name (sorts_count (entries (once a)) (table s t).key key),
         list_rows_form t cs a n tie (smaller a.limit (g.limit t)) (list_outputs s g t cs a n values) children e (some_of 1 (length (list_outputs s g t cs a n values)) (omega arith)) (rw v (outputs_form (list_sorts s t a) s g (shown_look s g t cs n) t n (sorts_from s g t cs a n) 0)) j,
       ) refl
 
@@ -434,7 +456,7 @@ module _ (s : Schema) (g : Rights) where
         (first_of fs u n (fields_used fs) (link s t (rel s t r) p n) (linked_form s t (rel s t r) p n) (joins_of_fields fs u n (behind_filter s g u (fields_used fs) n) h), tt)
     joins_of_field (list o a fs) t p n h =
         let u : ℕ = origin_table o s t in
-        (list_of fs u a n (origin_tie o s t p n) h.0 (tie_form o t p n) (joins_of_fields fs u n (children_from s g u (list_used s u a (fields_used fs)) a n) h.1), tt)
+        (list_of fs u a n (origin_tie o s t p n) h.0 (tie_form o t p n) (joins_of_fields fs u n (kids_from s g u a fs n) h.1), tt)
     joins_of_field (by_key u key fs) t p n h =
         let cs : List ℕ = key_used s u fs in
         let members : List PredTree = key_members (table s u).columns (shown_look s g u cs n) (table s u).key key in
@@ -452,7 +474,7 @@ module _ (s : Schema) (g : Rights) where
     joins_of_part (summary fs) o t p a n h = (summary_select_form fs (origin_table o s t) a n (origin_tie o s t p n) (tie_form o t p n), tt)
     joins_of_part (nodes fs) o t p a n h =
         let u : ℕ = origin_table o s t in
-        (list_of fs u a n (origin_tie o s t p n) h.0 (tie_form o t p n) (joins_of_fields fs u n (children_from s g u (list_used s u a (fields_used fs)) a n) h.1), tt)
+        (list_of fs u a n (origin_tie o s t p n) h.0 (tie_form o t p n) (joins_of_fields fs u n (kids_from s g u a fs n) h.1), tt)
     joins_of_part (part_typename name) o t p a n h = tt
 
 -- the statement

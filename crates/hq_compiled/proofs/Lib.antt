@@ -1,5 +1,6 @@
 mod Relationships
 mod FineConditions
+pub mod Once
 mod Distinct
 mod FineRequests
 mod LowRequests

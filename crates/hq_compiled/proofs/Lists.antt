@@ -1,5 +1,5 @@
 -- The select of a list.
-use Rattle.std.proofs.Common.{◌≡◌, ℕ, ◌+◌, ◌≤◌, ◌^◌, List, [], ◌∷◌, ◌++◌, length, map, filter, Bool, true, false, ◌&&◌, Option, None, Some, refl, sym, ap, ap₂, ◌∙◌, arith, Ordering, Less, Equal, Greater}
+use Rattle.std.proofs.Common.{◌≡◌, ℕ, ◌+◌, ◌≤◌, ◌^◌, List, [], ◌∷◌, ◌++◌, length, map, filter, Bool, true, false, ◌&&◌, Option, None, Some, refl, sym, ap, ap₂, ◌∙◌, arith, Ordering}
 use Rattle.std.specs.Ordering.{then_cmp, ordering_then}
 use Rattle.hq_base.specs.Cells.{json, json_of, key_cmp}
 use Rattle.hq_base.specs.Json.{arr, obj, elements_of, MemberTrees}
@@ -26,7 +26,8 @@ use Rattle.hq_compiled.specs.Predicates.{columns_in, predicate}
 use Rattle.hq_compiled.specs.Masks.{extra, masks, shown_look, filter_numbers, filter_predicate, where_mode}
 use Rattle.hq_compiled.specs.Selects.{filter_from, behind_filter}
 use Rattle.hq_compiled.specs.Sorts.{Sort, shown_sorts, own_sorts, used_sorts, sorts_numbers, sorts_joins, orders, output_orders}
-use Rattle.hq_compiled.specs.Lists.{list_sorts, list_used, where_numbers, sorts_from, children_from, list_numbers, distinct_columns, list_rows, list_outputs, list_select}
+use Rattle.hq_compiled.specs.Lists.{once, list_sorts, list_used, where_numbers, sorts_from, children_from, list_numbers, distinct_columns, list_rows, list_outputs, list_select}
+use Rattle.hq_compiled.proofs.Once.{orders_absorb, ordered_once}
 use Rattle.hq_compiled.proofs.Names.{Shows, Narrow, at_row, shows_row, Looks, looks_left, looks_right, used_left, used_one, same_text, with_alias_same, value_is_no_key, join_aliases_differ}
 use Rattle.hq_compiled.proofs.Sound.{Sound}
 use Rattle.hq_compiled.proofs.Conditions.{kept_three}
@@ -36,11 +37,6 @@ use Rattle.hq_compiled.proofs.Predicates.{own_means}
 use Rattle.hq_compiled.proofs.Masks.{is_permitted, behind_masks, masks_at, looks_at, looks_later, where_means}
 use Rattle.hq_compiled.proofs.Selects.{columns_total, permitted_filter, behind_joins, behind_shows}
 use Rattle.hq_compiled.proofs.Sorts.{with_sorts, sorts_cmp, sorts_total, entries_total, sorts_extend, SortsShown, sorts_shown, orders_shown, Carries, carries_behind, carries_keys, fold_orders}
-
-then_assoc : (a b c : Ordering) → ordering_then a (ordering_then b c) ≡ ordering_then (ordering_then a b) c
-then_assoc Less b c = refl
-then_assoc Equal b c = refl
-then_assoc Greater b c = refl
 
 order_three : (a b c : Bool) → (b && (a && c)) ≡ (a && (b && (c && true)))
 order_three true true true = refl
@@ -59,7 +55,7 @@ module _ (s : Schema) (g : Grants) (d : List (List Row)) where
   keys_append [] cs u x y = own_keys cs u x y
   keys_append (k ∷ ks) cs u x y =
       let here : Ordering = key_cmp k.desc k.nulls_first (sort_cell k.through s (seen_by s g d) u k.column x) (sort_cell k.through s (seen_by s g d) u k.column y) in
-      ap (ordering_then here) (keys_append ks cs u x y) ∙ then_assoc here (entries_cmp ks s (seen_by s g d) u x y) (columns_cmp cs x y)
+      ap (ordering_then here) (keys_append ks cs u x y) ∙ orders_absorb.assoc here (entries_cmp ks s (seen_by s g d) u x y) (columns_cmp cs x y)
 
   each_distinct : (P : Row → Type 0) (cs : List ℕ) (u : ℕ) (xs : List Row) → Each P xs → Each P (distinct_rows cs (seen_by s g d) u xs)
   each_distinct P [] u xs h = h
@@ -138,25 +134,25 @@ module _ (s : Schema) (tables : List Table) (d : List (List Row)) (sound : Sound
       (looks_at s tables d sound g u n cs (at_row s u n scope far) far (omega arith) (shows_row s scope u n far (sound.differ u) narrow))
 
   x_where : (far : Row) → Narrow s u far → Looks look (columns_in a.wanted) (X far) (shown s g d u far)
-  x_where far narrow = looks_left look (columns_in a.wanted) (used_sorts keys ++ (a.distinct ++ more)) (X far) (shown s g d u far) (x_looks far narrow)
+  x_where far narrow = looks_left look (columns_in a.wanted) (used_sorts keys ++ ((once a).distinct ++ more)) (X far) (shown s g d u far) (x_looks far narrow)
 
-  x_behind_where : (far : Row) → Narrow s u far → Looks look (used_sorts keys ++ (a.distinct ++ more)) (X far) (shown s g d u far)
-  x_behind_where far narrow = looks_right look (columns_in a.wanted) (used_sorts keys ++ (a.distinct ++ more)) (X far) (shown s g d u far) (x_looks far narrow)
+  x_behind_where : (far : Row) → Narrow s u far → Looks look (used_sorts keys ++ ((once a).distinct ++ more)) (X far) (shown s g d u far)
+  x_behind_where far narrow = looks_right look (columns_in a.wanted) (used_sorts keys ++ ((once a).distinct ++ more)) (X far) (shown s g d u far) (x_looks far narrow)
 
-  x_behind_sorts : (far : Row) → Narrow s u far → Looks look (a.distinct ++ more) (X far) (shown s g d u far)
-  x_behind_sorts far narrow = looks_right look (used_sorts keys) (a.distinct ++ more) (X far) (shown s g d u far) (x_behind_where far narrow)
+  x_behind_sorts : (far : Row) → Narrow s u far → Looks look ((once a).distinct ++ more) (X far) (shown s g d u far)
+  x_behind_sorts far narrow = looks_right look (used_sorts keys) ((once a).distinct ++ more) (X far) (shown s g d u far) (x_behind_where far narrow)
 
-  x_distinct : (far : Row) → Narrow s u far → Looks look a.distinct (X far) (shown s g d u far)
-  x_distinct far narrow = looks_left look a.distinct more (X far) (shown s g d u far) (x_behind_sorts far narrow)
+  x_distinct : (far : Row) → Narrow s u far → Looks look (once a).distinct (X far) (shown s g d u far)
+  x_distinct far narrow = looks_left look (once a).distinct more (X far) (shown s g d u far) (x_behind_sorts far narrow)
 
   -- the columns of the outputs
   pub x_more : (far : Row) → Narrow s u far → Looks look more (X far) (shown s g d u far)
-  x_more far narrow = looks_right look a.distinct more (X far) (shown s g d u far) (x_behind_sorts far narrow)
+  x_more far narrow = looks_right look (once a).distinct more (X far) (shown s g d u far) (x_behind_sorts far narrow)
 
   x_sorts : (far : Row) → Narrow s u far → SortsShown s g d keys look u n from (X far) far
   x_sorts far narrow =
       sorts_shown s g d tables sound keys look u n from (M far (at_row s u n scope far)) (X far) far (omega arith) (omega arith) (x_shows far narrow)
-      (looks_left look (used_sorts keys) (a.distinct ++ more) (X far) (shown s g d u far) (x_behind_where far narrow))
+      (looks_left look (used_sorts keys) ((once a).distinct ++ more) (X far) (shown s g d u far) (x_behind_where far narrow))
       (λ m e f. x.keeps _ far (join_alias m) (λ q i j. join_aliases_differ m q (omega arith) (omega arith)))
 
   module _ (tie : PredTree) (tied : Row → Bool) where
@@ -165,7 +161,7 @@ module _ (s : Schema) (tables : List Table) (d : List (List Row)) (sound : Sound
     test far = tied far && (is_permitted s g d u far && (keeps a.wanted s (seen_by s g d) u far && true))
 
     abbrev pub chosen : Option ℕ → List Row
-    chosen limit = limited limit (offset_by a.offset (distinct_rows a.distinct (seen_by s g d) u (sorted_rows d u (sorts_cmp s g d keys u) test)))
+    chosen limit = limited limit (offset_by a.offset (distinct_rows (once a).distinct (seen_by s g d) u (sorted_rows d u (sorts_cmp s g d keys u) test)))
 
     module _ (means : (far : Row) → Narrow s u far → is_true (truth_at tie w (X far)) ≡ tied far) where
       abbrev condition : List PredTree
@@ -187,12 +183,12 @@ module _ (s : Schema) (tables : List Table) (d : List (List Row)) (sound : Sound
 
       pub rows_are : (limit : Option ℕ) (outs : List OutTree) → rows_of (list_rows s (rights_of g) u cs a n tie limit outs J) w scope ≡ map (λ r. outputs outs [] (X r)) (chosen limit)
       rows_are limit outs =
-          body_rows s tables d sound u n scope _ _ _ X test (sorts_cmp s g d keys u) rowwise (distinct_columns (table s u).columns look a.distinct) (distinct_rows a.distinct (seen_by s g d) u)
-          (λ l narrow. distinct_map s g d u (table s u).columns look X a.distinct x_distinct l narrow) outs limit a.offset
+          body_rows s tables d sound u n scope _ _ _ X test (sorts_cmp s g d keys u) rowwise (distinct_columns (table s u).columns look (once a).distinct) (distinct_rows (once a).distinct (seen_by s g d) u)
+          (λ l narrow. distinct_map s g d u (table s u).columns look X (once a).distinct x_distinct l narrow) outs limit a.offset
 
       pub chosen_narrow : (limit : Option ℕ) → Each (Narrow s u) (chosen limit)
       chosen_narrow limit =
-          each_limited (Narrow s u) limit _ (each_offset (Narrow s u) a.offset _ (each_distinct s g d (Narrow s u) a.distinct u _
+          each_limited (Narrow s u) limit _ (each_offset (Narrow s u) a.offset _ (each_distinct s g d (Narrow s u) (once a).distinct u _
           (sorted_narrow s tables d sound u n scope _ _ _ X test (sorts_cmp s g d keys u) rowwise)))
 
     -- the rows that are kept are the selected ones
@@ -202,11 +198,12 @@ module _ (s : Schema) (tables : List Table) (d : List (List Row)) (sound : Sound
         let asked : Row → Bool = λ r. keeps a.wanted s S u r in
         let rows : List Row = filter test (table_rows d u) in
         sym
-        (ap (λ l. limited limit (offset_by a.offset (distinct_rows a.distinct S u l)))
-        (ap (sort (entries_cmp (entries a) s S u)) (filter_filter asked tied (permitted s g d u) ∙ permitted_filter s g d u test (λ r. tied r && asked r) (λ r. order_three (tied r) (is_permitted s g d u r) (asked r)))
-        ∙ sort_sort (entries_total s g d (entries a) u) (columns_total (table s u).key) rows
-        ∙ sort_on (λ (r : Row). Unit {0}) (then_cmp (entries_cmp (entries a) s S u) (columns_cmp (table s u).key)) (sorts_cmp s g d keys u) (λ x y p q. sym (keys_append s g d (entries a) (table s u).key u x y)) rows
+        (ap (λ l. limited limit (offset_by a.offset (distinct_rows (once a).distinct S u l)))
+        (ap (sort (entries_cmp (entries (once a)) s S u)) (filter_filter asked tied (permitted s g d u) ∙ permitted_filter s g d u test (λ r. tied r && asked r) (λ r. order_three (tied r) (is_permitted s g d u r) (asked r)))
+        ∙ sort_sort (entries_total s g d (entries (once a)) u) (columns_total (table s u).key) rows
+        ∙ sort_on (λ (r : Row). Unit {0}) (then_cmp (entries_cmp (entries (once a)) s S u) (columns_cmp (table s u).key)) (sorts_cmp s g d keys u) (λ x y p q. sym (keys_append s g d (entries (once a)) (table s u).key u x y)) rows
         (each_all (λ (r : Row). Unit {0}) (λ r. tt) rows)))
+        ∙ ap (λ l. limited limit (offset_by a.offset l)) (ordered_once s S u a (filter tied (permitted s g d u)))
 
     module _ (means : (far : Row) → Narrow s u far → is_true (truth_at tie w (X far)) ≡ tied far) where
       pub list_means : (values : List PairTree) (members_at : Row → MemberTrees) → length keys ≤ 2 ^ 64 → ((far : Row) → Narrow s u far → members (pairs_of values) [] (X far) ≡ members_at far)
@@ -227,7 +224,7 @@ module _ (s : Schema) (tables : List Table) (d : List (List Row)) (sound : Sound
           sort_map_on (Narrow s u) group R by (λ x y p q. fold_orders s g d n keys u 0 (group x) (group y) x y (carried x p) (carried y q)) chosen_rows narrow in
           let again : sort R chosen_rows ≡ chosen_rows =
           sort_ascending (sorts_total s g d keys u) chosen_rows
-          (ascends_limited s g d R limit _ (ascends_offset s g d R a.offset _ (ascends_distinct s g d R a.distinct u _ (ascends_sort (sorts_total s g d keys u) (filter test (table_rows d u)))))) in
+          (ascends_limited s g d R limit _ (ascends_offset s g d R a.offset _ (ascends_distinct s g d R (once a).distinct u _ (ascends_sort (sorts_total s g d keys u) (filter test (table_rows d u)))))) in
           let each_json : (r : Row) → Narrow s u r → json_of (cell_named (group r (fold_alias n)) value_name) ≡ obj (members_at r) =
           λ r f. rw (with_alias_same scope (fold_alias n) (out r), same_text value_name) (ap obj (children r f)) in
           ap (λ l. ((value_name, json (arr (elements_of (map (λ e. json_of (cell_named (e (fold_alias n)) value_name)) l)))) ∷ []) ∷ [])

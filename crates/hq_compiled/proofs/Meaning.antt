@@ -29,9 +29,9 @@ use Rattle.hq_compiled.specs.Conditions.{joined_by_and}
 use Rattle.hq_compiled.specs.Predicates.{link}
 use Rattle.hq_compiled.specs.Masks.{value_output, extra, masks, shown_look, filter_numbers, filter_predicate}
 use Rattle.hq_compiled.specs.Selects.{filter_from, behind_filter, first_select}
-use Rattle.hq_compiled.specs.Lists.{list_sorts, list_used, list_numbers, children_from, list_select}
+use Rattle.hq_compiled.specs.Lists.{list_sorts, list_used, list_numbers, children_from}
 use Rattle.hq_compiled.specs.Aggregates.{needed, some_aggregate, summary_used, summary_numbers, folded_select, plain_select, summary_select}
-use Rattle.hq_compiled.specs.Fields.{field_used, fields_used, key_used, origin_tie, key_members, fields_numbers, field_numbers, parts_numbers, part_numbers, field_value, fields_values, part_value, parts_values, empty_select, fields_joins, field_joins, parts_joins, part_joins}
+use Rattle.hq_compiled.specs.Fields.{field_used, fields_used, key_used, origin_tie, key_members, fields_numbers, field_numbers, parts_numbers, part_numbers, field_value, fields_values, part_value, parts_values, empty_select, fields_joins, field_joins, parts_joins, part_joins, kids_from, list_join}
 use Rattle.hq_compiled.specs.Correct.{AreFew, IsFew, AreFewParts, IsFewPart, MeansResolved}
 use Rattle.hq_compiled.proofs.Names.{Shows, Narrow, at_row, shows_row, shows_behind, Looks, looks_left, looks_right, used_left, used_one, same_text, with_alias_same, with_alias_other, table_aliases_differ, join_aliases_differ}
 use Rattle.hq_compiled.proofs.Sound.{Sound, sound_of}
@@ -231,13 +231,10 @@ module _ (s : Schema) (tables : List Table) (d : List (List Row)) (g : Grants) w
 
     list_gives : (o : Origin) (a : ListArguments) (fs : FieldTrees) (t p n : ℕ) → p < n → n + (list_numbers s (rights_of g) (origin_table o s t) (list_used s (origin_table o s t) a (fields_used fs)) a + fields_numbers fs s (rights_of g) (origin_table o s t)) ≤ 2 ^ 64
         → length (list_sorts s (origin_table o s t) a) ≤ 2 ^ 64
-        → Extends s w (fields_joins fs s (rights_of g) (origin_table o s t) n (children_from s (rights_of g) (origin_table o s t) (list_used s (origin_table o s t) a (fields_used fs)) a n)) (origin_table o s t) n
-        (children_from s (rights_of g) (origin_table o s t) (list_used s (origin_table o s t) a (fields_used fs)) a n) (fields_numbers fs s (rights_of g) (origin_table o s t))
-        (with_fields fs (origin_table o s t) (children_from s (rights_of g) (origin_table o s t) (list_used s (origin_table o s t) a (fields_used fs)) a n))
+        → Extends s w (fields_joins fs s (rights_of g) (origin_table o s t) n (kids_from s (rights_of g) (origin_table o s t) a fs n)) (origin_table o s t) n (kids_from s (rights_of g) (origin_table o s t) a fs n)
+        (fields_numbers fs s (rights_of g) (origin_table o s t)) (with_fields fs (origin_table o s t) (kids_from s (rights_of g) (origin_table o s t) a fs n))
         → (scope : Scope) (row : Row) → Shows s scope t p row
-        → rows_of (list_select s (rights_of g) (origin_table o s t) (list_used s (origin_table o s t) a (fields_used fs)) a n (origin_tie o s t p n)
-        (fields_values fs s (rights_of g) (shown_look s (rights_of g) (origin_table o s t) (list_used s (origin_table o s t) a (fields_used fs)) n) (origin_table o s t) (children_from s (rights_of g) (origin_table o s t) (list_used s (origin_table o s t) a (fields_used fs)) a n))
-        (fields_joins fs s (rights_of g) (origin_table o s t) n (children_from s (rights_of g) (origin_table o s t) (list_used s (origin_table o s t) a (fields_used fs)) a n))) w scope
+        → rows_of (list_join s (rights_of g) o t p a fs n (fields_joins fs s (rights_of g) (origin_table o s t) n (kids_from s (rights_of g) (origin_table o s t) a fs n))).select w scope
         ≡ ((value_name, json (given (list o a fs) t row)) ∷ []) ∷ []
     list_gives o a fs t p n lt bound few x scope row shows =
         let u : ℕ = origin_table o s t in
@@ -337,7 +334,7 @@ module _ (s : Schema) (tables : List Table) (d : List (List Row)) (g : Grants) w
           (λ far narrow. link_means s w t (rel s t r) p n _ row far (behind_above s tables d sound u n _ _ _ _ whole scope far t p row lt (omega arith) shows) (behind_shows s tables d sound u n _ _ _ _ whole scope far narrow)))
       field_extends (list o a fs) t p n lt bound few =
           let u : ℕ = origin_table o s t in
-          let x = fields_extend fs u n (children_from s (rights_of g) u (list_used s u a (fields_used fs)) a n) (omega arith) (omega arith) few.1 in
+          let x = fields_extend fs u n (kids_from s (rights_of g) u a fs n) (omega arith) (omega arith) few.1 in
           extends_one s w _ t p n (field_numbers (list o a fs) s (rights_of g) t) (λ row. (value_name, json (given (list o a fs) t row)) ∷ []) (omega arith)
           (λ scope row shows. ap or_null_row (list_gives o a fs t p n lt bound few.0 x scope row shows))
       field_extends (by_key u key fs) t p n lt bound few =
@@ -377,7 +374,7 @@ module _ (s : Schema) (tables : List Table) (d : List (List Row)) (g : Grants) w
           (λ scope row shows. ap or_null_row (summary_gives fs o a t p n lt bound more scope row shows))
       part_extends (nodes fs) o t p a n lt bound few more =
           let u : ℕ = origin_table o s t in
-          let x = fields_extend fs u n (children_from s (rights_of g) u (list_used s u a (fields_used fs)) a n) (omega arith) (omega arith) more in
+          let x = fields_extend fs u n (kids_from s (rights_of g) u a fs n) (omega arith) (omega arith) more in
           extends_one s w _ t p n (part_numbers (nodes fs) s (rights_of g) u a) (λ row. (value_name, json (given_part (nodes fs) u a (start o t row))) ∷ []) (omega arith)
           (λ scope row shows. ap or_null_row (list_gives o a fs t p n lt bound few x scope row shows))
       part_extends (part_typename name) o t p a n lt bound few more = extends_none s w t p n

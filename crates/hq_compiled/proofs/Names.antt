@@ -1,5 +1,5 @@
 -- Names, aliases, and what an alias shows of a row.
-use Rattle.std.proofs.Common.{◌≡◌, ℕ, zero, suc, ◌<◌, ◌≤◌, ◌^◌, List, [], ◌∷◌, ◌++◌, length, Bool, true, false, ◌||◌, ◌==◌, bytes_eq, decimal, map, ◌∙◌, ◌+◌, refl, ap, arith, lt_trans, eq-eqb}
+use Rattle.std.proofs.Common.{◌≡◌, ℕ, zero, suc, ◌<◌, ◌≤◌, ◌^◌, List, [], ◌∷◌, ◌++◌, length, Bool, true, false, cond, ◌||◌, ◌==◌, bytes_eq, decimal, map, ◌∙◌, ◌+◌, refl, ap, arith, lt_trans, eq-eqb}
 use Rattle.std.specs.Prelude.{slice_index_or}
 use Rattle.std.proofs.lemmas.Slice.Eq.{bytes_eq-Decides}
 use Rattle.std.proofs.lemmas.Fmt.{decimal_injective, decimal_digit, decimal-digits_of}
@@ -129,6 +129,11 @@ used_right c (x ∷ xs) ys h =
 
 pub used_one : (c : ℕ) → is_used c (c ∷ []) ≡ true
 used_one c = let e = eq-eqb c c refl in rw e refl
+
+-- a column that is used but in one case is used elsewhere
+pub used_else : (c : ℕ) (b : Bool) → b ≡ false → is_used c (cond b [] (c ∷ [])) ≡ true
+used_else c true e = absurd cc
+used_else c false e = used_one c
 
 -- The columns cs of a row are looked at so in the scope: each place has the cell.
 abbrev pub Looks : Look → List ℕ → Scope → (ℕ → CellTree) → Type 0

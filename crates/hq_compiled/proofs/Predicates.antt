@@ -2,25 +2,26 @@
 use Rattle.std.proofs.Common.{◌≡◌, ℕ, ◌+◌, ◌<◌, ◌≤◌, ◌^◌, List, [], ◌∷◌, map, filter, Bool, true, false, cond, ◌&&◌, ◌||◌, None, refl, sym, ap, ap₂, ◌∙◌, arith, Ordering, Equal, is_gt}
 use Rattle.std.specs.List.{list_any}
 use Rattle.hq_base.specs.Lists.{put, sort}
-use Rattle.hq_terms.specs.Bexp.{BexpTree, always, and_of, or_of, not_of, comparison, within, is_null, like, through, BexpTrees, no_bexp, bexp}
+use Rattle.hq_terms.specs.Bexp.{BexpTree, always, and_of, or_of, not_of, test, through, BexpTrees, no_bexp, bexp}
 use Rattle.hq_terms.specs.Database.{Row}
-use Rattle.hq_terms.specs.Logic.{is_true, truth_of, not3, and3, or3, negated_if}
+use Rattle.hq_terms.specs.Logic.{is_true, truth_of, not3, and3, or3}
 use Rattle.hq_terms.specs.Schema.{Schema, table, rel}
 use Rattle.hq_terms.specs.Seen.{Sees, linked_by, table_rows, all_of}
+use Rattle.hq_terms.specs.Tests.{is_of_nothing}
 use Rattle.hq_terms.specs.Truth.{truth, truth_of_all, truth_of_any, keeps}
 use Rattle.hq_terms.specs.declared.meta.Pair.{Pair}
 use Rattle.hq_terms.specs.declared.meta.Rel.{Rel}
 use Rattle.hq_terms.specs.declared.table.Table.{Table}
 use Rattle.hq_sql_tree.specs.Tree as tree
 use Rattle.hq_sql_tree.specs.Tree.{FilterTree, JoinTree, OutTree, PredTree}
-use Rattle.hq_sql_tree.specs.Meaning.{NamedRow, Scope, World, value, has_rows, outputs, kept, truth_at}
+use Rattle.hq_sql_tree.specs.Meaning.{NamedRow, Scope, World, has_rows, outputs, kept, truth_at}
 use Rattle.hq_compiled.specs.Names.{table_alias, unit_name}
-use Rattle.hq_compiled.specs.Looks.{Look, own_look, compared_at}
-use Rattle.hq_compiled.specs.Conditions.{operand_literal, with_member, where_of}
+use Rattle.hq_compiled.specs.Looks.{Look, own_look, tested_at}
+use Rattle.hq_compiled.specs.Conditions.{with_member, where_of}
 use Rattle.hq_compiled.specs.Predicates.{link_members, link, Mode, columns_in, columns_in_all, guard_from, inner_from, numbers, numbers_all, predicate, predicates, filter_mode, own_numbers, own_predicate}
-use Rattle.hq_compiled.proofs.Names.{Shows, Narrow, at_row, shows_row, shows_behind, table_aliases_differ, used_one, Looks, looks_left, looks_right}
+use Rattle.hq_compiled.proofs.Names.{Shows, Narrow, at_row, shows_row, shows_behind, table_aliases_differ, used_else, Looks, looks_left, looks_right}
 use Rattle.hq_compiled.proofs.Sound.{Sound}
-use Rattle.hq_compiled.proofs.Conditions.{all_kept, truths_all, truths_any, truth_joined, truth_alternatives, true_joined, kept_three, compares_operand, matches_operand, negation_means, within_means, null_means}
+use Rattle.hq_compiled.proofs.Conditions.{all_kept, truths_all, truths_any, truth_joined, truth_alternatives, true_joined, kept_three, test_means}
 use Rattle.hq_compiled.proofs.Extends.{Extends, extends_none, goes_last, shows_kept}
 use Rattle.hq_compiled.proofs.Bodies.{Rowwise, sorted_rows, body_rows}
 
@@ -131,17 +132,8 @@ module _ (s : Schema) (tables : List Table) (d : List (List Row)) (sound : Sound
     predicate_means (and_of bs) look t p n scope row lt bound shows l = truth_joined w scope (predicates bs s m look t p n) ∙ all_means bs look t p n scope row lt bound shows l
     predicate_means (or_of bs) look t p n scope row lt bound shows l = truth_alternatives w scope (predicates bs s m look t p n) ∙ any_means bs look t p n scope row lt bound shows l
     predicate_means (not_of b) look t p n scope row lt bound shows l = ap not3 (predicate_means b look t p n scope row lt bound shows l)
-    predicate_means (comparison c op v) look t p n scope row lt bound shows l =
-        compares_operand w scope op (value (compared_at (table s t).columns (look c) c) [] scope) v ∙ rw (l c (used_one c)) refl
-    predicate_means (within c [] negated) look t p n scope row lt bound shows l = within_means w scope (compared_at (table s t).columns (look c) c) [] negated
-    predicate_means (within c (v ∷ vs) negated) look t p n scope row lt bound shows l =
-        within_means w scope (compared_at (table s t).columns (look c) c) (v ∷ vs) negated ∙ rw (l c (used_one c)) refl
-    predicate_means (is_null c wanted) look t p n scope row lt bound shows l =
-        null_means w scope (tree.column (look c).alias (look c).name false) wanted ∙ rw (l c (used_one c)) refl
-    predicate_means (like c fold negated v) look t p n scope row lt bound shows l =
-        negation_means w scope negated (tree.like (compared_at (table s t).columns (look c) c) (operand_literal v) fold)
-        ∙ ap (negated_if negated) (matches_operand w scope fold (value (compared_at (table s t).columns (look c) c) [] scope) v)
-        ∙ rw (l c (used_one c)) refl
+    predicate_means (test c tested vs negated) look t p n scope row lt bound shows l =
+        test_means w scope (tested_at (table s t).columns (look c) c tested) (S.cell t row c) tested vs negated (λ some. l c (used_else c (is_of_nothing tested vs) some))
     predicate_means (through r b) look t p n scope row lt bound shows l =
         through_means r b t p n scope row lt bound shows
         (λ inner far far_shows far_looks.

@@ -18,7 +18,7 @@ use Rattle.hq_terms.specs.declared.table.Column.{Column}
 use Rattle.hq_terms.specs.declared.table.Table.{Table}
 use Rattle.hq_terms.proofs.Places.{table_present, table_absent}
 use Rattle.hq_sql_tree.specs.WellFormed.{kind_of_type, compare_kinds}
-use Rattle.hq_compiled.specs.Fine.{Known, Has, kind_of, FinePair, FineRel}
+use Rattle.hq_compiled.specs.Fine.{Known, Has, type_of, FinePair, FineRel}
 
 -- a number that is tested to be less is
 pub less : (n k : ℕ) → nat_lt n k ≡ true → n < k
@@ -49,9 +49,9 @@ column_in (x ∷ cs) (suc c) ty is =
     let lt : c < length cs = later.0 in
     (omega arith, later.1)
 
--- a column that has a type is there, and of its kind
-pub column_is : (s : Schema) (t c : ℕ) (ty : Ty) → column_ty s t c ≡ Some ty → Has s t c × (kind_of s t c ≡ kind_of_type ty)
-column_is s t c ty is = let h = column_in (table s t).columns c ty is in (h.0, ap kind_of_type h.1)
+-- a column that has a type is there
+pub column_is : (s : Schema) (t c : ℕ) (ty : Ty) → column_ty s t c ≡ Some ty → Has s t c × (type_of s t c ≡ ty)
+column_is s t c ty is = column_in (table s t).columns c ty is
 
 pub column_there : (s : Schema) (t c : ℕ) → is_some (column_ty s t c) ≡ true → Has s t c
 column_there s t c h =

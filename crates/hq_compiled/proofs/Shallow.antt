@@ -1,19 +1,24 @@
 -- The statement opens few parentheses at once.
-use Rattle.std.proofs.Common.{◌≡◌, ℕ, ◌+◌, ◌*◌, ◌≤◌, List, [], ◌∷◌, ◌++◌, length, Bool, true, false, cond, filter, not, Option, Some, None, map, refl, arith}
+use Rattle.std.proofs.Common.{◌≡◌, ℕ, ◌+◌, ◌*◌, ◌≤◌, List, [], ◌∷◌, ◌++◌, length, Bool, true, false, cond, filter, ◌&&◌, Option, Some, None, map, refl, arith}
 use Rattle.std.specs.Prelude.{max}
 use Rattle.std.proofs.Math.Nat.{max-le, le-max_left, le-max_right}
 use Rattle.hq_base.specs.Lists.{Each}
+use Rattle.hq_base.specs.declared.aggregate.Aggregate.{Aggregate}
 use Rattle.hq_base.specs.declared.value.Val.{Val}
 use Rattle.hq_base.specs.declared.value.Val.TheVariants as val
-use Rattle.hq_terms.specs.Bexp.{BexpTree, always, and_of, or_of, not_of, comparison, within, is_null, like, through, BexpTrees, no_bexp, bexp, depth, depth_of_all}
+use Rattle.hq_terms.specs.Bexp.{BexpTree, always, and_of, or_of, not_of, test, through, BexpTrees, no_bexp, bexp, depth, depth_of_all}
 use Rattle.hq_terms.specs.Permission.{Mask}
 use Rattle.hq_terms.specs.Schema.{Schema, table, rel}
+use Rattle.hq_terms.specs.Tests.{arity, is_of_nothing}
 use Rattle.hq_terms.specs.Selected.{SortKey, ListArguments, ascending, sorts_or, entries, smaller}
 use Rattle.hq_terms.specs.declared.bexp.Operand.{Operand}
 use Rattle.hq_terms.specs.declared.bexp.Operand.TheVariants.{Const, Session}
 use Rattle.hq_terms.specs.declared.meta.Pair.{Pair}
 use Rattle.hq_terms.specs.declared.meta.Rel.{Rel}
 use Rattle.hq_terms.specs.declared.table.Column.{Column}
+use Rattle.hq_terms.specs.declared.test.Arity.{Arity}
+use Rattle.hq_terms.specs.declared.test.Arity.TheVariants.{Nothing, One, Many}
+use Rattle.hq_terms.specs.declared.test.Test.{Test}
 use Rattle.hq_ask_tree.specs.Fields.{Origin, from_table, along, FieldTrees, no_field, field, FieldTree, column, typename, no_queries, object, list, by_key, aggregate, introspect, PartTrees, no_part, part, PartTree, summary, nodes, part_typename}
 use Rattle.hq_ask_tree.specs.Resolve.{origin_table}
 use Rattle.hq_ask_tree.specs.declared.aggregate.AggCol.{AggCol}
@@ -24,18 +29,18 @@ use Rattle.hq_ask_tree.specs.declared.aggregate.KeyedAggCol.{KeyedAggCol}
 use Rattle.hq_ask_tree.specs.declared.aggregate.KeyedAggField.{KeyedAggField}
 use Rattle.hq_sql_tree.specs.Tree as tree
 use Rattle.hq_sql_tree.specs.Tree.{ExprTree, AggTree, PairTree, OrderTree, OutTree, SelectTree, FromTree, JoinTree, JoinTrees, FilterTree, PredTree, preds_of, joins_of, pairs_of, orders_of}
-use Rattle.hq_sql_tree.specs.Form.{greatest, expr_depth, pairs_depth, agg_depth, orders_depth, distinct_depth, select_depth, from_depth, joins_depth, filter_depth, pred_depth, preds_depth}
+use Rattle.hq_sql_tree.specs.Form.{greatest, arity_parens, expr_depth, pairs_depth, orders_depth, distinct_depth, select_depth, from_depth, joins_depth, filter_depth, pred_depth, preds_depth}
 use Rattle.hq_compiled.specs.Names.{table_alias, value_name, unit_name}
-use Rattle.hq_compiled.specs.Looks.{Look, is_text_column, is_used, own_look, cell_at}
+use Rattle.hq_compiled.specs.Looks.{Look, is_text_column, compares, is_used, own_look, cell_at}
 use Rattle.hq_compiled.specs.Rights.{Rights}
-use Rattle.hq_compiled.specs.Conditions.{literal, operand_literal, joined_by_and, joined_by_or, with_member, where_of, negation_if, within_list}
+use Rattle.hq_compiled.specs.Conditions.{literal, operand_literal, joined_by_and, joined_by_or, with_member, where_of, negation_if, first_literal, literals_for, test_of}
 use Rattle.hq_compiled.specs.Predicates.{link_members, link, Mode, columns_in, guard_from, inner_from, numbers, predicate, predicates, filter_mode, own_numbers, own_predicate}
 use Rattle.hq_compiled.specs.Masks.{mask_joins, mask_select, used_masks, masks, filter_predicate, shown_look, where_mode}
 use Rattle.hq_compiled.specs.Selects.{filter_from, behind_filter, key_orders, first_select}
 use Rattle.hq_compiled.specs.Sorts.{Sort, shown_sorts, own_sorts, last_used, sort_place, sort_numbers, sort_joins, sorts_joins, orders, key_outputs, output_orders}
-use Rattle.hq_compiled.specs.Lists.{list_sorts, list_used, sorts_from, children_from, distinct_columns, list_outputs, list_rows, list_select}
-use Rattle.hq_compiled.specs.Aggregates.{some_aggregate, needed_cell, taken_value, taken_pairs, count_value, summary_value, summary_pairs, needed, needed_columns, needed_outputs, summary_used, folded_select, plain_select, summary_select}
-use Rattle.hq_compiled.specs.Fields.{fields_used, key_used, origin_tie, empty_select, key_members, field_value, fields_values, part_value, parts_values, field_numbers, part_numbers, fields_joins, field_joins, parts_joins, part_joins}
+use Rattle.hq_compiled.specs.Lists.{once, list_sorts, list_used, sorts_from, children_from, distinct_columns, list_outputs, list_rows, list_select}
+use Rattle.hq_compiled.specs.Aggregates.{some_aggregate, taken_value, taken_pairs, count_value, summary_value, summary_pairs, needed, needed_columns, needed_outputs, summary_used, folded_select, plain_select, summary_select}
+use Rattle.hq_compiled.specs.Fields.{fields_used, key_used, origin_tie, empty_select, key_members, field_value, fields_values, part_value, parts_values, field_numbers, part_numbers, fields_joins, field_joins, parts_joins, part_joins, kids_from}
 use Rattle.hq_compiled.specs.Shallow.{LowRights, AreShort, fields_height, field_height, parts_height, part_height, AreLow, IsLow, AreLowParts, IsLowPart, IsShallow}
 
 -- ---- conditions
@@ -66,10 +71,7 @@ where_low k (p ∷ ps) h = and_low k (p ∷ ps) h
 member_low : (k : ℕ) (p : PredTree) (ps : List PredTree) → pred_depth p ≤ k → Low k ps → Low k (with_member p ps)
 member_low k tree.always ps e h = h
 member_low k tree.never ps e h = (e, h)
-member_low k (tree.compare x o y) ps e h = (e, h)
-member_low k (tree.like x y fold) ps e h = (e, h)
-member_low k (tree.within x xs) ps e h = (e, h)
-member_low k (tree.is_null x) ps e h = (e, h)
+member_low k (tree.test x t xs) ps e h = (e, h)
 member_low k (tree.negation p) ps e h = (e, h)
 member_low k (tree.all_of qs) ps e h = (e, h)
 member_low k (tree.any_of qs) ps e h = (e, h)
@@ -86,10 +88,7 @@ three_low k a b c e f g =
 lone_low : (k : ℕ) (p : PredTree) → pred_depth p ≤ k → filter_depth (where_of (with_member p [])) ≤ k
 lone_low k tree.always e = omega arith
 lone_low k tree.never e = e
-lone_low k (tree.compare x o y) e = e
-lone_low k (tree.like x y fold) e = e
-lone_low k (tree.within x xs) e = e
-lone_low k (tree.is_null x) e = e
+lone_low k (tree.test x t xs) e = e
 lone_low k (tree.negation p) e = e
 lone_low k (tree.all_of qs) e = e
 lone_low k (tree.any_of qs) e = e
@@ -113,15 +112,28 @@ negation_low : (b : Bool) (p : PredTree) (k : ℕ) → pred_depth p ≤ k → pr
 negation_low true p k e = omega (arith, e)
 negation_low false p k e = omega (arith, e)
 
-within_low : (alias name : List ℕ) (collate : Bool) (os : List Operand) (b : Bool) → pred_depth (within_list (tree.column alias name collate) os b) ≤ 4
-within_low alias name collate [] true = omega arith
-within_low alias name collate [] false = omega arith
-within_low alias name collate (o ∷ os) b =
-    let items : greatest (map expr_depth (map operand_literal (o ∷ os))) ≤ 1 = operands_low (o ∷ os) in
+first_literal_low : (os : List Operand) → expr_depth (first_literal os) ≤ 1
+first_literal_low [] = omega arith
+first_literal_low (o ∷ os) = operand_low o
+
+-- the literals of a test, with the parentheses around a list of them
+literals_low : (k : Arity) (os : List Operand) → arity_parens k + greatest (map expr_depth (literals_for k os)) ≤ 2
+literals_low Nothing os = omega arith
+literals_low One os = let z : 0 ≤ 1 = omega arith in let one : max (expr_depth (first_literal os)) 0 ≤ 1 = max-le (first_literal_low os) z in omega (arith, one)
+literals_low Many os = omega (arith, operands_low os)
+
+nothing_low : (b : Bool) → pred_depth (cond b tree.always tree.never) ≤ 4
+nothing_low true = omega arith
+nothing_low false = omega arith
+
+test_low : (alias name : List ℕ) (collate : Bool) (t : Test) (os : List Operand) (negated : Bool) → pred_depth (test_of (tree.column alias name collate) t os negated) ≤ 4
+test_low alias name collate t os negated =
+    let p : PredTree = tree.test (tree.column alias name collate) t (literals_for (arity t) os) in
     let z : 0 ≤ 2 = omega arith in
-    let one : 1 + greatest (map expr_depth (map operand_literal (o ∷ os))) ≤ 2 = omega (arith, items) in
-    let both : max 0 (1 + greatest (map expr_depth (map operand_literal (o ∷ os)))) ≤ 2 = max-le z one in
-    negation_low b (tree.within (tree.column alias name collate) (map operand_literal (o ∷ os))) 3 (omega (arith, both))
+    let both : max 0 (arity_parens (arity t) + greatest (map expr_depth (literals_for (arity t) os))) ≤ 2 = max-le z (literals_low (arity t) os) in
+    let go : (b : Bool) → pred_depth (cond b (cond negated tree.always tree.never) (negation_if negated p)) ≤ 4 =
+    elim [ true ↦ nothing_low negated | false ↦ negation_low negated p 3 (omega (arith, both)) ] in
+    go (is_of_nothing t os)
 
 links_low : (columns remote : List Column) (p q : ℕ) (xs : List Pair) → Low 1 (link_members columns remote p q xs)
 links_low columns remote p q [] = tt
@@ -172,19 +184,8 @@ module _ (s : Schema) (m : Mode) (G : ℕ) (h : LowMode m G) where
         let all = or_low k (predicates bs s m look t p n) (predicates_low bs look t p n k (omega arith)) in
         omega (arith, all)
     predicate_low (not_of b) look t p n = let one = predicate_low b look t p n in omega (arith, one)
-    predicate_low (comparison c op v) look t p n =
-        let z : 0 ≤ 1 = omega arith in
-        let both : max 0 (expr_depth (operand_literal v)) ≤ 1 = max-le z (operand_low v) in
-        omega (arith, both)
-    predicate_low (within c vs negated) look t p n = let w = within_low (look c).alias (look c).name (is_text_column (table s t).columns c) vs negated in omega (arith, w)
-    predicate_low (is_null c wanted) look t p n =
-        let w = negation_low (not wanted) (tree.is_null (tree.column (look c).alias (look c).name false)) 1 (omega arith) in
-        omega (arith, w)
-    predicate_low (like c fold negated v) look t p n =
-        let z : 0 ≤ 1 = omega arith in
-        let both : max 0 (expr_depth (operand_literal v)) ≤ 1 = max-le z (operand_low v) in
-        let w = negation_low negated (tree.like (tree.column (look c).alias (look c).name (is_text_column (table s t).columns c)) (operand_literal v) fold) 2 (omega (arith, both)) in
-        omega (arith, w)
+    predicate_low (test c tested vs negated) look t p n =
+        let w = test_low (look c).alias (look c).name (compares tested && is_text_column (table s t).columns c) tested vs negated in omega (arith, w)
     predicate_low (through r b) look t p n =
         let u : ℕ = (rel s t r).remote in
         let k : ℕ = 2 * depth b + G + 2 in
@@ -279,16 +280,17 @@ key_low columns look [] vs = tt
 key_low columns look (c ∷ cs) [] = tt
 key_low columns look (c ∷ cs) (v ∷ vs) =
     let z : 0 ≤ 1 = omega arith in
-    let both : max 0 (expr_depth (literal v)) ≤ 1 = max-le z (literal_low v) in
+    let one : max (expr_depth (literal v)) 0 ≤ 1 = max-le (literal_low v) z in
+    let both : max 0 (0 + max (expr_depth (literal v)) 0) ≤ 1 = max-le z (omega (arith, one)) in
     (omega (arith, both), key_low columns look cs vs)
 
 -- ---- aggregates
 
-module _ (f : ExprTree → AggTree) (flat : (e : ExprTree) → expr_depth e ≡ 0 → agg_depth (f e) ≡ 0) where
+module _ (f : Aggregate) where
   taken_low : (columns : List Column) (n : ℕ) (cs : List ℕ) (ks : List KeyedAggCol) → pairs_depth (pairs_of (taken_pairs f columns n cs ks)) ≤ 1
   taken_low columns n cs [] = omega arith
   taken_low columns n cs (k ∷ ks) =
-      let go : (c : AggCol) → expr_depth (taken_value f columns n cs c) ≤ 1 = elim [ of.Column c ↦ rw (flat (needed_cell n cs c (is_text_column columns c)) refl) (omega arith) | of.Typename name ↦ omega arith ] in
+      let go : (c : AggCol) → expr_depth (taken_value f columns n cs c) ≤ 1 = elim [ of.Column c ↦ omega arith | of.Typename name ↦ omega arith ] in
       max-le (go k.field) (taken_low columns n cs ks)
 
 count_low : (columns : List Column) (n : ℕ) (cs : List ℕ) (c : Option ℕ) (distinct : Bool) → expr_depth (count_value columns n cs c distinct) ≤ 1
@@ -297,9 +299,7 @@ count_low columns n cs (Some c) distinct = omega arith
 
 summary_low : (columns : List Column) (n : ℕ) (cs : List ℕ) (f : AggField) → expr_depth (summary_value columns n cs f) ≤ 2
 summary_low columns n cs (take.Count c distinct) = let h = count_low columns n cs c distinct in omega (arith, h)
-summary_low columns n cs (take.Sum ks) = let h = taken_low tree.sum (λ e h. h) columns n cs ks in omega (arith, h)
-summary_low columns n cs (take.Min ks) = let h = taken_low tree.min (λ e h. h) columns n cs ks in omega (arith, h)
-summary_low columns n cs (take.Max ks) = let h = taken_low tree.max (λ e h. h) columns n cs ks in omega (arith, h)
+summary_low columns n cs (take.Columns f ks) = let h = taken_low f columns n cs ks in omega (arith, h)
 summary_low columns n cs (take.Typename name) = omega arith
 
 summaries_low : (columns : List Column) (n : ℕ) (cs : List ℕ) (fs : List KeyedAggField) → pairs_depth (pairs_of (summary_pairs columns n cs fs)) ≤ 2
@@ -397,11 +397,11 @@ module _ (s : Schema) (g : Rights) (F : ℕ) (low : LowRights g F) where
         let condition : filter_depth (where_of (with_member tie (with_member A (with_member B [])))) ≤ k = let q = three_low c tie A B d e f in omega (arith, q, le) in
         let later : List JoinTree = sorts_joins (list_sorts s t a) s g t n (sorts_from s g t cs a n) ++ children in
         let all = append_low k (masks s g t cs n) later (higher_joins (2 * F + 3) k (masks s g t cs n) (omega (arith, le)) (used_low t cs n (n + 1)))
-        (append_low k (sorts_joins (list_sorts s t a) s g t n (sorts_from s g t cs a n)) children (sorts_low (list_sorts s t a) t n (sorts_from s g t cs a n) k C (sorts_short (entries a) (table s t).key C (entries_short a.sorts a.distinct C short.1)) (omega (arith, le))) joins) in
+        (append_low k (sorts_joins (list_sorts s t a) s g t n (sorts_from s g t cs a n)) children (sorts_low (list_sorts s t a) t n (sorts_from s g t cs a n) k C (sorts_short (entries (once a)) (table s t).key C (entries_short a.sorts (once a).distinct C short.1)) (omega (arith, le))) joins) in
         let z : 0 ≤ k = omega arith in
         let keys : greatest (map (λ o. expr_depth o.value) (orders (list_sorts s t a) s g (shown_look s g t cs n) t n (sorts_from s g t cs a n))) ≤ k = rw (orders_flat (list_sorts s t a) s g (shown_look s g t cs n) t n (sorts_from s g t cs a n)) z in
-        let distinct : distinct_depth (distinct_columns (table s t).columns (shown_look s g t cs n) a.distinct) ≤ k = let q = distinct_low (table s t).columns (shown_look s g t cs n) a.distinct in omega (arith, q, le) in
-        rows_low k (distinct_columns (table s t).columns (shown_look s g t cs n) a.distinct) outs (tree.table (table s t).schema (table s t).name (table_alias n)) (joins_of (masks s g t cs n ++ later)) (where_of (with_member tie (with_member A (with_member B []))))
+        let distinct : distinct_depth (distinct_columns (table s t).columns (shown_look s g t cs n) (once a).distinct) ≤ k = let q = distinct_low (table s t).columns (shown_look s g t cs n) (once a).distinct in omega (arith, q, le) in
+        rows_low k (distinct_columns (table s t).columns (shown_look s g t cs n) (once a).distinct) outs (tree.table (table s t).schema (table s t).name (table_alias n)) (joins_of (masks s g t cs n ++ later)) (where_of (with_member tie (with_member A (with_member B []))))
         (orders (list_sorts s t a) s g (shown_look s g t cs n) t n (sorts_from s g t cs a n)) limit a.offset distinct values z (joins_low k (masks s g t cs n ++ later) all) condition keys
 
     list_select_low : (t : ℕ) (cs : List ℕ) (a : ListArguments) (n k : ℕ) (tie : PredTree) (values : List PairTree) (children : List JoinTree) → AreShort a X C → base ≤ k → pred_depth tie ≤ 2 → pairs_depth (pairs_of values) ≡ 0
@@ -477,7 +477,7 @@ module _ (s : Schema) (g : Rights) (F : ℕ) (low : LowRights g F) where
       field_low (list o a fs) k t p n h le =
           let u : ℕ = origin_table o s t in
           let m : ℕ = 2 * fields_height fs + base in
-          let l = list_of fs u a n m (origin_tie o s t p n) h.0 (omega arith) (tie_low o t p n) (fields_low fs m u n (children_from s g u (list_used s u a (fields_used fs)) a n) h.1 (omega arith)) in
+          let l = list_of fs u a n m (origin_tie o s t p n) h.0 (omega arith) (tie_low o t p n) (fields_low fs m u n (kids_from s g u a fs n) h.1 (omega arith)) in
           (omega (arith, l, le), tt)
       field_low (by_key u key fs) k t p n h le =
           let m : ℕ = 2 * fields_height fs + base in
@@ -510,7 +510,7 @@ module _ (s : Schema) (g : Rights) (F : ℕ) (low : LowRights g F) where
       part_low (nodes fs) o k t p a n short h le =
           let u : ℕ = origin_table o s t in
           let m : ℕ = 2 * fields_height fs + base in
-          let l = list_of fs u a n m (origin_tie o s t p n) short (omega arith) (tie_low o t p n) (fields_low fs m u n (children_from s g u (list_used s u a (fields_used fs)) a n) h (omega arith)) in
+          let l = list_of fs u a n m (origin_tie o s t p n) short (omega arith) (tie_low o t p n) (fields_low fs m u n (kids_from s g u a fs n) h (omega arith)) in
           (omega (arith, l, le), tt)
       part_low (part_typename name) o k t p a n short h le = tt
 

@@ -1,10 +1,11 @@
 -- The select of an aggregate.
 use Rattle.std.proofs.Common.{◌≡◌, ℕ, ◌+◌, ◌<◌, ◌≤◌, ◌^◌, pos, List, [], ◌∷◌, ◌++◌, length, map, filter, Bool, true, false, cond, ◌||◌, ◌==◌, None, Some, refl, sym, ap, ap₂, ◌∙◌, arith, eqb-true, eq-eqb}
 use Rattle.std.proofs.lemmas.List.{length-map}
-use Rattle.hq_base.specs.Aggregates.{counted, summed, least, greatest}
+use Rattle.hq_base.specs.Aggregates.{counted, aggregated}
 use Rattle.hq_base.specs.Cells.{CellTree, int, json, json_of}
 use Rattle.hq_base.specs.Json.{obj, member}
 use Rattle.hq_base.specs.Lists.{Each}
+use Rattle.hq_base.specs.declared.aggregate.Aggregate.{Aggregate}
 use Rattle.hq_base.proofs.Lists.{map_map, map_on}
 use Rattle.hq_terms.specs.Database.{Row}
 use Rattle.hq_terms.specs.Grants.{Grants}
@@ -21,14 +22,13 @@ use Rattle.hq_ask_tree.specs.declared.aggregate.AggField.{AggField}
 use Rattle.hq_ask_tree.specs.declared.aggregate.AggField.TheVariants as take
 use Rattle.hq_ask_tree.specs.declared.aggregate.KeyedAggCol.{KeyedAggCol}
 use Rattle.hq_ask_tree.specs.declared.aggregate.KeyedAggField.{KeyedAggField}
-use Rattle.hq_sql_tree.specs.Tree as tree
-use Rattle.hq_sql_tree.specs.Tree.{ExprTree, AggTree, OutTree, pairs_of, PredTree}
-use Rattle.hq_sql_tree.specs.Meaning.{NamedRow, cell_named, Scope, with_alias, World, value, members, taken, outputs, rows_of, truth_at}
+use Rattle.hq_sql_tree.specs.Tree.{OutTree, pairs_of, PredTree}
+use Rattle.hq_sql_tree.specs.Meaning.{NamedRow, cell_named, Scope, with_alias, World, value, members, outputs, rows_of, truth_at}
 use Rattle.hq_compiled.specs.Rights.{rights_of}
 use Rattle.hq_compiled.specs.Names.{fold_alias, value_name, needed_name}
-use Rattle.hq_compiled.specs.Looks.{Look, is_used, is_text_column}
+use Rattle.hq_compiled.specs.Looks.{Look, is_used, add_new}
 use Rattle.hq_compiled.specs.Lists.{children_from, list_numbers}
-use Rattle.hq_compiled.specs.Aggregates.{add_new, add_column, add_columns, add_field, needed, place_of, is_taken, some_taken, is_aggregate, some_aggregate, needed_cell, taken_value, taken_pairs, summary_value, summary_pairs, needed_columns, needed_outputs, summary_used, folded_select}
+use Rattle.hq_compiled.specs.Aggregates.{add_column, add_columns, add_field, needed, place_of, is_taken, some_taken, is_aggregate, some_aggregate, taken_value, taken_pairs, summary_value, summary_pairs, needed_columns, needed_outputs, summary_used, folded_select}
 use Rattle.hq_compiled.proofs.Names.{Narrow, Looks, looks_right, used_left, used_one, same_text, with_alias_same, needed_names_differ}
 use Rattle.hq_compiled.proofs.Sound.{Sound}
 use Rattle.hq_compiled.proofs.Extends.{extends_none}
@@ -75,9 +75,7 @@ kept_columns c (k ∷ ks) cs h = kept_columns c ks (add_column k.field cs) (kept
 kept_field : (c : ℕ) (a : AggField) (cs : List ℕ) → is_used c cs ≡ true → is_used c (add_field a cs) ≡ true
 kept_field c (take.Count None distinct) cs h = h
 kept_field c (take.Count (Some d) distinct) cs h = used_kept c d cs h
-kept_field c (take.Sum ks) cs h = kept_columns c ks cs h
-kept_field c (take.Min ks) cs h = kept_columns c ks cs h
-kept_field c (take.Max ks) cs h = kept_columns c ks cs h
+kept_field c (take.Columns f ks) cs h = kept_columns c ks cs h
 kept_field c (take.Typename name) cs h = h
 
 kept_needed : (c : ℕ) (fs : List KeyedAggField) (cs : List ℕ) → is_used c cs ≡ true → is_used c (needed fs cs) ≡ true
@@ -96,9 +94,7 @@ CoversColumns (k ∷ ks) cs = CoversColumn k.field cs × CoversColumns ks cs
 abbrev pub CoversField : AggField → List ℕ → Type 0
 CoversField (take.Count None distinct) cs = Unit {0}
 CoversField (take.Count (Some c) distinct) cs = is_used c cs ≡ true
-CoversField (take.Sum ks) cs = CoversColumns ks cs
-CoversField (take.Min ks) cs = CoversColumns ks cs
-CoversField (take.Max ks) cs = CoversColumns ks cs
+CoversField (take.Columns f ks) cs = CoversColumns ks cs
 CoversField (take.Typename name) cs = Unit {0}
 
 abbrev pub Covers : List KeyedAggField → List ℕ → Type 0
@@ -117,9 +113,7 @@ covers_columns (k ∷ ks) cs ds up =
 covers_field : (a : AggField) (cs ds : List ℕ) → ((c : ℕ) → is_used c (add_field a cs) ≡ true → is_used c ds ≡ true) → CoversField a ds
 covers_field (take.Count None distinct) cs ds up = tt
 covers_field (take.Count (Some c) distinct) cs ds up = up c (used_added c cs)
-covers_field (take.Sum ks) cs ds up = covers_columns ks cs ds up
-covers_field (take.Min ks) cs ds up = covers_columns ks cs ds up
-covers_field (take.Max ks) cs ds up = covers_columns ks cs ds up
+covers_field (take.Columns f ks) cs ds up = covers_columns ks cs ds up
 covers_field (take.Typename name) cs ds up = tt
 
 pub covers : (fs : List KeyedAggField) (cs ds : List ℕ) → ((c : ℕ) → is_used c (needed fs cs) ≡ true → is_used c ds ≡ true) → Covers fs ds
@@ -157,21 +151,18 @@ needed_found look e cell (d ∷ ds) l c h bound = column_found look e cell (d �
 
 module _ (s : Schema) (g : Grants) (d : List (List Row)) (u : ℕ) (columns : List Column) (n : ℕ) (cs : List ℕ) (group : List Scope) (scope : Scope) (rs : List Row) (size : length group ≡ length rs)
     (cells : (c : ℕ) → is_used c cs ≡ true → map (λ e. cell_named (e (fold_alias n)) (needed_name (place_of c cs 0))) group ≡ cells_of (seen_by s g d) u rs c) where
-  taken_pairs_mean : (sql : ExprTree → AggTree) (fun : List CellTree → CellTree) → ((e : ExprTree) → taken (sql e) group ≡ fun (map (value e []) group)) → (ks : List KeyedAggCol) → CoversColumns ks cs
-      → members (pairs_of (taken_pairs sql columns n cs ks)) group scope ≡ taken_members fun ks (seen_by s g d) u rs
-  taken_pairs_mean sql fun same [] h = refl
-  taken_pairs_mean sql fun same (k ∷ ks) h = ap₂ (member k.key) (one k.field h.0) (taken_pairs_mean sql fun same ks h.1)
+  taken_pairs_mean : (f : Aggregate) (ks : List KeyedAggCol) → CoversColumns ks cs → members (pairs_of (taken_pairs f columns n cs ks)) group scope ≡ taken_members f ks (seen_by s g d) u rs
+  taken_pairs_mean f [] h = refl
+  taken_pairs_mean f (k ∷ ks) h = ap₂ (member k.key) (one k.field h.0) (taken_pairs_mean f ks h.1)
     where
-      one : (a : AggCol) → CoversColumn a cs → json_of (value (taken_value sql columns n cs a) group scope) ≡ given_value fun a (seen_by s g d) u rs
-      one (of.Column c) h = ap json_of (same (needed_cell n cs c (is_text_column columns c)) ∙ ap fun (cells c h))
+      one : (a : AggCol) → CoversColumn a cs → json_of (value (taken_value f columns n cs a) group scope) ≡ given_value f a (seen_by s g d) u rs
+      one (of.Column c) h = ap (λ l. json_of (aggregated f l)) (cells c h)
       one (of.Typename name) h = refl
 
   field_means : (a : AggField) → CoversField a cs → json_of (value (summary_value columns n cs a) group scope) ≡ given_summary a (seen_by s g d) u rs
   field_means (take.Count None distinct) h = ap (λ k. json_of (int (pos k))) size
   field_means (take.Count (Some c) distinct) h = ap (λ l. json_of (counted distinct l)) (cells c h)
-  field_means (take.Sum ks) h = ap obj (taken_pairs_mean tree.sum summed (λ e. refl) ks h)
-  field_means (take.Min ks) h = ap obj (taken_pairs_mean tree.min least (λ e. refl) ks h)
-  field_means (take.Max ks) h = ap obj (taken_pairs_mean tree.max greatest (λ e. refl) ks h)
+  field_means (take.Columns f ks) h = ap obj (taken_pairs_mean f ks h)
   field_means (take.Typename name) h = refl
 
   summary_pairs_mean : (fs : List KeyedAggField) → Covers fs cs → members (pairs_of (summary_pairs columns n cs fs)) group scope ≡ summary_members fs (seen_by s g d) u rs
@@ -185,21 +176,19 @@ neither true b e = absurd cc
 neither false b e = (refl, e)
 
 module _ (s : Schema) (g : Grants) (d : List (List Row)) (u : ℕ) (columns : List Column) (n : ℕ) (cs : List ℕ) (group : List Scope) (scope : Scope) (rs : List Row) where
-  plain_column : (sql : ExprTree → AggTree) (fun : List CellTree → CellTree) (a : AggCol) → is_taken a ≡ false → json_of (value (taken_value sql columns n cs a) group scope) ≡ given_value fun a (seen_by s g d) u rs
-  plain_column sql fun (of.Column c) h = absurd cc
-  plain_column sql fun (of.Typename name) h = refl
+  plain_column : (f : Aggregate) (a : AggCol) → is_taken a ≡ false → json_of (value (taken_value f columns n cs a) group scope) ≡ given_value f a (seen_by s g d) u rs
+  plain_column f (of.Column c) h = absurd cc
+  plain_column f (of.Typename name) h = refl
 
-  plain_columns : (sql : ExprTree → AggTree) (fun : List CellTree → CellTree) (ks : List KeyedAggCol) → some_taken ks ≡ false → members (pairs_of (taken_pairs sql columns n cs ks)) group scope ≡ taken_members fun ks (seen_by s g d) u rs
-  plain_columns sql fun [] h = refl
-  plain_columns sql fun (k ∷ ks) h =
+  plain_columns : (f : Aggregate) (ks : List KeyedAggCol) → some_taken ks ≡ false → members (pairs_of (taken_pairs f columns n cs ks)) group scope ≡ taken_members f ks (seen_by s g d) u rs
+  plain_columns f [] h = refl
+  plain_columns f (k ∷ ks) h =
       let parts = neither (is_taken k.field) (some_taken ks) h in
-      ap₂ (member k.key) (plain_column sql fun k.field parts.0) (plain_columns sql fun ks parts.1)
+      ap₂ (member k.key) (plain_column f k.field parts.0) (plain_columns f ks parts.1)
 
   plain_field : (a : AggField) → is_aggregate a ≡ false → json_of (value (summary_value columns n cs a) group scope) ≡ given_summary a (seen_by s g d) u rs
   plain_field (take.Count c distinct) h = absurd cc
-  plain_field (take.Sum ks) h = ap obj (plain_columns tree.sum summed ks h)
-  plain_field (take.Min ks) h = ap obj (plain_columns tree.min least ks h)
-  plain_field (take.Max ks) h = ap obj (plain_columns tree.max greatest ks h)
+  plain_field (take.Columns f ks) h = ap obj (plain_columns f ks h)
   plain_field (take.Typename name) h = refl
 
   pub plain_pairs : (fs : List KeyedAggField) → some_aggregate fs ≡ false → members (pairs_of (summary_pairs columns n cs fs)) group scope ≡ summary_members fs (seen_by s g d) u rs

@@ -3,13 +3,16 @@ use Rattle.std.proofs.Common.{◌≡◌, ℕ, ◌+◌, ◌<◌, ◌≤◌, ◌^�
 use Rattle.std.specs.Prelude.{slice_index_or, codes}
 use Rattle.hq_base.specs.Lists.{all_differ, Each}
 use Rattle.hq_base.specs.declared.value.Val.{Val}
+use Rattle.hq_terms.specs.declared.bexp.Operand.TheVariants.{Const}
+use Rattle.hq_terms.specs.declared.op.Op.TheVariants.{Eq}
+use Rattle.hq_terms.specs.declared.test.Test.TheVariants.{Compare}
 use Rattle.hq_terms.specs.Meta.{MetaTree}
 use Rattle.hq_terms.specs.Schema.{Schema, SchemaTable, schema_of, no_table, table, rel}
 use Rattle.hq_terms.specs.Selected.{ListArguments}
-use Rattle.hq_terms.specs.declared.bexp.Operand.TheVariants.{Const}
 use Rattle.hq_terms.specs.declared.table.Table.{Table}
 use Rattle.hq_ask_tree.specs.Fields.{Origin, from_table, along, FieldTrees, no_field, field, FieldTree, column, typename, no_queries, object, list, by_key, aggregate, introspect, PartTrees, no_part, part, PartTree, summary, nodes, part_typename}
 use Rattle.hq_ask_tree.specs.Resolve.{origin_table}
+use Rattle.hq_ask_tree.specs.ResponseKeys.{keys_of, part_keys}
 use Rattle.hq_ask_tree.specs.declared.aggregate.KeyedAggField.{KeyedAggField}
 use Rattle.hq_sql_tree.specs.Tree as tree
 use Rattle.hq_sql_tree.specs.Tree.{ExprTree, PairTree, SelectTree, JoinTree, PredTree, joins_of, pairs_of}
@@ -18,19 +21,19 @@ use Rattle.hq_sql_tree.specs.WellFormed.{Aliases, Kind, kind, kind_at, kind_name
 use Rattle.hq_compiled.specs.Names.{table_alias, join_alias, value_name}
 use Rattle.hq_compiled.specs.Looks.{Look, own_look, cell_at, compared_at}
 use Rattle.hq_compiled.specs.Rights.{Rights}
-use Rattle.hq_compiled.specs.Conditions.{literal, joined_by_and}
+use Rattle.hq_compiled.specs.Conditions.{joined_by_and}
 use Rattle.hq_compiled.specs.Predicates.{columns_in, link}
 use Rattle.hq_compiled.specs.Masks.{value_place, extra, masks, shown_look, filter_predicate}
 use Rattle.hq_compiled.specs.Selects.{filter_from, behind_filter, first_select}
 use Rattle.hq_compiled.specs.Sorts.{used_sorts}
-use Rattle.hq_compiled.specs.Lists.{list_sorts, list_used, list_numbers, children_from, list_select}
+use Rattle.hq_compiled.specs.Lists.{once, list_sorts, list_used, list_numbers, children_from, list_select}
 use Rattle.hq_compiled.specs.Aggregates.{some_aggregate, summary_select, summary_used, summary_numbers}
 use Rattle.hq_compiled.specs.Fields.{field_used, fields_used, key_used, origin_tie, key_members, field_numbers, fields_numbers, part_numbers, parts_numbers, field_value, fields_values, part_value, parts_values, empty_select, parts_select, field_joins, fields_joins, part_joins, parts_joins}
-use Rattle.hq_compiled.specs.Fine.{Has, kind_of, Known, FineArguments, FineOrigin, FineKey, keys_of, part_keys_of, Apart, FineFields, FineField, FineParts, FinePart, IsTyped}
+use Rattle.hq_compiled.specs.Fine.{Has, type_of, kind_of, Known, FineArguments, FineOrigin, FineKey, Apart, FineFields, FineField, FineParts, FinePart, IsTyped}
 use Rattle.hq_compiled.proofs.CatalogTables.{FineTables, fine_tables}
 use Rattle.hq_compiled.proofs.Names.{same_text, used_one, used_left, used_right}
 use Rattle.hq_compiled.proofs.Scopes.{under_later, LooksUnder, looks_under_later, own_under, Knows, KnowsAll, knows_behind, all_behind, knows_left, knows_right, grows_table, value_of}
-use Rattle.hq_compiled.proofs.TypedConditions.{two, Preds, and_typed, operand_item, Joined, joined_none, joined_then, joined_one, joined_as, typed_last, joined_last, compared_typed}
+use Rattle.hq_compiled.proofs.TypedConditions.{two, Preds, and_typed, test_typed, Joined, joined_none, joined_then, joined_one, joined_as, typed_last, joined_last}
 use Rattle.hq_compiled.proofs.TypedJoins.{First, shown_under, Behind, first_typed, tie_typed}
 use Rattle.hq_compiled.proofs.TypedLists.{object_typed, list_typed}
 use Rattle.hq_compiled.proofs.TypedSummaries.{summary_typed}
@@ -43,7 +46,7 @@ names_of : (fs : FieldTrees) (s : Schema) (g : Rights) (look : Look) (t n : ℕ)
 names_of no_field s g look t n = refl
 names_of (field k f fs) s g look t n = ap (λ l. k ∷ l) (names_of fs s g look t (n + field_numbers f s g t))
 
-part_names_of : (ps : PartTrees) (s : Schema) (g : Rights) (u : ℕ) (a : ListArguments) (n : ℕ) → pair_names (pairs_of (parts_values ps s g u a n)) ≡ part_keys_of ps
+part_names_of : (ps : PartTrees) (s : Schema) (g : Rights) (u : ℕ) (a : ListArguments) (n : ℕ) → pair_names (pairs_of (parts_values ps s g u a n)) ≡ part_keys ps
 part_names_of no_part s g u a n = refl
 part_names_of (part k p ps) s g u a n = ap (λ l. k ∷ l) (part_names_of ps s g u a (n + part_numbers p s g u a))
 
@@ -66,7 +69,7 @@ module _ (s : Schema) (g : Rights) (tables : List Table) (ok : FineTables s g ta
   key_typed u look final (c ∷ cs) (v ∷ vs) h f k =
       let e : ExprTree = compared_at (table s u).columns (look c) c in
       let here = k c h.0 (used_left c (c ∷ []) cs (used_one c)) in (
-        two (is_compared final e) (is_item final e (literal v)) (compared_typed s g tables ok final u (look c) c here) (operand_item final e (kind_of s u c) (Const v) here f.0),
+        test_typed final (look c).alias (look c).name (type_of s u c) (Compare Eq) (Const v ∷ []) here f.0,
         key_typed u look final cs vs h.1 f.1 (λ d has used. k d has (used_right d (c ∷ []) cs used)),
       )
 
@@ -102,7 +105,7 @@ module _ (s : Schema) (g : Rights) (tables : List Table) (ok : FineTables s g ta
       let sorts : List ℕ = used_sorts (list_sorts s u a) in
       let kids : (here : Aliases) → Behind s g tables ok scope u n cs here → Joined tables here kid m (fields_joins fs s g u n kid) (λ final. are_values final (pairs_of (fields_values fs s g look u kid)) ≡ true) =
       λ here behind.
-      let shown : Knows s here u look more = knows_right s here u look a.distinct more (knows_right s here u look sorts (a.distinct ++ more) (knows_right s here u look (columns_in a.wanted) (sorts ++ (a.distinct ++ more)) behind.shown)) in
+      let shown : Knows s here u look more = knows_right s here u look (once a).distinct more (knows_right s here u look sorts ((once a).distinct ++ more) (knows_right s here u look (columns_in a.wanted) (sorts ++ ((once a).distinct ++ more)) behind.shown)) in
       children here kid look behind.own (omega arith) shown (looks_under_later (n + 1 + extra s g u cs) kid look (omega arith) (shown_under s g tables ok u n cs (omega arith))) (omega arith) in
       list_typed s g tables ok scope u n m more a (origin_tie o s t p n) (fields_values fs s g look u kid) (fields_joins fs s g u n kid) (known_of o t fo) fa (omega arith) (omega arith) (apart_of fs look u kid d)
       (origin_typed o scope t p n cs fo own lt) kids

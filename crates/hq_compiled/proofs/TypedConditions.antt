@@ -1,29 +1,36 @@
 -- Conditions have their types wherever the places of a row's columns show cells of the columns' kinds.
-use Rattle.std.proofs.Common.{◌≡◌, ℕ, ◌+◌, ◌<◌, ◌≤◌, ◌^◌, List, [], ◌∷◌, ◌++◌, map, Bool, true, false, not, ◌&&◌, Option, Some, None, bytes_eq, refl, ap, sym, ◌∙◌, arith, append-nil, append_assoc}
+use Rattle.std.proofs.Common.{◌≡◌, ℕ, ◌+◌, ◌<◌, ◌≤◌, ◌^◌, List, [], ◌∷◌, ◌++◌, map, Bool, true, false, cond, ◌&&◌, Option, Some, None, bytes_eq, refl, ap, ap₂, sym, ◌∙◌, arith, append-nil, append_assoc}
 use Rattle.std.specs.List.{list_all}
+use Rattle.std.proofs.lemmas.Bool.{and_parts}
 use Rattle.hq_base.specs.Lists.{all_differ, Each}
-use Rattle.hq_base.specs.declared.value.Val.{Val}
+use Rattle.hq_base.specs.declared.value.Ty.{Ty}
+use Rattle.hq_base.specs.declared.value.Ty.TheVariants.{Text}
 use Rattle.hq_base.specs.declared.value.Val.TheVariants as val
-use Rattle.hq_terms.specs.Bexp.{BexpTree, always, and_of, or_of, not_of, comparison, within, is_null, like, through, BexpTrees, no_bexp, bexp}
+use Rattle.hq_terms.specs.Bexp.{BexpTree, always, and_of, or_of, not_of, test, through, BexpTrees, no_bexp, bexp}
+use Rattle.hq_terms.specs.Database.{is_text}
 use Rattle.hq_terms.specs.Schema.{Schema, table, rel, no_column}
-use Rattle.std.specs.Prelude.{slice_index_or}
+use Rattle.hq_terms.specs.Tests.{arity, is_of_nothing}
+use Rattle.hq_terms.specs.declared.test.Test.{Test}
+use Rattle.hq_terms.specs.declared.test.Test.TheVariants.{IsNull, Like}
+use Rattle.std.specs.Prelude.{slice_index_or, codes}
 use Rattle.hq_terms.specs.declared.bexp.Operand.{Operand}
 use Rattle.hq_terms.specs.declared.bexp.Operand.TheVariants.{Const, Session}
 use Rattle.hq_terms.specs.declared.meta.Pair.{Pair}
 use Rattle.hq_terms.specs.declared.meta.Rel.{Rel}
 use Rattle.hq_terms.specs.declared.table.Table.{Table}
+use Rattle.hq_terms.specs.declared.test.Arity.{Arity}
+use Rattle.hq_terms.specs.declared.test.Arity.TheVariants.{Nothing, One, Many}
 use Rattle.hq_sql_tree.specs.Tree as tree
 use Rattle.hq_sql_tree.specs.Tree.{ExprTree, OrderTree, OutTree, SelectTree, JoinTree, JoinTrees, FilterTree, PredTree, preds_of, joins_of}
-use Rattle.hq_sql_tree.specs.WellFormed as well
-use Rattle.hq_sql_tree.specs.WellFormed.{Aliases, Kind, kind, kind_at, kind_named, compare_kinds, is_text_kind, is_value, is_compared, is_item, begin_with, are_parts, is_typed, are_typed_joins, joined_scope, select_names, is_typed_filter, is_typed_pred, are_typed_preds}
+use Rattle.hq_sql_tree.specs.WellFormed.{Aliases, Kind, kind_of_type, kind, kind_at, kind_named, compare_kinds, is_value, is_compared, is_item, is_tested, is_operand, is_typed_test, begin_with, are_parts, is_typed, are_typed_joins, joined_scope, select_names, is_typed_filter, is_typed_pred, are_typed_preds}
 use Rattle.hq_compiled.specs.Names.{table_alias, join_alias, value_name, unit_name}
-use Rattle.hq_compiled.specs.Looks.{Look, Place, own_look, cell_at, compared_at}
+use Rattle.hq_compiled.specs.Looks.{Look, Place, own_look, compared_at, compares, tested_at}
 use Rattle.hq_compiled.specs.Rights.{Rights}
-use Rattle.hq_compiled.specs.Conditions.{literal, operand_literal, joined_by_and, joined_by_or, with_member, where_of, negation_if, within_list}
+use Rattle.hq_compiled.specs.Conditions.{operand_literal, joined_by_and, joined_by_or, with_member, where_of, negation_if, literals_for, test_of}
 use Rattle.hq_compiled.specs.Predicates.{link_members, link, Mode, columns_in, columns_in_all, guard_from, inner_from, numbers, numbers_all, predicate, predicates, filter_mode, own_numbers, own_predicate}
-use Rattle.hq_compiled.specs.Fine.{kind_of, Known, OperandFits, PatternFits, FinePair, FineBexp, FineBexps}
+use Rattle.hq_compiled.specs.Fine.{type_of, kind_of, Known, column_alone, TestFits, FinePair, FineBexp, FineBexps}
 use Rattle.hq_compiled.proofs.CatalogTables.{FineTables}
-use Rattle.hq_compiled.proofs.Names.{same_text, used_one}
+use Rattle.hq_compiled.proofs.Names.{same_text, used_else}
 use Rattle.hq_compiled.proofs.Scopes.{under_table, under_join, under_later, LooksUnder, looks_under_later, own_under, Grows, Knows, KnowsAll, all_behind, knows_left, knows_right, with_table, knows_here, grows_table, value_of, compared_of}
 
 pub three : (a b c : Bool) → a ≡ true → b ≡ true → c ≡ true → (a && (b && c)) ≡ true
@@ -58,10 +65,7 @@ where_typed tables scope (p ∷ ps) h = and_typed tables scope (p ∷ ps) h
 member_typed : (tables : List Table) (scope : Aliases) (p : PredTree) (ps : List PredTree) → is_typed_pred p tables scope ≡ true → Preds tables scope ps → Preds tables scope (with_member p ps)
 member_typed tables scope tree.always ps e h = h
 member_typed tables scope tree.never ps e h = (e, h)
-member_typed tables scope (tree.compare l o r) ps e h = (e, h)
-member_typed tables scope (tree.like l r fold) ps e h = (e, h)
-member_typed tables scope (tree.within x xs) ps e h = (e, h)
-member_typed tables scope (tree.is_null x) ps e h = (e, h)
+member_typed tables scope (tree.test x t xs) ps e h = (e, h)
 member_typed tables scope (tree.negation p) ps e h = (e, h)
 member_typed tables scope (tree.all_of qs) ps e h = (e, h)
 member_typed tables scope (tree.any_of qs) ps e h = (e, h)
@@ -79,39 +83,64 @@ three_typed tables scope a b c e f g =
     where_typed tables scope (with_member a (with_member b (with_member c [])))
     (member_typed tables scope a (with_member b (with_member c [])) e (member_typed tables scope b (with_member c []) f (member_typed tables scope c [] g tt)))
 
--- ---- operands
+-- ---- tests
 
-literal_item : (scope : Aliases) (e : ExprTree) (k : Kind) (v : Val) → kind scope e ≡ Some k → OperandFits k (Const v) → is_item scope e (literal v) ≡ true
-literal_item scope e k val.Null h f = absurd f
-literal_item scope e k (val.Int n) h f = rw h f
-literal_item scope e k (val.Text s) h f = rw h f
-literal_item scope e k (val.Bool b) h f = rw h f
+-- the literal of an operand has its type beside one value of a kind as beside another of that kind
+module _ (scope around : Aliases) (e f : ExprTree) (ty : Ty) (h : kind scope e ≡ Some (kind_of_type ty)) (g : kind around f ≡ Some (kind_of_type ty)) where
+  item_same : (v : Operand) → is_item scope e (operand_literal v) ≡ is_item around f (operand_literal v)
+  item_same (Const val.Null) = refl
+  item_same (Const (val.Int n)) = rw (h, g) refl
+  item_same (Const (val.Text s)) = rw (h, g) refl
+  item_same (Const (val.Bool b)) = rw (h, g) refl
+  item_same (Session name) = refl
 
-pub operand_item : (scope : Aliases) (e : ExprTree) (k : Kind) (o : Operand) → kind scope e ≡ Some k → OperandFits k o → is_item scope e (operand_literal o) ≡ true
-operand_item scope e k (Const v) h f = literal_item scope e k v h f
-operand_item scope e k (Session name) h f = absurd f
+  operand_same : (t : Test) (v : Operand) → is_operand scope t e (operand_literal v) ≡ is_operand around t f (operand_literal v)
+  operand_same (Like fold) v = refl
+  operand_same _ v = item_same v
 
-operands_item : (scope : Aliases) (e : ExprTree) (k : Kind) (os : List Operand) → kind scope e ≡ Some k → Each (OperandFits k) os → list_all (is_item scope e) (map operand_literal os) ≡ true
-operands_item scope e k [] h f = refl
-operands_item scope e k (o ∷ os) h f = two (is_item scope e (operand_literal o)) (list_all (is_item scope e) (map operand_literal os)) (operand_item scope e k o h f.0) (operands_item scope e k os h f.1)
+  operands_same : (t : Test) (vs : List Operand) → list_all (is_operand scope t e) (map operand_literal vs) ≡ list_all (is_operand around t f) (map operand_literal vs)
+  operands_same t [] = refl
+  operands_same t (v ∷ vs) = ap₂ (λ a b. a && b) (operand_same t v) (operands_same t vs)
+
+  literals_same : (t : Test) (k : Arity) (vs : List Operand) → list_all (is_operand scope t e) (literals_for k vs) ≡ list_all (is_operand around t f) (literals_for k vs)
+  literals_same t Nothing vs = refl
+  literals_same t One [] = ap (λ a. a && true) (operand_same t (Const val.Null))
+  literals_same t One (v ∷ vs) = ap (λ a. a && true) (operand_same t v)
+  literals_same t Many vs = operands_same t vs
+
+-- a column of a type that a test takes where it stands alone, as the test looks at it
+value_typed : (scope : Aliases) (alias name : List ℕ) (ty : Ty) (t : Test) → kind_at scope alias name ≡ Some (kind_of_type ty)
+    → is_tested (column_alone ty) t (tree.column (codes "t") (codes "c") (compares t && is_text ty)) ≡ true → is_tested scope t (tree.column alias name (compares t && is_text ty)) ≡ true
+value_typed scope alias name ty IsNull h f = value_of scope alias name (kind_of_type ty) h
+value_typed scope alias name Text (Like fold) h f = rw h refl
+value_typed scope alias name _ (Like fold) h f = cc
+value_typed scope alias name ty _ h f = compared_of scope alias name ty h
+
+-- a test that has its types where its column stands alone has them in each scope
+pub test_typed : (scope : Aliases) (alias name : List ℕ) (ty : Ty) (t : Test) (vs : List Operand) → kind_at scope alias name ≡ Some (kind_of_type ty) → TestFits t ty vs
+    → is_typed_test scope (tree.column alias name (compares t && is_text ty)) t (literals_for (arity t) vs) ≡ true
+test_typed scope alias name ty t vs h f =
+    let e : ExprTree = tree.column alias name (compares t && is_text ty) in
+    let own : ExprTree = tree.column (codes "t") (codes "c") (compares t && is_text ty) in
+    let parts = and_parts (is_tested (column_alone ty) t own) (list_all (is_operand (column_alone ty) t own) (literals_for (arity t) vs)) f in
+    two (is_tested scope t e) (list_all (is_operand scope t e) (literals_for (arity t) vs)) (value_typed scope alias name ty t h parts.0)
+    (literals_same scope (column_alone ty) e own ty h refl t (arity t) vs ∙ parts.1)
 
 negation_typed : (tables : List Table) (scope : Aliases) (b : Bool) (p : PredTree) → is_typed_pred p tables scope ≡ true → is_typed_pred (negation_if b p) tables scope ≡ true
 negation_typed tables scope true p e = e
 negation_typed tables scope false p e = e
 
-within_typed : (tables : List Table) (scope : Aliases) (e : ExprTree) (k : Kind) (os : List Operand) (b : Bool) → is_compared scope e ≡ true → kind scope e ≡ Some k → Each (OperandFits k) os → is_typed_pred (within_list e os b) tables scope ≡ true
-within_typed tables scope e k [] true c h f = refl
-within_typed tables scope e k [] false c h f = refl
-within_typed tables scope e k (o ∷ os) b c h f =
-    negation_typed tables scope b (tree.within e (map operand_literal (o ∷ os)))
-    (two (is_compared scope e) (list_all (is_item scope e) (map operand_literal (o ∷ os))) c (operands_item scope e k (o ∷ os) h f))
+nothing_typed : (tables : List Table) (scope : Aliases) (b : Bool) → is_typed_pred (cond b tree.always tree.never) tables scope ≡ true
+nothing_typed tables scope true = refl
+nothing_typed tables scope false = refl
 
-like_typed : (tables : List Table) (scope : Aliases) (e : ExprTree) (o : Operand) (fold : Bool) → is_compared scope e ≡ true → kind scope e ≡ Some well.text → PatternFits o → is_typed_pred (tree.like e (operand_literal o) fold) tables scope ≡ true
-like_typed tables scope e (Const val.Null) fold c h f = absurd f
-like_typed tables scope e (Const (val.Int n)) fold c h f = absurd f
-like_typed tables scope e (Const (val.Text s)) fold c h f = rw (c, h, f) refl
-like_typed tables scope e (Const (val.Bool b)) fold c h f = absurd f
-like_typed tables scope e (Session name) fold c h f = absurd f
+-- a test of a value, which is to have its type only where it is looked at
+test_of_typed : (tables : List Table) (scope : Aliases) (e : ExprTree) (t : Test) (vs : List Operand) (negated : Bool) → (is_of_nothing t vs ≡ false → is_typed_test scope e t (literals_for (arity t) vs) ≡ true) → is_typed_pred (test_of e t vs negated) tables scope ≡ true
+test_of_typed tables scope e t vs negated typed =
+    let p : PredTree = tree.test e t (literals_for (arity t) vs) in
+    let go : (b : Bool) → is_of_nothing t vs ≡ b → is_typed_pred (cond b (cond negated tree.always tree.never) (negation_if negated p)) tables scope ≡ true =
+    elim [ true ↦ λ h. nothing_typed tables scope negated | false ↦ λ h. negation_typed tables scope negated p (typed h) ] in
+    go (is_of_nothing t vs) refl
 
 -- ---- rows
 
@@ -200,8 +229,8 @@ module _ (s : Schema) (g : Rights) (tables : List Table) (ok : FineTables s g ta
       let far : ExprTree = compared_at (table s u).columns (own_look (table s u).columns q x.remote) x.remote in
       let own : ExprTree = compared_at (table s t).columns (own_look (table s t).columns p x.own) x.own in
       let kinds : compare_kinds (kind scope far) (kind scope own) ≡ true = rw (l x.remote f.0.1, k x.own f.0.0) f.0.2 in (
-        three (is_compared scope far) (is_compared scope own) (compare_kinds (kind scope far) (kind scope own))
-            (compared_typed scope u (own_look (table s u).columns q x.remote) x.remote (l x.remote f.0.1)) (compared_typed scope t (own_look (table s t).columns p x.own) x.own (k x.own f.0.0)) kinds,
+        two (is_compared scope far) (is_item scope far own && true) (compared_typed scope u (own_look (table s u).columns q x.remote) x.remote (l x.remote f.0.1))
+            (two (is_item scope far own) true (two (is_compared scope own) (compare_kinds (kind scope far) (kind scope own)) (compared_typed scope t (own_look (table s t).columns p x.own) x.own (k x.own f.0.0)) kinds) refl),
         links_typed scope t u p q xs f.1 k l,
       )
 
@@ -230,21 +259,9 @@ module _ (s : Schema) (g : Rights) (tables : List Table) (ok : FineTables s g ta
       predicate_typed (and_of bs) look t p n scope f own lt k u bound = and_typed tables scope (predicates bs s m look t p n) (predicates_typed bs look t p n scope f own lt k u bound)
       predicate_typed (or_of bs) look t p n scope f own lt k u bound = or_typed tables scope (predicates bs s m look t p n) (predicates_typed bs look t p n scope f own lt k u bound)
       predicate_typed (not_of b) look t p n scope f own lt k u bound = predicate_typed b look t p n scope f own lt k u bound
-      predicate_typed (comparison c op v) look t p n scope f own lt k u bound =
-          let e : ExprTree = compared_at (table s t).columns (look c) c in
-          let here : kind_at scope (look c).alias (look c).name ≡ Some (kind_of s t c) = k c f.0 (used_one c) in
-          two (is_compared scope e) (is_item scope e (operand_literal v)) (compared_typed scope t (look c) c here) (operand_item scope e (kind_of s t c) v here f.1)
-      predicate_typed (within c [] true) look t p n scope f own lt k u bound = refl
-      predicate_typed (within c [] false) look t p n scope f own lt k u bound = refl
-      predicate_typed (within c (v ∷ vs) negated) look t p n scope f own lt k u bound =
-          let here : kind_at scope (look c).alias (look c).name ≡ Some (kind_of s t c) = k c f.0 (used_one c) in
-          within_typed tables scope (compared_at (table s t).columns (look c) c) (kind_of s t c) (v ∷ vs) negated (compared_typed scope t (look c) c here) here f.1
-      predicate_typed (is_null c wanted) look t p n scope f own lt k u bound =
-          negation_typed tables scope (not wanted) (tree.is_null (cell_at (look c))) (value_of scope (look c).alias (look c).name (kind_of s t c) (k c f (used_one c)))
-      predicate_typed (like c fold negated v) look t p n scope f own lt k u bound =
-          let e : ExprTree = compared_at (table s t).columns (look c) c in
-          let here : kind_at scope (look c).alias (look c).name ≡ Some (kind_of s t c) = k c f.0 (used_one c) in
-          negation_typed tables scope negated (tree.like e (operand_literal v) fold) (like_typed tables scope e v fold (compared_typed scope t (look c) c here) (here ∙ ap Some f.1) f.2)
+      predicate_typed (test c tested vs negated) look t p n scope f own lt k u bound =
+          test_of_typed tables scope (tested_at (table s t).columns (look c) c tested) tested vs negated
+          (λ some. test_typed scope (look c).alias (look c).name (type_of s t c) tested vs (k c f.0 (used_else c (is_of_nothing tested vs) some)) f.1)
       predicate_typed (through r b) look t p n scope f own lt k u bound =
           let far : ℕ = (rel s t r).remote in
           let cs : List ℕ = columns_in b in

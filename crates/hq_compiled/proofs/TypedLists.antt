@@ -20,7 +20,7 @@ use Rattle.hq_compiled.specs.Predicates.{columns_in, predicate}
 use Rattle.hq_compiled.specs.Masks.{extra, masks, shown_look, filter_predicate, where_mode}
 use Rattle.hq_compiled.specs.Selects.{filter_from, behind_filter}
 use Rattle.hq_compiled.specs.Sorts.{Sort, shown_sorts, own_sorts, used_by, used_sorts, end_of, is_text_sort, sort_place, sort_numbers, sorts_numbers, sorts_joins, orders, key_outputs, output_orders}
-use Rattle.hq_compiled.specs.Lists.{list_sorts, list_used, sorts_from, children_from, distinct_columns, list_rows, list_outputs, list_select}
+use Rattle.hq_compiled.specs.Lists.{once, list_sorts, list_used, sorts_from, children_from, distinct_columns, list_rows, list_outputs, list_select}
 use Rattle.hq_compiled.specs.Fine.{Has, kind_of, Known, FineChain, FineArguments, begin_columns}
 use Rattle.hq_compiled.proofs.CatalogTables.{FineTables}
 use Rattle.hq_compiled.proofs.Names.{same_text, used_one, used_left, used_right, key_names_differ, value_is_no_key}
@@ -231,7 +231,7 @@ module _ (s : Schema) (g : Rights) (tables : List Table) (ok : FineTables s g ta
       let first : ℕ = sorts_from s g u cs a n in
       let kid : ℕ = children_from s g u cs a n in
       let S : List JoinTree = sorts_joins ks s g u n first in
-      let fine_keys : Each (FineSort s u) ks = shown_fine s u (entries a) (own_sorts (table s u).key) (entries_fine s u a.sorts a.distinct fine.sorts fine.distinct) (own_fine s u (table s u).key (ok u known).key) in
+      let fine_keys : Each (FineSort s u) ks = shown_fine s u (entries (once a)) (own_sorts (table s u).key) (entries_fine s u a.sorts (once a).distinct fine.sorts fine.distinct) (own_fine s u (table s u).key (ok u known).key) in
       let later : (here : Aliases) → Behind s g tables ok scope u n cs here → Joined tables here (n + 1 + extra s g u cs) m (S ++ J) (λ final. SortsShown s g tables ok ks u first final × V final) =
       λ here behind.
       let sorts = sorts_typed s g tables ok ks u n first here (chains s u ks fine_keys) behind.own (omega arith) (omega (arith, le)) in
@@ -247,11 +247,11 @@ module _ (s : Schema) (g : Rights) (tables : List Table) (ok : FineTables s g ta
       let seen = j.seen final (λ x name v. refl) in
       let behind = seen.0 in
       let where_cs : List ℕ = columns_in a.wanted in
-      let after_where : List ℕ = used_sorts ks ++ (a.distinct ++ more) in
+      let after_where : List ℕ = used_sorts ks ++ ((once a).distinct ++ more) in
       let at_where = knows_left s final u look where_cs after_where behind.shown in
       let past_where = knows_right s final u look where_cs after_where behind.shown in
-      let at_sorts = knows_left s final u look (used_sorts ks) (a.distinct ++ more) past_where in
-      let at_distinct = knows_left s final u look a.distinct more (knows_right s final u look (used_sorts ks) (a.distinct ++ more) past_where) in
+      let at_sorts = knows_left s final u look (used_sorts ks) ((once a).distinct ++ more) past_where in
+      let at_distinct = knows_left s final u look (once a).distinct more (knows_right s final u look (used_sorts ks) ((once a).distinct ++ more) past_where) in
       let keys = key_kinds ks look u n first final fine_keys behind.own at_sorts seen.1.0 in
       let A : PredTree = filter_predicate s g u n (filter_from s g u cs n) in
       let B : PredTree = predicate a.wanted s (where_mode s g) look u n (behind_filter s g u cs n) in
@@ -260,12 +260,12 @@ module _ (s : Schema) (g : Rights) (tables : List Table) (ok : FineTables s g ta
       (looks_under_later (n + 1 + extra s g u cs) (behind_filter s g u cs n) look (omega arith) (shown_under s g tables ok u n cs (omega (arith, le)))) (omega (arith, le)) in
       let condition = three_typed tables final tie A B (tied final behind) kept wanted in
       let all : List JoinTree = masks s g u cs n ++ (S ++ J) in
-      let D : List ExprTree = distinct_columns (table s u).columns look a.distinct in
+      let D : List ExprTree = distinct_columns (table s u).columns look (once a).distinct in
       let K : List OrderTree = orders ks s g look u n first in
       let joins = joined_last tables within (n + 1) m all _ j in
-      let distinct = distinct_typed final u look a.distinct fine.distinct at_distinct in
+      let distinct = distinct_typed final u look (once a).distinct fine.distinct at_distinct in
       let order = orders_typed ks look u n first final keys in
-      let lead = begins s g look u n a.distinct [] (entries a) (own_sorts (table s u).key) first fine.begins in
+      let lead = begins s g look u n (once a).distinct [] (entries (once a)) (own_sorts (table s u).key) first fine.begins in
       record {
         final = final;
         behind = behind;

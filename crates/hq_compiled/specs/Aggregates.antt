@@ -1,5 +1,6 @@
 -- The select of an aggregate: over the selected rows, whose outputs are the columns that its fields need.
-use Rattle.std.specs.Prelude.{ℕ, ◌+◌, List, [], ◌∷◌, ◌++◌, Bool, true, false, cond, ◌&&◌, ◌||◌, ◌==◌, Option, Some, None}
+use Rattle.std.specs.Prelude.{ℕ, ◌+◌, List, [], ◌∷◌, Bool, true, false, cond, ◌&&◌, ◌||◌, ◌==◌, Option, Some, None}
+use Rattle.hq_base.specs.declared.aggregate.Aggregate.{Aggregate}
 use Rattle.hq_compiled.specs.Rights.{Rights}
 use Rattle.hq_terms.specs.Schema.{Schema, table}
 use Rattle.hq_terms.specs.Selected.{ListArguments}
@@ -11,16 +12,13 @@ use Rattle.hq_ask_tree.specs.declared.aggregate.AggField.TheVariants as take
 use Rattle.hq_ask_tree.specs.declared.aggregate.KeyedAggCol.{KeyedAggCol}
 use Rattle.hq_ask_tree.specs.declared.aggregate.KeyedAggField.{KeyedAggField}
 use Rattle.hq_sql_tree.specs.Tree as tree
-use Rattle.hq_sql_tree.specs.Tree.{ExprTree, AggTree, PairTree, pairs_of, OutTree, SelectTree, PredTree}
+use Rattle.hq_sql_tree.specs.Tree.{ExprTree, PairTree, pairs_of, OutTree, SelectTree, PredTree}
 use Rattle.hq_compiled.specs.Names.{table_alias, fold_alias, value_name, needed_name, unit_name}
-use Rattle.hq_compiled.specs.Looks.{Look, is_used, is_text_column, cell_at}
+use Rattle.hq_compiled.specs.Looks.{Look, add_new, is_text_column, cell_at}
 use Rattle.hq_compiled.specs.Masks.{value_output, shown_look}
 use Rattle.hq_compiled.specs.Lists.{list_used, list_numbers, list_rows}
 
 -- ---- the columns that are needed, each once, in order of first need
-
-abbrev pub add_new : ℕ → List ℕ → List ℕ
-add_new c cs = cond (is_used c cs) cs (cs ++ c ∷ [])
 
 abbrev pub add_column : AggCol → List ℕ → List ℕ
 add_column (of.Column c) cs = add_new c cs
@@ -36,9 +34,7 @@ add_counted (Some c) cs = add_new c cs
 
 abbrev pub add_field : AggField → List ℕ → List ℕ
 add_field (take.Count c distinct) cs = add_counted c cs
-add_field (take.Sum ks) cs = add_columns ks cs
-add_field (take.Min ks) cs = add_columns ks cs
-add_field (take.Max ks) cs = add_columns ks cs
+add_field (take.Columns a ks) cs = add_columns ks cs
 add_field (take.Typename name) cs = cs
 
 -- those of fields, behind the ones that are needed already
@@ -63,9 +59,7 @@ some_taken (k ∷ ks) = is_taken k.field || some_taken ks
 
 abbrev pub is_aggregate : AggField → Bool
 is_aggregate (take.Count c distinct) = true
-is_aggregate (take.Sum ks) = some_taken ks
-is_aggregate (take.Min ks) = some_taken ks
-is_aggregate (take.Max ks) = some_taken ks
+is_aggregate (take.Columns a ks) = some_taken ks
 is_aggregate (take.Typename name) = false
 
 abbrev pub some_aggregate : List KeyedAggField → Bool
@@ -77,14 +71,14 @@ some_aggregate (f ∷ fs) = is_aggregate f.field || some_aggregate fs
 abbrev pub needed_cell : (n : ℕ) → (cs : List ℕ) → ℕ → (collate : Bool) → ExprTree
 needed_cell n cs c collate = tree.column (fold_alias n) (needed_name (place_of c cs 0)) collate
 
--- a field of sum, min or max; texts are compared
-abbrev pub taken_value : (ExprTree → AggTree) → List Column → (n : ℕ) → (cs : List ℕ) → AggCol → ExprTree
-taken_value take columns n cs (of.Column c) = tree.aggregate (take (needed_cell n cs c (is_text_column columns c)))
-taken_value take columns n cs (of.Typename name) = tree.text name
+-- a column of an aggregate; texts are compared
+abbrev pub taken_value : Aggregate → List Column → (n : ℕ) → (cs : List ℕ) → AggCol → ExprTree
+taken_value a columns n cs (of.Column c) = tree.aggregate (tree.take a (needed_cell n cs c (is_text_column columns c)))
+taken_value a columns n cs (of.Typename name) = tree.text name
 
-abbrev pub taken_pairs : (ExprTree → AggTree) → List Column → (n : ℕ) → (cs : List ℕ) → List KeyedAggCol → List PairTree
-taken_pairs take columns n cs [] = []
-taken_pairs take columns n cs (k ∷ ks) = record { name = k.key; value = taken_value take columns n cs k.field } ∷ taken_pairs take columns n cs ks
+abbrev pub taken_pairs : Aggregate → List Column → (n : ℕ) → (cs : List ℕ) → List KeyedAggCol → List PairTree
+taken_pairs a columns n cs [] = []
+taken_pairs a columns n cs (k ∷ ks) = record { name = k.key; value = taken_value a columns n cs k.field } ∷ taken_pairs a columns n cs ks
 
 -- a number of rows, or of values; different ones are compared
 abbrev pub count_value : List Column → (n : ℕ) → (cs : List ℕ) → Option ℕ → (distinct : Bool) → ExprTree
@@ -93,9 +87,7 @@ count_value columns n cs (Some c) distinct = tree.aggregate (tree.count (needed_
 
 abbrev pub summary_value : List Column → (n : ℕ) → (cs : List ℕ) → AggField → ExprTree
 summary_value columns n cs (take.Count c distinct) = count_value columns n cs c distinct
-summary_value columns n cs (take.Sum ks) = tree.object (pairs_of (taken_pairs tree.sum columns n cs ks))
-summary_value columns n cs (take.Min ks) = tree.object (pairs_of (taken_pairs tree.min columns n cs ks))
-summary_value columns n cs (take.Max ks) = tree.object (pairs_of (taken_pairs tree.max columns n cs ks))
+summary_value columns n cs (take.Columns a ks) = tree.object (pairs_of (taken_pairs a columns n cs ks))
 summary_value columns n cs (take.Typename name) = tree.text name
 
 abbrev pub summary_pairs : List Column → (n : ℕ) → (cs : List ℕ) → List KeyedAggField → List PairTree

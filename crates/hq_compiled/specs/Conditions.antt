@@ -1,10 +1,14 @@
--- Conditions of WHERE: literals, lists of conditions in one, and tests of one column.
+-- Conditions of WHERE: literals, lists of conditions in one, and tests of a value.
 use Rattle.std.specs.Prelude.{List, [], ◌∷◌, map, Bool, cond}
 use Rattle.hq_base.specs.declared.value.Val.{Val}
 use Rattle.hq_base.specs.declared.value.Val.TheVariants as val
+use Rattle.hq_terms.specs.Tests.{arity, is_of_nothing}
+use Rattle.hq_terms.specs.declared.test.Test.{Test}
 use Rattle.hq_terms.specs.declared.bexp.Operand.{Operand}
 use Rattle.hq_terms.specs.declared.bexp.Operand.TheVariants.{Const, Session}
-use Rattle.hq_sql_tree.specs.Tree.{ExprTree, int, text, bool, object, no_pair, FilterTree, no_filter, filter, PredTree, always, never, within, negation, all_of, any_of, preds_of}
+use Rattle.hq_terms.specs.declared.test.Arity.{Arity}
+use Rattle.hq_terms.specs.declared.test.Arity.TheVariants.{Nothing, One, Many}
+use Rattle.hq_sql_tree.specs.Tree.{ExprTree, int, text, bool, object, no_pair, FilterTree, no_filter, filter, PredTree, always, never, test, negation, all_of, any_of, preds_of}
 
 -- The literal of a value. NULL is no value of an operand that is bound; in its place stands an object, which compares
 -- with no cell, as NULL does.
@@ -44,7 +48,16 @@ where_of (p ∷ ps) = filter (joined_by_and (p ∷ ps))
 abbrev pub negation_if : Bool → PredTree → PredTree
 negation_if negated p = cond negated (negation p) p
 
--- IN, and NOT IN where negated; no value is in the empty list
-abbrev pub within_list : ExprTree → List Operand → (negated : Bool) → PredTree
-within_list e [] negated = cond negated always never
-within_list e (o ∷ os) negated = negation_if negated (within e (map operand_literal (o ∷ os)))
+-- the literals of as many operands as are taken; one that is absent is NULL
+abbrev pub first_literal : List Operand → ExprTree
+first_literal [] = literal val.Null
+first_literal (v ∷ vs) = operand_literal v
+
+abbrev pub literals_for : Arity → List Operand → List ExprTree
+literals_for Nothing vs = []
+literals_for One vs = first_literal vs ∷ []
+literals_for Many vs = map operand_literal vs
+
+-- a test of a value, and the opposite where negated; no value is one of none
+abbrev pub test_of : ExprTree → Test → List Operand → (negated : Bool) → PredTree
+test_of e t vs negated = cond (is_of_nothing t vs) (cond negated always never) (negation_if negated (test e t (literals_for (arity t) vs)))

@@ -4,6 +4,7 @@ use Rattle.hq_base.specs.declared.value.Val.{Val}
 use Rattle.hq_compiled.specs.Rights.{Rights}
 use Rattle.hq_terms.specs.Schema.{Schema, table, rel}
 use Rattle.hq_terms.specs.Selected.{ListArguments}
+use Rattle.hq_terms.specs.declared.test.Test.TheVariants.{Compare}
 use Rattle.hq_terms.specs.declared.op.Op.TheVariants.{Eq}
 use Rattle.hq_terms.specs.declared.table.Column.{Column}
 use Rattle.hq_ask_tree.specs.Fields.{Origin, from_table, along, FieldTrees, no_field, field, FieldTree, column, typename, no_queries, object, list, by_key, aggregate, introspect, PartTrees, no_part, part, PartTree, summary, nodes, part_typename}
@@ -41,7 +42,7 @@ origin_tie (along r) s t p n = link s t (rel s t r) p n
 abbrev pub key_members : List Column → Look → List ℕ → List Val → List PredTree
 key_members columns look [] vs = []
 key_members columns look (c ∷ cs) [] = []
-key_members columns look (c ∷ cs) (v ∷ vs) = tree.compare (compared_at columns (look c) c) Eq (literal v) ∷ key_members columns look cs vs
+key_members columns look (c ∷ cs) (v ∷ vs) = tree.test (compared_at columns (look c) c) (Compare Eq) (literal v ∷ []) ∷ key_members columns look cs vs
 
 -- how many numbers fields at a row of table t take, and those of an aggregate over a list of table u
 abbrev mutual
@@ -97,6 +98,19 @@ abbrev pub parts_select : (n : ℕ) → List PairTree → List JoinTree → Sele
 parts_select n values joins =
     tree.rows [] (value_output (tree.object (pairs_of values))) (tree.one (table_alias n)) (joins_of joins) tree.no_filter [] None None
 
+-- the first number of the fields of a list of table u at the alias of number n
+abbrev pub kids_from : Schema → Rights → (u : ℕ) → ListArguments → FieldTrees → (n : ℕ) → ℕ
+kids_from s g u a fs n = children_from s g u (list_used s u a (fields_used fs)) a n
+
+-- a list of rows, with the joins of their fields
+abbrev pub list_join : Schema → Rights → Origin → (t p : ℕ) → ListArguments → FieldTrees → (n : ℕ) → (kids : List JoinTree) → JoinTree
+list_join s g o t p a fs n kids = record {
+  select = list_select s g (origin_table o s t) (list_used s (origin_table o s t) a (fields_used fs)) a n (origin_tie o s t p n)
+      (fields_values fs s g (shown_look s g (origin_table o s t) (list_used s (origin_table o s t) a (fields_used fs)) n) (origin_table o s t)
+      (kids_from s g (origin_table o s t) a fs n)) kids;
+  alias = join_alias n;
+}
+
 -- The lateral joins of fields at a row of table t at the alias of number p, their numbers from n on.
 abbrev mutual
   pub fields_joins : FieldTrees → Schema → Rights → (t p n : ℕ) → List JoinTree
@@ -119,14 +133,7 @@ abbrev mutual
       }
       ∷ []
   field_joins (list o a fs) s g t p n =
-      record {
-        select = list_select s g (origin_table o s t) (list_used s (origin_table o s t) a (fields_used fs)) a n (origin_tie o s t p n)
-            (fields_values fs s g (shown_look s g (origin_table o s t) (list_used s (origin_table o s t) a (fields_used fs)) n) (origin_table o s t)
-            (children_from s g (origin_table o s t) (list_used s (origin_table o s t) a (fields_used fs)) a n))
-            (fields_joins fs s g (origin_table o s t) n (children_from s g (origin_table o s t) (list_used s (origin_table o s t) a (fields_used fs)) a n));
-        alias = join_alias n;
-      }
-      ∷ []
+      list_join s g o t p a fs n (fields_joins fs s g (origin_table o s t) n (kids_from s g (origin_table o s t) a fs n)) ∷ []
   field_joins (by_key u key fs) s g t p n =
       record {
         select = first_select s u n (joined_by_and (key_members (table s u).columns (shown_look s g u (key_used s u fs) n) (table s u).key key))
@@ -153,12 +160,5 @@ abbrev mutual
   part_joins (summary fs) s g o t p a n =
       record { select = summary_select fs s g (origin_table o s t) a n (origin_tie o s t p n); alias = join_alias n } ∷ []
   part_joins (nodes fs) s g o t p a n =
-      record {
-        select = list_select s g (origin_table o s t) (list_used s (origin_table o s t) a (fields_used fs)) a n (origin_tie o s t p n)
-            (fields_values fs s g (shown_look s g (origin_table o s t) (list_used s (origin_table o s t) a (fields_used fs)) n) (origin_table o s t)
-            (children_from s g (origin_table o s t) (list_used s (origin_table o s t) a (fields_used fs)) a n))
-            (fields_joins fs s g (origin_table o s t) n (children_from s g (origin_table o s t) (list_used s (origin_table o s t) a (fields_used fs)) a n));
-        alias = join_alias n;
-      }
-      ∷ []
+      list_join s g o t p a fs n (fields_joins fs s g (origin_table o s t) n (kids_from s g (origin_table o s t) a fs n)) ∷ []
   part_joins (part_typename name) s g o t p a n = []

@@ -1,34 +1,42 @@
 -- What a request and a catalog must be, that each part of the statement has its type in scope.
-use Rattle.std.specs.Prelude.{◌≡◌, ℕ, ◌<◌, ◌≤◌, ◌^◌, ◌+◌, List, [], ◌∷◌, length, map, Bool, true, false, ◌&&◌, ◌||◌, ◌==◌, Option, Some, None, bytes_eq, slice_index_or, is_ok}
+use Rattle.std.specs.Prelude.{◌≡◌, ℕ, ◌<◌, ◌≤◌, ◌^◌, ◌+◌, List, [], ◌∷◌, length, map, Bool, true, ◌&&◌, ◌||◌, ◌==◌, Some, None, bytes_eq, codes, slice_index_or}
 use Rattle.std.specs.List.{list_all}
+use Rattle.hq_base.specs.Aggregates.{is_aggregate_of}
 use Rattle.hq_base.specs.Lists.{all_differ, Each}
-use Rattle.hq_base.specs.Patterns.{pattern_of}
+use Rattle.hq_base.specs.declared.aggregate.Aggregate.{Aggregate}
+use Rattle.hq_base.specs.declared.value.Ty.{Ty}
 use Rattle.hq_base.specs.declared.value.Val.{Val}
-use Rattle.hq_base.specs.declared.value.Val.TheVariants as val
-use Rattle.hq_terms.specs.Bexp.{BexpTree, always, and_of, or_of, not_of, comparison, within, is_null, like, through, BexpTrees, no_bexp, bexp}
+use Rattle.hq_terms.specs.Bexp.{BexpTree, always, and_of, or_of, not_of, test, through, BexpTrees, no_bexp, bexp}
 use Rattle.hq_terms.specs.Catalog.{is_catalog}
+use Rattle.hq_terms.specs.Database.{is_text}
 use Rattle.hq_terms.specs.Meta.{MetaTree}
 use Rattle.hq_terms.specs.Permission.{Mask}
 use Rattle.hq_terms.specs.Schema.{Schema, schema_of, table, rel, no_column}
 use Rattle.hq_terms.specs.Selected.{SortKey, ListArguments, entries}
-use Rattle.hq_terms.specs.declared.bexp.Operand.{Operand}
-use Rattle.hq_terms.specs.declared.bexp.Operand.TheVariants.{Const, Session}
 use Rattle.hq_terms.specs.declared.meta.Pair.{Pair}
+use Rattle.hq_terms.specs.Tests.{arity}
+use Rattle.hq_terms.specs.declared.bexp.Operand.{Operand}
+use Rattle.hq_terms.specs.declared.bexp.Operand.TheVariants.{Const}
+use Rattle.hq_terms.specs.declared.op.Op.TheVariants.{Eq}
 use Rattle.hq_terms.specs.declared.table.Column.{Column}
 use Rattle.hq_terms.specs.declared.table.Table.{Table}
+use Rattle.hq_terms.specs.declared.test.Test.{Test}
+use Rattle.hq_terms.specs.declared.test.Test.TheVariants.{Compare}
 use Rattle.hq_ask_tree.specs.Fields.{Origin, from_table, along, FieldTrees, no_field, field, FieldTree, column, typename, no_queries, object, list, by_key, aggregate, introspect, PartTrees, no_part, part, PartTree, summary, nodes, part_typename}
 use Rattle.hq_ask_tree.specs.Resolve.{origin_table}
+use Rattle.hq_ask_tree.specs.ResponseKeys.{keys_of, part_keys}
 use Rattle.hq_ask_tree.specs.declared.aggregate.AggCol.{AggCol}
 use Rattle.hq_ask_tree.specs.declared.aggregate.AggCol.TheVariants as of
 use Rattle.hq_ask_tree.specs.declared.aggregate.AggField.{AggField}
 use Rattle.hq_ask_tree.specs.declared.aggregate.AggField.TheVariants as take
 use Rattle.hq_ask_tree.specs.declared.aggregate.KeyedAggCol.{KeyedAggCol}
 use Rattle.hq_ask_tree.specs.declared.aggregate.KeyedAggField.{KeyedAggField}
-use Rattle.hq_sql_tree.specs.WellFormed as well
-use Rattle.hq_sql_tree.specs.WellFormed.{Kind, Names, kind_of_type, compare_kinds, is_text_kind, has_extremes, is_summed, is_typed}
-use Rattle.hq_compiled.specs.Looks.{is_used}
+use Rattle.hq_sql_tree.specs.Tree as sql
+use Rattle.hq_sql_tree.specs.WellFormed.{Aliases, Kind, Names, kind_of_type, compare_kinds, is_typed_test, is_typed}
+use Rattle.hq_compiled.specs.Looks.{compares, is_used}
+use Rattle.hq_compiled.specs.Conditions.{literals_for}
 use Rattle.hq_compiled.specs.Rights.{Rights}
-use Rattle.hq_compiled.specs.Lists.{list_sorts}
+use Rattle.hq_compiled.specs.Lists.{once, list_sorts}
 use Rattle.hq_compiled.specs.Aggregates.{needed}
 use Rattle.hq_compiled.specs.Fields.{fields_numbers}
 use Rattle.hq_compiled.specs.Statement.{statement}
@@ -45,23 +53,21 @@ Known s t = t < length s
 abbrev pub Has : Schema → (t c : ℕ) → Type 0
 Has s t c = c < length (table s t).columns
 
+abbrev pub type_of : Schema → (t c : ℕ) → Ty
+type_of s t c = (slice_index_or (table s t).columns c no_column).ty
+
 abbrev pub kind_of : Schema → (t c : ℕ) → Kind
-kind_of s t c = kind_of_type (slice_index_or (table s t).columns c no_column).ty
+kind_of s t c = kind_of_type (type_of s t c)
 
 -- ---- conditions
 
--- an operand that is bound and is compared with this kind
-abbrev pub OperandFits : Kind → Operand → Type 0
-OperandFits k (Const val.Null) = ⊥
-OperandFits k (Const (val.Int n)) = compare_kinds (Some k) (Some (well.whole false)) ≡ true
-OperandFits k (Const (val.Text s)) = compare_kinds (Some k) (Some well.text) ≡ true
-OperandFits k (Const (val.Bool b)) = compare_kinds (Some k) (Some well.truth) ≡ true
-OperandFits k (Session name) = ⊥
+-- one alias alone, with one column of a type
+abbrev pub column_alone : Ty → Aliases
+column_alone ty = (codes "t", (codes "c", Some (kind_of_type ty)) ∷ []) ∷ []
 
--- a text that is a pattern
-abbrev pub PatternFits : Operand → Type 0
-PatternFits (Const (val.Text s)) = is_ok (pattern_of s) ≡ true
-PatternFits _ = ⊥
+-- a test of a column of a type has its types with these operands
+abbrev pub TestFits : Test → Ty → List Operand → Type 0
+TestFits t ty vs = is_typed_test (column_alone ty) (sql.column (codes "t") (codes "c") (compares t && is_text ty)) t (literals_for (arity t) vs) ≡ true
 
 -- the columns of a pair are the tables' and can be compared
 abbrev pub FinePair : Schema → (t u : ℕ) → Pair → Type 0
@@ -76,10 +82,7 @@ abbrev mutual
   FineBexp (and_of bs) s t = FineBexps bs s t
   FineBexp (or_of bs) s t = FineBexps bs s t
   FineBexp (not_of b) s t = FineBexp b s t
-  FineBexp (comparison c op v) s t = Has s t c × OperandFits (kind_of s t c) v
-  FineBexp (within c vs negated) s t = Has s t c × Each (OperandFits (kind_of s t c)) vs
-  FineBexp (is_null c wanted) s t = Has s t c
-  FineBexp (like c fold negated v) s t = Has s t c × (kind_of s t c ≡ well.text) × PatternFits v
+  FineBexp (test c tested vs negated) s t = Has s t c × TestFits tested (type_of s t c) vs
   FineBexp (through r b) s t = FineRel s t r × FineBexp b s (rel s t r).remote
 
   pub FineBexps : BexpTrees → Schema → (t : ℕ) → Type 0
@@ -111,8 +114,8 @@ begin_columns distinct front (k ∷ ks) =
 pub record FineArguments (s : Schema) (t : ℕ) (a : ListArguments) : Type 0 where
   pub wanted : FineBexp a.wanted s t
   pub sorts : Each (λ k. FineChain k.through s t k.column) a.sorts
-  pub distinct : Each (Has s t) a.distinct
-  pub begins : begin_columns a.distinct [] (entries a) ≡ true
+  pub distinct : Each (Has s t) (once a).distinct
+  pub begins : begin_columns (once a).distinct [] (entries (once a)) ≡ true
   pub few : length (list_sorts s t a) ≤ 2 ^ 64
 
 abbrev pub FineOrigin : Origin → Schema → (t : ℕ) → Type 0
@@ -123,24 +126,22 @@ FineOrigin (along r) s t = FineRel s t r
 abbrev pub FineKey : Schema → (t : ℕ) → List ℕ → List Val → Type 0
 FineKey s t [] vs = Unit {0}
 FineKey s t (c ∷ cs) [] = Unit {0}
-FineKey s t (c ∷ cs) (v ∷ vs) = OperandFits (kind_of s t c) (Const v) × FineKey s t cs vs
+FineKey s t (c ∷ cs) (v ∷ vs) = TestFits (Compare Eq) (type_of s t c) (Const v ∷ []) × FineKey s t cs vs
 
 -- ---- aggregates
 
--- a field of sum, min or max, whose column's kind passes a test
-abbrev pub FineTaken : (Option Kind → Bool) → Schema → (t : ℕ) → AggCol → Type 0
-FineTaken test s t (of.Column c) = Has s t c × (test (Some (kind_of s t c)) ≡ true)
-FineTaken test s t (of.Typename name) = Unit {0}
+-- a column of an aggregate, of a type over whose values this is taken
+abbrev pub FineTaken : Aggregate → Schema → (t : ℕ) → AggCol → Type 0
+FineTaken a s t (of.Column c) = Has s t c × (is_aggregate_of a (type_of s t c) ≡ true)
+FineTaken a s t (of.Typename name) = Unit {0}
 
-abbrev pub FineTakens : (Option Kind → Bool) → Schema → (t : ℕ) → List KeyedAggCol → Type 0
-FineTakens test s t ks = Each (λ k. FineTaken test s t k.field) ks × (all_differ bytes_eq (map (λ k. k.key) ks) ≡ true)
+abbrev pub FineTakens : Aggregate → Schema → (t : ℕ) → List KeyedAggCol → Type 0
+FineTakens a s t ks = Each (λ k. FineTaken a s t k.field) ks × (all_differ bytes_eq (map (λ k. k.key) ks) ≡ true)
 
 abbrev pub FineSummary : Schema → (t : ℕ) → AggField → Type 0
 FineSummary s t (take.Count None distinct) = Unit {0}
 FineSummary s t (take.Count (Some c) distinct) = Has s t c
-FineSummary s t (take.Sum ks) = FineTakens is_summed s t ks
-FineSummary s t (take.Min ks) = FineTakens has_extremes s t ks
-FineSummary s t (take.Max ks) = FineTakens has_extremes s t ks
+FineSummary s t (take.Columns a ks) = FineTakens a s t ks
 FineSummary s t (take.Typename name) = Unit {0}
 
 -- the fields of aggregate over rows of table t
@@ -148,14 +149,6 @@ abbrev pub FineSummaries : Schema → (t : ℕ) → List KeyedAggField → Type 
 FineSummaries s t fs = Each (λ f. FineSummary s t f.field) fs × (all_differ bytes_eq (map (λ f. f.key) fs) ≡ true) × (length (needed fs []) ≤ 2 ^ 64)
 
 -- ---- fields
-
-abbrev pub keys_of : FieldTrees → List (List ℕ)
-keys_of no_field = []
-keys_of (field key f fs) = key ∷ keys_of fs
-
-abbrev pub part_keys_of : PartTrees → List (List ℕ)
-part_keys_of no_part = []
-part_keys_of (part key p ps) = key ∷ part_keys_of ps
 
 -- the response keys of an object differ
 abbrev pub Apart : FieldTrees → Type 0
@@ -173,7 +166,7 @@ abbrev mutual
   FineField (object r fs) s t = FineRel s t r × Apart fs × FineFields fs s (rel s t r).remote
   FineField (list o a fs) s t = FineOrigin o s t × FineArguments s (origin_table o s t) a × Apart fs × FineFields fs s (origin_table o s t)
   FineField (by_key u key fs) s t = Known s u × FineKey s u (table s u).key key × Apart fs × FineFields fs s u
-  FineField (aggregate o a ps) s t = FineOrigin o s t × FineArguments s (origin_table o s t) a × (all_differ bytes_eq (part_keys_of ps) ≡ true) × FineParts ps s (origin_table o s t)
+  FineField (aggregate o a ps) s t = FineOrigin o s t × FineArguments s (origin_table o s t) a × (all_differ bytes_eq (part_keys ps) ≡ true) × FineParts ps s (origin_table o s t)
   FineField (introspect f) s t = Unit {0}
 
   pub FineParts : PartTrees → Schema → (u : ℕ) → Type 0

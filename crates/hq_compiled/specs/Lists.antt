@@ -7,20 +7,24 @@ use Rattle.hq_terms.specs.Selected.{ListArguments, entries, smaller}
 use Rattle.hq_terms.specs.declared.table.Column.{Column}
 use Rattle.hq_sql_tree.specs.Tree.{ExprTree, column, object, aggregate, json_agg, orders_of, PairTree, pairs_of, OutTree, SelectTree, rows, fold, table as from_table, JoinTree, joins_of, PredTree}
 use Rattle.hq_compiled.specs.Names.{table_alias, fold_alias, value_name}
-use Rattle.hq_compiled.specs.Looks.{Look, compared_at}
+use Rattle.hq_compiled.specs.Looks.{Look, compared_at, add_all}
 use Rattle.hq_compiled.specs.Conditions.{with_member, where_of}
 use Rattle.hq_compiled.specs.Predicates.{columns_in, numbers, predicate}
 use Rattle.hq_compiled.specs.Masks.{extra, masks, shown_look, filter_numbers, filter_predicate, where_mode}
 use Rattle.hq_compiled.specs.Selects.{filter_from, behind_filter}
 use Rattle.hq_compiled.specs.Sorts.{Sort, shown_sorts, own_sorts, used_sorts, sorts_numbers, sorts_joins, orders, key_outputs, output_orders}
 
+-- the arguments with each column of DISTINCT ON once, in order of first occurrence
+abbrev pub once : ListArguments → ListArguments
+once a = record a { distinct = add_all a.distinct [] }
+
 -- the sort keys of a list, those of the table's key last
 abbrev pub list_sorts : Schema → (t : ℕ) → ListArguments → List Sort
-list_sorts s t a = shown_sorts (entries a) (own_sorts (table s t).key)
+list_sorts s t a = shown_sorts (entries (once a)) (own_sorts (table s t).key)
 
 -- the columns of its rows that a list uses, with those of its outputs
 abbrev pub list_used : Schema → (t : ℕ) → ListArguments → (outputs : List ℕ) → List ℕ
-list_used s t a outs = columns_in a.wanted ++ (used_sorts (list_sorts s t a) ++ (a.distinct ++ outs))
+list_used s t a outs = columns_in a.wanted ++ (used_sorts (list_sorts s t a) ++ ((once a).distinct ++ outs))
 
 -- how many numbers the `where` of a list takes
 abbrev pub where_numbers : BexpTree → Schema → Rights → (t : ℕ) → ℕ
@@ -47,7 +51,7 @@ distinct_columns columns look (c ∷ cs) = compared_at columns (look c) c ∷ di
 -- The selected rows of table t at the alias of number n. They are tied to what stands around.
 abbrev pub list_rows : Schema → Rights → (t : ℕ) → (used : List ℕ) → ListArguments → (n : ℕ) → (tie : PredTree) → (limit : Option ℕ) → List OutTree → (children : List JoinTree) → SelectTree
 list_rows s g t cs a n tie limit outs children =
-    rows (distinct_columns (table s t).columns (shown_look s g t cs n) a.distinct) outs
+    rows (distinct_columns (table s t).columns (shown_look s g t cs n) (once a).distinct) outs
     (from_table (table s t).schema (table s t).name (table_alias n))
     (joins_of (masks s g t cs n ++ (sorts_joins (list_sorts s t a) s g t n (sorts_from s g t cs a n) ++ children)))
     (where_of (with_member tie (with_member (filter_predicate s g t n (filter_from s g t cs n))

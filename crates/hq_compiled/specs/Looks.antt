@@ -1,8 +1,10 @@
 -- How the columns of a row are looked at in SQL: each by an alias and a name there.
-use Rattle.std.specs.Prelude.{ℕ, List, Bool, false, ◌==◌, slice_index_or}
+use Rattle.std.specs.Prelude.{ℕ, List, [], ◌∷◌, ◌++◌, Bool, true, false, cond, ◌&&◌, ◌==◌, slice_index_or}
 use Rattle.std.specs.List.{list_any}
 use Rattle.hq_terms.specs.Database.{is_text}
 use Rattle.hq_terms.specs.Schema.{no_column}
+use Rattle.hq_terms.specs.declared.test.Test.{Test}
+use Rattle.hq_terms.specs.declared.test.Test.TheVariants.{IsNull}
 use Rattle.hq_terms.specs.declared.table.Column.{Column}
 use Rattle.hq_sql_tree.specs.Tree.{ExprTree, column}
 use Rattle.hq_compiled.specs.Names.{table_alias}
@@ -35,6 +37,23 @@ cell_at p = column p.alias p.name false
 abbrev pub compared_at : List Column → Place → ℕ → ExprTree
 compared_at columns p c = column p.alias p.name (is_text_column columns c)
 
+-- whether a test compares the value that it looks at
+abbrev pub compares : Test → Bool
+compares IsNull = false
+compares _ = true
+
+-- the cell as a test looks at it
+abbrev pub tested_at : List Column → Place → ℕ → Test → ExprTree
+tested_at columns p c t = column p.alias p.name (compares t && is_text_column columns c)
+
 -- whether a column is among those that are used
 abbrev pub is_used : ℕ → List ℕ → Bool
 is_used c cs = list_any (λ d. c == d) cs
+
+-- a column, and columns, behind others, each once, in order of first occurrence
+abbrev pub add_new : ℕ → List ℕ → List ℕ
+add_new c cs = cond (is_used c cs) cs (cs ++ c ∷ [])
+
+abbrev pub add_all : List ℕ → List ℕ → List ℕ
+add_all [] cs = cs
+add_all (d ∷ ds) cs = add_all ds (add_new d cs)

@@ -1,8 +1,10 @@
 -- Boolean expressions as conditions: one definition for the filters of permissions and for the `where` of requests, which
 -- differ in what a remote alias has beside its link.
-use Rattle.std.specs.Prelude.{ℕ, ◌+◌, List, [], ◌∷◌, ◌++◌, true, not, None}
-use Rattle.hq_terms.specs.Bexp.{BexpTree, always, and_of, or_of, not_of, comparison, within, is_null, like, through, BexpTrees, no_bexp, bexp}
+use Rattle.std.specs.Prelude.{ℕ, ◌+◌, List, [], ◌∷◌, ◌++◌, true, cond, None}
+use Rattle.hq_terms.specs.Bexp.{BexpTree, always, and_of, or_of, not_of, test, through, BexpTrees, no_bexp, bexp}
 use Rattle.hq_terms.specs.Schema.{Schema, table, rel}
+use Rattle.hq_terms.specs.Tests.{is_of_nothing}
+use Rattle.hq_terms.specs.declared.test.Test.TheVariants.{Compare}
 use Rattle.hq_terms.specs.declared.meta.Pair.{Pair}
 use Rattle.hq_terms.specs.declared.meta.Rel.{Rel}
 use Rattle.hq_terms.specs.declared.op.Op.TheVariants.{Eq}
@@ -10,14 +12,14 @@ use Rattle.hq_terms.specs.declared.table.Column.{Column}
 use Rattle.hq_sql_tree.specs.Tree as tree
 use Rattle.hq_sql_tree.specs.Tree.{OutTree, SelectTree, JoinTree, joins_of, PredTree}
 use Rattle.hq_compiled.specs.Names.{table_alias, unit_name}
-use Rattle.hq_compiled.specs.Looks.{Look, own_look, cell_at, compared_at}
-use Rattle.hq_compiled.specs.Conditions.{operand_literal, joined_by_and, joined_by_or, with_member, where_of, negation_if, within_list}
+use Rattle.hq_compiled.specs.Looks.{Look, own_look, compared_at, tested_at}
+use Rattle.hq_compiled.specs.Conditions.{joined_by_and, joined_by_or, with_member, where_of, test_of}
 
 -- a link: the remote row's columns equal the row's own, pair by pair
 abbrev pub link_members : (columns remote : List Column) → (p q : ℕ) → List Pair → List PredTree
 link_members columns remote p q [] = []
 link_members columns remote p q (x ∷ xs) =
-    tree.compare (compared_at remote (own_look remote q x.remote) x.remote) Eq (compared_at columns (own_look columns p x.own) x.own)
+    tree.test (compared_at remote (own_look remote q x.remote) x.remote) (Compare Eq) (compared_at columns (own_look columns p x.own) x.own ∷ [])
     ∷ link_members columns remote p q xs
 
 -- a row of table t at the alias of number p is linked to the remote row at the one of number q
@@ -40,11 +42,7 @@ abbrev mutual
   columns_in (and_of bs) = columns_in_all bs
   columns_in (or_of bs) = columns_in_all bs
   columns_in (not_of b) = columns_in b
-  columns_in (comparison c op v) = c ∷ []
-  columns_in (within c [] negated) = []
-  columns_in (within c (v ∷ vs) negated) = c ∷ []
-  columns_in (is_null c wanted) = c ∷ []
-  columns_in (like c fold negated v) = c ∷ []
+  columns_in (test c tested vs negated) = cond (is_of_nothing tested vs) [] (c ∷ [])
   columns_in (through r b) = []
 
   pub columns_in_all : BexpTrees → List ℕ
@@ -65,10 +63,7 @@ abbrev mutual
   numbers (and_of bs) s m t = numbers_all bs s m t
   numbers (or_of bs) s m t = numbers_all bs s m t
   numbers (not_of b) s m t = numbers b s m t
-  numbers (comparison c op v) s m t = 0
-  numbers (within c vs negated) s m t = 0
-  numbers (is_null c wanted) s m t = 0
-  numbers (like c fold negated v) s m t = 0
+  numbers (test c tested vs negated) s m t = 0
   numbers (through r b) s m t = 1 + m.extra (rel s t r).remote (columns_in b) + m.more (rel s t r).remote + numbers b s m (rel s t r).remote
 
   pub numbers_all : BexpTrees → Schema → Mode → (t : ℕ) → ℕ
@@ -89,11 +84,7 @@ abbrev mutual
   predicate (and_of bs) s m look t p n = joined_by_and (predicates bs s m look t p n)
   predicate (or_of bs) s m look t p n = joined_by_or (predicates bs s m look t p n)
   predicate (not_of b) s m look t p n = tree.negation (predicate b s m look t p n)
-  predicate (comparison c op v) s m look t p n = tree.compare (compared_at (table s t).columns (look c) c) op (operand_literal v)
-  predicate (within c vs negated) s m look t p n = within_list (compared_at (table s t).columns (look c) c) vs negated
-  predicate (is_null c wanted) s m look t p n = negation_if (not wanted) (tree.is_null (cell_at (look c)))
-  predicate (like c fold negated v) s m look t p n =
-      negation_if negated (tree.like (compared_at (table s t).columns (look c) c) (operand_literal v) fold)
+  predicate (test c tested vs negated) s m look t p n = test_of (tested_at (table s t).columns (look c) c tested) tested vs negated
   predicate (through r b) s m look t p n =
       tree.exists (remote_rows s m t p n (rel s t r) (columns_in b)
       (predicate b s m (m.look (rel s t r).remote (columns_in b) n) (rel s t r).remote n (inner_from m (rel s t r).remote (columns_in b) n)))

@@ -1,11 +1,14 @@
 -- The conditions that a value writes on a column, by whether it is an object.
-use Rattle.std.proofs.Common.{◌≡◌, refl, ℕ, List, Some, None}
+use Rattle.std.proofs.Common.{◌≡◌, refl, ℕ, List, false, Some, None}
 use Rattle.hq_base.specs.Due.{mapped}
 use Rattle.hq_base.specs.Json.{JsonTree, null, bool, int, str, arr, obj}
 use Rattle.hq_base.specs.Look.{object_in}
 use Rattle.hq_base.specs.declared.value.Ty.{Ty}
+use Rattle.hq_terms.specs.Bexp.{conjunction}
+use Rattle.hq_terms.specs.Operators.{operator}
 use Rattle.hq_terms.specs.declared.op.Op.TheVariants.{Eq}
-use Rattle.hq_filter_read.specs.Condition.{conjunction, comparison_due, condition_due, column_due}
+use Rattle.hq_terms.specs.declared.test.Test.TheVariants.{Compare}
+use Rattle.hq_filter_read.specs.Condition.{single_due, condition_due, column_due}
 use Rattle.hq_filter_read.specs.Each.{each_member}
 use Rattle.hq_filter_read.specs.Operator.{operator_named}
 
@@ -17,7 +20,7 @@ of_object c ty path (str s) ms e = cc
 of_object c ty path (arr js) ms e = cc
 of_object c ty path (obj js) ms e = cc
 
-pub of_other : (c : ℕ) (ty : Ty) (path : List ℕ) (j : JsonTree) → object_in j ≡ None → column_due c ty path j ≡ comparison_due c ty Eq path j
+pub of_other : (c : ℕ) (ty : Ty) (path : List ℕ) (j : JsonTree) → object_in j ≡ None → column_due c ty path j ≡ single_due c ty (operator (Compare Eq) false) path j
 of_other c ty path null e = refl
 of_other c ty path (bool b) e = refl
 of_other c ty path (int n) e = refl

@@ -1,6 +1,6 @@
 -- The expression of a filter is one over its table, and nests at most twice as deep as its JSON.
 use Rattle.std.proofs.Common.{◌≡◌, ◌∙◌, refl, sym, ap, ℕ, suc, ◌+◌, ◌*◌, ◌≤◌, Bool, true, false, cond, List, [], ◌∷◌, Option, Some, None, Result, Ok, Err, arith}
-use Rattle.std.specs.Prelude.{⊤, IfOk, is_some, slice_get, option_map, ◌&&◌}
+use Rattle.std.specs.Prelude.{⊤, IfOk, length, is_some, not, slice_get, option_map, ◌&&◌}
 use Rattle.std.specs.List.{list_all}
 use Rattle.std.proofs.lemmas.Option.{get_or_from_slice_get}
 use Rattle.hq_base.specs.Due.{and_then, mapped}
@@ -8,28 +8,31 @@ use Rattle.hq_base.specs.Json.{JsonTree, null, bool, int, str, arr, obj, Element
 use Rattle.hq_base.specs.Look.{array_in, member_list}
 use Rattle.hq_base.specs.Path.{member_path, item_path}
 use Rattle.hq_base.specs.declared.value.Ty.{Ty}
-use Rattle.hq_terms.specs.Bexp.{BexpTree, and_of, or_of, not_of, comparison, within, is_null, like, through, bexps_of, depth, depth_of_all}
-use Rattle.hq_terms.specs.Database.{is_text}
-use Rattle.hq_terms.specs.Filters.{column_ty, is_filter, are_filters, operand_fits, pattern_fits, of_type}
+use Rattle.hq_terms.specs.Bexp.{BexpTree, and_of, or_of, not_of, test, through, bexps_of, conjunction, depth, depth_of_all}
+use Rattle.hq_terms.specs.Filters.{column_ty, is_filter, are_filters, operand_fits, is_test, of_type}
+use Rattle.hq_terms.specs.Operators.{operator}
 use Rattle.hq_terms.specs.Schema.{Schema, table, column, rel, no_column}
-use Rattle.hq_terms.specs.declared.op.Op.{Op}
+use Rattle.hq_terms.specs.Tests.{arity, has_arity, takes, applies}
+use Rattle.hq_terms.specs.declared.bexp.Operand.{Operand}
 use Rattle.hq_terms.specs.declared.op.Op.TheVariants.{Eq}
+use Rattle.hq_terms.specs.declared.operator.Operator.{Operator}
+use Rattle.hq_terms.specs.declared.test.Arity.{Arity}
+use Rattle.hq_terms.specs.declared.test.Arity.TheVariants.{Nothing, One, Many}
+use Rattle.hq_terms.specs.declared.test.Test.TheVariants.{Compare}
 use Rattle.hq_terms.specs.declared.table.Column.{Column as ColumnOf}
 use Rattle.hq_filter_read.specs.declared.named.Named.{Named}
 use Rattle.hq_filter_read.specs.declared.named.Named.TheVariants.{And, Or, Not, Column, Relationship}
-use Rattle.hq_filter_read.specs.declared.operator.Operator.{Operator}
-use Rattle.hq_filter_read.specs.declared.operator.Operator.TheVariants.{Compare, Within, NullTest, Like}
 use Rattle.hq_filter_read.specs.declared.refusal.FilterRefusal.{FilterRefusal}
 use Rattle.hq_filter_read.specs.declared.refusal.FilterRefusal.TheVariants.{BadOperand}
-use Rattle.hq_filter_read.specs.Condition.{conjunction, comparison_due, within_due, like_due, condition_due, column_due}
+use Rattle.hq_filter_read.specs.Condition.{told_due, single_due, listed_due, tested_due, condition_due, column_due}
 use Rattle.hq_filter_read.specs.Each.{each_element, each_member}
 use Rattle.hq_filter_read.specs.Filter.{member_due, filter_due, filters_due, elements_due, members_due}
 use Rattle.hq_filter_read.specs.Named.{named}
 use Rattle.hq_filter_read.specs.Nesting.{nesting, nesting_of_elements, nesting_of_members}
-use Rattle.hq_filter_read.specs.Operand.{operand_at, operand_read, pattern_in, truth_in}
+use Rattle.hq_filter_read.specs.Operand.{operand_at, operand_read, truth_in}
 use Rattle.hq_filter_read.specs.Operator.{operator_named}
 use Rattle.hq_filter_read.proofs.NamedParts.{IsThere, named_there}
-use Rattle.hq_filter_read.proofs.Operands.{operand_at_fits, pattern_at_fits, operands_fit}
+use Rattle.hq_filter_read.proofs.Operands.{operand_at_fits, operands_fit}
 use Rattle.hq_filter_read.proofs.Results.{ok_always, ok_weaker, ok_mapped, ok_and_then}
 
 -- a filter over table t, nested at most n deep
@@ -66,48 +69,43 @@ conjunction_good n s t (b ∷ []) h = record { is = only (is_filter b s t) h.are
 conjunction_good n s t (b ∷ d ∷ bs) h = record { is = h.are; shallow = omega (arith, h.shallow) }
 
 -- a test of a column that is there
-tested : (test : Ty → Bool) (s : Schema) (t c : ℕ) (ty : Ty) → column_ty s t c ≡ Some ty → test ty ≡ true → of_type test (column_ty s t c) ≡ true
-tested test s t c ty here h = ap (of_type test) here ∙ h
+tested : (holds : Ty → Bool) (s : Schema) (t c : ℕ) (ty : Ty) → column_ty s t c ≡ Some ty → holds ty ≡ true → of_type holds (column_ty s t c) ≡ true
+tested holds s t c ty here h = ap (of_type holds) here ∙ h
 
-comparison_good : (s : Schema) (t c : ℕ) (ty : Ty) → column_ty s t c ≡ Some ty → (op : Op) (path : List ℕ) (j : JsonTree) → IfOk (comparison_due c ty op path j) (Good 1 s t)
-unfolding comparison_due
-comparison_good s t c ty here op path j =
-    ok_mapped (comparison c op) (Good 1 s t) (λ o. operand_fits ty o ≡ true)
-    (λ o h. record { is = tested (λ x. operand_fits x o) s t c ty here h; shallow = omega arith })
-    (operand_at ty path j) (operand_at_fits ty path j)
+-- the condition of an operator that is one of the column's type
+module _ (s : Schema) (t c : ℕ) (ty : Ty) (here : column_ty s t c ≡ Some ty) (o : Operator) (is_of : applies o.test ty ≡ true) where
+  test_good : (vs : List Operand) (negated : Bool) → takes o.test (length vs) ≡ true → list_all (operand_fits o.test ty) vs ≡ true → Good 1 s t (test c o.test vs negated)
+  test_good vs negated counted fit = record { is = tested (is_test o.test vs) s t c ty here (both _ _ (both _ _ counted is_of) fit); shallow = omega arith }
 
-within_good : (s : Schema) (t c : ℕ) (ty : Ty) → column_ty s t c ≡ Some ty → (negated : Bool) (path : List ℕ) (j : JsonTree) → IfOk (within_due c ty path negated j) (Good 1 s t)
-unfolding within_due
-within_good s t c ty here negated path j =
-    ok_and_then (λ list. and_then (λ os. Ok (within c os negated)) (each_element (operand_at ty) path 0 list)) (Good 1 s t) (λ _. ⊤)
-    (λ list _. ok_and_then (λ os. Ok (within c os negated)) (Good 1 s t) (λ os. list_all (operand_fits ty) os ≡ true)
-    (λ os h. record { is = tested (λ x. list_all (operand_fits x) os) s t c ty here h; shallow = omega arith })
-    (each_element (operand_at ty) path 0 list) (operands_fit ty path 0 list))
-    (operand_read path (array_in j)) (ok_always (operand_read path (array_in j)))
-
-like_good : (s : Schema) (t c : ℕ) (ty : Ty) → column_ty s t c ≡ Some ty → (fold negated : Bool) (path : List ℕ) (j : JsonTree) → IfOk (like_due c ty path fold negated j) (Good 1 s t)
-unfolding like_due
-like_good s t c ty here fold negated path j = by (is_text ty) refl
-  where
-    by : (b : Bool) → is_text ty ≡ b → IfOk (cond b (mapped (like c fold negated) (operand_read path (pattern_in j))) (Err (BadOperand path))) (Good 1 s t)
-    by false e = tt
-    by true e =
-        ok_mapped (like c fold negated) (Good 1 s t) (λ o. pattern_fits o ≡ true)
-        (λ o h. record { is = both _ _ (tested is_text s t c ty here e) h; shallow = omega arith })
-        (operand_read path (pattern_in j)) (pattern_at_fits path j)
-
-null_good : (s : Schema) (t c : ℕ) (ty : Ty) → column_ty s t c ≡ Some ty → (path : List ℕ) (j : JsonTree) → IfOk (mapped (is_null c) (operand_read path (truth_in j))) (Good 1 s t)
-null_good s t c ty here path j =
-    ok_mapped (is_null c) (Good 1 s t) (λ _. ⊤) (λ b _. record { is = ap is_some here; shallow = omega arith })
-    (operand_read path (truth_in j)) (ok_always (operand_read path (truth_in j)))
+  pub tested_good : (path : List ℕ) (j : JsonTree) (n : Arity) → arity o.test ≡ n → IfOk (tested_due c ty o path j n) (Good 1 s t)
+  unfolding told_due single_due listed_due
+  tested_good path j Nothing is =
+      ok_mapped (λ holds. test c o.test [] (cond holds o.negated (not o.negated))) (Good 1 s t) (λ _. ⊤)
+      (λ holds _. test_good [] (cond holds o.negated (not o.negated)) (ap (λ n. has_arity n 0) is) refl)
+      (operand_read path (truth_in j)) (ok_always (operand_read path (truth_in j)))
+  tested_good path j One is =
+      ok_mapped (λ v. test c o.test (v ∷ []) o.negated) (Good 1 s t) (λ v. operand_fits o.test ty v ≡ true)
+      (λ v h. test_good (v ∷ []) o.negated (ap (λ n. has_arity n 1) is) (both _ _ h refl))
+      (operand_at o.test ty path j) (operand_at_fits o.test ty is_of path j)
+  tested_good path j Many is =
+      ok_and_then (λ list. and_then (λ os. Ok (test c o.test os o.negated)) (each_element (operand_at o.test ty) path 0 list)) (Good 1 s t) (λ _. ⊤)
+      (λ list _. ok_and_then (λ os. Ok (test c o.test os o.negated)) (Good 1 s t) (λ os. list_all (operand_fits o.test ty) os ≡ true)
+      (λ os h. test_good os o.negated (ap (λ n. has_arity n (length os)) is) h)
+      (each_element (operand_at o.test ty) path 0 list) (operands_fit o.test ty is_of path 0 list))
+      (operand_read path (array_in j)) (ok_always (operand_read path (array_in j)))
 
 -- a condition of a column that is there
 condition_good : (s : Schema) (t c : ℕ) (ty : Ty) → column_ty s t c ≡ Some ty → (path : List ℕ) (operator : Option Operator) (j : JsonTree) → IfOk (condition_due c ty path operator j) (Good 1 s t)
 condition_good s t c ty here path None j = tt
-condition_good s t c ty here path (Some (Compare op)) j = comparison_good s t c ty here op path j
-condition_good s t c ty here path (Some (Within negated)) j = within_good s t c ty here negated path j
-condition_good s t c ty here path (Some NullTest) j = null_good s t c ty here path j
-condition_good s t c ty here path (Some (Like fold negated)) j = like_good s t c ty here fold negated path j
+condition_good s t c ty here path (Some o) j = by (applies o.test ty) refl
+  where
+    by : (b : Bool) → applies o.test ty ≡ b → IfOk (cond b (tested_due c ty o path j (arity o.test)) (Err (BadOperand path))) (Good 1 s t)
+    by true e = tested_good s t c ty here o e path j (arity o.test) refl
+    by false e = tt
+
+-- a value that a column is to equal
+equals_good : (s : Schema) (t c : ℕ) (ty : Ty) → column_ty s t c ≡ Some ty → (path : List ℕ) (j : JsonTree) → IfOk (single_due c ty (operator (Compare Eq) false) path j) (Good 1 s t)
+equals_good s t c ty here path j = tested_good s t c ty here (operator (Compare Eq) false) refl path j One refl
 
 -- the conditions of members that are each read as a good one
 each_good : (s : Schema) (t : ℕ) (read : List ℕ → List ℕ → JsonTree → Result BexpTree FilterRefusal) → ((name path : List ℕ) (j : JsonTree) → IfOk (read name path j) (Good 1 s t)) → (path : List ℕ) (ms : List (List ℕ × JsonTree)) → IfOk (each_member read path ms) (AllGood 1 s t)
@@ -124,12 +122,12 @@ column_good s t c ty here path (obj ms) =
     (λ bs h. good_more 2 (suc (2 * nesting (obj ms))) s t (conjunction bs) (omega arith) (conjunction_good 1 s t bs h))
     (each_member (λ name p. condition_due c ty p (operator_named name)) path (member_list ms))
     (each_good s t (λ name p. condition_due c ty p (operator_named name)) (λ name p. condition_good s t c ty here p (operator_named name)) path (member_list ms))
-column_good s t c ty here path null = comparison_good s t c ty here Eq path null
-column_good s t c ty here path (bool b) = comparison_good s t c ty here Eq path (bool b)
-column_good s t c ty here path (int n) = comparison_good s t c ty here Eq path (int n)
-column_good s t c ty here path (str x) = comparison_good s t c ty here Eq path (str x)
+column_good s t c ty here path null = equals_good s t c ty here path null
+column_good s t c ty here path (bool b) = equals_good s t c ty here path (bool b)
+column_good s t c ty here path (int n) = equals_good s t c ty here path (int n)
+column_good s t c ty here path (str x) = equals_good s t c ty here path (str x)
 column_good s t c ty here path (arr js) =
-    ok_weaker (comparison_due c ty Eq path (arr js)) (Good 1 s t) (Good (suc (2 * nesting (arr js))) s t) (λ b h. good_more 1 (suc (2 * nesting (arr js))) s t b (omega arith) h) (comparison_good s t c ty here Eq path (arr js))
+    ok_weaker (single_due c ty (operator (Compare Eq) false) path (arr js)) (Good 1 s t) (Good (suc (2 * nesting (arr js))) s t) (λ b h. good_more 1 (suc (2 * nesting (arr js))) s t b (omega arith) h) (equals_good s t c ty here path (arr js))
 
 -- the type of a column that is there
 type_there : (s : Schema) (t c : ℕ) → is_some (slice_get (table s t).columns c) ≡ true → column_ty s t c ≡ Some (column s t c).ty

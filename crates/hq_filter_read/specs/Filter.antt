@@ -4,13 +4,13 @@ use Rattle.std.specs.Prelude.{ℕ, ◌+◌, List, [], ◌∷◌, Option, Some, N
 use Rattle.hq_base.specs.Due.{and_then, mapped}
 use Rattle.hq_base.specs.Json.{JsonTree, arr, obj, ElementTrees, no_element, element, MemberTrees, no_member, member}
 use Rattle.hq_base.specs.Path.{member_path, item_path}
-use Rattle.hq_terms.specs.Bexp.{BexpTree, and_of, or_of, not_of, through, bexps_of}
+use Rattle.hq_terms.specs.Bexp.{BexpTree, and_of, or_of, not_of, through, bexps_of, conjunction}
 use Rattle.hq_terms.specs.Schema.{Schema, table, column, rel}
 use Rattle.hq_filter_read.specs.declared.named.Named.{Named}
 use Rattle.hq_filter_read.specs.declared.named.Named.TheVariants.{And, Or, Not, Column, Relationship}
 use Rattle.hq_filter_read.specs.declared.refusal.FilterRefusal.{FilterRefusal}
 use Rattle.hq_filter_read.specs.declared.refusal.FilterRefusal.TheVariants.{Shape, UnknownColumn}
-use Rattle.hq_filter_read.specs.Condition.{conjunction, column_due}
+use Rattle.hq_filter_read.specs.Condition.{column_due}
 use Rattle.hq_filter_read.specs.Named.{named}
 
 -- The expression of a member at a path, by what it names: `filter` is its value read as a filter over a table, and

@@ -1,104 +1,112 @@
-ghost use Rattle.std.specs.Prelude.{◌≡◌, map};
+ghost use Rattle.std.specs.Prelude.{◌≡◌, ◌∷◌, [], map, IfOk};
 ghost use Rattle.hq_base.specs.Due.{Gives};
 ghost use Rattle.hq_base.specs.Json.{json_view, member_view};
 ghost use Rattle.hq_terms.specs.Bexp.{bexp_view};
-ghost use Rattle.hq_filter_read.specs.Condition.{conjunction, within_due, like_due, comparison_due, condition_due, column_due};
+ghost use Rattle.hq_filter_read.specs.Condition.{told_due, single_due, listed_due, condition_due, column_due};
 ghost use Rattle.hq_filter_read.specs.Each.{each_element, each_member};
 ghost use Rattle.hq_filter_read.specs.Operand.{operand_at};
 ghost use Rattle.hq_filter_read.specs.Operator.{operator_named};
 
 use crate::FilterRefusal;
-use crate::operand::{bad_operand, operand_at, pattern_at, truth_at};
-use crate::operator::{Operator, operator_named};
-use hq_base::{Json, List, Member, Txt, Ty, item_path, member_path};
-use hq_terms::{Bexp, BexpList, ColId, Op, Operands};
+use crate::operand::{bad_operand, operand_at, truth_at};
+use crate::operator::operator_named;
+use hq_base::{Json, List, Member, Memory, Txt, Ty, item_path, member_path};
+use hq_terms::{Arity, Bexp, BexpList, ColId, Op, Operand, Operands, Operator, Test};
 use std::alloc::Global;
 
-/// All of a list: True where it is empty, and one expression for itself.
-#[tactic(auto, unfolding(crate::specs::Condition::conjunction))]
-pub fn conjunction(bexps: BexpList) -> Bexp
-    ensures { bexp_view result ≡ conjunction (map bexp_view bexps.items) }
-{
-    let mut bexps = bexps;
-    if bexps.len() > 1 {
-        return Bexp::And(bexps);
-    }
-    match bexps.pop() {
-        Some(bexp) => bexp,
-        None => Bexp::True,
-    }
-}
-
-#[tactic(auto, unfolding(crate::specs::Condition::comparison_due))]
-fn comparison(
+// A test that takes no operand, which is to hold or not by a truth value at a path.
+#[tactic(auto, unfolding(crate::specs::Condition::told_due))]
+fn told(
     alloc: Global,
     col: ColId,
-    ty: Ty,
-    op: Op,
+    operator: Operator,
     path: &Txt,
     json: &Json,
 ) -> Result<Bexp, FilterRefusal>
-    ensures { Gives bexp_view FilterRefusal.Memory (comparison_due col ty op path.now (json_view json.now)) result }
+    ensures { Gives bexp_view FilterRefusal.Memory (told_due col operator path.now (json_view json.now)) result }
 {
-    let operand = operand_at(alloc, ty, path, json)?;
-    Ok(Bexp::Cmp { col, op, operand })
+    let holds = truth_at(alloc, path, json)?;
+    Ok(Bexp::Test {
+        col,
+        test: operator.test,
+        operands: List::new(alloc),
+        negated: if holds {
+            operator.negated
+        } else {
+            !operator.negated
+        },
+    })
+}
+
+// A list of one operand.
+fn one(alloc: Global, operand: Operand) -> Result<Operands, Memory>
+    ensures { IfOk result (λ os. os ≡ operand ∷ []) }
+{
+    let mut operands = List::new(alloc);
+    operands.push(operand)?;
+    Ok(operands)
+}
+
+// A test of the operand at a path.
+#[tactic(auto, unfolding(crate::specs::Condition::single_due))]
+fn single(
+    alloc: Global,
+    col: ColId,
+    ty: Ty,
+    operator: Operator,
+    path: &Txt,
+    json: &Json,
+) -> Result<Bexp, FilterRefusal>
+    ensures { Gives bexp_view FilterRefusal.Memory (single_due col ty operator path.now (json_view json.now)) result }
+{
+    let operand = operand_at(alloc, operator.test, ty, path, json)?;
+    Ok(Bexp::Test {
+        col,
+        test: operator.test,
+        operands: one(alloc, operand)?,
+        negated: operator.negated,
+    })
 }
 
 // The operands of the list at a path.
-fn operands(alloc: Global, ty: Ty, path: &Txt, list: &[Json]) -> Result<Operands, FilterRefusal>
-    ensures { Gives (λ os. os) FilterRefusal.Memory (each_element (operand_at ty) path.now 0 (map json_view list.now)) result }
+fn operands(
+    alloc: Global,
+    test: Test,
+    ty: Ty,
+    path: &Txt,
+    list: &[Json],
+) -> Result<Operands, FilterRefusal>
+    ensures { Gives (λ os. os) FilterRefusal.Memory (each_element (operand_at test ty) path.now 0 (map json_view list.now)) result }
 {
     let mut operands = List::new(alloc);
     for (place, json) in list.iter().enumerate() {
-        let operand = operand_at(alloc, ty, &item_path(alloc, path, place)?, json)?;
+        let operand = operand_at(alloc, test, ty, &item_path(alloc, path, place)?, json)?;
         operands.push(operand)?;
     }
     Ok(operands)
 }
 
-#[tactic(auto, unfolding(crate::specs::Condition::within_due))]
-fn within(
+// A test of the operands of the list at a path.
+#[tactic(auto, unfolding(crate::specs::Condition::listed_due))]
+fn listed(
     alloc: Global,
     col: ColId,
     ty: Ty,
+    operator: Operator,
     path: &Txt,
-    negated: bool,
     json: &Json,
 ) -> Result<Bexp, FilterRefusal>
-    ensures { Gives bexp_view FilterRefusal.Memory (within_due col ty path.now negated (json_view json.now)) result }
+    ensures { Gives bexp_view FilterRefusal.Memory (listed_due col ty operator path.now (json_view json.now)) result }
 {
     let Some(list) = json.as_array() else {
         return Err(bad_operand(alloc, path));
     };
-    let operands = operands(alloc, ty, path, list)?;
-    Ok(Bexp::Within {
+    let operands = operands(alloc, operator.test, ty, path, list)?;
+    Ok(Bexp::Test {
         col,
+        test: operator.test,
         operands,
-        negated,
-    })
-}
-
-#[tactic(auto, unfolding(crate::specs::Condition::like_due))]
-fn like(
-    alloc: Global,
-    col: ColId,
-    ty: Ty,
-    path: &Txt,
-    fold: bool,
-    negated: bool,
-    json: &Json,
-) -> Result<Bexp, FilterRefusal>
-    ensures { Gives bexp_view FilterRefusal.Memory (like_due col ty path.now fold negated (json_view json.now)) result }
-{
-    if ty != Ty::Text {
-        return Err(bad_operand(alloc, path));
-    }
-    let operand = pattern_at(alloc, path, json)?;
-    Ok(Bexp::Like {
-        col,
-        fold,
-        negated,
-        operand,
+        negated: operator.negated,
     })
 }
 
@@ -113,17 +121,16 @@ fn condition(
 ) -> Result<Bexp, FilterRefusal>
     ensures { Gives bexp_view FilterRefusal.Memory (condition_due col ty path.now operator (json_view json.now)) result }
 {
-    match operator {
-        None => Err(bad_operand(alloc, path)),
-        Some(Operator::Compare(op)) => comparison(alloc, col, ty, op, path, json),
-        Some(Operator::Within { negated }) => within(alloc, col, ty, path, negated, json),
-        Some(Operator::NullTest) => {
-            let yes = truth_at(alloc, path, json)?;
-            Ok(Bexp::IsNull { col, yes })
-        }
-        Some(Operator::Like { fold, negated }) => {
-            like(alloc, col, ty, path, fold, negated, json)
-        }
+    let Some(operator) = operator else {
+        return Err(bad_operand(alloc, path));
+    };
+    if !operator.test.applies(ty) {
+        return Err(bad_operand(alloc, path));
+    }
+    match operator.test.arity() {
+        Arity::Nothing => told(alloc, col, operator, path, json),
+        Arity::One => single(alloc, col, ty, operator, path, json),
+        Arity::Many => listed(alloc, col, ty, operator, path, json),
     }
 }
 
@@ -161,7 +168,13 @@ pub fn column(
     ensures { Gives bexp_view FilterRefusal.Memory (column_due col ty path.now (json_view json.now)) result }
 {
     match json.as_object() {
-        Some(members) => Ok(conjunction(conditions(alloc, col, ty, path, members)?)),
-        None => comparison(alloc, col, ty, Op::Eq, path, json),
+        Some(members) => Ok(Bexp::all_of(conditions(alloc, col, ty, path, members)?)),
+        None => {
+            let equals = Operator {
+                test: Test::Compare(Op::Eq),
+                negated: false,
+            };
+            single(alloc, col, ty, equals, path, json)
+        }
     }
 }

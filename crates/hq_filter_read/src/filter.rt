@@ -11,7 +11,7 @@ ghost use Rattle.hq_filter_read.specs.Named.{named};
 ghost use Rattle.hq_filter_read.specs.Nesting.{nesting};
 
 use crate::FilterRefusal;
-use crate::condition::{column, conjunction};
+use crate::condition::column;
 use crate::named::{Named, named_by};
 use hq_base::{Json, JsonList, Members, Memory, Txt, item_path, member_path};
 use hq_terms::{Bexp, BexpList, Catalog, Meta, RelId, Scope, TableId};
@@ -68,7 +68,7 @@ fn filter(
     ensures { Gives bexp_view FilterRefusal.Memory (filter_due (json_view json.now) (scope_schema scope.now) t path.now) result }
 {
     match json {
-        Json::Obj(members) => Ok(conjunction(member_bexps(alloc, scope, t, path, members)?)),
+        Json::Obj(members) => Ok(Bexp::all_of(member_bexps(alloc, scope, t, path, members)?)),
         _ => Err(misshaped(alloc, path)),
     }
 }

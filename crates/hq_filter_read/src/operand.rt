@@ -1,18 +1,13 @@
-ghost use Rattle.std.specs.Prelude.{◌≡◌, ◌⊎◌, IfOk, Some, None, is_ok, option_map, if◌then◌else◌};
-ghost use Rattle.std.specs.Option.{option_or};
-ghost use Rattle.std.specs.Result.{result_ok};
+ghost use Rattle.std.specs.Prelude.{◌≡◌, ◌⊎◌, IfOk};
 ghost use Rattle.hq_base.specs.Due.{Gives};
 ghost use Rattle.hq_base.specs.Json.{json_view};
-ghost use Rattle.hq_base.specs.Patterns.{pattern_of};
-ghost use Rattle.hq_base.specs.declared.value.Val.TheVariants as val;
-ghost use Rattle.hq_terms.specs.Database.{int_fits};
-ghost use Rattle.hq_terms.specs.Reading.{read_as, read_pattern};
-ghost use Rattle.hq_filter_read.specs.Operand.{text_operand, operand_of, pattern_in, truth_in, operand_at, operand_read};
+ghost use Rattle.hq_terms.specs.Tests.{reads};
+ghost use Rattle.hq_filter_read.specs.Operand.{text_operand, operand_of, truth_in, operand_at, operand_read};
 
 use crate::FilterRefusal;
 use crate::variable::variable_named;
-use hq_base::{Json, Memory, Pattern, PatternRefusal, Txt, Ty, Val};
-use hq_terms::{Operand, truth_value, whole_number};
+use hq_base::{Json, Memory, Txt, Ty};
+use hq_terms::{Operand, Test, constant_in, read_operand, truth_value};
 use std::alloc::Global;
 
 /// The refusal of the operand or operator at this path.
@@ -25,100 +20,30 @@ pub fn bad_operand(alloc: Global, path: &Txt) -> FilterRefusal
     }
 }
 
-// A whole number as a value of a type, where the type holds it.
-fn int_value(ty: Ty, n: i128) -> Option<Val>
-    ensures { result ≡ (if int_fits ty n then Some (val.Int n) else None) }
-{
-    let (low, high) = match ty {
-        Ty::Integer => (i32::MIN as i128, i32::MAX as i128),
-        Ty::Bigint => (i64::MIN as i128, i64::MAX as i128),
-        Ty::Text | Ty::Boolean => return None,
-    };
-    if low <= n && n <= high {
-        Some(Val::Int(n as i64))
-    } else {
-        None
-    }
-}
-
-// A text as a value of a type, where it is read as one.
-fn text_value(alloc: Global, ty: Ty, text: &Txt) -> Result<Option<Val>, Memory>
-    ensures { IfOk result (λ value. value ≡ result_ok (read_as ty text.now)) }
-{
-    match ty {
-        Ty::Integer | Ty::Bigint => Ok(whole_number(ty, text.as_str()).map(Val::Int)),
-        Ty::Text => Ok(Some(Val::Text(text.copy(alloc)?))),
-        Ty::Boolean => Ok(truth_value(text.as_str()).map(Val::Bool)),
-    }
-}
-
-fn is_pattern(alloc: Global, text: &Txt) -> Result<bool, Memory>
-    ensures { IfOk result (λ b. b ≡ is_ok (pattern_of text.now)) }
-{
-    match Pattern::new(alloc, text) {
-        Ok(_) => Ok(true),
-        Err(PatternRefusal::EndsInEscape) => Ok(false),
-        Err(PatternRefusal::Memory) => Err(Memory),
-    }
-}
-
-// A text as a pattern, where it is one.
-fn pattern_value(alloc: Global, text: &Txt) -> Result<Option<Val>, Memory>
-    ensures { IfOk result (λ value. value ≡ result_ok (read_pattern text.now)) }
-{
-    if is_pattern(alloc, text)? {
-        Ok(Some(Val::Text(text.copy(alloc)?)))
-    } else {
-        Ok(None)
-    }
-}
-
-// The operand that a text is, for a column of a type.
+// The operand that a text is, for a test of a column of a type.
 #[tactic(auto, unfolding(crate::specs::Operand::text_operand))]
-fn text_operand(alloc: Global, ty: Ty, text: &Txt) -> Result<Option<Operand>, Memory>
-    ensures { IfOk result (λ operand. operand ≡ text_operand (read_as ty) text.now) }
+fn text_operand(alloc: Global, test: Test, ty: Ty, text: &Txt) -> Result<Option<Operand>, Memory>
+    ensures { IfOk result (λ operand. operand ≡ text_operand (reads test ty) text.now) }
 {
-    match variable_named(alloc, text)? {
-        Some(name) => Ok(Some(Operand::Session(name))),
-        None => Ok(text_value(alloc, ty, text)?.map(Operand::Const)),
+    if let Some(name) = variable_named(alloc, text)? {
+        return Ok(Some(Operand::Session(name)));
+    }
+    match read_operand(alloc, test, ty, text)? {
+        Ok(value) => Ok(Some(Operand::Const(value))),
+        Err(_) => Ok(None),
     }
 }
 
-// The operand of LIKE that a text is.
-#[tactic(auto, unfolding(crate::specs::Operand::text_operand))]
-fn pattern_operand(alloc: Global, text: &Txt) -> Result<Option<Operand>, Memory>
-    ensures { IfOk result (λ operand. operand ≡ text_operand read_pattern text.now) }
-{
-    match variable_named(alloc, text)? {
-        Some(name) => Ok(Some(Operand::Session(name))),
-        None => Ok(pattern_value(alloc, text)?.map(Operand::Const)),
-    }
-}
-
-// The operand that a value is, for a column of a type.
+// The operand that a value is, for a test of a column of a type.
 #[tactic(auto, unfolding(crate::specs::Operand::operand_of))]
-fn operand_of(alloc: Global, ty: Ty, json: &Json) -> Result<Option<Operand>, Memory>
-    ensures { IfOk result (λ operand. operand ≡ operand_of ty (json_view json.now)) }
+fn operand_of(alloc: Global, test: Test, ty: Ty, json: &Json) -> Result<Option<Operand>, Memory>
+    ensures { IfOk result (λ operand. operand ≡ operand_of test ty (json_view json.now)) }
 {
     match json {
-        Json::Str(text) => text_operand(alloc, ty, text),
-        Json::Int(n) => Ok(int_value(ty, *n).map(Operand::Const)),
-        Json::Bool(b) => match ty {
-            Ty::Boolean => Ok(Some(Operand::Const(Val::Bool(*b)))),
-            _ => Ok(None),
-        },
-        _ => Ok(None),
-    }
-}
-
-// The operand of LIKE that a value is.
-#[tactic(auto, unfolding(crate::specs::Operand::pattern_in))]
-fn pattern_in(alloc: Global, json: &Json) -> Result<Option<Operand>, Memory>
-    ensures { IfOk result (λ operand. operand ≡ pattern_in (json_view json.now)) }
-{
-    match json.as_txt() {
-        Some(text) => pattern_operand(alloc, text),
-        None => Ok(None),
+        Json::Str(text) => text_operand(alloc, test, ty, text),
+        Json::Null | Json::Bool(_) | Json::Int(_) | Json::Arr(_) | Json::Obj(_) => {
+            Ok(constant_in(alloc, ty, json)?.map(Operand::Const))
+        }
     }
 }
 
@@ -134,21 +59,17 @@ fn truth_in(json: &Json) -> Option<bool>
     }
 }
 
-/// The operand at a path, for a column of a type.
-pub fn operand_at(alloc: Global, ty: Ty, path: &Txt, json: &Json) -> Result<Operand, FilterRefusal>
-    ensures { Gives (λ o. o) FilterRefusal.Memory (operand_at ty path.now (json_view json.now)) result }
+/// The operand at a path, of a test of a column of a type.
+pub fn operand_at(
+    alloc: Global,
+    test: Test,
+    ty: Ty,
+    path: &Txt,
+    json: &Json,
+) -> Result<Operand, FilterRefusal>
+    ensures { Gives (λ o. o) FilterRefusal.Memory (operand_at test ty path.now (json_view json.now)) result }
 {
-    match operand_of(alloc, ty, json)? {
-        Some(operand) => Ok(operand),
-        None => Err(bad_operand(alloc, path)),
-    }
-}
-
-/// The operand of LIKE at a path.
-pub fn pattern_at(alloc: Global, path: &Txt, json: &Json) -> Result<Operand, FilterRefusal>
-    ensures { Gives (λ o. o) FilterRefusal.Memory (operand_read path.now (pattern_in (json_view json.now))) result }
-{
-    match pattern_in(alloc, json)? {
+    match operand_of(alloc, test, ty, json)? {
         Some(operand) => Ok(operand),
         None => Err(bad_operand(alloc, path)),
     }

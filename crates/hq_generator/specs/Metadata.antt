@@ -2,13 +2,15 @@
 -- format; Authorization: row and column permissions).
 use Rattle.std.specs.Prelude.{ℕ, List, [], ◌∷◌, Bool, true, false, None, codes}
 use Rattle.hq_base.specs.declared.value.Val.TheVariants as val
-use Rattle.hq_terms.specs.Bexp.{BexpTree, always, or_of, comparison, bexp, no_bexp}
+use Rattle.hq_terms.specs.Bexp.{BexpTree, always, or_of, test, bexp, no_bexp}
 use Rattle.hq_terms.specs.Meta.{PermTree, TrackedTree, MetaTree}
+use Rattle.hq_terms.specs.declared.bexp.Operand.{Operand}
 use Rattle.hq_terms.specs.declared.bexp.Operand.TheVariants.{Const, Session}
 use Rattle.hq_terms.specs.declared.meta.Pair.{Pair}
 use Rattle.hq_terms.specs.declared.meta.Rel.{Rel}
 use Rattle.hq_terms.specs.declared.meta.RootNames.{RootNames}
 use Rattle.hq_terms.specs.declared.op.Op.TheVariants.{Eq}
+use Rattle.hq_terms.specs.declared.test.Test.TheVariants.{Compare}
 
 -- a relationship by one pair of columns
 abbrev pub rel_of : (name : List ℕ) → (remote : ℕ) → Pair → (many : Bool) → Rel
@@ -35,10 +37,14 @@ article_roots = record { select = codes "article"; select_aggregate = codes "art
 abbrev pub author_perm : PermTree
 author_perm = record { role = codes "user"; cols = 0 ∷ 1 ∷ []; filter = always; limit = None; aggregations = false }
 
+-- a column is equal to an operand
+abbrev pub equals : (column : ℕ) → Operand → BexpTree
+equals c v = test c (Compare Eq) (v ∷ []) false
+
 -- the articles that are published, or whose author asks
 abbrev pub article_filter : BexpTree
 article_filter =
-    or_of (bexp (comparison 3 Eq (Const (val.Bool true))) (bexp (comparison 1 Eq (Session (codes "x-hasura-user-id"))) no_bexp))
+    or_of (bexp (equals 3 (Const (val.Bool true))) (bexp (equals 1 (Session (codes "x-hasura-user-id"))) no_bexp))
 
 -- of these a user sees ids, titles and ratings, and aggregates
 abbrev pub article_perm : PermTree

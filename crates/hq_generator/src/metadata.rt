@@ -4,13 +4,13 @@ ghost use Rattle.std.specs.List.{list_all};
 ghost use Rattle.hq_base.specs.Text.{has_zero};
 ghost use Rattle.hq_terms.specs.Bexp.{bexp_view};
 ghost use Rattle.hq_terms.specs.Meta.{meta_view, perm_view, tracked_view};
-ghost use Rattle.hq_generator.specs.Metadata.{article_filter, article_perm, article_roots, article_tracked, author_perm, author_roots, author_tracked, metadata, rel_of, tracked_of};
+ghost use Rattle.hq_generator.specs.Metadata.{article_filter, equals, article_perm, article_roots, article_tracked, author_perm, author_roots, author_tracked, metadata, rel_of, tracked_of};
 ghost use Rattle.hq_generator.specs.Words.{is_clean, word_text};
 
 use crate::text::{text, texts};
 use hq_base::{List, Memory, Txt, Val};
 use hq_terms::{
-    Bexp, ColId, Meta, Op, Operand, Pair, Perm, Rel, RelList, RootNames, TableId, Tracked,
+    Bexp, ColId, Meta, Op, Operand, Pair, Perm, Rel, RelList, RootNames, TableId, Test, Tracked,
 };
 use std::alloc::Global;
 
@@ -75,22 +75,29 @@ fn author_perm(alloc: Global) -> Result<Perm, Memory>
     })
 }
 
+// A column is equal to an operand.
+fn equals(alloc: Global, col: ColId, operand: Operand) -> Result<Bexp, Memory>
+    ensures { IfOk result (λ filter. bexp_view filter ≡ equals col operand) }
+{
+    let mut operands = List::new(alloc);
+    operands.push(operand)?;
+    Ok(Bexp::Test {
+        col,
+        test: Test::Compare(Op::Eq),
+        operands,
+        negated: false,
+    })
+}
+
 // The articles that are published, or whose author asks.
 fn article_filter(alloc: Global) -> Result<Bexp, Memory>
     ensures { IfOk result (λ filter. bexp_view filter ≡ article_filter) }
 {
     let caller = text(alloc, "x-hasura-user-id")?;
     let mut cases = Vec::new(alloc);
-    cases.push(Bexp::Cmp {
-        col: ColId::new(3),
-        op: Op::Eq,
-        operand: Operand::Const(Val::Bool(true)),
-    })?;
-    cases.push(Bexp::Cmp {
-        col: ColId::new(1),
-        op: Op::Eq,
-        operand: Operand::Session(caller),
-    })?;
+    let published = Operand::Const(Val::Bool(true));
+    cases.push(equals(alloc, ColId::new(3), published)?)?;
+    cases.push(equals(alloc, ColId::new(1), Operand::Session(caller))?)?;
     Ok(Bexp::Or(cases))
 }
 

@@ -1,32 +1,34 @@
 -- The names of a table's types and root fields, by what the table has.
-use Rattle.std.specs.Prelude.{ℕ, List, [], ◌∷◌, ◌++◌, Bool, true, cond, codes}
+use Rattle.std.specs.Prelude.{ℕ, List, [], ◌∷◌, ◌++◌, map, Bool, cond, codes}
+use Rattle.std.specs.List.{list_any}
+use Rattle.hq_base.specs.Aggregates.{aggregate_suffix, is_aggregate_of}
+use Rattle.hq_base.specs.declared.aggregate.Aggregate.{Aggregate}
 use Rattle.hq_schema.specs.Parts.{part_suffix}
 use Rattle.hq_schema.specs.declared.part.Part.{Part}
-use Rattle.hq_schema.specs.declared.part.Part.TheVariants.{Max, Min, Sum}
+use Rattle.hq_terms.specs.Schema.{Schema, column}
 use Rattle.hq_terms.specs.declared.meta.RootNames.{RootNames}
 
--- a table has the types of the greatest and the least values where some columns are ordered, and that of the sums where some
--- are whole numbers
-abbrev pub has_part : (ordered whole : Bool) → Part → Bool
-has_part ordered whole Max = ordered
-has_part ordered whole Min = ordered
-has_part ordered whole Sum = whole
-has_part ordered whole _ = true
+-- whether an aggregate is one of the values of some of these columns of a table
+abbrev pub is_over : Schema → (table : ℕ) → (columns : List ℕ) → Aggregate → Bool
+is_over s t cs a = list_any (λ c. is_aggregate_of a (column s t c).ty) cs
 
 abbrev pub part_name : (name : List ℕ) → Part → List ℕ
 part_name name p = name ++ part_suffix p
 
--- the types of a table, whose columns some are ordered or whole numbers
-abbrev pub table_types_by : (ordered whole : Bool) → (name : List ℕ) → List (List ℕ)
-table_types_by ordered whole name =
+-- the type of what an aggregate gives
+abbrev pub aggregated_name : (name : List ℕ) → Aggregate → List ℕ
+aggregated_name name a = name ++ aggregate_suffix a
+
+-- the types of a table, where these aggregates are ones of the values of some column
+abbrev pub table_types_by : List Aggregate → (name : List ℕ) → List (List ℕ)
+table_types_by aggregates name =
     name ∷ (name ++ codes "_bool_exp") ∷ (name ++ codes "_order_by") ∷ (name ++ codes "_select_column")
     ∷ (name ++ codes "_aggregate") ∷ (name ++ codes "_aggregate_fields")
-    ∷ cond ordered ((name ++ codes "_max_fields") ∷ (name ++ codes "_min_fields") ∷ []) []
-    ++ cond whole ((name ++ codes "_sum_fields") ∷ []) []
+    ∷ map (aggregated_name name) aggregates
 
 -- those of a table that is shown
-abbrev pub types_by : (shown ordered whole : Bool) → (name : List ℕ) → List (List ℕ)
-types_by shown ordered whole name = cond shown (table_types_by ordered whole name) []
+abbrev pub types_by : (shown : Bool) → List Aggregate → (name : List ℕ) → List (List ℕ)
+types_by shown aggregates name = cond shown (table_types_by aggregates name) []
 
 -- the root fields of a table that is shown: the look-up by key where the key's columns are
 abbrev pub roots_by : (shown keyed : Bool) → RootNames → List (List ℕ)

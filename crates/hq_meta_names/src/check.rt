@@ -10,7 +10,7 @@ use crate::NameRefusal;
 use crate::fixed::fixed_types;
 use crate::known::{Shared, added};
 use crate::own::own_names;
-use crate::shown::{has_columns, has_key, named_columns, some_ordered, some_whole};
+use crate::shown::{aggregates_over, has_columns, has_key, named_columns};
 use crate::types::{roots_by, types_by};
 use hq_base::{List, Memory, Txt, item_path};
 use hq_terms::{Catalog, Meta, Scope, Tracked, TxtList};
@@ -22,9 +22,8 @@ fn types_of(alloc: Global, scope: &Scope, tracked: &Tracked) -> Result<TxtList, 
 {
     let columns = named_columns(alloc, tracked)?;
     let columns = columns.as_slice();
-    let ordered = some_ordered(scope, tracked.table, columns);
-    let whole = some_whole(scope, tracked.table, columns);
-    types_by(alloc, has_columns(tracked), ordered, whole, &tracked.name)
+    let over = aggregates_over(alloc, scope, tracked.table, columns)?;
+    types_by(alloc, has_columns(tracked), over.as_slice(), &tracked.name)
 }
 
 // The root fields of a table, none where it stands in no schema.

@@ -1,14 +1,15 @@
-ghost use Rattle.std.specs.Prelude.{◌≡◌, ◌==◌, ◌++◌, ◌∷◌, [], map, not, codes, option_map, slice_index_or, IfOk};
+ghost use Rattle.std.specs.Prelude.{◌≡◌, ◌==◌, [], map, filter, option_map, slice_index_or, IfOk};
+ghost use Rattle.hq_base.specs.Aggregates.{all_aggregates};
 ghost use Rattle.std.specs.List.{list_any, list_all};
-ghost use Rattle.hq_terms.specs.Database.{is_boolean};
 ghost use Rattle.hq_terms.specs.Meta.{meta_view, tracked_view, tracked_table};
 ghost use Rattle.hq_terms.specs.Names.{is_free_name};
 ghost use Rattle.hq_terms.specs.Permission.{named_columns};
-ghost use Rattle.hq_terms.specs.Schema.{table, column};
-ghost use Rattle.hq_terms.specs.SchemaNames.{is_whole, some_column, has_columns, is_in_schema, key_is_named, column_names_of};
+ghost use Rattle.hq_terms.specs.Schema.{table};
+ghost use Rattle.hq_terms.specs.SchemaNames.{has_columns, is_in_schema, column_names_of};
 ghost use Rattle.hq_terms.specs.Scope.{scope_schema};
+ghost use Rattle.hq_meta_names.specs.Types.{is_over};
 
-use hq_base::{List, Memory, Txt, Ty};
+use hq_base::{Aggregate, List, Memory, Txt};
 use hq_terms::{ColId, ColList, Meta, Scope, TableId, Tracked, TxtList, is_free_name};
 use std::alloc::Global;
 
@@ -50,42 +51,47 @@ pub fn is_in_schema(meta: &Meta, table: TableId) -> bool
     }
 }
 
-// Whether a column has an order: all but truth values have one here.
-fn is_ordered(ty: Ty) -> bool
-    ensures { result ≡ not (is_boolean ty) }
-{
-    !matches!(ty, Ty::Boolean)
-}
-
-// Whether the values of a type are whole numbers.
-fn is_whole(ty: Ty) -> bool
-    ensures { result ≡ is_whole ty }
-{
-    matches!(ty, Ty::Integer | Ty::Bigint)
-}
-
-/// Whether some of these columns of a table have an order.
-pub fn some_ordered(scope: &Scope, table: TableId, columns: &[ColId]) -> bool
-    ensures { result ≡ list_any (λ c. not (is_boolean (column (scope_schema scope.now) table c).ty)) columns.now }
+// Whether an aggregate is one of the values of some of these columns of a table.
+fn is_over(scope: &Scope, table: TableId, columns: &[ColId], aggregate: Aggregate) -> bool
+    ensures { result ≡ is_over (scope_schema scope.now) table columns.now aggregate }
 {
     for column in columns {
-        if is_ordered(scope.column_type(table, *column)) {
+        if aggregate.is_of(scope.column_type(table, *column)) {
             return true;
         }
     }
     false
 }
 
-/// Whether some of these columns of a table hold whole numbers.
-pub fn some_whole(scope: &Scope, table: TableId, columns: &[ColId]) -> bool
-    ensures { result ≡ list_any (λ c. is_whole (column (scope_schema scope.now) table c).ty) columns.now }
+// Those of these aggregates that are.
+fn those_over(
+    alloc: Global,
+    scope: &Scope,
+    table: TableId,
+    columns: &[ColId],
+    aggregates: &[Aggregate],
+) -> Result<Vec<Aggregate>, Memory>
+    ensures { IfOk result (λ over. over.items ≡ filter (is_over (scope_schema scope.now) table columns.now) aggregates.now) }
 {
-    for column in columns {
-        if is_whole(scope.column_type(table, *column)) {
-            return true;
+    let mut over = Vec::new(alloc);
+    for aggregate in aggregates {
+        if is_over(scope, table, columns, *aggregate) {
+            over.push(*aggregate)?;
         }
     }
-    false
+    Ok(over)
+}
+
+/// The aggregates that are ones of the values of some of these columns of a table.
+pub fn aggregates_over(
+    alloc: Global,
+    scope: &Scope,
+    table: TableId,
+    columns: &[ColId],
+) -> Result<Vec<Aggregate>, Memory>
+    ensures { IfOk result (λ over. over.items ≡ filter (is_over (scope_schema scope.now) table columns.now) all_aggregates) }
+{
+    those_over(alloc, scope, table, columns, &Aggregate::all())
 }
 
 // Whether a column is among these.

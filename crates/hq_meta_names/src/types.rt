@@ -1,65 +1,62 @@
-ghost use Rattle.std.specs.Prelude.{◌≡◌, map, filter, IfOk};
-ghost use Rattle.hq_meta_names.specs.Types.{has_part, part_name, table_types_by, types_by, roots_by};
+ghost use Rattle.std.specs.Prelude.{◌≡◌, ◌++◌, map, IfOk};
+ghost use Rattle.hq_meta_names.specs.Types.{part_name, aggregated_name, table_types_by, types_by, roots_by};
 ghost use Rattle.hq_terms.specs.SchemaNames.{rel_fields};
 
 use crate::texts::{push_end, push_name, with_end};
-use hq_base::{List, Memory, Txt};
+use hq_base::{Aggregate, List, Memory, Txt};
 use hq_schema::Part;
 use hq_terms::{Rel, RootNames, TxtList};
 use std::alloc::Global;
 
-// Whether a table whose columns some are ordered or whole numbers has a type.
-fn has_part(part: Part, ordered: bool, whole: bool) -> bool
-    ensures { result ≡ has_part ordered whole part }
+// Names, and behind them those of these types.
+fn push_parts(alloc: Global, names: TxtList, parts: &[Part], name: &Txt) -> Result<TxtList, Memory>
+    ensures { IfOk result (λ all. all ≡ names ++ map (part_name name.now) parts.now) }
 {
-    match part {
-        Part::Max | Part::Min => ordered,
-        Part::Sum => whole,
-        _ => true,
+    let mut all = names;
+    for part in parts {
+        all.push(with_end(alloc, name, part.suffix())?)?;
     }
+    Ok(all)
 }
 
-// Those of these types that it has.
-fn parts_of(
+// Names, and behind them those of what these aggregates give.
+fn push_aggregated(
     alloc: Global,
-    parts: &[Part],
-    ordered: bool,
-    whole: bool,
+    names: TxtList,
+    aggregates: &[Aggregate],
     name: &Txt,
 ) -> Result<TxtList, Memory>
-    ensures { IfOk result (λ names. names ≡ map (part_name name.now) (filter (has_part ordered whole) parts.now)) }
+    ensures { IfOk result (λ all. all ≡ names ++ map (aggregated_name name.now) aggregates.now) }
 {
-    let mut names = List::new(alloc);
-    for part in parts {
-        if has_part(*part, ordered, whole) {
-            names.push(with_end(alloc, name, part.suffix())?)?;
-        }
+    let mut all = names;
+    for aggregate in aggregates {
+        all.push(with_end(alloc, name, aggregate.type_suffix())?)?;
     }
-    Ok(names)
+    Ok(all)
 }
 
-// All that it has.
-fn table_types(alloc: Global, ordered: bool, whole: bool, name: &Txt) -> Result<TxtList, Memory>
-    ensures { IfOk result (λ names. names ≡ table_types_by ordered whole name.now) }
+// The types of a table, with these aggregates.
+fn table_types(alloc: Global, aggregates: &[Aggregate], name: &Txt) -> Result<TxtList, Memory>
+    ensures { IfOk result (λ names. names ≡ table_types_by aggregates.now name.now) }
 {
-    let names = parts_of(alloc, &Part::all(), ordered, whole, name)?;
-    Ok(names)
+    let names = push_parts(alloc, List::new(alloc), &Part::of_rows(), name)?;
+    let names = push_parts(alloc, names, &Part::of_aggregates(), name)?;
+    push_aggregated(alloc, names, aggregates, name)
 }
 
-/// The types of a table that is shown, of whose columns some are ordered or whole numbers.
+/// The types of a table that is shown, where these aggregates are ones of the values of some column.
 pub fn types_by(
     alloc: Global,
     shown: bool,
-    ordered: bool,
-    whole: bool,
+    aggregates: &[Aggregate],
     name: &Txt,
 ) -> Result<TxtList, Memory>
-    ensures { IfOk result (λ names. names ≡ types_by shown ordered whole name.now) }
+    ensures { IfOk result (λ names. names ≡ types_by shown aggregates.now name.now) }
 {
     if !shown {
         return Ok(List::new(alloc));
     }
-    table_types(alloc, ordered, whole, name)
+    table_types(alloc, aggregates, name)
 }
 
 /// The root fields of a table that is shown: the look-up by key where the key's columns are.

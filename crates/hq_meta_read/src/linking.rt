@@ -3,19 +3,21 @@ ghost use Rattle.std.specs.List.{list_all};
 ghost use Rattle.hq_base.specs.Due.{Gives};
 ghost use Rattle.hq_base.specs.Json.{json_view, member_view};
 ghost use Rattle.hq_filter_read.specs.Each.{each_member};
-ghost use Rattle.hq_terms.specs.Catalog.{comparable, can_pair, type_of};
+ghost use Rattle.hq_terms.specs.Catalog.{can_pair, type_of};
 ghost use Rattle.hq_terms.specs.Meta.{meta_view};
 ghost use Rattle.hq_meta_read.specs.Linked.{is_among, same_columns, just_one, pairs_of, foreign_of, own_key, remote_key, by_own_key, key_columns, by_remote_key, by_key, pair_due, pair_at, pairs_at, by_hand, link_at};
 
 use crate::link::Link;
-use hq_base::{Json, List, Member, Memory, Txt, Ty};
+use hq_base::{Json, List, Member, Memory, Txt};
 use hq_meta_tables::MetaRefusal;
 use hq_meta_tables::field::Field;
 use hq_meta_tables::found::{
     column_at, column_named, columns_of, listed_columns, remote_at, tracked_table,
 };
 use hq_meta_tables::node::{at, list_at, member_at, named_path, object_at, text_at};
-use hq_terms::{Catalog, ColId, ColList, Column, ForeignKey, Pair, PairList, Scope, TableId};
+use hq_terms::{
+    Catalog, ColId, ColList, Column, ForeignKey, Pair, PairList, Scope, TableId, can_pair,
+};
 use std::alloc::Global;
 
 // Whether a column is among these.
@@ -249,28 +251,6 @@ fn by_key(
     }
 }
 
-// Whether values of the two types can be compared.
-fn are_comparable(a: Ty, b: Ty) -> bool
-    ensures { result ≡ comparable a b }
-{
-    match (a, b) {
-        (Ty::Integer | Ty::Bigint, Ty::Integer | Ty::Bigint) => true,
-        (Ty::Text, Ty::Text) => true,
-        (Ty::Boolean, Ty::Boolean) => true,
-        _ => false,
-    }
-}
-
-// Whether both columns are there, and their values can be compared.
-fn can_pair(own: &[Column], remote: &[Column], pair: Pair) -> bool
-    ensures { result ≡ can_pair (type_of (slice_get own.now pair.own)) (type_of (slice_get remote.now pair.remote)) }
-{
-    match (own.get(pair.own.at()), remote.get(pair.remote.at())) {
-        (Some(own), Some(remote)) => are_comparable(own.ty, remote.ty),
-        _ => false,
-    }
-}
-
 // The pair that a member at a path gives: it is named for an own column, and its text names a remote one.
 #[tactic(auto, unfolding(crate::specs::Linked::pair_at))]
 fn pair_at(
@@ -287,7 +267,7 @@ fn pair_at(
         own: column_named(alloc, own, path, &member.name)?,
         remote: column_named(alloc, remote, path, name)?,
     };
-    if !can_pair(own, remote, pair) {
+    if !can_pair(own, remote, pair.own, pair.remote) {
         return Err(MetaRefusal::BadMapping {
             path: path.copy(alloc)?,
         });

@@ -1,4 +1,5 @@
 pub mod Causes
+pub mod Disks
 pub mod Folder
 pub mod Links
 pub mod Streams

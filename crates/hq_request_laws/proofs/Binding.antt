@@ -1,24 +1,20 @@
 -- Bound filters: they are conditions over their tables without session names, as high as what was bound.
-use Rattle.std.proofs.Common.{◌≡◌, ◌∙◌, refl, sym, ap, subst, ℕ, suc, max, List, [], ◌∷◌, filter, Bool, true, ◌==◌, nat_le, Option, Some, None, Result, Ok, Err, is_ok, is_some, option_map, option_and_then, slice_get, find, bytes_eq}
+use Rattle.std.proofs.Common.{◌≡◌, ◌∙◌, refl, sym, ap, subst, ℕ, suc, max, List, [], ◌∷◌, length, filter, Bool, true, ◌&&◌, ◌==◌, nat_le, Option, Some, None, Result, Ok, Err, is_some, option_map, option_and_then, slice_get, find, bytes_eq}
 use Rattle.std.specs.List.{list_all, list_any}
 use Rattle.std.proofs.lemmas.Bool.{and_parts, and_from}
 use Rattle.std.proofs.lemmas.Option.{get_or_from_slice_get}
 use Rattle.hq_base.specs.Due.{mapped}
 use Rattle.hq_base.specs.Lists.{Each}
-use Rattle.hq_base.specs.Patterns.{pattern_of}
 use Rattle.hq_base.specs.declared.value.Ty.{Ty}
-use Rattle.hq_base.specs.declared.value.Ty.TheVariants.{Integer, Bigint, Text, Boolean}
 use Rattle.hq_base.specs.declared.value.Val.{Val}
-use Rattle.hq_base.specs.declared.value.Val.TheVariants as val
-use Rattle.hq_terms.specs.Bexp.{BexpTree, always, and_of, or_of, not_of, comparison, within, is_null, like, through, BexpTrees, no_bexp, bexp, bexps_of, depth, depth_of_all}
+use Rattle.hq_terms.specs.Bexp.{BexpTree, always, and_of, or_of, not_of, test, through, BexpTrees, no_bexp, bexp, bexps_of, depth, depth_of_all}
 use Rattle.hq_terms.specs.Binding.{variable, constant, constant_of, bound_operand, bound_operands, bound, bound_all}
-use Rattle.hq_terms.specs.Database.{is_text}
-use Rattle.hq_terms.specs.Filters.{column_ty, constant_fits, operand_fits, is_pattern, pattern_fits, of_type, is_filter, are_filters}
+use Rattle.hq_terms.specs.Filters.{column_ty, operand_fits, is_test, of_type, is_filter, are_filters}
 use Rattle.hq_terms.specs.Fits.{fits, fits_tracked, fits_perm}
 use Rattle.hq_terms.specs.Meta.{MetaTree, TrackedTree, PermTree, tracked_table}
 use Rattle.hq_terms.specs.Permission.{Permission, permission, permission_in, with_columns, told_permission, named_columns}
-use Rattle.hq_terms.specs.Reading.{whole_number, truth_value, read_as, read_pattern}
 use Rattle.hq_terms.specs.Schema.{Schema, schema_of, table, column, no_column, rel}
+use Rattle.hq_terms.specs.Tests.{takes, applies, reads}
 use Rattle.hq_terms.specs.declared.bexp.Operand.{Operand}
 use Rattle.hq_terms.specs.declared.bexp.Operand.TheVariants.{Const, Session}
 use Rattle.hq_terms.specs.declared.role.Role.{Role}
@@ -31,62 +27,46 @@ use Rattle.hq_ask_tree.specs.Request.{BoundTree}
 use Rattle.hq_ask_tree.specs.Conditions.{is_constant, is_bound, are_bound, is_condition}
 use Rattle.hq_ask_tree.specs.WellFormed.{is_bound_table}
 use Rattle.hq_bound.specs.Bound.{filter_of, filter_due, with_filter, bound_due, bounds_due}
-use Rattle.hq_request_laws.proofs.Conditions.{whole_fits}
+use Rattle.hq_terms.proofs.Fitting.{reads_fit}
 use Rattle.hq_request_laws.proofs.Items.{each_of, found_each}
 use Rattle.hq_request_laws.proofs.Permitted.{entry}
-use Rattle.hq_request_laws.proofs.BuildingSteps.{mapped_ok, then_ok, ok_or_ok, cond_ok, map_some}
+use Rattle.hq_request_laws.proofs.BuildingSteps.{mapped_ok, then_ok}
 
 -- ---- operands
 
--- a text that is read is a constant of its type
-read_fits : (ty : Ty) (text : List ℕ) (v : Val) → read_as ty text ≡ Ok v → constant_fits ty v ≡ true
-read_fits Integer text v e =
-    let found = map_some val.Int (whole_number Integer text) v (ok_or_ok (option_map val.Int (whole_number Integer text)) _ v e) in
-    subst (λ w. constant_fits Integer w ≡ true) found.2 (whole_fits found.0 Integer text found.1)
-read_fits Bigint text v e =
-    let found = map_some val.Int (whole_number Bigint text) v (ok_or_ok (option_map val.Int (whole_number Bigint text)) _ v e) in
-    subst (λ w. constant_fits Bigint w ≡ true) found.2 (whole_fits found.0 Bigint text found.1)
-read_fits Text text v e = let same : val.Text text ≡ v = cc in subst (λ w. constant_fits Text w ≡ true) same refl
-read_fits Boolean text v e =
-    let found = map_some val.Bool (truth_value text) v (ok_or_ok (option_map val.Bool (truth_value text)) _ v e) in
-    subst (λ w. constant_fits Boolean w ≡ true) found.2 refl
-
--- a text that is read as a pattern is one
-pattern_reads : (text : List ℕ) (v : Val) → read_pattern text ≡ Ok v → is_pattern v ≡ true
-pattern_reads text v e =
-    let both = cond_ok (is_ok (pattern_of text)) (Ok (val.Text text)) _ v e in
-    let same : val.Text text ≡ v = let h : _ = both.1 in cc in
-    subst (λ w. is_pattern w ≡ true) same both.0
-
-module _ (read : List ℕ → Result Val Want) (test : Operand → Bool) (reads : (text : List ℕ) (v : Val) → read text ≡ Ok v → test (Const v) ≡ true) (vars : List Var) where
+module _ (read : List ℕ → Result Val Want) (holds : Operand → Bool) (given_holds : (text : List ℕ) (v : Val) → read text ≡ Ok v → holds (Const v) ≡ true) (vars : List Var) where
   abbrev IsBound : Operand → Type 0
-  IsBound o = (test o ≡ true) × (is_constant o ≡ true)
+  IsBound o = (holds o ≡ true) × (is_constant o ≡ true)
 
-  operand_bound : (o p : Operand) → test o ≡ true → bound_operand read vars o ≡ Ok p → IsBound p
+  operand_bound : (o p : Operand) → holds o ≡ true → bound_operand read vars o ≡ Ok p → IsBound p
   operand_bound (Const v) p h e = let same : Const v ≡ p = cc in subst IsBound same (h, refl)
   operand_bound (Session name) p h e = by (variable vars name) e
     where
       given : (text : List ℕ) (r : Result Val Want) → read text ≡ r → constant name r ≡ Ok p → IsBound p
-      given text (Ok v) is e = let same : Const v ≡ p = cc in subst IsBound same (reads text v is, refl)
+      given text (Ok v) is e = let same : Const v ≡ p = cc in subst IsBound same (given_holds text v is, refl)
       given text (Err w) is e = cc
 
       by : (x : Option (List ℕ)) → constant_of read name x ≡ Ok p → IsBound p
       by None e = cc
       by (Some text) e = given text (read text) refl e
 
-  operands_bound : (os ps : List Operand) → list_all test os ≡ true → bound_operands read vars os ≡ Ok ps → (list_all test ps ≡ true) × (list_all is_constant ps ≡ true)
-  operands_bound [] ps h e = let same : [] ≡ ps = cc in subst (λ l. (list_all test l ≡ true) × (list_all is_constant l ≡ true)) same (refl, refl)
+  operands_bound : (os ps : List Operand) → list_all holds os ≡ true → bound_operands read vars os ≡ Ok ps → (list_all holds ps ≡ true) × (list_all is_constant ps ≡ true)
+  operands_bound [] ps h e = let same : [] ≡ ps = cc in subst (λ l. (list_all holds l ≡ true) × (list_all is_constant l ≡ true)) same (refl, refl)
   operands_bound (o ∷ os) ps h e =
-      let parts = and_parts (test o) (list_all test os) h in
+      let parts = and_parts (holds o) (list_all holds os) h in
       let one = then_ok (λ b. mapped (λ bs. b ∷ bs) (bound_operands read vars os)) (bound_operand read vars o) ps e in
       let two = mapped_ok (λ bs. one.0 ∷ bs) (bound_operands read vars os) ps one.2 in
       let here = operand_bound o one.0 parts.0 one.1 in
       let later = operands_bound os two.0 parts.1 two.1 in
-      subst (λ l. (list_all test l ≡ true) × (list_all is_constant l ≡ true)) two.2 (and_from (test one.0) (list_all test two.0) here.0 later.0, and_from (is_constant one.0) (list_all is_constant two.0) here.1 later.1)
+      subst (λ l. (list_all holds l ≡ true) × (list_all is_constant l ≡ true)) two.2 (and_from (holds one.0) (list_all holds two.0) here.0 later.0, and_from (is_constant one.0) (list_all is_constant two.0) here.1 later.1)
 
--- a pattern, as a test of operands
-patterns_read : (text : List ℕ) (v : Val) → read_pattern text ≡ Ok v → pattern_fits (Const v) ≡ true
-patterns_read text v e = pattern_reads text v e
+-- what is bound of operands is as many
+bound_length : (read : List ℕ → Result Val Want) (vars : List Var) (os ps : List Operand) → bound_operands read vars os ≡ Ok ps → length ps ≡ length os
+bound_length read vars [] ps e = let same : [] ≡ ps = cc in ap length (sym same)
+bound_length read vars (o ∷ os) ps e =
+    let one = then_ok (λ b. mapped (λ bs. b ∷ bs) (bound_operands read vars os)) (bound_operand read vars o) ps e in
+    let two = mapped_ok (λ bs. one.0 ∷ bs) (bound_operands read vars os) ps one.2 in
+    ap length (sym two.2) ∙ ap suc (bound_length read vars os two.0 two.1)
 
 -- ---- expressions
 
@@ -103,14 +83,14 @@ module _ (s : Schema) (vars : List Var) where
     deep : depth_of_all (bexps_of xs) ≡ depth_of_all bs
 
   -- the type of a column that passes a test
-  column_is : (t k : ℕ) (test : Ty → Bool) → of_type test (column_ty s t k) ≡ true → (column_ty s t k ≡ Some (column s t k).ty) × (test (column s t k).ty ≡ true)
-  column_is t k test h = by (slice_get (table s t).columns k) refl h
+  column_is : (t k : ℕ) (holds : Ty → Bool) → of_type holds (column_ty s t k) ≡ true → (column_ty s t k ≡ Some (column s t k).ty) × (holds (column s t k).ty ≡ true)
+  column_is t k holds h = by (slice_get (table s t).columns k) refl h
     where
-      by : (o : Option Column) → slice_get (table s t).columns k ≡ o → of_type test (option_map (λ (d : Column). d.ty) o) ≡ true → (column_ty s t k ≡ Some (column s t k).ty) × (test (column s t k).ty ≡ true)
+      by : (o : Option Column) → slice_get (table s t).columns k ≡ o → of_type holds (option_map (λ (d : Column). d.ty) o) ≡ true → (column_ty s t k ≡ Some (column s t k).ty) × (holds (column s t k).ty ≡ true)
       by None is h = cc
       by (Some d) is h =
           let same : column s t k ≡ d = get_or_from_slice_get (table s t).columns k d no_column is in
-          (ap (option_map (λ (d : Column). d.ty)) is ∙ ap (λ (d : Column). Some d.ty) (sym same), ap (λ (d : Column). test d.ty) same ∙ h)
+          (ap (option_map (λ (d : Column). d.ty)) is ∙ ap (λ (d : Column). Some d.ty) (sym same), ap (λ (d : Column). holds d.ty) same ∙ h)
 
   mutual
     pub filter_bound : (b : BexpTree) (t : ℕ) → is_filter b s t ≡ true → (x : BexpTree) → bound b s vars t ≡ Ok x → Bound t b x
@@ -127,24 +107,21 @@ module _ (s : Schema) (vars : List Var) where
         let one = mapped_ok not_of (bound b s vars t) x e in
         let inner = filter_bound b t h one.0 one.1 in
         subst (Bound t (not_of b)) one.2 (record { fit = inner.fit; constant = inner.constant; deep = ap suc inner.deep })
-    filter_bound (comparison k op v) t h x e =
+    filter_bound (test k tested vs negated) t h x e =
         let ty = (column s t k).ty in
-        let is = column_is t k (λ ty. operand_fits ty v) h in
-        let one = mapped_ok (comparison k op) (bound_operand (read_as ty) vars v) x e in
-        let f = operand_bound (read_as ty) (operand_fits ty) (read_fits ty) vars v one.0 is.1 one.1 in
-        subst (Bound t (comparison k op v)) one.2 (record { fit = ap (of_type (λ ty. operand_fits ty one.0)) is.0 ∙ f.0; constant = f.1; deep = refl })
-    filter_bound (within k vs negated) t h x e =
-        let ty = (column s t k).ty in
-        let is = column_is t k (λ ty. list_all (operand_fits ty) vs) h in
-        let one = mapped_ok (λ os. within k os negated) (bound_operands (read_as ty) vars vs) x e in
-        let f = operands_bound (read_as ty) (operand_fits ty) (read_fits ty) vars vs one.0 is.1 one.1 in
-        subst (Bound t (within k vs negated)) one.2 (record { fit = ap (of_type (λ ty. list_all (operand_fits ty) one.0)) is.0 ∙ f.0; constant = f.1; deep = refl })
-    filter_bound (is_null k wanted) t h x e = let same : is_null k wanted ≡ x = cc in subst (Bound t (is_null k wanted)) same (record { fit = h; constant = refl; deep = refl })
-    filter_bound (like k fold negated v) t h x e =
-        let parts = and_parts (of_type is_text (column_ty s t k)) (pattern_fits v) h in
-        let one = mapped_ok (like k fold negated) (bound_operand read_pattern vars v) x e in
-        let f = operand_bound read_pattern pattern_fits patterns_read vars v one.0 parts.1 one.1 in
-        subst (Bound t (like k fold negated v)) one.2 (record { fit = and_from (of_type is_text (column_ty s t k)) (pattern_fits one.0) parts.0 f.0; constant = f.1; deep = refl })
+        let is = column_is t k (is_test tested vs) h in
+        let parts = and_parts (takes tested (length vs) && applies tested ty) (list_all (operand_fits tested ty) vs) is.1 in
+        let taken = and_parts (takes tested (length vs)) (applies tested ty) parts.0 in
+        let one = mapped_ok (λ os. test k tested os negated) (bound_operands (reads tested ty) vars vs) x e in
+        let f = operands_bound (reads tested ty) (operand_fits tested ty) (reads_fit tested ty) vars vs one.0 parts.1 one.1 in
+        let counted : takes tested (length one.0) ≡ true = ap (takes tested) (bound_length (reads tested ty) vars vs one.0 one.1) ∙ taken.0 in
+        subst (Bound t (test k tested vs negated)) one.2 (record {
+          fit =
+              ap (of_type (is_test tested one.0)) is.0
+              ∙ and_from (takes tested (length one.0) && applies tested ty) (list_all (operand_fits tested ty) one.0) (and_from (takes tested (length one.0)) (applies tested ty) counted taken.1) f.0;
+          constant = f.1;
+          deep = refl;
+        })
     filter_bound (through r b) t h x e =
         let parts = and_parts (is_some (slice_get (table s t).rels r)) (is_filter b s (rel s t r).remote) h in
         let one = mapped_ok (through r) (bound b s vars (rel s t r).remote) x e in

@@ -3,11 +3,12 @@ use Rattle.std.proofs.Common.{◌≡◌, ℕ, suc, ◌≤◌, max, List, [], ◌
 use Rattle.std.specs.Prelude.{not, ◌&&◌}
 use Rattle.std.specs.List.{filter_map, list_any, cons_option}
 use Rattle.hq_request_laws.specs.ObjectsNest.{objects_nest, elements_nest, members_nest}
+use Rattle.hq_base.specs.Cells.{cell_of, json_of}
 use Rattle.hq_base.specs.Json.{JsonTree, null, bool, int, str, arr, obj, ElementTrees, no_element, element, MemberTrees, no_member, member, elements_of, members_of, names_of}
 use Rattle.hq_base.specs.declared.value.Ty.{Ty}
-use Rattle.hq_base.specs.declared.value.Ty.TheVariants.{Integer, Bigint, Text, Boolean}
-use Rattle.hq_terms.specs.Database.{int_fits}
-use Rattle.hq_terms.specs.Reading.{whole_number}
+use Rattle.hq_base.specs.declared.value.Val.{Val}
+use Rattle.hq_base.specs.declared.value.Val.TheVariants as val
+use Rattle.hq_terms.specs.Constants.{constant_in}
 use Rattle.hq_coerce.specs.Coercion.{is_non_null, null_value, scalar_value, enum_value, leaf_by, leaf_value, in_lists, is_given, is_lacking, default_member, object_of, inputs_at, coerced, coerced_elements, coerced_members}
 use Rattle.hq_gql_nodes.specs.Known.{element_type, input_at}
 use Rattle.hq_schema.specs.Look.{type_at, input_field_of, enum_value_of}
@@ -25,35 +26,14 @@ flat_under : {A : Type 0} (f : A → JsonTree) (o : Option A) (x : JsonTree) →
 flat_under f (Some a) x flat h = let same : f a ≡ x = cc in subst Flat same (flat a)
 flat_under f None x flat h = absurd cc
 
-flat_if : (b : Bool) (j x : JsonTree) → Flat j → cond b (Some j) None ≡ Some x → Flat x
-flat_if true j x flat h = let same : j ≡ x = cc in subst Flat same flat
-flat_if false j x flat h = absurd cc
-
-flat_same : (j x : JsonTree) → Flat j → Some j ≡ Some x → Flat x
-flat_same j x flat h = let same : j ≡ x = cc in subst Flat same flat
+value_flat : (v : Val) → Flat (json_of (cell_of v))
+value_flat val.Null = refl
+value_flat (val.Int n) = refl
+value_flat (val.Text s) = refl
+value_flat (val.Bool b) = refl
 
 scalar_flat : (ty : Ty) (j x : JsonTree) → scalar_value ty j ≡ Some x → Flat x
-scalar_flat Integer null x h = absurd cc
-scalar_flat Bigint null x h = absurd cc
-scalar_flat Text null x h = absurd cc
-scalar_flat Boolean null x h = absurd cc
-scalar_flat Integer (bool b) x h = absurd cc
-scalar_flat Bigint (bool b) x h = absurd cc
-scalar_flat Text (bool b) x h = absurd cc
-scalar_flat Boolean (bool b) x h = flat_same (bool b) x refl h
-scalar_flat ty (int n) x h = flat_if (int_fits ty n) (int n) x refl h
-scalar_flat Integer (str s) x h = absurd cc
-scalar_flat Bigint (str s) x h = flat_under int (whole_number Bigint s) x (λ a. refl) h
-scalar_flat Text (str s) x h = flat_same (str s) x refl h
-scalar_flat Boolean (str s) x h = absurd cc
-scalar_flat Integer (arr js) x h = absurd cc
-scalar_flat Bigint (arr js) x h = absurd cc
-scalar_flat Text (arr js) x h = absurd cc
-scalar_flat Boolean (arr js) x h = absurd cc
-scalar_flat Integer (obj ms) x h = absurd cc
-scalar_flat Bigint (obj ms) x h = absurd cc
-scalar_flat Text (obj ms) x h = absurd cc
-scalar_flat Boolean (obj ms) x h = absurd cc
+scalar_flat ty j x h = flat_under (λ v. json_of (cell_of v)) (constant_in ty j) x value_flat h
 
 enum_flat : (s : SchemaTree) (t : ℕ) (j x : JsonTree) → enum_value s t j ≡ Some x → Flat x
 enum_flat s t null x h = absurd cc
@@ -65,19 +45,7 @@ enum_flat s t (obj ms) x h = absurd cc
 
 by_flat : (s : SchemaTree) (t : ℕ) (o : TypeOrigin) (j x : JsonTree) → leaf_by s t o j ≡ Some x → Flat x
 by_flat s t (origin.Scalar ty) j x h = scalar_flat ty j x h
-by_flat s t origin.Directions j x h = enum_flat s t j x h
-by_flat s t (origin.Comparison ty) j x h = enum_flat s t j x h
-by_flat s t origin.Introspection j x h = enum_flat s t j x h
-by_flat s t origin.Query j x h = enum_flat s t j x h
-by_flat s t (origin.Rows u) j x h = enum_flat s t j x h
-by_flat s t (origin.Filter u) j x h = enum_flat s t j x h
-by_flat s t (origin.Sort u) j x h = enum_flat s t j x h
-by_flat s t (origin.Columns u) j x h = enum_flat s t j x h
-by_flat s t (origin.Aggregate u) j x h = enum_flat s t j x h
-by_flat s t (origin.AggregateFields u) j x h = enum_flat s t j x h
-by_flat s t (origin.Max u) j x h = enum_flat s t j x h
-by_flat s t (origin.Min u) j x h = enum_flat s t j x h
-by_flat s t (origin.Sum u) j x h = enum_flat s t j x h
+by_flat s t o j x h = enum_flat s t j x h
 
 leaf_flat : (s : SchemaTree) (t : ℕ) (j x : JsonTree) → leaf_value s t j ≡ Some x → Flat x
 leaf_flat s t j x h = let p = and_then_some (λ d. leaf_by s t d.origin j) (type_at s t) x h in by_flat s t p.0.origin j x p.2

@@ -1,8 +1,8 @@
 -- The conditions that `where` writes over a table: they use what is permitted, their operands are of their columns' types, and
 -- they are at most twice as deep as their objects nest.
-use Rattle.std.proofs.Common.{◌≡◌, ◌∙◌, refl, sym, ap, subst, ℕ, suc, ◌*◌, ◌≤◌, max, arith, List, [], ◌∷◌, Bool, true, false, cond, ◌&&◌, Option, Some, None, Ok, Err, ℤ, is_some, is_ok, option_map, slice_get}
+use Rattle.std.proofs.Common.{◌≡◌, ◌∙◌, refl, sym, ap, subst, ℕ, suc, ◌*◌, ◌≤◌, max, arith, List, [], ◌∷◌, length, Bool, true, false, not, cond, ◌&&◌, Option, Some, None, Ok, Err, is_some, is_ok, option_map, slice_get}
 use Rattle.std.specs.List.{list_all}
-use Rattle.std.proofs.lemmas.Bool.{and_parts, and_from}
+use Rattle.std.proofs.lemmas.Bool.{and_from}
 use Rattle.hq_base.specs.Due.{mapped}
 use Rattle.hq_base.specs.Json.{JsonTree, null, bool, int, str, arr, obj, ElementTrees, no_element, element, MemberTrees, no_member, member}
 use Rattle.hq_base.specs.Lists.{Each}
@@ -10,18 +10,23 @@ use Rattle.hq_base.specs.Look.{member_list}
 use Rattle.hq_base.specs.Patterns.{pattern_of}
 use Rattle.hq_base.proofs.Lists.{each_weaken}
 use Rattle.hq_base.specs.declared.value.Ty.{Ty}
-use Rattle.hq_base.specs.declared.value.Ty.TheVariants.{Integer, Bigint, Text, Boolean}
 use Rattle.hq_base.specs.declared.value.Val.{Val}
 use Rattle.hq_base.specs.declared.value.Val.TheVariants as val
-use Rattle.hq_terms.specs.Bexp.{BexpTree, and_of, or_of, not_of, comparison, within, is_null, like, through, BexpTrees, bexps_of, depth, depth_of_all}
-use Rattle.hq_terms.specs.Database.{int_fits, is_text}
-use Rattle.hq_terms.specs.Filters.{column_ty, constant_fits, operand_fits, pattern_fits, of_type, is_filter, are_filters}
+use Rattle.hq_terms.specs.Bexp.{BexpTree, and_of, or_of, not_of, test, through, BexpTrees, bexps_of, conjunction, depth, depth_of_all}
+use Rattle.hq_terms.specs.Constants.{constant_in}
+use Rattle.hq_terms.specs.Filters.{column_ty, constant_fits, test_fits, operand_fits, is_test, of_type, is_filter, are_filters}
 use Rattle.hq_terms.specs.Fits.{fits}
 use Rattle.hq_terms.specs.Meta.{MetaTree}
-use Rattle.hq_terms.specs.Reading.{is_whole_number, whole_number}
 use Rattle.hq_terms.specs.Schema.{Schema, schema_of, table, column, rel}
+use Rattle.hq_terms.specs.Tests.{arity, has_arity, takes, applies}
 use Rattle.hq_terms.specs.declared.bexp.Operand.{Operand}
 use Rattle.hq_terms.specs.declared.bexp.Operand.TheVariants.{Const}
+use Rattle.hq_terms.specs.declared.operator.Operator.{Operator}
+use Rattle.hq_terms.specs.declared.test.Arity.{Arity}
+use Rattle.hq_terms.specs.declared.test.Arity.TheVariants.{Nothing, One, Many}
+use Rattle.hq_terms.specs.declared.test.Test.{Test}
+use Rattle.hq_terms.specs.declared.test.Test.TheVariants.{Like}
+use Rattle.hq_terms.proofs.Fitting.{constant_read}
 use Rattle.hq_terms.specs.declared.meta.Rel.{Rel}
 use Rattle.hq_terms.specs.declared.role.Role.{Role}
 use Rattle.hq_terms.specs.declared.table.Table.{Table}
@@ -29,8 +34,6 @@ use Rattle.hq_schema.specs.Look.{input_field_of}
 use Rattle.hq_schema.specs.Schema.{base, ArgTree, TypeTree, TypeRefTree, SchemaTree}
 use Rattle.hq_schema.specs.declared.origin.ArgOrigin.{ArgOrigin}
 use Rattle.hq_schema.specs.declared.origin.ArgOrigin.TheVariants as stands
-use Rattle.hq_schema.specs.declared.origin.Operator.{Operator}
-use Rattle.hq_schema.specs.declared.origin.Operator.TheVariants.{Compare, Within, NullTest, Like}
 use Rattle.hq_schema.specs.declared.origin.TypeOrigin.TheVariants as type
 use Rattle.hq_role_schema.specs.RoleSchema.{role_schema}
 use Rattle.hq_roles.specs.Access.{Access, access_of}
@@ -38,19 +41,17 @@ use Rattle.hq_roles.specs.Leads.{forbidden, plain, behind, Reaches, filter_targe
 use Rattle.hq_ask_tree.specs.Allowed.{Allowed, allowed_to}
 use Rattle.hq_ask_tree.specs.Conditions.{is_constant, is_bound, are_bound}
 use Rattle.hq_ask_tree.specs.Uses.{UsesCondition, UsesConditions}
-use Rattle.hq_arguments.specs.Comparisons.{conjunction, like_due, operator_due, operator_named, comparisons_due}
+use Rattle.hq_arguments.specs.Comparisons.{tested_due, operator_due, operator_named, comparisons_due}
 use Rattle.hq_arguments.specs.Comparisons as comparisons
 use Rattle.hq_arguments.specs.Context.{Context}
 use Rattle.hq_coerce.specs.Variables.{VarTree}
-use Rattle.hq_arguments.specs.Operands.{text_constant, truth_constant, constant_in, operand_due, pattern_due, truth_due}
+use Rattle.hq_arguments.specs.Operands.{operand_due, pattern_due, truth_due}
 use Rattle.hq_arguments.specs.Reading.{Read, each, items_in, fitting}
 use Rattle.hq_arguments.specs.Where.{filter_due, filters_due, elements_due, members_due, member_due, by_origin}
 use Rattle.hq_request_laws.specs.ObjectsNest.{objects_nest, elements_nest, members_nest}
 use Rattle.hq_request_laws.proofs.Permitted.{column_allowed, column_typed, rel_at, rel_allowed}
 use Rattle.hq_request_laws.proofs.Places.{At, Schemed, type_seen, input_found}
 use Rattle.hq_request_laws.proofs.BuildingSteps.{mapped_ok, then_ok, cond_ok, map_some}
-use Rattle.std.proofs.lemmas.Option.{cond_some}
-use Rattle.std.specs.Str.Parse.{signed_digits_value}
 use Rattle.hq_arguments.specs.declared.refusal.ArgRefusal.TheVariants.{Rule}
 use Rattle.hq_gql_tree.specs.declared.rule.RuleId.TheVariants.{PatternEscape}
 
@@ -68,59 +69,36 @@ fitting_ok : {A : Type 0} (j : JsonTree) (o : Option A) (x : A) → fitting j o 
 fitting_ok j (Some y) x e = let same : y ≡ x = cc in ap Some same
 fitting_ok j None x e = cc
 
-pub whole_fits : (n : ℤ) (ty : Ty) (s : List ℕ) → whole_number ty s ≡ Some n → int_fits ty n ≡ true
-whole_fits n ty s e =
-    let both = cond_some (is_whole_number s && int_fits ty (signed_digits_value 10 s)) (signed_digits_value 10 s) n e in
-    ap (int_fits ty) (sym both.1) ∙ (and_parts _ _ both.0).1
+abbrev OperandFits : Test → Ty → Operand → Type 0
+OperandFits t ty o = (operand_fits t ty o ≡ true) × (is_constant o ≡ true)
 
-text_fits : (ty : Ty) (s : List ℕ) (v : Val) → text_constant ty s ≡ Some v → constant_fits ty v ≡ true
-text_fits Integer s v e = cc
-text_fits Bigint s v e = let found = map_some val.Int (whole_number Bigint s) v e in subst (λ w. constant_fits Bigint w ≡ true) found.2 (whole_fits found.0 Bigint s found.1)
-text_fits Text s v e = let same : val.Text s ≡ v = cc in subst (λ w. constant_fits Text w ≡ true) same refl
-text_fits Boolean s v e = cc
-
-truth_fits : (ty : Ty) (b : Bool) (v : Val) → truth_constant ty b ≡ Some v → constant_fits ty v ≡ true
-truth_fits Integer b v e = cc
-truth_fits Bigint b v e = cc
-truth_fits Text b v e = cc
-truth_fits Boolean b v e = let same : val.Bool b ≡ v = cc in subst (λ w. constant_fits Boolean w ≡ true) same refl
-
-int_constant_fits : (ty : Ty) (n : ℤ) (v : Val) (b : Bool) → int_fits ty n ≡ b → cond b (Some (val.Int n)) None ≡ Some v → constant_fits ty v ≡ true
-int_constant_fits ty n v true is e = let same : val.Int n ≡ v = cc in subst (λ w. constant_fits ty w ≡ true) same is
-int_constant_fits ty n v false is e = cc
-
--- a constant that is read fits its type
-pub constant_read : (ty : Ty) (j : JsonTree) (v : Val) → constant_in ty j ≡ Some v → constant_fits ty v ≡ true
-constant_read ty null v e = cc
-constant_read ty (bool b) v e = truth_fits ty b v e
-constant_read ty (int n) v e = int_constant_fits ty n v (int_fits ty n) refl e
-constant_read ty (str s) v e = text_fits ty s v e
-constant_read ty (arr js) v e = cc
-constant_read ty (obj ms) v e = cc
-
-abbrev OperandFits : Ty → Operand → Type 0
-OperandFits ty o = (operand_fits ty o ≡ true) × (is_constant o ≡ true)
-
-operand_read : (ty : Ty) (j : JsonTree) (o : Operand) → operand_due ty j ≡ Ok o → OperandFits ty o
-operand_read ty j o e =
+constant_due-fits : (t : Test) (ty : Ty) → ((v : Val) → constant_fits ty v ≡ true → test_fits t ty v ≡ true) → (j : JsonTree) (o : Operand) → fitting j (option_map Const (constant_in ty j)) ≡ Ok o → OperandFits t ty o
+constant_due-fits t ty each_fits j o e =
     let found = map_some Const (constant_in ty j) o (fitting_ok j (option_map Const (constant_in ty j)) o e) in
-    subst (OperandFits ty) found.2 (constant_read ty j found.0 found.1, refl)
+    subst (OperandFits t ty) found.2 (each_fits found.0 (constant_read ty j found.0 found.1), refl)
 
-pattern_read : (j : JsonTree) (o : Operand) → pattern_due j ≡ Ok o → (pattern_fits o ≡ true) × (is_constant o ≡ true)
-pattern_read null o e = cc
-pattern_read (bool b) o e = cc
-pattern_read (int n) o e = cc
-pattern_read (arr js) o e = cc
-pattern_read (obj ms) o e = cc
-pattern_read (str s) o e = by (is_ok (pattern_of s)) refl e
+pattern_due-fits : (fold : Bool) (ty : Ty) (j : JsonTree) (o : Operand) → pattern_due j ≡ Ok o → OperandFits (Like fold) ty o
+pattern_due-fits fold ty null o e = cc
+pattern_due-fits fold ty (bool b) o e = cc
+pattern_due-fits fold ty (int n) o e = cc
+pattern_due-fits fold ty (arr js) o e = cc
+pattern_due-fits fold ty (obj ms) o e = cc
+pattern_due-fits fold ty (str s) o e = by (is_ok (pattern_of s)) refl e
   where
-    by : (b : Bool) → is_ok (pattern_of s) ≡ b → cond b (Ok (Const (val.Text s))) (Err (Rule PatternEscape)) ≡ Ok o → (pattern_fits o ≡ true) × (is_constant o ≡ true)
-    by true is f = let same : Const (val.Text s) ≡ o = cc in subst (λ q. (pattern_fits q ≡ true) × (is_constant q ≡ true)) same (is, refl)
+    by : (b : Bool) → is_ok (pattern_of s) ≡ b → cond b (Ok (Const (val.Text s))) (Err (Rule PatternEscape)) ≡ Ok o → OperandFits (Like fold) ty o
+    by true is f = let same : Const (val.Text s) ≡ o = cc in subst (OperandFits (Like fold) ty) same (is, refl)
     by false is f = cc
 
-operands_all : (ty : Ty) (os : List Operand) → Each (OperandFits ty) os → (list_all (operand_fits ty) os ≡ true) × (list_all is_constant os ≡ true)
-operands_all ty [] h = (refl, refl)
-operands_all ty (o ∷ os) h = let later = operands_all ty os h.1 in (and_from (operand_fits ty o) (list_all (operand_fits ty) os) h.0.0 later.0, and_from (is_constant o) (list_all is_constant os) h.0.1 later.1)
+-- an operand that is read fits its test and its column's type
+operand_read : (t : Test) (ty : Ty) (j : JsonTree) (o : Operand) → operand_due t ty j ≡ Ok o → OperandFits t ty o
+operand_read (Like fold) ty j o e = pattern_due-fits fold ty j o e
+operand_read t ty j o e = constant_due-fits t ty (λ v h. h) j o e
+
+operands_all : (t : Test) (ty : Ty) (os : List Operand) → Each (OperandFits t ty) os → (list_all (operand_fits t ty) os ≡ true) × (list_all is_constant os ≡ true)
+operands_all t ty [] h = (refl, refl)
+operands_all t ty (o ∷ os) h =
+    let later = operands_all t ty os h.1 in
+    (and_from (operand_fits t ty o) (list_all (operand_fits t ty) os) h.0.0 later.0, and_from (is_constant o) (list_all is_constant os) h.0.1 later.1)
 
 module _ (tables : List Table) (m : MetaTree) (metadata_fits : fits tables m ≡ true) (role : Role) (schemed : Schemed tables m role) (vars : List VarTree) where
   abbrev s : Schema
@@ -186,28 +164,32 @@ module _ (tables : List Table) (m : MetaTree) (metadata_fits : fits tables m ≡
     allowed : ok.column t k ≡ true
     allowed = column_allowed tables m metadata_fits role t k permitted
 
-    operator_writes : (o : Operator) (j : JsonTree) (b : BexpTree) → operator_due k ty o j ≡ Ok b → Writes t 1 b
-    operator_writes (Compare op) j b e =
-        let one = mapped_ok (comparison k op) (operand_due ty j) b e in
-        let f = operand_read ty j one.0 one.1 in
-        subst (Writes t 1) one.2 (record { uses = allowed; fit = ap (of_type (λ ty. operand_fits ty one.0)) typed ∙ f.0; bound = f.1; deep = omega arith })
-    operator_writes (Within negated) j b e =
-        let one = mapped_ok (λ os. within k os negated) (each (operand_due ty) (items_in j)) b e in
-        let f = operands_all ty one.0 (each_ok (operand_due ty) (OperandFits ty) (operand_read ty) (items_in j) one.0 one.1) in
-        subst (Writes t 1) one.2 (record { uses = allowed; fit = ap (of_type (λ ty. list_all (operand_fits ty) one.0)) typed ∙ f.0; bound = f.1; deep = omega arith })
-    operator_writes NullTest j b e =
-        let one = mapped_ok (is_null k) (truth_due j) b e in
-        subst (Writes t 1) one.2 (record { uses = allowed; fit = ap is_some typed; bound = refl; deep = omega arith })
-    operator_writes (Like fold negated) j b e =
-        let both = cond_ok (is_text ty) (mapped (like k fold negated) (pattern_due j)) _ b e in
-        let one = mapped_ok (like k fold negated) (pattern_due j) b both.1 in
-        let f = pattern_read j one.0 one.1 in
-        subst (Writes t 1) one.2 (record {
+    -- a test of the column, of as many operands as it takes, which fit
+    test_writes : (o : Operator) → applies o.test ty ≡ true → (vs : List Operand) (negated : Bool) → takes o.test (length vs) ≡ true → Each (OperandFits o.test ty) vs → Writes t 1 (test k o.test vs negated)
+    test_writes o of_type_is vs negated counted h =
+        let f = operands_all o.test ty vs h in
+        record {
           uses = allowed;
-          fit = and_from (of_type is_text (column_ty s t k)) (pattern_fits one.0) (ap (of_type is_text) typed ∙ both.0) f.0;
+          fit = ap (of_type (is_test o.test vs)) typed ∙ and_from (takes o.test (length vs) && applies o.test ty) (list_all (operand_fits o.test ty) vs) (and_from (takes o.test (length vs)) (applies o.test ty) counted of_type_is) f.0;
           bound = f.1;
           deep = omega arith;
-        })
+        }
+
+    tested_writes : (o : Operator) → applies o.test ty ≡ true → (j : JsonTree) (n : Arity) → arity o.test ≡ n → (b : BexpTree) → tested_due k ty o j n ≡ Ok b → Writes t 1 b
+    tested_writes o of_type_is j Nothing is b e =
+        let one = mapped_ok (λ holds. test k o.test [] (cond holds o.negated (not o.negated))) (truth_due j) b e in
+        subst (Writes t 1) one.2 (test_writes o of_type_is [] (cond one.0 o.negated (not o.negated)) (ap (λ n. has_arity n 0) is) tt)
+    tested_writes o of_type_is j One is b e =
+        let one = mapped_ok (λ v. test k o.test (v ∷ []) o.negated) (operand_due o.test ty j) b e in
+        subst (Writes t 1) one.2 (test_writes o of_type_is (one.0 ∷ []) o.negated (ap (λ n. has_arity n 1) is) (operand_read o.test ty j one.0 one.1, tt))
+    tested_writes o of_type_is j Many is b e =
+        let one = mapped_ok (λ vs. test k o.test vs o.negated) (each (operand_due o.test ty) (items_in j)) b e in
+        subst (Writes t 1) one.2 (test_writes o of_type_is one.0 o.negated (ap (λ n. has_arity n (length one.0)) is) (each_ok (operand_due o.test ty) (OperandFits o.test ty) (operand_read o.test ty) (items_in j) one.0 one.1))
+
+    operator_writes : (o : Operator) (j : JsonTree) (b : BexpTree) → operator_due k ty o j ≡ Ok b → Writes t 1 b
+    operator_writes o j b e =
+        let both = cond_ok (applies o.test ty) (tested_due k ty o j (arity o.test)) _ b e in
+        tested_writes o both.0 j (arity o.test) refl b both.1
 
     named_writes : (p : ℕ) (x : List ℕ × JsonTree) (b : BexpTree) → comparisons.named_due c p k ty x ≡ Ok b → Writes t 1 b
     named_writes p x b e = by (operator_named c p x.0) e

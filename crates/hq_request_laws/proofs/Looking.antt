@@ -10,7 +10,7 @@ use Rattle.hq_terms.specs.declared.role.Role.{Role}
 use Rattle.hq_terms.specs.declared.table.Table.{Table}
 use Rattle.hq_gql_nodes.specs.Known.{is_object, object_at, known_field, meta_field}
 use Rattle.hq_gql_tree.specs.Selections.{FieldHead}
-use Rattle.hq_schema.specs.Fixed.{fixed_place, fixed_kind}
+use Rattle.hq_schema.specs.Fixed.{boolean, string, fixed_place, fixed_kind}
 use Rattle.hq_schema.specs.Look.{field_in, field_of}
 use Rattle.hq_schema.specs.Schema.{base, FieldTree, TypeTree, SchemaTree}
 use Rattle.hq_schema.specs.declared.fixed.Fixed.{Fixed}
@@ -90,7 +90,7 @@ row f name t leads is plain object = record { name = is; plain = plain; type = t
 schema_rows : RowsAre (introspection_fields fixed.Schema) (meta_fields schema_type)
 unfolding introspection_fields
 schema_rows = (
-  row _ _ fixed.String refl refl refl refl,
+  row _ _ string refl refl refl refl,
   (
     row _ _ fixed.«Type» refl refl refl refl,
     (
@@ -105,11 +105,11 @@ unfolding introspection_fields
 type_rows = (
   row _ _ fixed.TypeKind refl refl refl refl,
   (
-    row _ _ fixed.String refl refl refl refl,
+    row _ _ string refl refl refl refl,
     (
-      row _ _ fixed.String refl refl refl refl,
+      row _ _ string refl refl refl refl,
       (
-        row _ _ fixed.String refl refl refl refl,
+        row _ _ string refl refl refl refl,
         (
           row _ _ fixed.Field refl refl refl refl,
           (
@@ -134,12 +134,12 @@ type_rows = (
 field_rows : RowsAre (introspection_fields fixed.Field) (meta_fields field_type)
 unfolding introspection_fields
 field_rows = (
-  row _ _ fixed.String refl refl refl refl,
+  row _ _ string refl refl refl refl,
   (
-    row _ _ fixed.String refl refl refl refl,
+    row _ _ string refl refl refl refl,
     (
       row _ _ fixed.InputValue refl refl refl refl,
-      (row _ _ fixed.«Type» refl refl refl refl, (row _ _ fixed.Boolean refl refl refl refl, (row _ _ fixed.String refl refl refl refl, tt))),
+      (row _ _ fixed.«Type» refl refl refl refl, (row _ _ boolean refl refl refl refl, (row _ _ string refl refl refl refl, tt))),
     ),
   ),
 )
@@ -147,25 +147,25 @@ field_rows = (
 input_rows : RowsAre (introspection_fields fixed.InputValue) (meta_fields input_type)
 unfolding introspection_fields
 input_rows = (
-  row _ _ fixed.String refl refl refl refl,
-  (row _ _ fixed.String refl refl refl refl, (row _ _ fixed.«Type» refl refl refl refl, (row _ _ fixed.String refl refl refl refl, tt))),
+  row _ _ string refl refl refl refl,
+  (row _ _ string refl refl refl refl, (row _ _ fixed.«Type» refl refl refl refl, (row _ _ string refl refl refl refl, tt))),
 )
 
 value_rows : RowsAre (introspection_fields fixed.EnumValue) (meta_fields value_type)
 unfolding introspection_fields
 value_rows = (
-  row _ _ fixed.String refl refl refl refl,
-  (row _ _ fixed.String refl refl refl refl, (row _ _ fixed.Boolean refl refl refl refl, (row _ _ fixed.String refl refl refl refl, tt))),
+  row _ _ string refl refl refl refl,
+  (row _ _ string refl refl refl refl, (row _ _ boolean refl refl refl refl, (row _ _ string refl refl refl refl, tt))),
 )
 
 directive_rows : RowsAre (introspection_fields fixed.Directive) (meta_fields directive_type)
 unfolding introspection_fields
 directive_rows = (
-  row _ _ fixed.String refl refl refl refl,
+  row _ _ string refl refl refl refl,
   (
-    row _ _ fixed.String refl refl refl refl,
+    row _ _ string refl refl refl refl,
     (
-      row _ _ fixed.Boolean refl refl refl refl,
+      row _ _ boolean refl refl refl refl,
       (row _ _ fixed.DirectiveLocation refl refl refl refl, (row _ _ fixed.InputValue refl refl refl refl, tt)),
     ),
   ),
@@ -281,8 +281,8 @@ module _ (tables : List Table) (m : MetaTree) (role : Role) (vars : List VarTree
     name_looked : k.0 ≡ type_name_field → bytes_eq (codes "__typename") h.name ≡ true → (ls : IntrospectionTrees) → looks_due c (leads_to k) t below ≡ Ok ls → (deprecated : Bool) → OneLooked type below (look h.name None deprecated ls)
     name_looked same is_name ls e deprecated =
         let named : asked.meta_field type h.name ≡ Some None = ap (λ b. cond b (Some None) (lookup (λ n. bytes_eq n h.name) (meta_fields type))) is_name in
-        let leads : base k.0.ty ≡ fixed_place fixed.String = ap (λ (x : FieldTree). base x.ty) same in
-        accepted_by None named ls (below_accepted fixed.String None refl refl t below inner apart k.0 leads complete ls e) deprecated
+        let leads : base k.0.ty ≡ fixed_place string = ap (λ (x : FieldTree). base x.ty) same in
+        accepted_by None named ls (below_accepted string None refl refl t below inner apart k.0 leads complete ls e) deprecated
 
     found_looked : known_field R (Some (fixed_place f)) h.name ≡ Some k.0 → (ls : IntrospectionTrees) → looks_due c (leads_to k) t below ≡ Ok ls → (deprecated : Bool) → OneLooked type below (look h.name None deprecated ls)
     unfolding role_schema

@@ -32,10 +32,11 @@ use Rattle.hq_ask_tree.specs.Uses.{UsesColumns, UsesCounted}
 use Rattle.hq_arguments.specs.Columns.{column_due, columns_due, matched, one_column, same_as}
 use Rattle.hq_arguments.specs.Context.{Context}
 use Rattle.hq_arguments.specs.Keys.{is_for, key_argument, key_value, given_for, part_due}
-use Rattle.hq_arguments.specs.Operands.{constant_in}
+use Rattle.hq_terms.specs.Constants.{constant_in}
+use Rattle.hq_terms.proofs.Fitting.{constant_read}
 use Rattle.hq_arguments.specs.Reading.{each, items_in, Given, argument_named, given}
 use Rattle.hq_arguments.specs.declared.refusal.ArgRefusal.TheVariants.{Rule}
-use Rattle.hq_request_laws.proofs.Conditions.{each_ok, constant_read}
+use Rattle.hq_request_laws.proofs.Conditions.{each_ok}
 use Rattle.hq_request_laws.proofs.Items.{each_at, found_each}
 use Rattle.hq_request_laws.proofs.Permitted.{column_allowed, column_typed}
 use Rattle.hq_request_laws.proofs.Places.{At, Schemed, column_found}

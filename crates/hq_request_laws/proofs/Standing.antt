@@ -1,39 +1,39 @@
 -- What the types of a role's schema stand for: tables that the role may see, under their names.
-use Rattle.std.proofs.Common.{◌≡◌, ◌∙◌, refl, sym, ap, subst, ℕ, ◌+◌, List, [], ◌∷◌, ◌++◌, take, Bool, true, false, cond, not, ◌==◌, Option, Some, None, is_some, option_map, option_and_then, slice_get, find, flat_map, codes, append_assoc, append-nil, eq-eqb, IfSome}
+use Rattle.std.proofs.Common.{◌≡◌, ◌∙◌, refl, sym, ap, subst, ℕ, ◌+◌, List, [], ◌∷◌, ◌++◌, Bool, true, false, cond, not, ◌==◌, Option, Some, None, is_some, option_map, option_and_then, slice_get, find, flat_map, codes, append_assoc, append-nil, eq-eqb, IfSome}
 use Rattle.std.specs.Prelude.{unwrap_or}
 use Rattle.std.specs.List.{list_any}
 use Rattle.std.proofs.lemmas.Bool.{and_parts, not-true, or_parts}
 use Rattle.std.proofs.lemmas.List.Folds.{list_any-append}
 use Rattle.hq_base.specs.Lists.{Each, all_differ}
 use Rattle.hq_base.proofs.Lists.{each_all}
+use Rattle.hq_base.specs.Aggregates.{aggregate_suffix, is_aggregate_of, given_type}
+use Rattle.hq_base.specs.declared.aggregate.Aggregate.{Aggregate as OneAggregate}
 use Rattle.hq_base.specs.declared.value.Ty.{Ty}
-use Rattle.hq_terms.specs.Database.{is_boolean}
+use Rattle.hq_base.specs.declared.value.Ty.TheVariants as ty
 use Rattle.hq_terms.specs.Filters.{column_ty, of_type}
 use Rattle.hq_terms.specs.Meta.{MetaTree, TrackedTree, tracked_table}
 use Rattle.hq_terms.specs.Permission.{Permission, permission}
 use Rattle.hq_terms.specs.Schema.{Schema, schema_of}
-use Rattle.hq_terms.specs.SchemaNames.{is_whole}
 use Rattle.hq_terms.specs.declared.role.Role.{Role}
 use Rattle.hq_terms.specs.declared.table.Column.{Column}
 use Rattle.hq_terms.specs.declared.table.Table.{Table}
 use Rattle.hq_terms.proofs.Places.{table_present}
-use Rattle.hq_schema.specs.Fixed.{all_fixed, fixed_place, scalar_of}
-use Rattle.hq_schema.specs.Parts.{all_parts}
+use Rattle.hq_schema.specs.Fixed.{all_fixed, fixed_place}
 use Rattle.hq_schema.specs.Schema.{FieldTree, TypeTree}
 use Rattle.hq_schema.specs.declared.fixed.Fixed.{Fixed}
-use Rattle.hq_schema.specs.declared.fixed.Fixed.TheVariants.{Boolean, Int, String, Bigint, OrderBy, BooleanComparison, IntComparison, StringComparison, BigintComparison, Schema as SchemaType, «Type» as TypeType, Field, InputValue, EnumValue, Directive, TypeKind, DirectiveLocation, QueryRoot}
+use Rattle.hq_schema.specs.declared.fixed.Fixed.TheVariants.{Scalar, OrderBy, Comparison, Schema as SchemaType, «Type» as TypeType, Field, InputValue, EnumValue, Directive, TypeKind, DirectiveLocation, QueryRoot}
 use Rattle.hq_schema.specs.declared.origin.FieldOrigin.{FieldOrigin}
 use Rattle.hq_schema.specs.declared.origin.FieldOrigin.TheVariants as field
 use Rattle.hq_schema.specs.declared.origin.TypeOrigin.{TypeOrigin}
 use Rattle.hq_schema.specs.declared.origin.TypeOrigin.TheVariants as type
 use Rattle.hq_schema.specs.declared.part.Part.{Part}
-use Rattle.hq_schema.specs.declared.part.Part.TheVariants.{Rows, Filter, Sort, Columns, Aggregate, AggregateFields, Max, Min, Sum}
+use Rattle.hq_schema.specs.declared.part.Part.TheVariants.{Rows, Filter, Sort, Columns, Aggregate, AggregateFields, Aggregated}
 use Rattle.hq_role_schema.specs.Fields.{column_field, column_fields, part_fields}
 use Rattle.hq_role_schema.specs.FixedTypes.{fixed_type, fixed_types, fixed_fields}
-use Rattle.hq_role_schema.specs.Placed.{part_count, placed, placed_from, links_from}
+use Rattle.hq_role_schema.specs.Placed.{parts_of, part_count, placed, placed_from, links_from}
 use Rattle.hq_role_schema.specs.References.{fixed, plain_field}
 use Rattle.hq_role_schema.specs.RoleSchema.{part_type, table_types, role_schema}
-use Rattle.hq_role_schema.specs.Shown.{under_name, shown_table, shown_entry, shown_tables, has_greatest, has_sum}
+use Rattle.hq_role_schema.specs.Shown.{under_name, shown_table, shown_entry, shown_tables, has_aggregate}
 use Rattle.hq_role_schema.specs.declared.shown.Link.{Link}
 use Rattle.hq_role_schema.specs.declared.shown.PlacedTable.{PlacedTable}
 use Rattle.hq_role_schema.specs.declared.shown.ShownColumn.{ShownColumn}
@@ -134,9 +134,7 @@ module _ (tables : List Table) (m : MetaTree) (role : Role) where
   NamedBy (type.Rows t) name = name ≡ row_type_name m t
   NamedBy (type.Aggregate t) name = name ≡ row_type_name m t ++ codes "_aggregate"
   NamedBy (type.AggregateFields t) name = name ≡ row_type_name m t ++ codes "_aggregate_fields"
-  NamedBy (type.Max t) name = name ≡ row_type_name m t ++ codes "_max_fields"
-  NamedBy (type.Min t) name = name ≡ row_type_name m t ++ codes "_min_fields"
-  NamedBy (type.Sum t) name = name ≡ row_type_name m t ++ codes "_sum_fields"
+  NamedBy (type.Aggregated g t) name = name ≡ row_type_name m t ++ aggregate_suffix g
   NamedBy type.Query name = name ≡ codes "query_root"
   NamedBy _ name = Unit {0}
 
@@ -145,11 +143,9 @@ module _ (tables : List Table) (m : MetaTree) (role : Role) where
   ColumnIs test t (field.Column c) = of_type test (column_ty s t c) ≡ true
   ColumnIs test t _ = Unit {0}
 
-  -- those with a greatest and a least value are not boolean, and those with a sum are whole numbers
+  -- those of which there is an aggregate are of its types
   abbrev pub TakenBy : TypeOrigin → FieldOrigin → Type 0
-  TakenBy (type.Max t) o = ColumnIs (λ ty. not (is_boolean ty)) t o
-  TakenBy (type.Min t) o = ColumnIs (λ ty. not (is_boolean ty)) t o
-  TakenBy (type.Sum t) o = ColumnIs is_whole t o
+  TakenBy (type.Aggregated g t) o = ColumnIs (is_aggregate_of g) t o
   TakenBy _ o = Unit {0}
 
   pub record Stands (d : TypeTree) : Type 0 where
@@ -163,15 +159,9 @@ module _ (tables : List Table) (m : MetaTree) (role : Role) where
 
   fixed_stands : (ps : List PlacedTable) (f : Fixed) → Stands (fixed_type ps f)
   unfolding fixed_type
-  fixed_stands ps Boolean = record { is_seen = tt; name = tt; taken = plain (fixed_fields ps Boolean) }
-  fixed_stands ps Int = record { is_seen = tt; name = tt; taken = plain (fixed_fields ps Int) }
-  fixed_stands ps String = record { is_seen = tt; name = tt; taken = plain (fixed_fields ps String) }
-  fixed_stands ps Bigint = record { is_seen = tt; name = tt; taken = plain (fixed_fields ps Bigint) }
+  fixed_stands ps (Scalar of) = record { is_seen = tt; name = tt; taken = plain (fixed_fields ps (Scalar of)) }
   fixed_stands ps OrderBy = record { is_seen = tt; name = tt; taken = plain (fixed_fields ps OrderBy) }
-  fixed_stands ps BooleanComparison = record { is_seen = tt; name = tt; taken = plain (fixed_fields ps BooleanComparison) }
-  fixed_stands ps IntComparison = record { is_seen = tt; name = tt; taken = plain (fixed_fields ps IntComparison) }
-  fixed_stands ps StringComparison = record { is_seen = tt; name = tt; taken = plain (fixed_fields ps StringComparison) }
-  fixed_stands ps BigintComparison = record { is_seen = tt; name = tt; taken = plain (fixed_fields ps BigintComparison) }
+  fixed_stands ps (Comparison of) = record { is_seen = tt; name = tt; taken = plain (fixed_fields ps (Comparison of)) }
   fixed_stands ps SchemaType = record { is_seen = tt; name = tt; taken = plain (fixed_fields ps SchemaType) }
   fixed_stands ps TypeType = record { is_seen = tt; name = tt; taken = plain (fixed_fields ps TypeType) }
   fixed_stands ps Field = record { is_seen = tt; name = tt; taken = plain (fixed_fields ps Field) }
@@ -187,18 +177,11 @@ module _ (tables : List Table) (m : MetaTree) (role : Role) where
       → (cs : List ShownColumn) → Each (λ (c : ShownColumn). column_ty s t c.col ≡ Some c.ty) cs → Each (λ (f : FieldTree). ColumnIs test t f.origin) (column_fields p cs)
   tested test p t step cs h = each_filter_map (λ (f : FieldTree). ColumnIs test t f.origin) (λ (c : ShownColumn). column_ty s t c.col ≡ Some c.ty) (column_field p) step cs h
 
-  greatest_tested : (t : ℕ) (c : ShownColumn) → column_ty s t c.col ≡ Some c.ty → IfSome (column_field Max c) (λ (f : FieldTree). ColumnIs (λ ty. not (is_boolean ty)) t f.origin)
-  greatest_tested t c typed = by (has_greatest c) refl
+  aggregate_tested : (g : OneAggregate) (t : ℕ) (c : ShownColumn) → column_ty s t c.col ≡ Some c.ty → IfSome (column_field (Aggregated g) c) (λ (f : FieldTree). ColumnIs (is_aggregate_of g) t f.origin)
+  aggregate_tested g t c typed = by (has_aggregate g c) refl
     where
-      by : (b : Bool) → has_greatest c ≡ b → IfSome (option_map (λ r. plain_field c.name r (field.Column c.col)) (cond b (Some (fixed (scalar_of c.ty))) None)) (λ (f : FieldTree). ColumnIs (λ ty. not (is_boolean ty)) t f.origin)
-      by true e = ap (of_type (λ ty. not (is_boolean ty))) typed ∙ e
-      by false e = tt
-
-  sum_tested : (t : ℕ) (c : ShownColumn) → column_ty s t c.col ≡ Some c.ty → IfSome (column_field Sum c) (λ (f : FieldTree). ColumnIs is_whole t f.origin)
-  sum_tested t c typed = by (has_sum c) refl
-    where
-      by : (b : Bool) → has_sum c ≡ b → IfSome (option_map (λ r. plain_field c.name r (field.Column c.col)) (cond b (Some (fixed Bigint)) None)) (λ (f : FieldTree). ColumnIs is_whole t f.origin)
-      by true e = ap (of_type is_whole) typed ∙ e
+      by : (b : Bool) → has_aggregate g c ≡ b → IfSome (option_map (λ r. plain_field c.name r (field.Column c.col)) (cond b (Some (fixed (Scalar (given_type g c.ty)))) None)) (λ (f : FieldTree). ColumnIs (is_aggregate_of g) t f.origin)
+      by true e = ap (of_type (is_aggregate_of g)) typed ∙ e
       by false e = tt
 
   part_stands : (p : PlacedTable) (ls : List Link) → IsShown p.shown → (q : Part) → Stands (part_type p ls q)
@@ -209,9 +192,7 @@ module _ (tables : List Table) (m : MetaTree) (role : Role) where
   part_stands p ls shown Columns = record { is_seen = tt; name = tt; taken = plain (part_fields p.first p.shown.columns ls Columns) }
   part_stands p ls shown Aggregate = record { is_seen = shown.is_seen; name = ap (λ n. n ++ codes "_aggregate") shown.name; taken = plain (part_fields p.first p.shown.columns ls Aggregate) }
   part_stands p ls shown AggregateFields = record { is_seen = tt; name = ap (λ n. n ++ codes "_aggregate_fields") shown.name; taken = plain (part_fields p.first p.shown.columns ls AggregateFields) }
-  part_stands p ls shown Max = record { is_seen = tt; name = ap (λ n. n ++ codes "_max_fields") shown.name; taken = tested (λ ty. not (is_boolean ty)) Max p.shown.table (greatest_tested p.shown.table) p.shown.columns shown.columns }
-  part_stands p ls shown Min = record { is_seen = tt; name = ap (λ n. n ++ codes "_min_fields") shown.name; taken = tested (λ ty. not (is_boolean ty)) Min p.shown.table (greatest_tested p.shown.table) p.shown.columns shown.columns }
-  part_stands p ls shown Sum = record { is_seen = tt; name = ap (λ n. n ++ codes "_sum_fields") shown.name; taken = tested is_whole Sum p.shown.table (sum_tested p.shown.table) p.shown.columns shown.columns }
+  part_stands p ls shown (Aggregated g) = record { is_seen = tt; name = ap (λ n. n ++ aggregate_suffix g) shown.name; taken = tested (is_aggregate_of g) (Aggregated g) p.shown.table (aggregate_tested g p.shown.table) p.shown.columns shown.columns }
 
   -- all types of the schema
   pub types_stand : all_differ (λ (j k : TrackedTree). j.table == k.table) m.tracked ≡ true → Each Stands (role_schema tables m role).types
@@ -221,21 +202,21 @@ module _ (tables : List Table) (m : MetaTree) (role : Role) where
       each_append Stands (fixed_types ps) (flat_map (table_types ps) ps)
       (each_map Stands (fixed_type ps) (fixed_stands ps) all_fixed)
       (each_flat_map Stands (λ (p : PlacedTable). IsShown p.shown) (table_types ps)
-      (λ p shown. each_map Stands (part_type p (links_from ps 0 p.shown.rels)) (part_stands p (links_from ps 0 p.shown.rels) shown) (take (part_count p.shown) all_parts)) ps
+      (λ p shown. each_map Stands (part_type p (links_from ps 0 p.shown.rels)) (part_stands p (links_from ps 0 p.shown.rels) shown) (parts_of p.shown)) ps
       (placed_shown 18 (shown_tables tables m role) (tables_shown differ)))
 
   -- the types that each schema has stand at their places
   pub introspection_at : (f : Fixed) → slice_get (role_schema tables m role).types (fixed_place f) ≡ Some (fixed_type (placed (shown_tables tables m role)) f)
   unfolding role_schema
-  introspection_at Boolean = refl
-  introspection_at Int = refl
-  introspection_at String = refl
-  introspection_at Bigint = refl
+  introspection_at (Scalar ty.Boolean) = refl
+  introspection_at (Scalar ty.Integer) = refl
+  introspection_at (Scalar ty.Text) = refl
+  introspection_at (Scalar ty.Bigint) = refl
   introspection_at OrderBy = refl
-  introspection_at BooleanComparison = refl
-  introspection_at IntComparison = refl
-  introspection_at StringComparison = refl
-  introspection_at BigintComparison = refl
+  introspection_at (Comparison ty.Boolean) = refl
+  introspection_at (Comparison ty.Integer) = refl
+  introspection_at (Comparison ty.Text) = refl
+  introspection_at (Comparison ty.Bigint) = refl
   introspection_at SchemaType = refl
   introspection_at TypeType = refl
   introspection_at Field = refl

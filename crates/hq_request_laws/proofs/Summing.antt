@@ -1,18 +1,18 @@
 -- What the fields of aggregates have: their columns are permitted and of the types that are aggregated, their keys are those of the
 -- collected fields, and their type names are those of their types.
-use Rattle.std.proofs.Common.{◌≡◌, ◌∙◌, refl, sym, ap, subst, ℕ, suc, ◌≤◌, arith, List, [], ◌∷◌, ◌++◌, map, Bool, true, false, not, Option, Some, None, Ok, codes}
+use Rattle.std.proofs.Common.{◌≡◌, ◌∙◌, refl, sym, ap, subst, ℕ, suc, ◌≤◌, arith, List, [], ◌∷◌, ◌++◌, map, Bool, true, false, Option, Some, None, Ok, codes}
 use Rattle.std.specs.List.{list_all}
 use Rattle.std.proofs.lemmas.Bool.{and_from}
 use Rattle.hq_base.specs.Due.{mapped, ◌>>=◌}
 use Rattle.hq_base.specs.Json.{JsonTree}
 use Rattle.hq_base.specs.Lists.{Each}
+use Rattle.hq_base.specs.Aggregates.{aggregate_suffix, is_aggregate_of}
+use Rattle.hq_base.specs.declared.aggregate.Aggregate.{Aggregate}
 use Rattle.hq_base.specs.declared.value.Ty.{Ty}
-use Rattle.hq_terms.specs.Database.{is_boolean}
 use Rattle.hq_terms.specs.Filters.{column_ty, of_type}
 use Rattle.hq_terms.specs.Fits.{fits}
 use Rattle.hq_terms.specs.Meta.{MetaTree}
 use Rattle.hq_terms.specs.Schema.{Schema, schema_of}
-use Rattle.hq_terms.specs.SchemaNames.{is_whole}
 use Rattle.hq_terms.specs.declared.role.Role.{Role}
 use Rattle.hq_terms.specs.declared.table.Table.{Table}
 use Rattle.hq_gql_tree.specs.Nesting.{arguments_nest}
@@ -37,7 +37,7 @@ use Rattle.hq_ask_tree.specs.declared.aggregate.AggField.TheVariants as take
 use Rattle.hq_ask_tree.specs.declared.aggregate.KeyedAggCol.{KeyedAggCol}
 use Rattle.hq_ask_tree.specs.declared.aggregate.KeyedAggField.{KeyedAggField}
 use Rattle.hq_ask_tree.specs.Allowed.{Allowed, allowed_to}
-use Rattle.hq_ask_tree.specs.Conditions.{is_summed, is_ordered, is_summary}
+use Rattle.hq_ask_tree.specs.Conditions.{is_taken, is_summary}
 use Rattle.hq_ask_tree.specs.Levels.{taken_levels, one_summary_levels, summary_levels}
 use Rattle.hq_ask_tree.specs.ResponseKeys.{are_keys, OneSummaryKeys, EachSummaryKeys}
 use Rattle.hq_ask_tree.specs.TypeNames.{row_type_name, OneTakenNamed, TakenNamed, OneSummaryNamed, SummaryNamed}
@@ -79,7 +79,7 @@ module _ (tables : List Table) (m : MetaTree) (metadata_fits : fits tables m ≡
   abbrev c : Context
   c = record { vars = vars; schema = R; tables = s }
 
-  -- ---- sum, min and max
+  -- ---- what one aggregate gives
 
   -- A type whose fields are columns of table u that pass a test, by its name; `check` is the test of what is asked.
   pub record IsTaking (owner : TypeOrigin) (u : ℕ) (test : Ty → Bool) (name : List ℕ) (check : AggCol → Bool) : Type 0 where
@@ -89,17 +89,8 @@ module _ (tables : List Table) (m : MetaTree) (metadata_fits : fits tables m ≡
     pub columns : (k : ℕ) → of_type test (column_ty s u k) ≡ true → check (of.Column k) ≡ true
     pub names : (n : List ℕ) → check (of.Typename n) ≡ true
 
-  abbrev not_boolean : Ty → Bool
-  not_boolean ty = not (is_boolean ty)
-
-  sum_taking : (u : ℕ) → IsTaking (type.Sum u) u is_whole (row_type_name m u ++ codes "_sum_fields") (is_summed s u)
-  sum_taking u = record { own_field = λ f i. (i.fits.reaches, i.taken); named = λ n h. h; below_root = λ e. cc; columns = λ k h. h; names = λ n. refl }
-
-  max_taking : (u : ℕ) → IsTaking (type.Max u) u not_boolean (row_type_name m u ++ codes "_max_fields") (is_ordered s u)
-  max_taking u = record { own_field = λ f i. (i.fits.reaches, i.taken); named = λ n h. h; below_root = λ e. cc; columns = λ k h. h; names = λ n. refl }
-
-  min_taking : (u : ℕ) → IsTaking (type.Min u) u not_boolean (row_type_name m u ++ codes "_min_fields") (is_ordered s u)
-  min_taking u = record { own_field = λ f i. (i.fits.reaches, i.taken); named = λ n h. h; below_root = λ e. cc; columns = λ k h. h; names = λ n. refl }
+  aggregate_taking : (g : Aggregate) (u : ℕ) → IsTaking (type.Aggregated g u) u (is_aggregate_of g) (row_type_name m u ++ aggregate_suffix g) (is_taken s u g)
+  aggregate_taking g u = record { own_field = λ f i. (i.fits.reaches, i.taken); named = λ n h. h; below_root = λ e. cc; columns = λ k h. h; names = λ n. refl }
 
   module _ (owner : TypeOrigin) (u : ℕ) (test : Ty → Bool) (name : List ℕ) (check : AggCol → Bool) (taking : IsTaking owner u test name check) where
     record OneTaken (f : AggCol) : Type 0 where
@@ -201,17 +192,9 @@ module _ (tables : List Table) (m : MetaTree) (metadata_fits : fits tables m ≡
       own_summary : (o : FieldOrigin) → Reaches types k.0.ty (over_target u o) → Each (ArgFits types (over_args u o)) k.0.args → by_origin c u k.0.args h.args o ≡ Ok k.1
           → (f : AggField) → summary_by c place h k (taken_due c (leads_to k) u below) o ≡ Ok f → OneSummary below f
       own_summary origin.Count at args due f e = count_summary below k.0.args h args shallow k.1 due f e
-      own_summary origin.Sum at args due f e =
-          let one = mapped_ok take.Sum (taken_due c (leads_to k) u below) f e in
-          let t = taken_fits (type.Sum u) u is_whole (row_type_name m u ++ codes "_sum_fields") (is_summed s u) (sum_taking u) below (leads_to k) u at one.0 one.1 in
-          subst (OneSummary below) one.2 (record { uses = t.uses; fit = t.fit; keys = taken_keys one.0 below t.keys apart; named = t.named; levels = omega (arith, t.levels) })
-      own_summary origin.Min at args due f e =
-          let one = mapped_ok take.Min (taken_due c (leads_to k) u below) f e in
-          let t = taken_fits (type.Min u) u not_boolean (row_type_name m u ++ codes "_min_fields") (is_ordered s u) (min_taking u) below (leads_to k) u at one.0 one.1 in
-          subst (OneSummary below) one.2 (record { uses = t.uses; fit = t.fit; keys = taken_keys one.0 below t.keys apart; named = t.named; levels = omega (arith, t.levels) })
-      own_summary origin.Max at args due f e =
-          let one = mapped_ok take.Max (taken_due c (leads_to k) u below) f e in
-          let t = taken_fits (type.Max u) u not_boolean (row_type_name m u ++ codes "_max_fields") (is_ordered s u) (max_taking u) below (leads_to k) u at one.0 one.1 in
+      own_summary (origin.Aggregated g) at args due f e =
+          let one = mapped_ok (take.Columns g) (taken_due c (leads_to k) u below) f e in
+          let t = taken_fits (type.Aggregated g u) u (is_aggregate_of g) (row_type_name m u ++ aggregate_suffix g) (is_taken s u g) (aggregate_taking g u) below (leads_to k) u at one.0 one.1 in
           subst (OneSummary below) one.2 (record { uses = t.uses; fit = t.fit; keys = taken_keys one.0 below t.keys apart; named = t.named; levels = omega (arith, t.levels) })
       own_summary o at args due f e = absurd at
 

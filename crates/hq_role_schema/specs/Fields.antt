@@ -1,17 +1,19 @@
 -- The fields of a table's types (Hasura, API reference: GraphQL API, query syntax and aggregate object). `first` is the place
 -- of the first type of the table to which a field leads.
-use Rattle.std.specs.Prelude.{ℕ, List, [], ◌∷◌, ◌++◌, flat_map, cond, codes, Option, Some, None, option_map}
-use Rattle.std.specs.List.{filter_map, list_any}
-use Rattle.hq_schema.specs.Fixed.{scalar_of}
-use Rattle.hq_schema.specs.Schema.{TypeRefTree, non_null, ArgTree, FieldTree}
-use Rattle.hq_schema.specs.declared.fixed.Fixed.TheVariants as fixed_type
+use Rattle.std.specs.Prelude.{ℕ, ◌+◌, List, [], ◌∷◌, ◌++◌, flat_map, cond, codes, Option, Some, None, option_map}
+use Rattle.std.specs.List.{filter_map}
+use Rattle.hq_base.specs.Aggregates.{aggregate_name, given_type}
+use Rattle.hq_base.specs.declared.aggregate.Aggregate.{Aggregate as OneAggregate}
+use Rattle.hq_schema.specs.Fixed.{boolean, int}
+use Rattle.hq_schema.specs.Schema.{TypeRefTree, named, non_null, ArgTree, FieldTree}
+use Rattle.hq_schema.specs.declared.fixed.Fixed.TheVariants.{Scalar}
 use Rattle.hq_schema.specs.declared.origin.ArgOrigin.TheVariants as arg_origin
 use Rattle.hq_schema.specs.declared.origin.FieldOrigin.{FieldOrigin}
 use Rattle.hq_schema.specs.declared.origin.FieldOrigin.TheVariants as origin
 use Rattle.hq_schema.specs.declared.part.Part.{Part}
-use Rattle.hq_schema.specs.declared.part.Part.TheVariants.{Rows, Filter, Sort, Columns, Aggregate, AggregateFields, Max, Min, Sum}
+use Rattle.hq_schema.specs.declared.part.Part.TheVariants.{Rows, Filter, Sort, Columns, Aggregate, AggregateFields, Aggregated}
 use Rattle.hq_role_schema.specs.References.{fixed, part, items, all_items, arg, plain_field}
-use Rattle.hq_role_schema.specs.Shown.{has_greatest, has_sum}
+use Rattle.hq_role_schema.specs.Shown.{has_aggregate, aggregates_over}
 use Rattle.hq_role_schema.specs.declared.shown.ShownColumn.{ShownColumn}
 use Rattle.hq_role_schema.specs.declared.shown.Link.{Link}
 
@@ -20,8 +22,8 @@ use Rattle.hq_role_schema.specs.declared.shown.Link.{Link}
 -- the arguments of a list of a table's rows
 unfoldable pub list_args : (first : ℕ) → List ArgTree
 list_args first =
-    arg (codes "distinct_on") (items (part first Columns)) arg_origin.DistinctOn ∷ arg (codes "limit") (fixed fixed_type.Int) arg_origin.Limit
-    ∷ arg (codes "offset") (fixed fixed_type.Int) arg_origin.Offset ∷ arg (codes "order_by") (items (part first Sort)) arg_origin.OrderBy
+    arg (codes "distinct_on") (items (part first Columns)) arg_origin.DistinctOn ∷ arg (codes "limit") (fixed int) arg_origin.Limit
+    ∷ arg (codes "offset") (fixed int) arg_origin.Offset ∷ arg (codes "order_by") (items (part first Sort)) arg_origin.OrderBy
     ∷ arg (codes "where") (part first Filter) arg_origin.Where ∷ []
 
 -- a list of a table's rows, and the aggregates over such a list
@@ -35,15 +37,12 @@ aggregate_field name first o = record { name = name; args = list_args first; ty 
 
 -- S for a column that may hold NULL, else S!
 abbrev pub row_type : ShownColumn → TypeRefTree
-row_type c = cond c.nullable (fixed (scalar_of c.ty)) (non_null (fixed (scalar_of c.ty)))
+row_type c = cond c.nullable (fixed (Scalar c.ty)) (non_null (fixed (Scalar c.ty)))
 
--- the type of a column's field: its value in a row; its greatest or least value, null where there is none; or its sum, a
--- bigint also over integers
+-- the type of a column's field: its value in a row; or what an aggregate gives of it, null over no value
 abbrev pub column_type : Part → ShownColumn → Option TypeRefTree
 column_type Rows c = Some (row_type c)
-column_type Max c = cond (has_greatest c) (Some (fixed (scalar_of c.ty))) None
-column_type Min c = cond (has_greatest c) (Some (fixed (scalar_of c.ty))) None
-column_type Sum c = cond (has_sum c) (Some (fixed fixed_type.Bigint)) None
+column_type (Aggregated a) c = cond (has_aggregate a c) (Some (fixed (Scalar (given_type a c.ty)))) None
 column_type _ c = None
 
 abbrev pub column_field : Part → ShownColumn → Option FieldTree
@@ -77,22 +76,19 @@ beside_rows first =
 -- how many rows, or how many values of a column, there are
 unfoldable pub count_args : (first : ℕ) → List ArgTree
 count_args first =
-    arg (codes "columns") (items (part first Columns)) arg_origin.Columns ∷ arg (codes "distinct") (fixed fixed_type.Boolean) arg_origin.Distinct ∷ []
+    arg (codes "columns") (items (part first Columns)) arg_origin.Columns ∷ arg (codes "distinct") (fixed boolean) arg_origin.Distinct ∷ []
 
 abbrev pub count_field : (first : ℕ) → FieldTree
-count_field first = record { name = codes "count"; args = count_args first; ty = non_null (fixed fixed_type.Int); origin = origin.Count }
+count_field first = record { name = codes "count"; args = count_args first; ty = non_null (fixed int); origin = origin.Count }
 
--- the greatest and the least values, and the sums, each where some column has them
-abbrev pub greatest_fields : (first : ℕ) → List ShownColumn → List FieldTree
-greatest_fields first cs =
-    cond (list_any has_greatest cs) (plain_field (codes "max") (part first Max) origin.Max ∷ plain_field (codes "min") (part first Min) origin.Min ∷ []) []
-
-abbrev pub sum_fields : (first : ℕ) → List ShownColumn → List FieldTree
-sum_fields first cs = cond (list_any has_sum cs) (plain_field (codes "sum") (part first Sum) origin.Sum ∷ []) []
+-- what these aggregates give; their types stand from a place on, one behind the other
+abbrev pub aggregated_fields : (place : ℕ) → List OneAggregate → List FieldTree
+aggregated_fields place [] = []
+aggregated_fields place (a ∷ as') = plain_field (aggregate_name a) (named place) (origin.Aggregated a) ∷ aggregated_fields (place + 1) as'
 
 -- the aggregates themselves
 abbrev pub over_rows : (first : ℕ) → List ShownColumn → List FieldTree
-over_rows first cs = count_field first ∷ greatest_fields first cs ++ sum_fields first cs
+over_rows first cs = count_field first ∷ aggregated_fields (first + 6) (aggregates_over cs)
 
 -- ---- all
 

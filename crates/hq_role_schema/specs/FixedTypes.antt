@@ -1,11 +1,10 @@
 -- The types that each schema has: scalars, the directions of a sort, the comparisons of each scalar, the types of introspection,
 -- and the root type of a query (GraphQL October 2021, 3.5 and 4.2; Hasura, API reference: GraphQL API).
 use Rattle.std.specs.Prelude.{ℕ, List, [], ◌∷◌, map, codes}
-use Rattle.hq_base.specs.declared.value.Ty.TheVariants as ty
 use Rattle.hq_schema.specs.Fixed.{all_fixed, fixed_name, fixed_kind, fixed_origin}
 use Rattle.hq_schema.specs.Schema.{ArgTree, FieldTree, TypeTree}
 use Rattle.hq_schema.specs.declared.fixed.Fixed.{Fixed}
-use Rattle.hq_schema.specs.declared.fixed.Fixed.TheVariants.{OrderBy, BooleanComparison, IntComparison, StringComparison, BigintComparison, TypeKind, DirectiveLocation, QueryRoot}
+use Rattle.hq_schema.specs.declared.fixed.Fixed.TheVariants.{OrderBy, Comparison, TypeKind, DirectiveLocation, QueryRoot}
 use Rattle.hq_role_schema.specs.Introspection.{introspection_fields}
 use Rattle.hq_role_schema.specs.Operators.{operator_inputs}
 use Rattle.hq_role_schema.specs.Root.{query_fields}
@@ -27,10 +26,7 @@ fixed_values _ = []
 
 -- the comparisons of each scalar
 abbrev pub fixed_inputs : Fixed → List ArgTree
-fixed_inputs BooleanComparison = operator_inputs ty.Boolean
-fixed_inputs IntComparison = operator_inputs ty.Integer
-fixed_inputs StringComparison = operator_inputs ty.Text
-fixed_inputs BigintComparison = operator_inputs ty.Bigint
+fixed_inputs (Comparison t) = operator_inputs t
 fixed_inputs _ = []
 
 -- the root type alone depends on what the role may see

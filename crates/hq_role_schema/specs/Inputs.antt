@@ -3,7 +3,6 @@
 use Rattle.std.specs.Prelude.{ℕ, List, [], ◌∷◌, ◌++◌, map, Bool, true, false, not, cond, ◌||◌, codes, Option, Some, None}
 use Rattle.std.specs.List.{filter_map}
 use Rattle.hq_base.specs.declared.value.Ty.{Ty}
-use Rattle.hq_schema.specs.Fixed.{comparison_of}
 use Rattle.hq_schema.specs.Schema.{ArgTree}
 use Rattle.hq_schema.specs.declared.fixed.Fixed.{Fixed}
 use Rattle.hq_schema.specs.declared.fixed.Fixed.TheVariants as fixed_type
@@ -22,7 +21,7 @@ connectives first =
 
 -- the comparisons of a column, or the direction of a sort by it
 abbrev pub input_type : Part → Ty → Fixed
-input_type Filter ty = comparison_of ty
+input_type Filter ty = fixed_type.Comparison ty
 input_type _ ty = fixed_type.OrderBy
 
 abbrev pub column_input : Part → ShownColumn → ArgTree

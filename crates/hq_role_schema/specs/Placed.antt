@@ -1,17 +1,23 @@
--- Where the types of tables stand in a schema, and which relationships it shows (Hasura, API reference: GraphQL API). A table
--- with fewer types than there are has the first ones.
-use Rattle.std.specs.Prelude.{ℕ, ◌+◌, List, [], ◌∷◌, find, cond, ◌==◌, Option, Some, None}
-use Rattle.std.specs.List.{list_any, cons_option}
+-- Where the types of tables stand in a schema, and which relationships it shows (Hasura, API reference: GraphQL API).
+use Rattle.std.specs.Prelude.{ℕ, ◌+◌, List, [], ◌∷◌, ◌++◌, map, length, find, cond, ◌==◌, Option, Some, None}
+use Rattle.std.specs.List.{cons_option}
+use Rattle.hq_schema.specs.Parts.{row_parts, aggregate_parts}
+use Rattle.hq_schema.specs.declared.part.Part.{Part}
+use Rattle.hq_schema.specs.declared.part.Part.TheVariants.{Aggregated}
 use Rattle.hq_terms.specs.declared.meta.Rel.{Rel}
-use Rattle.hq_role_schema.specs.Shown.{has_greatest, has_sum}
+use Rattle.hq_role_schema.specs.Shown.{aggregates_over}
 use Rattle.hq_role_schema.specs.declared.shown.ShownTable.{ShownTable}
 use Rattle.hq_role_schema.specs.declared.shown.PlacedTable.{PlacedTable}
 use Rattle.hq_role_schema.specs.declared.shown.Link.{Link}
 
--- how many types a table has: those of its aggregates only where these are allowed, the greatest and least values and the
--- sums only where their type has a field. What has a sum has a greatest value.
+-- the types of a table: those of its aggregates only where these are allowed, and what one aggregate gives only where that type
+-- has a field
+abbrev pub parts_of : ShownTable → List Part
+parts_of t = row_parts ++ cond t.aggregates (aggregate_parts ++ map Aggregated (aggregates_over t.columns)) []
+
+-- how many there are
 unfoldable pub part_count : ShownTable → ℕ
-part_count t = cond t.aggregates (cond (list_any has_sum t.columns) 9 (cond (list_any has_greatest t.columns) 8 6)) 4
+part_count t = cond t.aggregates (6 + length (aggregates_over t.columns)) 4
 
 -- tables one after the other, from a place on
 abbrev pub placed_from : (first : ℕ) → List ShownTable → List PlacedTable

@@ -1,8 +1,8 @@
 -- The schema of a role: what the role may see of the tables of a catalog, by a metadata. No database is asked for it. First
 -- stand the types that each schema has, and then for each table, in the metadata's order, the types of that table.
-use Rattle.std.specs.Prelude.{List, [], ◌∷◌, ◌++◌, map, take, flat_map}
+use Rattle.std.specs.Prelude.{List, [], ◌∷◌, ◌++◌, map, flat_map}
 use Rattle.hq_schema.specs.Fixed.{fixed_place}
-use Rattle.hq_schema.specs.Parts.{all_parts, part_suffix, part_kind, part_origin}
+use Rattle.hq_schema.specs.Parts.{part_suffix, part_kind, part_origin}
 use Rattle.hq_schema.specs.Schema.{TypeTree, SchemaTree}
 use Rattle.hq_schema.specs.declared.fixed.Fixed.TheVariants.{QueryRoot}
 use Rattle.hq_schema.specs.declared.part.Part.{Part}
@@ -12,7 +12,7 @@ use Rattle.hq_terms.specs.declared.table.Table.{Table}
 use Rattle.hq_role_schema.specs.Fields.{part_fields}
 use Rattle.hq_role_schema.specs.FixedTypes.{fixed_types}
 use Rattle.hq_role_schema.specs.Inputs.{part_inputs, part_values, part_columns}
-use Rattle.hq_role_schema.specs.Placed.{part_count, placed, links_from}
+use Rattle.hq_role_schema.specs.Placed.{parts_of, placed, links_from}
 use Rattle.hq_role_schema.specs.Root.{type_name_field, schema_field, type_field, condition}
 use Rattle.hq_role_schema.specs.Shown.{shown_tables}
 use Rattle.hq_role_schema.specs.declared.shown.PlacedTable.{PlacedTable}
@@ -32,7 +32,7 @@ part_type p ls part = record {
 
 -- the types of a table, with those relationships
 abbrev pub types_with : PlacedTable → List Link → List TypeTree
-types_with p ls = map (part_type p ls) (take (part_count p.shown) all_parts)
+types_with p ls = map (part_type p ls) (parts_of p.shown)
 
 -- the types of a table among those that the role may see
 abbrev pub table_types : List PlacedTable → PlacedTable → List TypeTree

@@ -1,7 +1,7 @@
 -- The root type of a query (Hasura, API reference: GraphQL API; custom root fields), and the fields that stand in no type's list
 -- (GraphQL October 2021, 4.1 and 4.2).
 use Rattle.std.specs.Prelude.{List, [], ◌∷◌, ◌++◌, map, flat_map, cond, codes, Option, Some, None}
-use Rattle.hq_schema.specs.Fixed.{scalar_of}
+use Rattle.hq_schema.specs.Fixed.{boolean, string}
 use Rattle.hq_schema.specs.Schema.{non_null, ArgTree, FieldTree}
 use Rattle.hq_schema.specs.declared.fixed.Fixed.TheVariants as fixed_type
 use Rattle.hq_schema.specs.declared.origin.ArgOrigin.TheVariants as arg_origin
@@ -14,7 +14,7 @@ use Rattle.hq_role_schema.specs.declared.shown.PlacedTable.{PlacedTable}
 
 -- a column of the key as an argument
 abbrev pub key_arg : ShownColumn → ArgTree
-key_arg c = arg c.name (non_null (fixed (scalar_of c.ty))) (arg_origin.Column c.col)
+key_arg c = arg c.name (non_null (fixed (fixed_type.Scalar c.ty))) (arg_origin.Column c.col)
 
 -- the look-up by the columns of the key
 abbrev pub key_field : PlacedTable → List ShownColumn → FieldTree
@@ -36,7 +36,7 @@ root_fields p = list_field p.shown.roots.select p.first (origin.Rows p.shown.tab
 
 -- the one field where there is nothing to ask for
 abbrev pub no_queries : FieldTree
-no_queries = plain_field (codes "no_queries_available") (non_null (fixed fixed_type.String)) origin.NoQueries
+no_queries = plain_field (codes "no_queries_available") (non_null (fixed string)) origin.NoQueries
 
 -- the root fields of all tables
 abbrev pub query_fields : List PlacedTable → List FieldTree
@@ -45,7 +45,7 @@ query_fields (p ∷ ps) = flat_map root_fields (p ∷ ps)
 
 -- __typename: String!
 abbrev pub type_name_field : FieldTree
-type_name_field = plain_field (codes "__typename") (non_null (fixed fixed_type.String)) origin.TypeName
+type_name_field = plain_field (codes "__typename") (non_null (fixed string)) origin.TypeName
 
 -- __schema: __Schema! and __type(name: String!): __Type
 abbrev pub schema_field : FieldTree
@@ -54,11 +54,11 @@ schema_field = plain_field (codes "__schema") (non_null (fixed fixed_type.Schema
 abbrev pub type_field : FieldTree
 type_field = record {
   name = codes "__type";
-  args = arg (codes "name") (non_null (fixed fixed_type.String)) arg_origin.TypeName ∷ [];
+  args = arg (codes "name") (non_null (fixed string)) arg_origin.TypeName ∷ [];
   ty = fixed fixed_type.«Type»;
   origin = origin.«Type»;
 }
 
 -- if: Boolean!, the argument of `skip` and `include` (GraphQL October 2021, 3.13.1 and 3.13.2)
 abbrev pub condition : ArgTree
-condition = arg (codes "if") (non_null (fixed fixed_type.Boolean)) arg_origin.Condition
+condition = arg (codes "if") (non_null (fixed boolean)) arg_origin.Condition

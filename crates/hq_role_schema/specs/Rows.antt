@@ -2,9 +2,9 @@
 use Rattle.std.specs.Prelude.{ℕ, List, [], ◌∷◌, Bool, true, not, codes}
 use Rattle.std.specs.Borrow.{Bor}
 use Rattle.hq_base.specs.Text.{has_zero}
+use Rattle.hq_schema.specs.Fixed.{boolean}
 use Rattle.hq_schema.specs.Schema.{TypeRefTree, named, non_null, ArgTree, FieldTree}
 use Rattle.hq_schema.specs.declared.fixed.Fixed.{Fixed}
-use Rattle.hq_schema.specs.declared.fixed.Fixed.TheVariants.{Boolean}
 use Rattle.hq_schema.specs.declared.origin.ArgOrigin.{ArgOrigin}
 use Rattle.hq_schema.specs.declared.origin.ArgOrigin.TheVariants.{IncludeDeprecated}
 use Rattle.hq_schema.specs.declared.origin.FieldOrigin.TheVariants.{Introspection}
@@ -33,7 +33,7 @@ shaped shape f = wrapped shape (fixed f)
 
 -- includeDeprecated: Boolean = false
 abbrev pub include_deprecated : ArgTree
-include_deprecated = record { name = codes "includeDeprecated"; ty = fixed Boolean; default_false = true; origin = IncludeDeprecated }
+include_deprecated = record { name = codes "includeDeprecated"; ty = fixed boolean; default_false = true; origin = IncludeDeprecated }
 
 -- a list of what may be deprecated has that argument
 abbrev pub shape_args : Shape → List ArgTree

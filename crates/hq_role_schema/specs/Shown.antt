@@ -1,10 +1,10 @@
 -- What a role may see of the tracked tables (Hasura, Authorization: select permissions).
-use Rattle.std.specs.Prelude.{ℕ, List, Bool, cond, not, ◌==◌, Option, Some, None, option_map, option_and_then, slice_get}
+use Rattle.std.specs.Prelude.{ℕ, List, filter, Bool, cond, ◌==◌, Option, Some, None, option_map, option_and_then, slice_get}
 use Rattle.std.specs.List.{filter_map, list_all, list_any}
-use Rattle.hq_terms.specs.Database.{is_boolean}
+use Rattle.hq_base.specs.Aggregates.{all_aggregates, is_aggregate_of}
+use Rattle.hq_base.specs.declared.aggregate.Aggregate.{Aggregate}
 use Rattle.hq_terms.specs.Meta.{TrackedTree, MetaTree}
 use Rattle.hq_terms.specs.Permission.{Permission, permission}
-use Rattle.hq_terms.specs.SchemaNames.{is_whole}
 use Rattle.hq_terms.specs.declared.role.Role.{Role}
 use Rattle.hq_terms.specs.declared.table.Column.{Column}
 use Rattle.hq_terms.specs.declared.table.Table.{Table}
@@ -44,10 +44,13 @@ shown_entry tables m role k = option_and_then (λ t. option_map (shown_table k t
 abbrev pub shown_tables : List Table → MetaTree → Role → List ShownTable
 shown_tables tables m role = filter_map (shown_entry tables m role) m.tracked
 
--- the greatest and the least are there of columns that are not boolean
-abbrev pub has_greatest : ShownColumn → Bool
-has_greatest c = not (is_boolean c.ty)
+-- whether an aggregate is one of a column's values, or of those of some column
+abbrev pub has_aggregate : Aggregate → ShownColumn → Bool
+has_aggregate a c = is_aggregate_of a c.ty
 
--- sums are there of whole numbers
-abbrev pub has_sum : ShownColumn → Bool
-has_sum c = is_whole c.ty
+abbrev pub is_over : List ShownColumn → Aggregate → Bool
+is_over cs a = list_any (has_aggregate a) cs
+
+-- the aggregates that are ones of the values of some of these columns
+abbrev pub aggregates_over : List ShownColumn → List Aggregate
+aggregates_over cs = filter (is_over cs) all_aggregates

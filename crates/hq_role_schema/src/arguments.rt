@@ -16,7 +16,7 @@ pub fn list_args(alloc: Global, first: u32) -> Result<ArgDefList, Memory>
     let columns = Part::Columns.place(first);
     let sorts = Part::Sort.place(first);
     let filter = Part::Filter.place(first);
-    let number = Fixed::Int.place();
+    let number = Fixed::INT.place();
     let rows = [
         ("distinct_on", Shape::Items, columns, ArgOrigin::DistinctOn),
         ("limit", Shape::One, number, ArgOrigin::Limit),
@@ -67,7 +67,7 @@ pub fn count_args(alloc: Global, first: u32) -> Result<ArgDefList, Memory>
     ensures { IfOk result (λ args. map arg_view args ≡ count_args first) }
 {
     let columns = Part::Columns.place(first);
-    let flag = Fixed::Boolean.place();
+    let flag = Fixed::BOOLEAN.place();
     let rows = [
         ("columns", Shape::Items, columns, ArgOrigin::Columns),
         ("distinct", Shape::One, flag, ArgOrigin::Distinct),

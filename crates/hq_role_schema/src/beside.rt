@@ -14,7 +14,7 @@ use std::alloc::Global;
 pub fn type_name_field(alloc: Global) -> Result<FieldDef, Memory>
     ensures { IfOk result (λ f. field_view f ≡ type_name_field) }
 {
-    let ty = non_null(alloc, fixed(Fixed::String))?;
+    let ty = non_null(alloc, fixed(Fixed::STRING))?;
     plain_field(alloc, "__typename", ty, FieldOrigin::TypeName)
 }
 
@@ -28,7 +28,7 @@ fn schema_field(alloc: Global) -> Result<FieldDef, Memory>
 fn type_field(alloc: Global) -> Result<FieldDef, Memory>
     ensures { IfOk result (λ f. field_view f ≡ type_field) }
 {
-    let text_type = Fixed::String.place();
+    let text_type = Fixed::STRING.place();
     let rows = [("name", Shape::Required, text_type, ArgOrigin::TypeName)];
     Ok(FieldDef {
         name: text(alloc, "__type")?,
@@ -52,7 +52,7 @@ pub fn introspection(alloc: Global) -> Result<FieldDefList, Memory>
 pub fn conditions(alloc: Global) -> Result<ArgDefList, Memory>
     ensures { IfOk result (λ args. map arg_view args ≡ condition ∷ []) }
 {
-    let flag = Fixed::Boolean.place();
+    let flag = Fixed::BOOLEAN.place();
     let rows = [("if", Shape::Required, flag, ArgOrigin::Condition)];
     NamedList::new(alloc, row_args(alloc, &rows)?)
 }

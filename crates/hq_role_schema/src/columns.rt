@@ -1,37 +1,61 @@
-ghost use Rattle.std.specs.Prelude.{◌≡◌, ◌≤◌};
-ghost use Rattle.std.specs.List.{list_any};
-ghost use Rattle.hq_role_schema.specs.Shown.{has_greatest, has_sum};
+ghost use Rattle.std.specs.Prelude.{◌≡◌, ◌≤◌, length, filter, IfOk};
+ghost use Rattle.hq_role_schema.specs.Shown.{has_aggregate, is_over, aggregates_over};
 ghost use Rattle.hq_role_schema.specs.Placed.{part_count};
 
 use crate::shown::{ShownColumn, ShownColumnList, ShownTable};
-use hq_base::Ty;
+use hq_base::{Aggregate, Memory};
+use std::alloc::Global;
 
-/// Whether a column has a greatest and a least value.
-pub fn has_greatest(column: &ShownColumn) -> bool
-    ensures { result ≡ has_greatest column.now }
+/// Whether an aggregate is one of a column's values.
+pub fn has_aggregate(aggregate: Aggregate, column: &ShownColumn) -> bool
+    ensures { result ≡ has_aggregate aggregate column.now }
 {
-    !matches!(column.ty, Ty::Boolean)
+    aggregate.is_of(column.ty)
 }
 
-/// Whether a column has a sum.
-pub fn has_sum(column: &ShownColumn) -> bool
-    ensures { result ≡ has_sum column.now }
+// Whether it is one of those of some column.
+fn is_over(columns: &ShownColumnList, aggregate: Aggregate) -> bool
+    ensures { result ≡ is_over columns.now aggregate }
 {
-    matches!(column.ty, Ty::Integer | Ty::Bigint)
+    columns
+        .as_slice()
+        .iter()
+        .any(|column| has_aggregate(aggregate, column))
 }
 
-/// Whether some column has a greatest and a least value.
-pub fn some_greatest(columns: &ShownColumnList) -> bool
-    ensures { result ≡ list_any has_greatest columns.now }
+// Those of these that are.
+fn those_over(
+    alloc: Global,
+    columns: &ShownColumnList,
+    aggregates: &[Aggregate],
+) -> Result<Vec<Aggregate>, Memory>
+    ensures { IfOk result (λ over. over.items ≡ filter (is_over columns.now) aggregates.now) }
 {
-    columns.as_slice().iter().any(has_greatest)
+    let mut over = Vec::new(alloc);
+    for aggregate in aggregates {
+        if is_over(columns, *aggregate) {
+            over.push(*aggregate)?;
+        }
+    }
+    Ok(over)
 }
 
-/// Whether some column has a sum.
-pub fn some_sum(columns: &ShownColumnList) -> bool
-    ensures { result ≡ list_any has_sum columns.now }
+/// The aggregates that are ones of the values of some of these columns.
+pub fn aggregates_over(alloc: Global, columns: &ShownColumnList) -> Result<Vec<Aggregate>, Memory>
+    ensures { IfOk result (λ over. over.items ≡ aggregates_over columns.now) }
 {
-    columns.as_slice().iter().any(has_sum)
+    those_over(alloc, columns, &Aggregate::all())
+}
+
+// How many of these there are.
+fn count_over(columns: &ShownColumnList, aggregates: &[Aggregate]) -> usize
+    ensures count { result ≡ length (filter (is_over columns.now) aggregates.now) }
+    ensures within { result ≤ length aggregates.now }
+{
+    aggregates
+        .iter()
+        .filter(|aggregate| is_over(columns, **aggregate))
+        .count()
 }
 
 /// How many types a table has.
@@ -41,12 +65,7 @@ pub fn part_count(table: &ShownTable) -> u32
     ensures within { result ≤ 9 }
 {
     if !table.aggregates {
-        4
-    } else if some_sum(&table.columns) {
-        9
-    } else if some_greatest(&table.columns) {
-        8
-    } else {
-        6
+        return 4;
     }
+    6 + count_over(&table.columns, &Aggregate::all()) as u32
 }

@@ -1,21 +1,23 @@
-ghost use Rattle.std.specs.Prelude.{◌≡◌, ◌++◌, IfOk, OnOk, map, flat_map, option_map};
-ghost use Rattle.hq_schema.specs.Schema.{type_ref_view, field_view};
-ghost use Rattle.hq_role_schema.specs.Fields.{row_type, column_type, column_field, column_fields, link_aggregate, array_fields, link_fields, beside_rows, count_field, greatest_fields, sum_fields, over_rows, part_fields};
+ghost use Rattle.std.specs.Prelude.{◌≡◌, ◌+◌, ◌++◌, IfOk, OnOk, map, flat_map, option_map};
+ghost use Rattle.hq_base.specs.Aggregates.{aggregate_name};
+ghost use Rattle.hq_schema.specs.Schema.{named, type_ref_view, field_view};
+ghost use Rattle.hq_role_schema.specs.References.{plain_field};
+ghost use Rattle.hq_role_schema.specs.Fields.{row_type, column_type, column_field, column_fields, link_aggregate, array_fields, link_fields, beside_rows, count_field, aggregated_fields, over_rows, part_fields};
 
 use crate::arguments::{aggregate_field, count_args, list_field};
-use crate::columns::{has_greatest, has_sum, some_greatest, some_sum};
+use crate::columns::{aggregates_over, has_aggregate};
 use crate::member::{plain_field, plain_field_of};
 use crate::reference::{all_items, fixed, non_null, part};
 use crate::shown::{Link, LinkList, ShownColumn, ShownColumnList};
 use crate::text::{suffixed, text};
-use hq_base::Memory;
-use hq_schema::{FieldDef, FieldDefList, FieldOrigin, Fixed, NamedList, Part, TypeRef};
+use hq_base::{Aggregate, Memory};
+use hq_schema::{FieldDef, FieldDefList, FieldOrigin, Fixed, NamedList, Part, TypeId, TypeRef};
 use std::alloc::Global;
 
 fn row_type(alloc: Global, column: &ShownColumn) -> Result<TypeRef, Memory>
     ensures { IfOk result (λ r. type_ref_view r ≡ row_type column.now) }
 {
-    let scalar = fixed(Fixed::scalar_of(column.ty));
+    let scalar = fixed(Fixed::Scalar(column.ty));
     if column.nullable {
         Ok(scalar)
     } else {
@@ -29,10 +31,9 @@ fn column_type(alloc: Global, p: Part, column: &ShownColumn) -> Result<Option<Ty
 {
     match p {
         Part::Rows => Ok(Some(row_type(alloc, column)?)),
-        Part::Max | Part::Min if has_greatest(column) => {
-            Ok(Some(fixed(Fixed::scalar_of(column.ty))))
+        Part::Aggregated(aggregate) if has_aggregate(aggregate, column) => {
+            Ok(Some(fixed(Fixed::Scalar(aggregate.given_type(column.ty)))))
         }
-        Part::Sum if has_sum(column) => Ok(Some(fixed(Fixed::Bigint))),
         _ => Ok(None),
     }
 }
@@ -123,41 +124,37 @@ fn count_field(alloc: Global, first: u32) -> Result<FieldDef, Memory>
     Ok(FieldDef {
         name: text(alloc, "count")?,
         args: count_args(alloc, first)?,
-        ty: non_null(alloc, fixed(Fixed::Int))?,
+        ty: non_null(alloc, fixed(Fixed::INT))?,
         origin: FieldOrigin::Count,
     })
 }
 
-// Adds the greatest and the least values, where some column has them.
-fn push_greatest(
-    alloc: Global,
-    fields: &mut Vec<FieldDef>,
-    first: u32,
-    columns: &ShownColumnList,
-) -> Result<(), Memory>
-    ensures { OnOk result (map field_view fields.new.items ≡ map field_view fields.old.items ++ greatest_fields first columns.now) }
+// What an aggregate gives, at a type.
+fn aggregated_field(alloc: Global, aggregate: Aggregate, place: usize) -> Result<FieldDef, Memory>
+    ensures { IfOk result (λ f. field_view f ≡ plain_field (aggregate_name aggregate) (named place) (FieldOrigin.Aggregated aggregate)) }
 {
-    if !some_greatest(columns) {
-        return Ok(());
-    }
-    fields.push(plain_field(alloc, "max", part(first, Part::Max), FieldOrigin::Max)?)?;
-    fields.push(plain_field(alloc, "min", part(first, Part::Min), FieldOrigin::Min)?)?;
-    Ok(())
+    let ty = TypeRef::Named(TypeId::new(place));
+    plain_field(
+        alloc,
+        aggregate.name(),
+        ty,
+        FieldOrigin::Aggregated(aggregate),
+    )
 }
 
-// Adds the sums, where some column has one.
-fn push_sum(
+// Adds what these aggregates give, where their types stand from a place on.
+fn push_aggregated(
     alloc: Global,
     fields: &mut Vec<FieldDef>,
     first: u32,
-    columns: &ShownColumnList,
+    aggregates: &[Aggregate],
 ) -> Result<(), Memory>
-    ensures { OnOk result (map field_view fields.new.items ≡ map field_view fields.old.items ++ sum_fields first columns.now) }
+    ensures { OnOk result (map field_view fields.new.items ≡ map field_view fields.old.items ++ aggregated_fields (first + 6) aggregates.now) }
 {
-    if !some_sum(columns) {
-        return Ok(());
+    let from = first as usize + 6;
+    for (behind, aggregate) in aggregates.iter().enumerate() {
+        fields.push(aggregated_field(alloc, *aggregate, from + behind)?)?;
     }
-    fields.push(plain_field(alloc, "sum", part(first, Part::Sum), FieldOrigin::Sum)?)?;
     Ok(())
 }
 
@@ -165,9 +162,9 @@ fn push_sum(
 fn over_rows(alloc: Global, first: u32, columns: &ShownColumnList) -> Result<Vec<FieldDef>, Memory>
     ensures { IfOk result (λ fields. map field_view fields.items ≡ over_rows first columns.now) }
 {
+    let over = aggregates_over(alloc, columns)?;
     let mut fields = vec![in alloc; count_field(alloc, first)?]?;
-    push_greatest(alloc, &mut fields, first, columns)?;
-    push_sum(alloc, &mut fields, first, columns)?;
+    push_aggregated(alloc, &mut fields, first, over.as_slice())?;
     Ok(fields)
 }
 

@@ -8,7 +8,7 @@ use crate::operators::operator_inputs;
 use crate::root::query_fields;
 use crate::shown::PlacedTableList;
 use crate::text::{text, texts};
-use hq_base::{List, Memory, Ty};
+use hq_base::{List, Memory};
 use hq_schema::{ArgDefList, FieldDefList, Fixed, NamedList, TxtList, TypeDef};
 use std::alloc::Global;
 
@@ -74,10 +74,7 @@ fn fixed_inputs(alloc: Global, of: Fixed) -> Result<ArgDefList, Memory>
     ensures { IfOk result (λ inputs. map arg_view inputs ≡ fixed_inputs of) }
 {
     let inputs = match of {
-        Fixed::BooleanComparison => operator_inputs(alloc, Ty::Boolean),
-        Fixed::IntComparison => operator_inputs(alloc, Ty::Integer),
-        Fixed::StringComparison => operator_inputs(alloc, Ty::Text),
-        Fixed::BigintComparison => operator_inputs(alloc, Ty::Bigint),
+        Fixed::Comparison(ty) => operator_inputs(alloc, ty),
         _ => return Ok(NamedList::empty(alloc)),
     }?;
     NamedList::new(alloc, inputs)

@@ -28,7 +28,7 @@ fn input_type(p: Part, ty: Ty) -> Fixed
     ensures { result ≡ input_type p ty }
 {
     match p {
-        Part::Filter => Fixed::comparison_of(ty),
+        Part::Filter => Fixed::Comparison(ty),
         _ => Fixed::OrderBy,
     }
 }

@@ -1,15 +1,15 @@
-ghost use Rattle.std.specs.Prelude.{◌≡◌, ◌++◌, OnOk, IfOk, map, take, ◌≤◌};
-ghost use Rattle.hq_schema.specs.Parts.{all_parts};
+ghost use Rattle.std.specs.Prelude.{◌≡◌, ◌++◌, OnOk, IfOk, map};
+ghost use Rattle.hq_schema.specs.declared.part.Part.TheVariants.{Aggregated};
 ghost use Rattle.hq_schema.specs.Schema.{type_view};
-ghost use Rattle.hq_role_schema.specs.Placed.{part_count};
+ghost use Rattle.hq_role_schema.specs.Placed.{parts_of};
 ghost use Rattle.hq_role_schema.specs.RoleSchema.{part_type, types_with};
 
-use crate::columns::part_count;
+use crate::columns::aggregates_over;
 use crate::fields::part_fields;
 use crate::inputs::{part_columns, part_inputs, part_values};
-use crate::shown::{LinkList, PlacedTable};
+use crate::shown::{LinkList, PlacedTable, ShownTable};
 use crate::text::suffixed;
-use hq_base::Memory;
+use hq_base::{Aggregate, Memory};
 use hq_schema::{Part, TypeDef};
 use std::alloc::Global;
 
@@ -40,6 +40,43 @@ fn part_type(
     })
 }
 
+// Adds these parts.
+fn push_all(parts: &mut Vec<Part>, others: &[Part]) -> Result<(), Memory>
+    ensures { OnOk result (parts.new.items ≡ parts.old.items ++ others.now) }
+{
+    for part in others {
+        parts.push(*part)?;
+    }
+    Ok(())
+}
+
+// Adds what these aggregates give.
+fn push_aggregated(parts: &mut Vec<Part>, aggregates: &[Aggregate]) -> Result<(), Memory>
+    ensures { OnOk result (parts.new.items ≡ parts.old.items ++ map Aggregated aggregates.now) }
+{
+    for aggregate in aggregates {
+        parts.push(Part::Aggregated(*aggregate))?;
+    }
+    Ok(())
+}
+
+// The types of a table, in order.
+fn parts_of(alloc: Global, table: &ShownTable) -> Result<Vec<Part>, Memory>
+    ensures { IfOk result (λ parts. parts.items ≡ parts_of table.now) }
+{
+    let mut parts = Vec::new(alloc);
+    push_all(&mut parts, &Part::of_rows())?;
+    if !table.aggregates {
+        return Ok(parts);
+    }
+    push_all(&mut parts, &Part::of_aggregates())?;
+    push_aggregated(
+        &mut parts,
+        aggregates_over(alloc, &table.columns)?.as_slice(),
+    )?;
+    Ok(parts)
+}
+
 // Adds these types of a table.
 fn push_parts(
     alloc: Global,
@@ -65,7 +102,6 @@ pub fn push_types(
 ) -> Result<(), Memory>
     ensures { OnOk result (map type_view types.new.items ≡ map type_view types.old.items ++ types_with placed.now links.now) }
 {
-    let parts = Part::all();
-    let count = part_count(&placed.shown) as usize;
-    push_parts(alloc, types, placed, links, &parts[..count])
+    let parts = parts_of(alloc, &placed.shown)?;
+    push_parts(alloc, types, placed, links, parts.as_slice())
 }

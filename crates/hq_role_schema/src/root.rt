@@ -13,7 +13,7 @@ use std::alloc::Global;
 fn key_arg(alloc: Global, column: &ShownColumn) -> Result<ArgDef, Memory>
     ensures { IfOk result (λ a. arg_view a ≡ key_arg column.now) }
 {
-    let scalar = non_null(alloc, fixed(Fixed::scalar_of(column.ty)))?;
+    let scalar = non_null(alloc, fixed(Fixed::Scalar(column.ty)))?;
     arg_of(alloc, &column.name, scalar, ArgOrigin::Column(column.col))
 }
 
@@ -96,7 +96,7 @@ fn all_roots(alloc: Global, tables: &PlacedTableList) -> Result<Vec<FieldDef>, M
 fn no_queries(alloc: Global) -> Result<Vec<FieldDef>, Memory>
     ensures { IfOk result (λ fields. map field_view fields.items ≡ query_fields []) }
 {
-    let ty = non_null(alloc, fixed(Fixed::String))?;
+    let ty = non_null(alloc, fixed(Fixed::STRING))?;
     let origin = FieldOrigin::NoQueries;
     Ok(vec![in alloc; plain_field(alloc, "no_queries_available", ty, origin)?]?)
 }

@@ -69,7 +69,7 @@ fn include_deprecated(alloc: Global) -> Result<ArgDef, Memory>
 {
     Ok(ArgDef {
         name: text(alloc, "includeDeprecated")?,
-        ty: fixed(Fixed::Boolean),
+        ty: fixed(Fixed::BOOLEAN),
         default_false: true,
         origin: ArgOrigin::IncludeDeprecated,
     })

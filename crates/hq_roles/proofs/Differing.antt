@@ -1,37 +1,40 @@
 -- The names of a role's schema differ, since they are some of those of admin's schema.
-use Rattle.std.proofs.Common.{◌≡◌, ◌∙◌, refl, sym, ap, subst, ℕ, zero, suc, ◌+◌, List, [], ◌∷◌, ◌++◌, map, take, Bool, true, false, cond, ◌&&◌, ◌==◌, Option, Some, None}
+use Rattle.std.proofs.Common.{◌≡◌, ◌∙◌, refl, sym, ap, subst, ℕ, zero, suc, ◌+◌, List, [], ◌∷◌, ◌++◌, map, filter, Bool, true, false, cond, ◌&&◌, ◌==◌, Option, Some, None}
 use Rattle.std.specs.Prelude.{flat_map, option_map, slice_get, slice_index_or, length, nat_lt, nat_le, bytes_eq, codes, IfSome}
 use Rattle.std.specs.List.{list_any, list_all, filter_map, cons_option}
 use Rattle.std.proofs.lemmas.Bool.{and_parts}
 use Rattle.std.proofs.lemmas.List.{map-append}
+use Rattle.hq_base.specs.Aggregates.{all_aggregates, aggregate_name}
 use Rattle.hq_base.specs.Lists.{Each, all_differ}
+use Rattle.hq_base.specs.declared.aggregate.Aggregate.{Aggregate as OneAggregate}
 use Rattle.hq_base.proofs.Lists.{each_all, each_weaken, map_map}
 use Rattle.hq_schema.specs.Fixed.{all_fixed}
-use Rattle.hq_schema.specs.Parts.{all_parts, part_suffix}
+use Rattle.hq_schema.specs.Parts.{part_suffix}
 use Rattle.hq_schema.specs.Schema.{TypeRefTree, ArgTree, FieldTree, TypeTree}
 use Rattle.hq_schema.specs.declared.fixed.Fixed.{Fixed}
-use Rattle.hq_schema.specs.declared.fixed.Fixed.TheVariants.{Boolean, Int, String, Bigint, OrderBy, BooleanComparison, IntComparison, StringComparison, BigintComparison, Schema, «Type» as TypeType, Field, InputValue, EnumValue, Directive, TypeKind, DirectiveLocation, QueryRoot}
+use Rattle.hq_schema.specs.declared.fixed.Fixed.TheVariants.{Scalar, OrderBy, Comparison, Schema, «Type» as TypeType, Field, InputValue, EnumValue, Directive, TypeKind, DirectiveLocation, QueryRoot}
 use Rattle.hq_schema.specs.declared.origin.FieldOrigin.TheVariants as field
 use Rattle.hq_schema.specs.declared.part.Part.{Part}
-use Rattle.hq_schema.specs.declared.part.Part.TheVariants.{Rows, Filter, Sort, Columns, Aggregate, AggregateFields, Max, Min, Sum}
+use Rattle.hq_schema.specs.declared.part.Part.TheVariants.{Rows, Filter, Sort, Columns, Aggregate, AggregateFields, Aggregated}
 use Rattle.hq_terms.specs.Catalog.{is_catalog, is_table, is_catalog_name, full_name, holds_no_null, is_foreign_key}
 use Rattle.hq_terms.specs.Fits.{fits, fits_tracked}
 use Rattle.hq_terms.specs.Meta.{TrackedTree, MetaTree, tracked_table}
+use Rattle.hq_terms.specs.Operators.{all_operators, operator_name}
 use Rattle.hq_terms.specs.Permission.{Permission, named_columns}
 use Rattle.hq_terms.specs.Schema.{schema_of}
 use Rattle.hq_terms.specs.SchemaNames as admin
 use Rattle.hq_terms.specs.declared.role.Role.{Role}
 use Rattle.hq_terms.specs.declared.table.Table.{Table}
-use Rattle.hq_role_schema.specs.Fields.{column_type, column_fields, list_args, list_field, aggregate_field, link_fields, count_args, over_rows, part_fields}
+use Rattle.hq_role_schema.specs.Fields.{column_type, column_fields, list_args, list_field, aggregate_field, link_fields, count_args, aggregated_fields, over_rows, part_fields}
 use Rattle.hq_role_schema.specs.FixedTypes.{fixed_values, fixed_type, fixed_types}
 use Rattle.hq_role_schema.specs.Inputs.{connectives, column_input, link_input, inputs_of, part_inputs}
 use Rattle.hq_role_schema.specs.Introspection.{introspection_fields}
-use Rattle.hq_role_schema.specs.Operators.{operator_inputs}
-use Rattle.hq_role_schema.specs.Placed.{part_count, placed_from, placed, links_from}
+use Rattle.hq_role_schema.specs.Operators.{operator_arg, is_operator_of, operator_inputs}
+use Rattle.hq_role_schema.specs.Placed.{parts_of, part_count, placed_from, placed, links_from}
 use Rattle.hq_role_schema.specs.References.{plain_field, part}
 use Rattle.hq_role_schema.specs.RoleSchema.{part_type, types_with, table_types, all_types, schema_over, role_schema}
 use Rattle.hq_role_schema.specs.Root.{key_arg, key_fields, aggregate_root, root_fields, query_fields}
-use Rattle.hq_role_schema.specs.Shown.{has_greatest, has_sum, shown_columns, shown_table, shown_entry, shown_tables}
+use Rattle.hq_role_schema.specs.Shown.{is_over, aggregates_over, shown_columns, shown_table, shown_entry, shown_tables}
 use Rattle.hq_role_schema.specs.declared.shown.ShownColumn.{ShownColumn}
 use Rattle.hq_role_schema.specs.declared.shown.ShownTable.{ShownTable}
 use Rattle.hq_role_schema.specs.declared.shown.PlacedTable.{PlacedTable}
@@ -41,7 +44,7 @@ use Rattle.hq_roles.proofs.Granted.{granted, has_some, in_schema_is}
 use Rattle.hq_roles.proofs.KeyNames.{images_differ}
 use Rattle.hq_roles.proofs.Lists.{each_append, each_map, each_flat_map, each_filter_map}
 use Rattle.hq_roles.proofs.Permits.{each_of, all_tracked_first}
-use Rattle.hq_roles.proofs.Subs.{Sub, sub_same, sub_skip, sub_append, sub_front, sub_trans, sub_given, any_sub, differ_sub}
+use Rattle.hq_roles.proofs.Subs.{Sub, sub_keep, sub_same, sub_skip, sub_append, sub_front, sub_trans, sub_map, sub_filter, sub_given, any_sub, differ_sub}
 use Rattle.hq_roles.proofs.TableNames.{types_sub, key_names, root_names, roots_sub, columns_named, columns_sub, fields_sub, link_fields_sub, link_inputs_sub}
 
 abbrev differ : List (List ℕ) → Bool
@@ -62,7 +65,7 @@ column_name c = c.name
 -- ---- the names of types
 
 abbrev type_names : ShownTable → List (List ℕ)
-type_names t = map (λ (q : Part). t.name ++ part_suffix q) (take (part_count t) all_parts)
+type_names t = map (λ (q : Part). t.name ++ part_suffix q) (parts_of t)
 
 tables_named : (ps : List PlacedTable) (first : ℕ) (ts : List ShownTable) → map (λ (t : TypeTree). t.name) (flat_map (table_types ps) (placed_from first ts)) ≡ flat_map type_names ts
 unfolding part_type
@@ -71,7 +74,7 @@ tables_named ps first (t ∷ ts) =
     let p : PlacedTable = record { shown = t; first = first } in
     let ls = links_from ps 0 t.rels in
     map-append (λ (t : TypeTree). t.name) (types_with p ls) (flat_map (table_types ps) (placed_from (first + part_count t) ts))
-    ∙ (ap (λ xs. xs ++ map (λ (t : TypeTree). t.name) (flat_map (table_types ps) (placed_from (first + part_count t) ts))) (map_map (λ (t : TypeTree). t.name) (part_type p ls) (take (part_count t) all_parts))
+    ∙ (ap (λ xs. xs ++ map (λ (t : TypeTree). t.name) (flat_map (table_types ps) (placed_from (first + part_count t) ts))) (map_map (λ (t : TypeTree). t.name) (part_type p ls) (parts_of t))
     ∙ ap (λ xs. type_names t ++ xs) (tables_named ps (first + part_count t) ts))
 
 fixed_named : (ps : List PlacedTable) → map (λ (t : TypeTree). t.name) (fixed_types ps) ≡ admin.fixed_types
@@ -196,6 +199,15 @@ link_args l = by l.many l.aggregates
 links_args : (ls : List Link) → Each ArgsDiffer (flat_map link_fields ls)
 links_args ls = each_flat_map ArgsDiffer (λ (l : Link). Unit {0}) link_fields (λ l u. link_args l) ls (each_all (λ (l : Link). Unit {0}) (λ l. tt) ls)
 
+-- what aggregates give is named for them, and has no arguments
+aggregated_named : (place : ℕ) (gs : List OneAggregate) → map field_name (aggregated_fields place gs) ≡ map aggregate_name gs
+aggregated_named place [] = refl
+aggregated_named place (g ∷ gs) = ap (λ xs. aggregate_name g ∷ xs) (aggregated_named (place + 1) gs)
+
+aggregated_args : (place : ℕ) (gs : List OneAggregate) → Each ArgsDiffer (aggregated_fields place gs)
+aggregated_args place [] = tt
+aggregated_args place (g ∷ gs) = (refl, aggregated_args (place + 1) gs)
+
 module _ (ps : List PlacedTable) (p : PlacedTable) (d : TableDiffers ps p.shown) where
   abbrev these : List Link
   these = links_from ps 0 p.shown.rels
@@ -204,23 +216,16 @@ module _ (ps : List PlacedTable) (p : PlacedTable) (d : TableDiffers ps p.shown)
   columns_field_names q = differ_some (map field_name (column_fields q p.shown.columns)) (map column_name p.shown.columns) (fields_sub q p.shown.columns) d.columns
 
   over_names : differ (map field_name (over_rows p.first p.shown.columns)) ≡ true
-  over_names = by (list_any has_greatest p.shown.columns) (list_any has_sum p.shown.columns)
-    where
-      by : (g s : Bool) → differ (codes "count" ∷ map field_name (cond g (plain_field (codes "max") (part p.first Max) field.Max ∷ plain_field (codes "min") (part p.first Min) field.Min ∷ []) [] ++ cond s (plain_field (codes "sum") (part p.first Sum) field.Sum ∷ []) [])) ≡ true
-      by true true = refl
-      by true false = refl
-      by false true = refl
-      by false false = refl
+  over_names =
+      let over = aggregates_over p.shown.columns in
+      let given = sub_map aggregate_name over all_aggregates (sub_filter (is_over p.shown.columns) all_aggregates) in
+      let count = codes "count" in
+      ap (λ (xs : List (List ℕ)). differ (count ∷ xs)) (aggregated_named (p.first + 6) over)
+      ∙ differ_some (count ∷ map aggregate_name over) (count ∷ map aggregate_name all_aggregates) (sub_keep count count (map aggregate_name over) (map aggregate_name all_aggregates) refl given) refl
 
   over_args : Each ArgsDiffer (over_rows p.first p.shown.columns)
   unfolding count_args
-  over_args = (refl, by (list_any has_greatest p.shown.columns) (list_any has_sum p.shown.columns))
-    where
-      by : (g s : Bool) → Each ArgsDiffer (cond g (plain_field (codes "max") (part p.first Max) field.Max ∷ plain_field (codes "min") (part p.first Min) field.Min ∷ []) [] ++ cond s (plain_field (codes "sum") (part p.first Sum) field.Sum ∷ []) [])
-      by true true = (refl, (refl, (refl, tt)))
-      by true false = (refl, (refl, tt))
-      by false true = (refl, tt)
-      by false false = tt
+  over_args = (refl, aggregated_args (p.first + 6) (aggregates_over p.shown.columns))
 
   part_differs : (q : Part) → TypeDiffers (part_type p these q)
   unfolding part_type part_fields part_inputs
@@ -230,14 +235,12 @@ module _ (ps : List PlacedTable) (p : PlacedTable) (d : TableDiffers ps p.shown)
   part_differs Columns = record { fields = columns_field_names Columns; args = column_args Columns p.shown.columns; inputs = refl; values = d.columns }
   part_differs Aggregate = record { fields = refl; args = (refl, (refl, tt)); inputs = refl; values = refl }
   part_differs AggregateFields = record { fields = over_names; args = over_args; inputs = refl; values = refl }
-  part_differs Max = record { fields = columns_field_names Max; args = column_args Max p.shown.columns; inputs = refl; values = refl }
-  part_differs Min = record { fields = columns_field_names Min; args = column_args Min p.shown.columns; inputs = refl; values = refl }
-  part_differs Sum = record { fields = columns_field_names Sum; args = column_args Sum p.shown.columns; inputs = refl; values = refl }
+  part_differs (Aggregated g) = record { fields = columns_field_names (Aggregated g); args = column_args (Aggregated g) p.shown.columns; inputs = refl; values = refl }
 
   parts_differ : Each TypeDiffers (table_types ps p)
   parts_differ =
-      each_map TypeDiffers (λ (q : Part). Unit {0}) (part_type p these) (λ q u. part_differs q) (take (part_count p.shown) all_parts)
-      (each_all (λ (q : Part). Unit {0}) (λ q. tt) (take (part_count p.shown) all_parts))
+      each_map TypeDiffers (λ (q : Part). Unit {0}) (part_type p these) (λ q u. part_differs q) (parts_of p.shown)
+      (each_all (λ (q : Part). Unit {0}) (λ q. tt) (parts_of p.shown))
 
   -- the root fields of a table
   root_args : Each ArgsDiffer (root_fields p)
@@ -269,15 +272,18 @@ module _ (ts : List ShownTable) (each_differs : Each (λ (p : PlacedTable). Tabl
 
   fixed_differs : (f : Fixed) → TypeDiffers (fixed_type (placed ts) f)
   unfolding fixed_type introspection_fields fixed_values operator_inputs
-  fixed_differs Boolean = record { fields = refl; args = tt; inputs = refl; values = refl }
-  fixed_differs Int = record { fields = refl; args = tt; inputs = refl; values = refl }
-  fixed_differs String = record { fields = refl; args = tt; inputs = refl; values = refl }
-  fixed_differs Bigint = record { fields = refl; args = tt; inputs = refl; values = refl }
+  fixed_differs (Scalar t) = record { fields = refl; args = tt; inputs = refl; values = refl }
   fixed_differs OrderBy = record { fields = refl; args = tt; inputs = refl; values = refl }
-  fixed_differs BooleanComparison = record { fields = refl; args = tt; inputs = refl; values = refl }
-  fixed_differs IntComparison = record { fields = refl; args = tt; inputs = refl; values = refl }
-  fixed_differs StringComparison = record { fields = refl; args = tt; inputs = refl; values = refl }
-  fixed_differs BigintComparison = record { fields = refl; args = tt; inputs = refl; values = refl }
+  fixed_differs (Comparison t) = record {
+    fields = refl;
+    args = tt;
+    inputs =
+        ap differ (map_map input_name (operator_arg t) (filter (is_operator_of t) all_operators))
+        ∙ differ_some (map operator_name (filter (is_operator_of t) all_operators)) (map operator_name all_operators)
+        (sub_map operator_name (filter (is_operator_of t) all_operators) all_operators (sub_filter (is_operator_of t) all_operators))
+        refl;
+    values = refl;
+  }
   fixed_differs Schema = record { fields = refl; args = (refl, (refl, (refl, (refl, (refl, (refl, tt)))))); inputs = refl; values = refl }
   fixed_differs TypeType = record { fields = refl; args = (refl, (refl, (refl, (refl, (refl, (refl, (refl, (refl, (refl, (refl, tt)))))))))); inputs = refl; values = refl }
   fixed_differs Field = record { fields = refl; args = (refl, (refl, (refl, (refl, (refl, (refl, tt)))))); inputs = refl; values = refl }

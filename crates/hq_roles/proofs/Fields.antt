@@ -4,9 +4,8 @@ use Rattle.std.specs.Prelude.{flat_map, option_map, slice_get, nat_lt, codes, If
 use Rattle.std.specs.List.{filter_map}
 use Rattle.std.specs.Option.{option_map_or}
 use Rattle.hq_base.specs.Lists.{Each}
-use Rattle.hq_base.specs.declared.value.Ty.{Ty}
-use Rattle.hq_base.specs.declared.value.Ty.TheVariants as ty
-use Rattle.hq_schema.specs.Fixed.{fixed_place, fixed_kind, fixed_origin, scalar_of, comparison_of}
+use Rattle.hq_base.specs.Aggregates.{given_type}
+use Rattle.hq_schema.specs.Fixed.{fixed_place, fixed_kind, fixed_origin, int}
 use Rattle.hq_schema.specs.Parts.{part_offset}
 use Rattle.hq_schema.specs.Schema.{TypeRefTree, non_null, base, FieldTree, TypeTree}
 use Rattle.hq_schema.specs.declared.fixed.Fixed.{Fixed}
@@ -17,13 +16,13 @@ use Rattle.hq_schema.specs.declared.origin.FieldOrigin.TheVariants as field
 use Rattle.hq_schema.specs.declared.origin.TypeOrigin.{TypeOrigin}
 use Rattle.hq_schema.specs.declared.origin.TypeOrigin.TheVariants as type
 use Rattle.hq_schema.specs.declared.part.Part.{Part}
-use Rattle.hq_schema.specs.declared.part.Part.TheVariants.{Rows, Filter, Sort, Columns, Aggregate, AggregateFields, Max, Min, Sum}
+use Rattle.hq_schema.specs.declared.part.Part.TheVariants.{Rows, Filter, Sort, Columns, Aggregate, AggregateFields, Aggregated}
 use Rattle.hq_schema.specs.declared.schema.Kind.{Kind}
 use Rattle.hq_schema.specs.declared.schema.Kind.TheVariants as kind
 use Rattle.hq_role_schema.specs.Fields.{list_args, list_field, aggregate_field, row_type, column_field, column_fields, link_fields}
 use Rattle.hq_role_schema.specs.Inputs.{connectives, column_input, link_input, inputs_of}
 use Rattle.hq_role_schema.specs.References.{fixed, part, items, all_items, arg}
-use Rattle.hq_role_schema.specs.Shown.{has_greatest, has_sum}
+use Rattle.hq_role_schema.specs.Shown.{has_aggregate}
 use Rattle.hq_role_schema.specs.declared.shown.ShownColumn.{ShownColumn}
 use Rattle.hq_role_schema.specs.declared.shown.Link.{Link}
 use Rattle.hq_roles.specs.Access.{Access}
@@ -66,24 +65,6 @@ module _ (types : List TypeTree) (a : Access) (fixed_ones : (f : Fixed) → Stan
   pub fixed_input : (r : TypeRefTree) (f : Fixed) → base r ≡ fixed_place f → is_input (fixed_kind f) ≡ true → IsOf is_input types r
   fixed_input r f e is_so = is_of types is_input r (fixed_origin f) (fixed_kind f) (rw e (fixed_ones f)) is_so
 
-  scalar_is_output : (t : Ty) → is_output (fixed_kind (scalar_of t)) ≡ true
-  scalar_is_output ty.Integer = refl
-  scalar_is_output ty.Bigint = refl
-  scalar_is_output ty.Text = refl
-  scalar_is_output ty.Boolean = refl
-
-  pub scalar_is_input : (t : Ty) → is_input (fixed_kind (scalar_of t)) ≡ true
-  scalar_is_input ty.Integer = refl
-  scalar_is_input ty.Bigint = refl
-  scalar_is_input ty.Text = refl
-  scalar_is_input ty.Boolean = refl
-
-  comparison_is_input : (t : Ty) → is_input (fixed_kind (comparison_of t)) ≡ true
-  comparison_is_input ty.Integer = refl
-  comparison_is_input ty.Bigint = refl
-  comparison_is_input ty.Text = refl
-  comparison_is_input ty.Boolean = refl
-
   -- ---- lists of a table's rows
 
   -- the arguments of a list of the rows of table u, whose types begin at a place
@@ -96,13 +77,13 @@ module _ (types : List TypeTree) (a : Access) (fixed_ones : (f : Fixed) → Stan
     },
     (
       record {
-        reaches = at_target types (fixed fixed_type.Int) (target arg_origin.Limit) plain (same arg_origin.Limit) tt;
-        input = fixed_input (fixed fixed_type.Int) fixed_type.Int refl refl;
+        reaches = at_target types (fixed int) (target arg_origin.Limit) plain (same arg_origin.Limit) tt;
+        input = fixed_input (fixed int) int refl refl;
       },
       (
         record {
-          reaches = at_target types (fixed fixed_type.Int) (target arg_origin.Offset) plain (same arg_origin.Offset) tt;
-          input = fixed_input (fixed fixed_type.Int) fixed_type.Int refl refl;
+          reaches = at_target types (fixed int) (target arg_origin.Offset) plain (same arg_origin.Offset) tt;
+          input = fixed_input (fixed int) int refl refl;
         },
         (
           record {
@@ -138,15 +119,13 @@ module _ (types : List TypeTree) (a : Access) (fixed_ones : (f : Fixed) → Stan
       held true r f e is_so = fits r f e is_so
       held false r f e is_so = tt
 
-      row_base : (b : Bool) → base (cond b (fixed (scalar_of c.ty)) (non_null (fixed (scalar_of c.ty)))) ≡ fixed_place (scalar_of c.ty)
+      row_base : (b : Bool) → base (cond b (fixed (fixed_type.Scalar c.ty)) (non_null (fixed (fixed_type.Scalar c.ty)))) ≡ fixed_place (fixed_type.Scalar c.ty)
       row_base true = refl
       row_base false = refl
 
       by : (q : Part) → IfSome (column_field q c) (FieldFits types a owner)
-      by Rows = fits (row_type c) (scalar_of c.ty) (row_base c.nullable) (scalar_is_output c.ty)
-      by Max = held (has_greatest c) (fixed (scalar_of c.ty)) (scalar_of c.ty) refl (scalar_is_output c.ty)
-      by Min = held (has_greatest c) (fixed (scalar_of c.ty)) (scalar_of c.ty) refl (scalar_is_output c.ty)
-      by Sum = held (has_sum c) (fixed fixed_type.Bigint) fixed_type.Bigint refl refl
+      by Rows = fits (row_type c) (fixed_type.Scalar c.ty) (row_base c.nullable) refl
+      by (Aggregated g) = held (has_aggregate g c) (fixed (fixed_type.Scalar (given_type g c.ty))) (fixed_type.Scalar (given_type g c.ty)) refl refl
       by Filter = tt
       by Sort = tt
       by Columns = tt
@@ -229,8 +208,8 @@ module _ (types : List TypeTree) (a : Access) (fixed_ones : (f : Fixed) → Stan
 
   filter_column_fits : (t : ℕ) (c : ShownColumn) → a.column t c.col ≡ true → ArgFits types (input_target a (type.Filter t)) (column_input Filter c)
   filter_column_fits t c allowed = record {
-    reaches = where_is types (fixed (comparison_of c.ty)) (a.column t c.col) plain allowed tt;
-    input = fixed_input (fixed (comparison_of c.ty)) (comparison_of c.ty) refl (comparison_is_input c.ty);
+    reaches = where_is types (fixed (fixed_type.Comparison c.ty)) (a.column t c.col) plain allowed tt;
+    input = fixed_input (fixed (fixed_type.Comparison c.ty)) (fixed_type.Comparison c.ty) refl refl;
   }
 
   sort_column_fits : (t : ℕ) (c : ShownColumn) → a.column t c.col ≡ true → ArgFits types (input_target a (type.Sort t)) (column_input Sort c)

@@ -4,22 +4,25 @@ use Rattle.std.specs.Prelude.{filter, IfSome}
 use Rattle.hq_base.specs.Lists.{Each}
 use Rattle.hq_base.proofs.Lists.{each_all}
 use Rattle.hq_base.specs.declared.value.Ty.{Ty}
-use Rattle.hq_base.specs.declared.value.Ty.TheVariants as ty
-use Rattle.hq_schema.specs.Fixed.{fixed_place, fixed_kind, fixed_origin, scalar_of}
+use Rattle.hq_schema.specs.Fixed.{fixed_place, fixed_kind, fixed_origin, boolean, int, string}
+use Rattle.hq_schema.specs.Parts.{part_offset}
 use Rattle.hq_schema.specs.Schema.{TypeRefTree, base, non_null, TypeTree}
 use Rattle.hq_schema.specs.declared.fixed.Fixed.{Fixed}
-use Rattle.hq_schema.specs.declared.fixed.Fixed.TheVariants.{Boolean, Int, String, Bigint, OrderBy, BooleanComparison, IntComparison, StringComparison, BigintComparison, Schema, «Type» as TypeType, Field, InputValue, EnumValue, Directive, TypeKind, DirectiveLocation, QueryRoot}
+use Rattle.hq_schema.specs.declared.fixed.Fixed.TheVariants.{Scalar, OrderBy, Comparison, Schema, «Type» as TypeType, Field, InputValue, EnumValue, Directive, TypeKind, DirectiveLocation, QueryRoot}
 use Rattle.hq_schema.specs.declared.origin.FieldOrigin.TheVariants as field
-use Rattle.hq_schema.specs.declared.origin.Operator.{Operator}
-use Rattle.hq_schema.specs.declared.origin.Operator.TheVariants.{Compare, Within, NullTest, Like}
 use Rattle.hq_schema.specs.declared.origin.TypeOrigin.TheVariants as type
 use Rattle.hq_schema.specs.declared.part.Part.TheVariants.{Rows, Aggregate}
 use Rattle.hq_schema.specs.declared.schema.Kind.TheVariants as kind
 use Rattle.hq_role_schema.specs.Fields.{list_field, aggregate_field}
 use Rattle.hq_role_schema.specs.FixedTypes.{fixed_type}
 use Rattle.hq_role_schema.specs.Introspection.{row, introspection_fields}
-use Rattle.hq_role_schema.specs.Operators.{all_operators, operator_type, applies, operator_arg, operator_inputs}
-use Rattle.hq_role_schema.specs.References.{fixed, part, all_items}
+use Rattle.hq_role_schema.specs.Operators.{value_type, operator_arg, is_operator_of, operator_inputs}
+use Rattle.hq_role_schema.specs.References.{fixed, part, items, all_items}
+use Rattle.hq_terms.specs.Operators.{all_operators}
+use Rattle.hq_terms.specs.Tests.{arity}
+use Rattle.hq_terms.specs.declared.operator.Operator.{Operator}
+use Rattle.hq_terms.specs.declared.test.Arity.{Arity}
+use Rattle.hq_terms.specs.declared.test.Arity.TheVariants as arity_is
 use Rattle.hq_role_schema.specs.Root.{key_arg, key_fields, aggregate_root, root_fields, query_fields}
 use Rattle.hq_role_schema.specs.Rows.{shaped, shape_args}
 use Rattle.hq_role_schema.specs.declared.rows.Shape.{Shape}
@@ -27,12 +30,12 @@ use Rattle.hq_role_schema.specs.declared.rows.Shape.TheVariants.{One, Required, 
 use Rattle.hq_role_schema.specs.declared.shown.ShownColumn.{ShownColumn}
 use Rattle.hq_role_schema.specs.declared.shown.PlacedTable.{PlacedTable}
 use Rattle.hq_roles.specs.Access.{Access}
-use Rattle.hq_roles.specs.Leads.{plain, to, list_target, key_target, deprecation_target, operator_target, is_output, ArgFits, FieldFits, TypeFits}
-use Rattle.hq_roles.proofs.Fields.{reaches_it, is_of, where_is, fixed_output, fixed_input, scalar_is_input, list_args_fit}
+use Rattle.hq_roles.specs.Leads.{plain, to, list_target, key_target, deprecation_target, operator_target, IsOf, is_output, is_input, ArgFits, FieldFits, TypeFits}
+use Rattle.hq_roles.proofs.Fields.{reaches_it, is_of, where_is, fixed_output, fixed_input, list_args_fit}
 use Rattle.hq_roles.proofs.Links.{Sound}
 use Rattle.hq_roles.proofs.Lists.{each_append, each_map, each_flat_map}
 use Rattle.hq_roles.proofs.Permits.{Permitted}
-use Rattle.hq_roles.proofs.Standing.{StandsAt, PartStands, has_four, has_six}
+use Rattle.hq_roles.proofs.Standing.{StandsAt, PartStands, has_four, has_aggregate_part}
 
 module _ (types : List TypeTree) (a : Access) (fixed_ones : (f : Fixed) → StandsAt types (fixed_place f) (fixed_origin f) (fixed_kind f)) where
   -- ---- introspection
@@ -49,7 +52,7 @@ module _ (types : List TypeTree) (a : Access) (fixed_ones : (f : Fixed) → Stan
   shape_args_fit Required = tt
   shape_args_fit Items = tt
   shape_args_fit AllItems = tt
-  shape_args_fit Deprecable = (record { reaches = tt; input = fixed_input types a fixed_ones (fixed Boolean) Boolean refl refl }, tt)
+  shape_args_fit Deprecable = (record { reaches = tt; input = fixed_input types a fixed_ones (fixed boolean) boolean refl refl }, tt)
 
   row_fits : (name : List ℕ) (s : Shape) (f : Fixed) → is_output (fixed_kind f) ≡ true → FieldFits types a type.Introspection (row name s f)
   row_fits name s f is_so = record { reaches = tt; output = fixed_output types a fixed_ones (shaped s f) f (shaped_base s f) is_so; args = shape_args_fit s }
@@ -57,7 +60,7 @@ module _ (types : List TypeTree) (a : Access) (fixed_ones : (f : Fixed) → Stan
   schema_rows : Each (FieldFits types a type.Introspection) (introspection_fields Schema)
   unfolding introspection_fields
   schema_rows = (
-    row_fits _ One String refl,
+    row_fits _ One string refl,
     (
       row_fits _ AllItems TypeType refl,
       (
@@ -75,11 +78,11 @@ module _ (types : List TypeTree) (a : Access) (fixed_ones : (f : Fixed) → Stan
   type_rows = (
     row_fits _ Required TypeKind refl,
     (
-      row_fits _ One String refl,
+      row_fits _ One string refl,
       (
-        row_fits _ One String refl,
+        row_fits _ One string refl,
         (
-          row_fits _ One String refl,
+          row_fits _ One string refl,
           (
             row_fits _ Deprecable Field refl,
             (
@@ -101,14 +104,14 @@ module _ (types : List TypeTree) (a : Access) (fixed_ones : (f : Fixed) → Stan
   field_rows : Each (FieldFits types a type.Introspection) (introspection_fields Field)
   unfolding introspection_fields
   field_rows = (
-    row_fits _ Required String refl,
+    row_fits _ Required string refl,
     (
-      row_fits _ One String refl,
+      row_fits _ One string refl,
       (
         row_fits _ AllItems InputValue refl,
         (
           row_fits _ Required TypeType refl,
-          (row_fits _ Required Boolean refl, (row_fits _ One String refl, tt)),
+          (row_fits _ Required boolean refl, (row_fits _ One string refl, tt)),
         ),
       ),
     ),
@@ -116,20 +119,20 @@ module _ (types : List TypeTree) (a : Access) (fixed_ones : (f : Fixed) → Stan
 
   input_rows : Each (FieldFits types a type.Introspection) (introspection_fields InputValue)
   unfolding introspection_fields
-  input_rows = (row_fits _ Required String refl, (row_fits _ One String refl, (row_fits _ Required TypeType refl, (row_fits _ One String refl, tt))))
+  input_rows = (row_fits _ Required string refl, (row_fits _ One string refl, (row_fits _ Required TypeType refl, (row_fits _ One string refl, tt))))
 
   value_rows : Each (FieldFits types a type.Introspection) (introspection_fields EnumValue)
   unfolding introspection_fields
-  value_rows = (row_fits _ Required String refl, (row_fits _ One String refl, (row_fits _ Required Boolean refl, (row_fits _ One String refl, tt))))
+  value_rows = (row_fits _ Required string refl, (row_fits _ One string refl, (row_fits _ Required boolean refl, (row_fits _ One string refl, tt))))
 
   directive_rows : Each (FieldFits types a type.Introspection) (introspection_fields Directive)
   unfolding introspection_fields
   directive_rows = (
-    row_fits _ Required String refl,
+    row_fits _ Required string refl,
     (
-      row_fits _ One String refl,
+      row_fits _ One string refl,
       (
-        row_fits _ Required Boolean refl,
+        row_fits _ Required boolean refl,
         (
           row_fits _ AllItems DirectiveLocation refl,
           (row_fits _ AllItems InputValue refl, tt),
@@ -141,34 +144,36 @@ module _ (types : List TypeTree) (a : Access) (fixed_ones : (f : Fixed) → Stan
   -- ---- comparisons
 
   operator_fits : (s : Ty) (o : Operator) → ArgFits types operator_target (operator_arg s o)
-  operator_fits s (Compare op) = record { reaches = tt; input = fixed_input types a fixed_ones (operator_type s (Compare op)) (scalar_of s) refl (scalar_is_input types a fixed_ones s) }
-  operator_fits s (Within n) = record { reaches = tt; input = fixed_input types a fixed_ones (operator_type s (Within n)) (scalar_of s) refl (scalar_is_input types a fixed_ones s) }
-  operator_fits s NullTest = record { reaches = tt; input = fixed_input types a fixed_ones (operator_type s NullTest) Boolean refl refl }
-  operator_fits s (Like f n) = record { reaches = tt; input = fixed_input types a fixed_ones (operator_type s (Like f n)) (scalar_of s) refl (scalar_is_input types a fixed_ones s) }
+  operator_fits s o = record { reaches = tt; input = value_fits (arity o.test) }
+    where
+      value_fits : (n : Arity) → IsOf is_input types (value_type s n)
+      value_fits arity_is.Nothing = fixed_input types a fixed_ones (fixed boolean) boolean refl refl
+      value_fits arity_is.One = fixed_input types a fixed_ones (fixed (Scalar s)) (Scalar s) refl refl
+      value_fits arity_is.Many = fixed_input types a fixed_ones (items (fixed (Scalar s))) (Scalar s) refl refl
 
   operators_fit : (s : Ty) → Each (ArgFits types operator_target) (operator_inputs s)
   unfolding operator_inputs
   operators_fit s =
-      each_map (ArgFits types operator_target) (λ (o : Operator). Unit {0}) (operator_arg s) (λ o g. operator_fits s o) (filter (applies s) all_operators)
-      (each_all (λ (o : Operator). Unit {0}) (λ o. tt) (filter (applies s) all_operators))
+      each_map (ArgFits types operator_target) (λ (o : Operator). Unit {0}) (operator_arg s) (λ o g. operator_fits s o) (filter (is_operator_of s) all_operators)
+      (each_all (λ (o : Operator). Unit {0}) (λ o. tt) (filter (is_operator_of s) all_operators))
 
   -- ---- the root
 
   module _ (p : PlacedTable) (s : Sound types a p) where
     key_arg_fits : (c : ShownColumn) → a.column p.shown.table c.col ≡ true → ArgFits types (key_target a p.shown.table) (key_arg c)
     key_arg_fits c allowed = record {
-      reaches = where_is types (non_null (fixed (scalar_of c.ty))) (a.column p.shown.table c.col) plain allowed tt;
-      input = fixed_input types a fixed_ones (non_null (fixed (scalar_of c.ty))) (scalar_of c.ty) refl (scalar_is_input types a fixed_ones c.ty);
+      reaches = where_is types (non_null (fixed (Scalar c.ty))) (a.column p.shown.table c.col) plain allowed tt;
+      input = fixed_input types a fixed_ones (non_null (fixed (Scalar c.ty))) (Scalar c.ty) refl refl;
     }
 
     rows_stand : PartStands types p.first p.shown.table Rows
-    rows_stand = s.stands Rows (has_four p.shown Rows refl)
+    rows_stand = s.stands 0 Rows (has_four p.shown Rows refl)
 
     list_root : FieldFits types a type.Query (list_field p.shown.roots.select p.first (field.Rows p.shown.table))
     list_root = record {
       reaches = where_is types (all_items (part p.first Rows)) (a.seen p.shown.table) (to (type.Rows p.shown.table)) s.permits.seen (reaches_it types (all_items (part p.first Rows)) (type.Rows p.shown.table) kind.Object rows_stand);
       output = is_of types is_output (all_items (part p.first Rows)) (type.Rows p.shown.table) kind.Object rows_stand refl;
-      args = list_args_fit types a fixed_ones (list_target (Some p.shown.table)) p.first p.shown.table (λ x. refl) (λ q early. s.stands q (has_four p.shown q early));
+      args = list_args_fit types a fixed_ones (list_target (Some p.shown.table)) p.first p.shown.table (λ x. refl) (λ q early. s.stands (part_offset q) q (has_four p.shown q early));
     }
 
     aggregate_root_fits : Each (FieldFits types a type.Query) (aggregate_root p)
@@ -180,11 +185,11 @@ module _ (types : List TypeTree) (a : Access) (fixed_ones : (f : Fixed) → Stan
         by : (b : Bool) → p.shown.aggregates ≡ b → Each (FieldFits types a type.Query) (cond b (aggregate_field p.shown.roots.select_aggregate p.first (field.RowsAggregate p.shown.table) ∷ []) [])
         by false closed = tt
         by true allowed =
-            let stands : PartStands types p.first p.shown.table Aggregate = s.stands Aggregate (has_six p.shown 4 allowed refl refl refl) in (
+            let stands : PartStands types p.first p.shown.table Aggregate = s.stands 4 Aggregate (has_aggregate_part p.shown allowed) in (
               record {
                 reaches = where_is types r (a.aggregates p.shown.table) (to (type.Aggregate p.shown.table)) (s.permits.aggregates allowed) (reaches_it types r (type.Aggregate p.shown.table) kind.Object stands);
                 output = is_of types is_output r (type.Aggregate p.shown.table) kind.Object stands refl;
-                args = list_args_fit types a fixed_ones (list_target (Some p.shown.table)) p.first p.shown.table (λ x. refl) (λ q early. s.stands q (has_four p.shown q early));
+                args = list_args_fit types a fixed_ones (list_target (Some p.shown.table)) p.first p.shown.table (λ x. refl) (λ q early. s.stands (part_offset q) q (has_four p.shown q early));
               },
               tt,
             )
@@ -207,7 +212,7 @@ module _ (types : List TypeTree) (a : Access) (fixed_ones : (f : Fixed) → Stan
     root_fit = (list_root, each_append (FieldFits types a type.Query) (aggregate_root p) (key_fields p p.shown.key) aggregate_root_fits key_root_fits)
 
   query_fit : (ps : List PlacedTable) → Each (Sound types a) ps → Each (FieldFits types a type.Query) (query_fields ps)
-  query_fit [] h = (record { reaches = tt; output = fixed_output types a fixed_ones (non_null (fixed String)) String refl refl; args = tt }, tt)
+  query_fit [] h = (record { reaches = tt; output = fixed_output types a fixed_ones (non_null (fixed string)) string refl refl; args = tt }, tt)
   query_fit (p ∷ ps) h = each_flat_map (FieldFits types a type.Query) (Sound types a) root_fields root_fit (p ∷ ps) h
 
   -- ---- all
@@ -215,15 +220,9 @@ module _ (types : List TypeTree) (a : Access) (fixed_ones : (f : Fixed) → Stan
   module _ (ps : List PlacedTable) (sound : Each (Sound types a) ps) where
     pub fixed_fits : (f : Fixed) → TypeFits types a (fixed_type ps f)
     unfolding fixed_type introspection_fields
-    fixed_fits Boolean = record { fields = tt; inputs = tt; columns = refl }
-    fixed_fits Int = record { fields = tt; inputs = tt; columns = refl }
-    fixed_fits String = record { fields = tt; inputs = tt; columns = refl }
-    fixed_fits Bigint = record { fields = tt; inputs = tt; columns = refl }
+    fixed_fits (Scalar t) = record { fields = tt; inputs = tt; columns = refl }
     fixed_fits OrderBy = record { fields = tt; inputs = tt; columns = refl }
-    fixed_fits BooleanComparison = record { fields = tt; inputs = operators_fit ty.Boolean; columns = refl }
-    fixed_fits IntComparison = record { fields = tt; inputs = operators_fit ty.Integer; columns = refl }
-    fixed_fits StringComparison = record { fields = tt; inputs = operators_fit ty.Text; columns = refl }
-    fixed_fits BigintComparison = record { fields = tt; inputs = operators_fit ty.Bigint; columns = refl }
+    fixed_fits (Comparison t) = record { fields = tt; inputs = operators_fit t; columns = refl }
     fixed_fits Schema = record { fields = schema_rows; inputs = tt; columns = refl }
     fixed_fits TypeType = record { fields = type_rows; inputs = tt; columns = refl }
     fixed_fits Field = record { fields = field_rows; inputs = tt; columns = refl }

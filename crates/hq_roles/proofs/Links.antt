@@ -14,7 +14,7 @@ use Rattle.hq_role_schema.specs.declared.shown.Link.{Link}
 use Rattle.hq_roles.specs.Access.{Access}
 use Rattle.hq_roles.proofs.Lists.{each_cons_option, found_each, get_seam}
 use Rattle.hq_roles.proofs.Permits.{Permits}
-use Rattle.hq_roles.proofs.Standing.{Stands, PartStands, has_four, has_six}
+use Rattle.hq_roles.proofs.Standing.{Stands, PartStands, has_four, has_aggregate_part}
 
 -- a table that stands in the schema, and what it shows is permitted
 pub record Sound (types : List TypeTree) (a : Access) (p : PlacedTable) : Type 0 where
@@ -43,10 +43,10 @@ module _ (types : List TypeTree) (a : Access) (ps : List PlacedTable) (sound : E
         target = r;
         is = here;
         many = refl;
-        stands = λ part early. subst (λ (u : ℕ). PartStands types p.first u part) same (s.stands part (has_four p.shown part early));
+        stands = λ part early. subst (λ (u : ℕ). PartStands types p.first u part) same (s.stands (part_offset part) part (has_four p.shown part early));
         aggregates = λ allowed. (
           subst (λ (u : ℕ). a.aggregates u ≡ true) same (s.permits.aggregates allowed),
-          subst (λ (u : ℕ). PartStands types p.first u Aggregate) same (s.stands Aggregate (has_six p.shown 4 allowed refl refl refl)),
+          subst (λ (u : ℕ). PartStands types p.first u Aggregate) same (s.stands 4 Aggregate (has_aggregate_part p.shown allowed)),
         );
       }
 

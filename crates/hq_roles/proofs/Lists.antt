@@ -1,5 +1,5 @@
 -- Facts of each item of joined, mapped and filtered lists, and items by their places.
-use Rattle.std.proofs.Common.{◌≡◌, ◌∙◌, refl, sym, ap, ℕ, zero, suc, ◌+◌, ◌<◌, List, [], ◌∷◌, ◌++◌, length, map, take, Bool, true, false, Option, Some, None, subst, arith}
+use Rattle.std.proofs.Common.{◌≡◌, ◌∙◌, refl, sym, ap, ℕ, zero, suc, ◌+◌, ◌<◌, List, [], ◌∷◌, ◌++◌, length, map, Bool, true, false, Option, Some, None, subst, arith}
 use Rattle.std.specs.Prelude.{find, flat_map, slice_get, IfSome}
 use Rattle.std.specs.List.{filter_map, cons_option}
 use Rattle.hq_base.specs.Lists.{Each}
@@ -49,12 +49,11 @@ get_middle (y ∷ front) block rest i h =
     let e : suc (length front) + i ≡ suc (length front + i) = omega arith in
     rw e (get_middle front block rest i h)
 
--- an item of a front
-pub get_take : {A : Type 0} (n i : ℕ) (xs : List A) → i < n → slice_get (take n xs) i ≡ slice_get xs i
-get_take zero i xs h = absurd (omega arith)
-get_take (suc n) i [] h = refl
-get_take (suc n) zero (x ∷ xs) h = refl
-get_take (suc n) (suc i) (x ∷ xs) h = let later : i < n = omega arith in get_take n i xs later
+-- an item that is there stands within the list
+pub got_within : {A : Type 0} (xs : List A) (i : ℕ) (x : A) → slice_get xs i ≡ Some x → i < length xs
+got_within [] i x e = cc
+got_within (y ∷ ys) zero x e = omega arith
+got_within (y ∷ ys) (suc i) x e = let later : i < length ys = got_within ys i x e in omega arith
 
 -- the item behind a front
 pub get_seam : {A : Type 0} (front : List A) (x : A) (rest : List A) → slice_get (front ++ x ∷ rest) (length front) ≡ Some x

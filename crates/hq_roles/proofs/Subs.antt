@@ -2,7 +2,7 @@
 use Rattle.std.proofs.Common.{◌≡◌, ◌∙◌, refl, sym, ap, subst, inl, inr, ◌⊎◌, List, [], ◌∷◌, ◌++◌, map, filter, Bool, true, false, cond, not, Option, Some, None}
 use Rattle.std.specs.Prelude.{flat_map}
 use Rattle.std.specs.List.{list_any, filter_map, cons_option}
-use Rattle.std.proofs.lemmas.Bool.{and_parts, and_from, or_parts, or_from, not_from_false, not-true}
+use Rattle.std.proofs.lemmas.Bool.{false≢true, and_parts, and_from, or_parts, or_from, not_from_false, not-true}
 use Rattle.hq_base.specs.Lists.{Each, all_differ}
 
 module _ {A : Type 0} where
@@ -53,6 +53,17 @@ module _ {A : Type 0} where
       let later = sub_filter p xs in
       let by : (b : Bool) → Sub (cond b (x ∷ filter p xs) (filter p xs)) (x ∷ xs) = elim [ true ↦ sub_keep x x (filter p xs) xs refl later | false ↦ inl later ] in
       by (p x)
+
+  -- a test that passes less keeps some of what one that passes more keeps
+  pub sub_filters : (p q : A → Bool) → ((x : A) → p x ≡ true → q x ≡ true) → (xs : List A) → Sub (filter p xs) (filter q xs)
+  sub_filters p q step [] = refl
+  sub_filters p q step (x ∷ xs) = by (p x) (q x) (step x) (sub_filters p q step xs)
+    where
+      by : (b c : Bool) → (b ≡ true → c ≡ true) → Sub (filter p xs) (filter q xs) → Sub (cond b (x ∷ filter p xs) (filter p xs)) (cond c (x ∷ filter q xs) (filter q xs))
+      by true true f later = sub_keep x x (filter p xs) (filter q xs) refl later
+      by true false f later = absurd (false≢true (f refl))
+      by false true f later = inl later
+      by false false f later = later
 
   none_sub : (p : A → Bool) (xs ys : List A) → Sub xs ys → list_any p ys ≡ false → list_any p xs ≡ false
   none_sub p xs [] h none = ap (list_any p) h

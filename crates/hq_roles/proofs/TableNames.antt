@@ -1,21 +1,22 @@
 -- The names that a shown table gives are some of those that its entry gives in the schema of admin.
-use Rattle.std.proofs.Common.{◌≡◌, ◌∙◌, refl, sym, ap, subst, inl, inr, ℕ, ◌+◌, List, [], ◌∷◌, ◌++◌, map, take, filter, Bool, true, false, cond, not, ◌||◌, ◌==◌, Option, Some, None, get_or, append-nil}
+use Rattle.std.proofs.Common.{◌≡◌, ◌∙◌, refl, sym, ap, subst, inl, inr, ℕ, ◌+◌, List, [], ◌∷◌, ◌++◌, map, filter, Bool, true, false, cond, not, ◌||◌, ◌==◌, Option, Some, None, get_or, append-nil}
 use Rattle.std.specs.Prelude.{find, flat_map, option_map, slice_get, codes}
 use Rattle.std.specs.List.{list_any, list_all, filter_map, cons_option}
 use Rattle.std.proofs.lemmas.Bool.{and_parts, and_from, eqb-true}
 use Rattle.std.proofs.lemmas.List.{map-append}
 use Rattle.std.proofs.lemmas.Option.{get_or_from_slice_get}
+use Rattle.hq_base.specs.Aggregates.{all_aggregates, aggregate_suffix, is_aggregate_of}
 use Rattle.hq_base.specs.Lists.{Each}
+use Rattle.hq_base.specs.declared.aggregate.Aggregate.{Aggregate as OneAggregate}
 use Rattle.hq_base.specs.declared.value.Ty.{Ty}
-use Rattle.hq_base.specs.declared.value.Ty.TheVariants as ty
-use Rattle.hq_schema.specs.Parts.{all_parts, part_suffix}
+use Rattle.hq_base.proofs.Lists.{map_map}
+use Rattle.hq_schema.specs.Parts.{row_parts, aggregate_parts, part_suffix}
 use Rattle.hq_schema.specs.Schema.{TypeRefTree, ArgTree, FieldTree}
 use Rattle.hq_schema.specs.declared.part.Part.{Part}
-use Rattle.hq_terms.specs.Database.{is_boolean}
 use Rattle.hq_terms.specs.Meta.{TrackedTree, MetaTree}
 use Rattle.hq_terms.specs.Permission.{Permission, named_columns}
 use Rattle.hq_terms.specs.Schema.{Schema, schema_of, table, column, no_column}
-use Rattle.hq_terms.specs.SchemaNames.{is_whole, some_column, has_columns, is_in_schema, types_of, key_is_named, roots_of, column_names_of, rel_fields}
+use Rattle.hq_terms.specs.SchemaNames.{some_column, has_columns, is_in_schema, is_aggregated, types_of, key_is_named, roots_of, column_names_of, rel_fields}
 use Rattle.hq_terms.specs.declared.meta.Rel.{Rel}
 use Rattle.hq_terms.specs.declared.meta.RootNames.{RootNames}
 use Rattle.hq_terms.specs.declared.table.Column.{Column}
@@ -23,18 +24,18 @@ use Rattle.hq_terms.specs.declared.table.Table.{Table}
 use Rattle.hq_terms.proofs.Places.{table_present}
 use Rattle.hq_role_schema.specs.Fields.{column_type, column_fields, list_field, aggregate_field, link_fields}
 use Rattle.hq_role_schema.specs.Inputs.{is_filter, link_input}
-use Rattle.hq_role_schema.specs.Placed.{part_count, link_to, links_from}
+use Rattle.hq_role_schema.specs.Placed.{parts_of, link_to, links_from}
 use Rattle.hq_role_schema.specs.References.{plain_field, part, arg}
-use Rattle.hq_role_schema.specs.Shown.{has_greatest, has_sum, under_name, shown_columns, shown_table}
+use Rattle.hq_role_schema.specs.Shown.{is_over, aggregates_over, under_name, shown_columns, shown_table}
 use Rattle.hq_role_schema.specs.declared.shown.ShownColumn.{ShownColumn}
 use Rattle.hq_role_schema.specs.declared.shown.ShownTable.{ShownTable}
 use Rattle.hq_role_schema.specs.declared.shown.PlacedTable.{PlacedTable}
 use Rattle.hq_role_schema.specs.declared.shown.Link.{Link}
 use Rattle.hq_schema.specs.declared.origin.ArgOrigin.TheVariants as arg_origin
 use Rattle.hq_schema.specs.declared.origin.FieldOrigin.TheVariants as field
-use Rattle.hq_schema.specs.declared.part.Part.TheVariants.{Rows}
+use Rattle.hq_schema.specs.declared.part.Part.TheVariants.{Rows, Aggregated}
 use Rattle.hq_roles.proofs.Lists.{found_each}
-use Rattle.hq_roles.proofs.Subs.{Sub, sub_nil, sub_same, sub_skip, sub_append, sub_front, sub_trans, sub_map, any_sub}
+use Rattle.hq_roles.proofs.Subs.{Sub, sub_nil, sub_keep, sub_same, sub_skip, sub_append, sub_front, sub_trans, sub_map, sub_filters, any_sub}
 
 or_right_true : (a b : Bool) → b ≡ true → (a || b) ≡ true
 or_right_true true b h = refl
@@ -46,12 +47,9 @@ module _ (name : List ℕ) where
   abbrev named : Part → List ℕ
   named p = name ++ part_suffix p
 
-  -- the types of aggregates, by what the table has
-  abbrev aggregates_by : (ordered whole : Bool) → List (List ℕ)
-  aggregates_by o w =
-      (name ++ codes "_aggregate") ∷ (name ++ codes "_aggregate_fields")
-      ∷ cond o ((name ++ codes "_max_fields") ∷ (name ++ codes "_min_fields") ∷ []) []
-      ++ cond w ((name ++ codes "_sum_fields") ∷ []) []
+  -- the types of aggregates behind those that each table has
+  abbrev with_aggregates : List (List ℕ) → List (List ℕ)
+  with_aggregates xs = (name ++ codes "_aggregate") ∷ (name ++ codes "_aggregate_fields") ∷ xs
 
   -- the first four types, and these behind them
   abbrev four : List (List ℕ) → List (List ℕ)
@@ -61,32 +59,18 @@ module _ (name : List ℕ) where
   four_sub xs ys h =
       inr (four xs, ap (λ (z : List ℕ). z ∷ four xs) (append-nil name), inr ((name ++ codes "_order_by") ∷ (name ++ codes "_select_column") ∷ xs, refl, inr ((name ++ codes "_select_column") ∷ xs, refl, inr (xs, refl, h))))
 
-  two_sub : (o w : Bool) → Sub (aggregates_by false false) (aggregates_by o w)
-  two_sub true true = sub_front (aggregates_by false false) ((name ++ codes "_max_fields") ∷ (name ++ codes "_min_fields") ∷ (name ++ codes "_sum_fields") ∷ [])
-  two_sub true false = sub_front (aggregates_by false false) ((name ++ codes "_max_fields") ∷ (name ++ codes "_min_fields") ∷ [])
-  two_sub false true = sub_front (aggregates_by false false) ((name ++ codes "_sum_fields") ∷ [])
-  two_sub false false = sub_same (aggregates_by false false)
+  -- the type of what an aggregate gives
+  abbrev of_aggregate : OneAggregate → List ℕ
+  of_aggregate g = name ++ aggregate_suffix g
 
-  ordered_sub : (w : Bool) → Sub (aggregates_by true false) (aggregates_by true w)
-  ordered_sub true = sub_front (aggregates_by true false) ((name ++ codes "_sum_fields") ∷ [])
-  ordered_sub false = sub_same (aggregates_by true false)
-
-  parts_sub : (a sm gr o w : Bool) → (sm ≡ true → w ≡ true) → (sm ≡ true → o ≡ true) → (gr ≡ true → o ≡ true) → Sub (map named (take (cond a (cond sm 9 (cond gr 8 6)) 4) all_parts)) (name ∷ four (aggregates_by o w))
-  parts_sub false sm gr o w f g h = four_sub [] (aggregates_by o w) (sub_nil (aggregates_by o w))
-  parts_sub true true gr o w f g h = rw (f refl, g refl) (four_sub (aggregates_by true true) (aggregates_by true true) (sub_same (aggregates_by true true)))
-  parts_sub true false true o w f g h = rw (h refl) (four_sub (aggregates_by true false) (aggregates_by true w) (ordered_sub w))
-  parts_sub true false false o w f g h = four_sub (aggregates_by false false) (aggregates_by o w) (two_sub o w)
-
--- what has a sum has a greatest value
-sums_are_greatest : (cs : List ShownColumn) → list_any has_sum cs ≡ true → list_any has_greatest cs ≡ true
-sums_are_greatest [] h = h
-sums_are_greatest (c ∷ cs) h = by c.ty h (sums_are_greatest cs)
-  where
-    by : (t : Ty) → (is_whole t || list_any has_sum cs) ≡ true → (list_any has_sum cs ≡ true → list_any has_greatest cs ≡ true) → (not (is_boolean t) || list_any has_greatest cs) ≡ true
-    by ty.Integer h later = refl
-    by ty.Bigint h later = refl
-    by ty.Text h later = refl
-    by ty.Boolean h later = later h
+  parts_sub : (a : Bool) (gs hs : List OneAggregate) → Sub gs hs → Sub (map named (row_parts ++ cond a (aggregate_parts ++ map Aggregated gs) [])) (name ∷ four (with_aggregates (map of_aggregate hs)))
+  parts_sub false gs hs h = four_sub [] (with_aggregates (map of_aggregate hs)) (sub_nil (with_aggregates (map of_aggregate hs)))
+  parts_sub true gs hs h =
+      let fields = name ++ codes "_aggregate_fields" in
+      let given : Sub (map named (map Aggregated gs)) (map of_aggregate hs) = rw (map_map named Aggregated gs) (sub_map of_aggregate gs hs h) in
+      four_sub (with_aggregates (map named (map Aggregated gs))) (with_aggregates (map of_aggregate hs))
+      (sub_keep (name ++ codes "_aggregate") (name ++ codes "_aggregate") (fields ∷ map named (map Aggregated gs)) (fields ∷ map of_aggregate hs) refl
+      (sub_keep fields fields (map named (map Aggregated gs)) (map of_aggregate hs) refl given))
 
 -- the root fields of a table
 abbrev pub key_names : RootNames → Option (List ShownColumn) → List (List ℕ)
@@ -133,12 +117,11 @@ module _ (tables : List Table) (m : MetaTree) (k : TrackedTree) (tb : Table) (he
     has_some : (test : Ty → Bool) → list_any (λ (c : ShownColumn). test c.ty) t.columns ≡ true → some_column test s k ≡ true
     has_some test h = any_sub (λ c. test (column s k.table c).ty) p.columns (named_columns k) chosen (some_shown test p.columns h)
 
-    pub types_sub : Sub (map (λ (q : Part). t.name ++ part_suffix q) (take (part_count t) all_parts)) (types_of s k)
-    unfolding part_count
+    pub types_sub : Sub (map (λ (q : Part). t.name ++ part_suffix q) (parts_of t)) (types_of s k)
     types_sub =
         rw some
-        (parts_sub k.name t.aggregates (list_any has_sum t.columns) (list_any has_greatest t.columns) (some_column (λ u. not (is_boolean u)) s k) (some_column is_whole s k)
-        (has_some is_whole) (λ h. has_some (λ u. not (is_boolean u)) (sums_are_greatest t.columns h)) (has_some (λ u. not (is_boolean u))))
+        (parts_sub k.name t.aggregates (aggregates_over t.columns) (filter (is_aggregated s k) all_aggregates)
+        (sub_filters (is_over t.columns) (is_aggregated s k) (λ g h. has_some (is_aggregate_of g) h) all_aggregates))
 
     -- ---- the root fields
 

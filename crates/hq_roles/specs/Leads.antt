@@ -65,9 +65,7 @@ aggregate_target t _ = forbidden
 
 abbrev pub over_target : (table : ℕ) → FieldOrigin → Target
 over_target t field.Count = plain
-over_target t field.Max = to (type.Max t)
-over_target t field.Min = to (type.Min t)
-over_target t field.Sum = to (type.Sum t)
+over_target t (field.Aggregated g) = to (type.Aggregated g t)
 over_target t _ = forbidden
 
 abbrev pub column_target : Access → (table : ℕ) → FieldOrigin → Target
@@ -84,9 +82,7 @@ field_target a (type.Rows t) o = row_target a t o
 field_target a type.Query o = root_target a o
 field_target a (type.Aggregate t) o = aggregate_target t o
 field_target a (type.AggregateFields t) o = over_target t o
-field_target a (type.Max t) o = column_target a t o
-field_target a (type.Min t) o = column_target a t o
-field_target a (type.Sum t) o = column_target a t o
+field_target a (type.Aggregated g t) o = column_target a t o
 field_target a type.Introspection o = introspection_target o
 field_target a _ o = forbidden
 

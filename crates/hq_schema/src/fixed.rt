@@ -7,15 +7,11 @@ use hq_base::Ty;
 /// The types that each schema has, in the order in which they stand there, before all others.
 #[derive(Clone, Copy)]
 pub enum Fixed {
-    Boolean,
-    Int,
-    String,
-    Bigint,
+    /// The scalar of a column's type.
+    Scalar(Ty),
     OrderBy,
-    BooleanComparison,
-    IntComparison,
-    StringComparison,
-    BigintComparison,
+    /// The comparisons of a column's type.
+    Comparison(Ty),
     Schema,
     Type,
     Field,
@@ -28,22 +24,32 @@ pub enum Fixed {
 }
 
 impl Fixed {
-    ghost use Rattle.hq_schema.specs.Fixed.{all_fixed, fixed_name, fixed_place, fixed_kind, fixed_origin, scalar_of, comparison_of};
+    ghost use Rattle.hq_schema.specs.Fixed.{all_fixed, fixed_name, fixed_place, fixed_kind, fixed_origin};
+
+    /// The scalar of truth values.
+    pub const BOOLEAN: Fixed = Fixed::Scalar(Ty::Boolean);
+
+    /// The scalar of whole numbers of 32 bits.
+    pub const INT: Fixed = Fixed::Scalar(Ty::Integer);
+
+    /// The scalar of texts.
+    pub const STRING: Fixed = Fixed::Scalar(Ty::Text);
 
     /// All of them, in order.
     pub fn all() -> [Fixed; 18]
         ensures { result ≡ all_fixed }
     {
+        let [a, b, c, d] = Ty::all();
         [
-            Fixed::Boolean,
-            Fixed::Int,
-            Fixed::String,
-            Fixed::Bigint,
+            Fixed::Scalar(a),
+            Fixed::Scalar(b),
+            Fixed::Scalar(c),
+            Fixed::Scalar(d),
             Fixed::OrderBy,
-            Fixed::BooleanComparison,
-            Fixed::IntComparison,
-            Fixed::StringComparison,
-            Fixed::BigintComparison,
+            Fixed::Comparison(a),
+            Fixed::Comparison(b),
+            Fixed::Comparison(c),
+            Fixed::Comparison(d),
             Fixed::Schema,
             Fixed::Type,
             Fixed::Field,
@@ -62,15 +68,9 @@ impl Fixed {
         ensures clean { has_zero result.now ≡ false }
     {
         match self {
-            Fixed::Boolean => "Boolean",
-            Fixed::Int => "Int",
-            Fixed::String => "String",
-            Fixed::Bigint => "bigint",
+            Fixed::Scalar(ty) => ty.scalar_name(),
             Fixed::OrderBy => "order_by",
-            Fixed::BooleanComparison => "Boolean_comparison_exp",
-            Fixed::IntComparison => "Int_comparison_exp",
-            Fixed::StringComparison => "String_comparison_exp",
-            Fixed::BigintComparison => "bigint_comparison_exp",
+            Fixed::Comparison(ty) => ty.comparison_name(),
             Fixed::Schema => "__Schema",
             Fixed::Type => "__Type",
             Fixed::Field => "__Field",
@@ -83,11 +83,31 @@ impl Fixed {
         }
     }
 
+    // Its place, as a number.
+    fn number(self) -> usize
+        ensures { result ≡ fixed_place self }
+    {
+        match self {
+            Fixed::Scalar(ty) => ty.place(),
+            Fixed::OrderBy => 4,
+            Fixed::Comparison(ty) => 5 + ty.place(),
+            Fixed::Schema => 9,
+            Fixed::Type => 10,
+            Fixed::Field => 11,
+            Fixed::InputValue => 12,
+            Fixed::EnumValue => 13,
+            Fixed::Directive => 14,
+            Fixed::TypeKind => 15,
+            Fixed::DirectiveLocation => 16,
+            Fixed::QueryRoot => 17,
+        }
+    }
+
     /// Its place in each schema.
     pub fn place(self) -> TypeId
         ensures { result ≡ fixed_place self }
     {
-        TypeId::new(self as usize)
+        TypeId::new(self.number())
     }
 
     /// What it is.
@@ -95,12 +115,9 @@ impl Fixed {
         ensures { result ≡ fixed_kind self }
     {
         match self {
-            Fixed::Boolean | Fixed::Int | Fixed::String | Fixed::Bigint => Kind::Scalar,
+            Fixed::Scalar(_) => Kind::Scalar,
             Fixed::OrderBy | Fixed::TypeKind | Fixed::DirectiveLocation => Kind::Enum,
-            Fixed::BooleanComparison
-            | Fixed::IntComparison
-            | Fixed::StringComparison
-            | Fixed::BigintComparison => Kind::Input,
+            Fixed::Comparison(_) => Kind::Input,
             _ => Kind::Object,
         }
     }
@@ -110,41 +127,11 @@ impl Fixed {
         ensures { result ≡ fixed_origin self }
     {
         match self {
-            Fixed::Boolean => TypeOrigin::Scalar(Ty::Boolean),
-            Fixed::Int => TypeOrigin::Scalar(Ty::Integer),
-            Fixed::String => TypeOrigin::Scalar(Ty::Text),
-            Fixed::Bigint => TypeOrigin::Scalar(Ty::Bigint),
+            Fixed::Scalar(ty) => TypeOrigin::Scalar(ty),
             Fixed::OrderBy => TypeOrigin::Directions,
-            Fixed::BooleanComparison => TypeOrigin::Comparison(Ty::Boolean),
-            Fixed::IntComparison => TypeOrigin::Comparison(Ty::Integer),
-            Fixed::StringComparison => TypeOrigin::Comparison(Ty::Text),
-            Fixed::BigintComparison => TypeOrigin::Comparison(Ty::Bigint),
+            Fixed::Comparison(ty) => TypeOrigin::Comparison(ty),
             Fixed::QueryRoot => TypeOrigin::Query,
             _ => TypeOrigin::Introspection,
-        }
-    }
-
-    /// The scalar of a column's type.
-    pub fn scalar_of(ty: Ty) -> Fixed
-        ensures { result ≡ scalar_of ty }
-    {
-        match ty {
-            Ty::Integer => Fixed::Int,
-            Ty::Bigint => Fixed::Bigint,
-            Ty::Text => Fixed::String,
-            Ty::Boolean => Fixed::Boolean,
-        }
-    }
-
-    /// The comparisons of a column's type.
-    pub fn comparison_of(ty: Ty) -> Fixed
-        ensures { result ≡ comparison_of ty }
-    {
-        match ty {
-            Ty::Integer => Fixed::IntComparison,
-            Ty::Bigint => Fixed::BigintComparison,
-            Ty::Text => Fixed::StringComparison,
-            Ty::Boolean => Fixed::BooleanComparison,
         }
     }
 }

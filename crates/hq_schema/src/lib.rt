@@ -16,7 +16,7 @@ mod type_ref;
 pub use fixed::Fixed;
 pub use look::{arg_named, field_named};
 pub use named::{Named, NamedList};
-pub use origin::{ArgOrigin, FieldOrigin, Operator, TypeOrigin};
+pub use origin::{ArgOrigin, FieldOrigin, TypeOrigin};
 pub use part::Part;
 pub use schema::{
     ArgDef, ArgDefList, FieldDef, FieldDefList, Kind, Schema, TxtList, TypeDef, TypeDefList,

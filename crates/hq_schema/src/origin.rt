@@ -1,5 +1,5 @@
-use hq_base::Ty;
-use hq_terms::{ColId, Op, RelId, TableId};
+use hq_base::{Aggregate, Ty};
+use hq_terms::{ColId, Operator, RelId, TableId};
 
 /// What a type stands for. A table's types are those of its rows, of the inputs over them, and of their aggregates.
 #[derive(Clone, Copy)]
@@ -26,18 +26,14 @@ pub enum TypeOrigin {
     Aggregate(TableId),
     /// Those aggregates themselves.
     AggregateFields(TableId),
-    /// The greatest values of a table's columns.
-    Max(TableId),
-    /// The least ones.
-    Min(TableId),
-    /// The sums.
-    Sum(TableId),
+    /// What one aggregate gives of a table's columns.
+    Aggregated(Aggregate, TableId),
 }
 
 /// What a field of an object type stands for. Which type it leads to, its own type says.
 #[derive(Clone, Copy)]
 pub enum FieldOrigin {
-    /// A column of the rows, or its greatest value, its least or its sum.
+    /// A column of the rows, or what an aggregate gives of it.
     Column(ColId),
     /// The row behind an object relationship.
     Object(RelId),
@@ -57,9 +53,8 @@ pub enum FieldOrigin {
     Nodes,
     /// How many rows there are, or values of a column.
     Count,
-    Max,
-    Min,
-    Sum,
+    /// What an aggregate gives of the columns.
+    Aggregated(Aggregate),
     /// The text that there is nothing to query.
     NoQueries,
     /// `__typename`.
@@ -70,18 +65,6 @@ pub enum FieldOrigin {
     Type,
     /// A field of a type of introspection.
     Introspection,
-}
-
-/// An operator of a column.
-#[derive(Clone, Copy)]
-pub enum Operator {
-    Compare(Op),
-    /// `_in`, or `_nin` where negated.
-    Within { negated: bool },
-    /// `_is_null`.
-    NullTest,
-    /// `_like`; without regard to the case of A to Z where `fold`, and the opposite where negated.
-    Like { fold: bool, negated: bool },
 }
 
 /// What an argument or an input field stands for. Which type its value has, its own type says.

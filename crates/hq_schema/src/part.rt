@@ -2,10 +2,11 @@ ghost use Rattle.std.specs.Prelude.{◌≡◌, false};
 ghost use Rattle.hq_base.specs.Text.{has_zero};
 
 use crate::{Kind, TypeId, TypeOrigin};
+use hq_base::Aggregate;
 use hq_terms::TableId;
 
 /// The types of a table, in the order in which they stand in a schema: the rows, the filters and sorts over them, the columns,
-/// and the aggregates. A table that has fewer has the first ones.
+/// and the aggregates. A table that has fewer has none of some aggregates, or of none.
 #[derive(Clone, Copy)]
 pub enum Part {
     Rows,
@@ -14,29 +15,25 @@ pub enum Part {
     Columns,
     Aggregate,
     AggregateFields,
-    Max,
-    Min,
-    Sum,
+    /// What one aggregate gives of the columns.
+    Aggregated(Aggregate),
 }
 
 impl Part {
-    ghost use Rattle.hq_schema.specs.Parts.{all_parts, part_suffix, part_place, part_kind, part_origin};
+    ghost use Rattle.hq_schema.specs.Parts.{row_parts, aggregate_parts, part_offset, part_suffix, part_place, part_kind, part_origin};
 
-    /// All of them, in order.
-    pub fn all() -> [Part; 9]
-        ensures { result ≡ all_parts }
+    /// Those that each table has, in order.
+    pub fn of_rows() -> [Part; 4]
+        ensures { result ≡ row_parts }
     {
-        [
-            Part::Rows,
-            Part::Filter,
-            Part::Sort,
-            Part::Columns,
-            Part::Aggregate,
-            Part::AggregateFields,
-            Part::Max,
-            Part::Min,
-            Part::Sum,
-        ]
+        [Part::Rows, Part::Filter, Part::Sort, Part::Columns]
+    }
+
+    /// Those that a table has besides where it may be aggregated, before what single aggregates give.
+    pub fn of_aggregates() -> [Part; 2]
+        ensures { result ≡ aggregate_parts }
+    {
+        [Part::Aggregate, Part::AggregateFields]
     }
 
     /// What follows the table's name in the name of the type.
@@ -51,17 +48,31 @@ impl Part {
             Part::Columns => "_select_column",
             Part::Aggregate => "_aggregate",
             Part::AggregateFields => "_aggregate_fields",
-            Part::Max => "_max_fields",
-            Part::Min => "_min_fields",
-            Part::Sum => "_sum_fields",
+            Part::Aggregated(aggregate) => aggregate.type_suffix(),
         }
     }
 
-    /// Its place in a schema where the table's types begin at this place.
+    // How many of the table's types stand before it.
+    fn offset(self) -> usize
+        ensures { result ≡ part_offset self }
+    {
+        match self {
+            Part::Rows => 0,
+            Part::Filter => 1,
+            Part::Sort => 2,
+            Part::Columns => 3,
+            Part::Aggregate => 4,
+            Part::AggregateFields => 5,
+            Part::Aggregated(_) => 6,
+        }
+    }
+
+    /// Its place in a schema where the table's types begin at this place. What single aggregates give stands from one place
+    /// on, one behind the other.
     pub fn place(self, first: u32) -> TypeId
         ensures { result ≡ part_place first self }
     {
-        TypeId::new(first as usize + self as usize)
+        TypeId::new(first as usize + self.offset())
     }
 
     /// What it is.
@@ -86,9 +97,7 @@ impl Part {
             Part::Columns => TypeOrigin::Columns(table),
             Part::Aggregate => TypeOrigin::Aggregate(table),
             Part::AggregateFields => TypeOrigin::AggregateFields(table),
-            Part::Max => TypeOrigin::Max(table),
-            Part::Min => TypeOrigin::Min(table),
-            Part::Sum => TypeOrigin::Sum(table),
+            Part::Aggregated(aggregate) => TypeOrigin::Aggregated(aggregate, table),
         }
     }
 }

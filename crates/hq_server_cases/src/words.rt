@@ -31,7 +31,9 @@ fn push_command(command: &Command, out: &mut Words) {
             out.push_shown(n);
         }
         Command::Show { page: Page::Usage } => out.push("usage"),
-        Command::Show { page: Page::Version } => out.push("version"),
+        Command::Show {
+            page: Page::Version,
+        } => out.push("version"),
         Command::Serve {
             dir,
             port,

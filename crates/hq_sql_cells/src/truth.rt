@@ -66,12 +66,7 @@ fn text_matched(alloc: Global, fold: bool, text: &Txt, pattern: &Txt) -> Result<
 }
 
 // LIKE, and ILIKE where `fold`: Unknown where one side is NULL.
-fn matched(
-    alloc: Global,
-    fold: bool,
-    text: &Cell<'_>,
-    pattern: &Cell<'_>,
-) -> Result<Truth, Memory>
+fn matched(alloc: Global, fold: bool, text: &Cell<'_>, pattern: &Cell<'_>) -> Result<Truth, Memory>
     ensures { IfOk result (λ t. t ≡ matched fold (cell_view text.now) (cell_view pattern.now)) }
 {
     match (text, pattern) {

@@ -20,7 +20,7 @@ use hq_compile_summaries::needed;
 use hq_terms::{RelId, TableId};
 use std::alloc::Global;
 
-// How many entries count: with none in `order_by`, the distinct columns.
+// How many entries count at most: with none in `order_by`, the distinct columns.
 fn entry_count(args: &Args) -> usize
     ensures { result ≡ length (entries (arguments_view args.now)) }
 {

@@ -8,3 +8,4 @@ pub mod InOrder
 pub mod Enough
 pub mod Tops
 pub mod Loops
+pub mod Besides

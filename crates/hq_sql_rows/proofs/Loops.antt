@@ -1,5 +1,5 @@
 -- One step of a loop: what was made so far, and what comes of the next item.
-use Rattle.std.proofs.Common.{◌≡◌, ℕ, ◌+◌, ◌<◌, zero, suc, List, [], ◌∷◌, ◌++◌, length, get_or, sym, subst, arith}
+use Rattle.std.proofs.Common.{◌≡◌, ℕ, ◌<◌, zero, suc, List, [], ◌∷◌, ◌++◌, length, get_or, sym, subst, arith}
 pub use Rattle.hq_base.proofs.Loops.{grown, map_more}
 
 -- what holds of each, and of one more behind them

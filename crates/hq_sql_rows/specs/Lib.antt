@@ -6,6 +6,7 @@ pub mod Joined
 pub mod Single
 pub mod Keys
 pub mod Weight
+pub mod Resolved
 pub mod Equations
 pub mod Positions
 pub mod Ordered

@@ -3,8 +3,8 @@ use Rattle.std.specs.Prelude.{ℕ, List, [], ◌∷◌, map, Option, Some, None,
 use Rattle.std.specs.Global.{Vec}
 use Rattle.hq_base.specs.Cells.{CellTree}
 use Rattle.hq_sql_cells.specs.View.{cell_view}
-use Rattle.hq_sql_tree.specs.Tree.{JoinTrees, no_join, join}
-use Rattle.hq_sql_tree.specs.View.{select_view}
+use Rattle.hq_sql_tree.specs.Tree.{JoinTrees, no_join, join, joins_of}
+use Rattle.hq_sql_tree.specs.View.{join_view, select_view}
 use Rattle.hq_sql_tree.specs.Meaning.{NamedRow, Scope as Names, nothing, with_alias, named_row, World, rows_of}
 use Rattle.hq_sql_rows.specs.declared.row.Named.{Named}
 use Rattle.hq_sql_rows.specs.declared.row.Made.{Made}
@@ -18,7 +18,7 @@ use Rattle.hq_sql_rows.specs.declared.scope.Source.{Source}
 use Rattle.hq_sql_rows.specs.declared.scope.Source.TheVariants as source
 use Rattle.hq_sql_rows.specs.declared.scope.Group.{Group}
 use Rattle.hq_sql_rows.specs.declared.scope.Group.TheVariants.{Alone, Of}
-use Rattle.hq_sql_rows.specs.declared.scope.Scope.{Scope, Nothing, Bound', Later'}
+use Rattle.hq_sql_rows.specs.declared.scope.Scope.{Scope, Nothing, Bound', Later', Joined'}
 use Rattle.hq_sql_rows.specs.declared.place.Place.{Place}
 
 -- a cell with its name
@@ -56,23 +56,24 @@ abbrev pub first_row : List NamedRow → NamedRow
 first_row [] = []
 first_row (r ∷ rs) = r
 
--- what is in scope: a join that is put off has the first row of its select
-abbrev pub scope_of : Scope → World → Names
-scope_of Nothing world = nothing
-scope_of (Bound' alias row p outer) world = with_alias (scope_of outer world) alias.now (row_view row)
-scope_of (Later' alias select p outer) world = with_alias (scope_of outer world) alias.now (first_row (rows_of (select_view select.now) world (scope_of outer world)))
-
--- the rows that an aggregate is taken over, each with what is in scope around them
-abbrev pub group_of : Group → Names → List Names
-group_of Alone names = []
-group_of (Of alias rows) names = map (with_alias names alias.now) (map made_view rows.now)
-
 -- a row of joins, of which some have a row already, and those that are put off the first row of their select
 abbrev pub beside : JoinTrees → World → Names → List (Option NamedRow) → Names
 beside no_join world names rows = names
 beside (join select alias js) world names [] = beside js world (with_alias names alias (first_row (rows_of select world names))) []
 beside (join select alias js) world names (None ∷ rows) = beside js world (with_alias names alias (first_row (rows_of select world names))) rows
 beside (join select alias js) world names (Some r ∷ rows) = beside js world (with_alias names alias r) rows
+
+-- what is in scope: a join that is put off has the first row of its select
+abbrev pub scope_of : Scope → World → Names
+scope_of Nothing world = nothing
+scope_of (Bound' alias row p outer) world = with_alias (scope_of outer world) alias.now (row_view row)
+scope_of (Later' alias select p outer) world = with_alias (scope_of outer world) alias.now (first_row (rows_of (select_view select.now) world (scope_of outer world)))
+scope_of (Joined' joins rows p outer) world = beside (joins_of (map join_view joins.now)) world (scope_of outer world) (map (option_map made_view) rows.now)
+
+-- the rows that an aggregate is taken over, each with what is in scope around them
+abbrev pub group_of : Group → Names → List Names
+group_of Alone names = []
+group_of (Of alias rows) names = map (with_alias names alias.now) (map made_view rows.now)
 
 -- the rows of joins, of which some are put off
 abbrev pub joined_view : Vec (Option Made) → List (Option NamedRow)

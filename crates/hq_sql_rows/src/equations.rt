@@ -6,10 +6,11 @@ ghost use Rattle.hq_sql_cells.specs.View.{cell_view};
 ghost use Rattle.hq_sql_tree.specs.Tree.{joins_of, preds_of, test as tested, all_of};
 ghost use Rattle.hq_sql_tree.specs.View.{expr_view, join_view, pred_view};
 ghost use Rattle.hq_sql_tree.specs.Meaning.{World, value};
-ghost use Rattle.hq_sql_rows.specs.View.{row_view, scope_of};
+ghost use Rattle.hq_sql_rows.specs.View.{scope_of};
 ghost use Rattle.hq_sql_rows.specs.Equations.{is_joined, is_column, is_outer, key_cell, IsEquation, Forces, AsksCell, AsksKey};
 
-use crate::row::{Row, cell_at};
+use crate::resolved::{Resolved, resolve};
+use crate::row::cell_at;
 use crate::scope::Scope;
 use hq_base::{Memory, Txt};
 use hq_index::KeyCell;
@@ -125,37 +126,6 @@ fn forced_among<'d>(
     None
 }
 
-// The row of an alias in scope, where it is bound to one; None where it is of a join that is put off, or not in scope.
-fn bound_row<'s, 'd>(scope: &Scope<'s, 'd>, alias: &Txt) -> Option<Row<'s, 'd>>
-    ensures { IfSome result (λ row. (w : World) → (scope_of scope.now w) alias.now ≡ row_view row) }
-{
-    match scope {
-        Scope::Nothing => None,
-        Scope::Bound {
-            alias: bound,
-            row,
-            outer,
-        } => {
-            if **bound == *alias {
-                Some(*row)
-            } else {
-                bound_row(outer, alias)
-            }
-        }
-        Scope::Later {
-            alias: bound,
-            outer,
-            ..
-        } => {
-            if **bound == *alias {
-                None
-            } else {
-                bound_row(outer, alias)
-            }
-        }
-    }
-}
-
 fn key_cell<'d>(cell: Cell<'d>) -> KeyCell<'d>
     ensures { key_view result ≡ key_cell (cell_view cell.entry) }
 {
@@ -176,9 +146,9 @@ fn outer_cell<'d>(
     ensures { IfOk result (λ found. IfSome found (λ cell. (w : World) → key_view cell ≡ key_cell (value (expr_view expr.now) [] (scope_of scope.now w)))) }
 {
     match expr {
-        Expr::Column { alias, name, .. } => match bound_row(scope, alias) {
-            Some(row) => Ok(Some(key_cell(cell_at(alloc, row, name)?))),
-            None => Ok(None),
+        Expr::Column { alias, name, .. } => match resolve(*scope, alias) {
+            Resolved::Lent(row) => Ok(Some(key_cell(cell_at(alloc, row, name)?))),
+            Resolved::Missing | Resolved::First { .. } => Ok(None),
         },
         Expr::Int(n) => Ok(Some(KeyCell::Int(*n as i128))),
         Expr::Text(text) => Ok(Some(KeyCell::Text(text))),

@@ -11,6 +11,7 @@ pub mod pages;
 pub mod pinned;
 pub mod place;
 pub mod positions;
+pub mod resolved;
 pub mod row;
 pub mod scope;
 pub mod single;

@@ -129,7 +129,9 @@ fn in_pred(pred: &Pred, alias: &Txt) -> usize {
     match pred {
         Pred::True | Pred::False => 0,
         Pred::Test {
-            value, operands, ..
+            value,
+            operands,
+            ..
         } => in_expr(value, alias).saturating_add(in_exprs(operands, alias)),
         Pred::Not(inner) => in_pred(inner, alias),
         Pred::And(preds) | Pred::Or(preds) => in_preds(preds, alias),

@@ -1,7 +1,8 @@
 //! Rows that WHERE keeps, as places.
-ghost use Rattle.std.specs.Prelude.{◌≡◌, ◌∷◌, ◌++◌, map, Some, IfOk, OnOk, option_map};
+ghost use Rattle.std.specs.Prelude.{◌≡◌, ◌∷◌, ◌++◌, ◌<◌, map, Some, IfOk, OnOk, option_map, vec_len};
+ghost use Rattle.hq_sql_tree.specs.Meaning.{NamedRow};
 ghost use Rattle.hq_sql_rows.specs.View.{made_view, joined_view, place_of};
-ghost use Rattle.hq_sql_rows.specs.Joined.{put_off, first_joined, other_joined};
+ghost use Rattle.hq_sql_rows.specs.Joined.{put_off, put_joined, joined_at};
 
 use crate::row::Made;
 use hq_base::Memory;
@@ -99,22 +100,56 @@ pub fn with_none<'d>(alloc: Global, lists: Vec<Joined<'d>>) -> Result<Vec<Joined
     Ok(all)
 }
 
-/// The first entry, where it is a row.
-pub fn first_joined<'s, 'd>(joined: &'s [Option<Made<'d>>]) -> Option<&'s Made<'d>>
-    ensures { option_map (λ row. made_view row.now) result ≡ first_joined (map (option_map made_view) joined.now) }
+/// The row of the join of this number, counted from 0, where it has one.
+pub fn joined_at<'s, 'd>(joined: &'s [Option<Made<'d>>], at: usize) -> Option<&'s Made<'d>>
+    ensures { option_map (λ row. made_view row.now) result ≡ joined_at (map (option_map made_view) joined.now) at }
 {
-    match joined.first() {
+    match joined.get(at) {
         Some(Some(row)) => Some(row),
-        _ => None,
+        Some(None) => None,
+        None => None,
     }
 }
 
-/// The entries behind the first one.
-pub fn other_joined<'s, 'd>(joined: &'s [Option<Made<'d>>]) -> &'s [Option<Made<'d>>]
-    ensures { map (option_map made_view) result.now ≡ other_joined (map (option_map made_view) joined.now) }
+fn copy_row<'d>(alloc: Global, row: &Option<Made<'d>>) -> Result<Option<Made<'d>>, Memory>
+    ensures { IfOk result (λ copy. option_map made_view copy ≡ option_map made_view row.now) }
 {
-    if joined.is_empty() {
-        return joined;
+    match row {
+        Some(row) => Ok(Some(row.copy(alloc)?)),
+        None => Ok(None),
     }
-    &joined[1..]
+}
+
+/// Copies of rows of joins.
+pub fn copy_joined<'d>(alloc: Global, joined: &[Option<Made<'d>>]) -> Result<Joined<'d>, Memory>
+    ensures { IfOk result (λ copies. joined_view copies ≡ map (option_map made_view) joined.now) }
+{
+    let mut copies = Vec::with_capacity(alloc, joined.len())?;
+    for row in joined {
+        copies.push(copy_row(alloc, row)?)?;
+    }
+    Ok(copies)
+}
+
+// With a place for the join of this number: those that are added are put off.
+#[tactic(auto, using(crate::proofs::Besides::put_longer))]
+fn with_place<'d>(joined: Joined<'d>, at: usize) -> Result<Joined<'d>, Memory>
+    ensures long { IfOk result (λ all. at < vec_len all) }
+    ensures same { IfOk result (λ all. (row : NamedRow) → put_joined (joined_view all) at row ≡ put_joined (joined_view joined.entry) at row) }
+{
+    let mut all = joined;
+    while all.len() <= at {
+        all.push(None)?;
+    }
+    Ok(all)
+}
+
+/// Gives the join of this number, counted from 0, its row.
+#[tactic(auto, using(crate::proofs::Besides::put_set))]
+pub fn put_joined<'d>(joined: Joined<'d>, at: usize, row: Made<'d>) -> Result<Joined<'d>, Memory>
+    ensures { IfOk result (λ all. joined_view all ≡ put_joined (joined_view joined.entry) at (made_view row.entry)) }
+{
+    let mut all = with_place(joined, at)?;
+    all[at] = Some(row);
+    Ok(all)
 }

@@ -10,12 +10,13 @@ use crate::pinned::Pinned;
 use crate::row::{Made, Named, Row};
 use crate::stored::Stored;
 use hq_base::{Txt, Val};
-use hq_sql_tree::{From, Select};
+use hq_sql_tree::{From, Join, Select};
 use hq_tables::Rows;
 use hq_terms::Table;
 
 /// The aliases in scope, the innermost first, each with its row. The row of a join that is put off is the first one of its
-/// select, which is evaluated where a column of it is asked for.
+/// select, which is evaluated where a column of it is asked for. Joins that stand beside one another, of which the last one is
+/// the innermost, are in scope with the rows that they have; those without one are put off.
 #[derive(Clone, Copy)]
 pub enum Scope<'s, 'd> {
     Nothing,
@@ -27,6 +28,11 @@ pub enum Scope<'s, 'd> {
     Later {
         alias: &'d Txt,
         select: &'d Select,
+        outer: &'s Scope<'s, 'd>,
+    },
+    Joined {
+        joins: &'d [Join],
+        rows: &'s [Option<Made<'d>>],
         outer: &'s Scope<'s, 'd>,
     },
 }

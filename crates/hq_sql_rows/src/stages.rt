@@ -1,9 +1,13 @@
 //! When the joins of a select are evaluated. Any choice gives the same rows.
-ghost use Rattle.std.specs.Prelude.{◌≡◌, true};
+ghost use Rattle.std.specs.Prelude.{◌≡◌, true, None, map, option_map};
 ghost use Rattle.hq_sql_tree.specs.View.{select_view};
+ghost use Rattle.hq_sql_rows.specs.Joined.{joined_at};
 ghost use Rattle.hq_sql_rows.specs.Single.{is_single};
+ghost use Rattle.hq_sql_rows.specs.View.{made_view};
 
 use crate::mentions::{in_exprs, in_filter, in_orders, in_outs, in_select};
+use crate::place::joined_at;
+use crate::row::Made;
 use crate::single::is_single;
 use hq_base::{Memory, Txt};
 use hq_sql_tree::{ExprList, Join, OrderList, OutList, Pred, Select};
@@ -71,6 +75,18 @@ pub fn is_put_off(stage: Stage, select: &Select) -> bool
     ensures { result ≡ true → is_single (select_view select.now) ≡ true }
 {
     stage != Stage::Filter && is_single(select)
+}
+
+/// Whether the join of this number, counted from 0, is put off so far and evaluated behind LIMIT.
+pub fn is_due(stages: &[Stage], joined: &[Option<Made<'_>>], at: usize) -> bool
+    ensures { result ≡ true → joined_at (map (option_map made_view) joined.now) at ≡ None }
+{
+    stages.get(at) == Some(&Stage::Outputs) && joined_at(joined, at).is_none()
+}
+
+/// Whether one of the joins is evaluated behind LIMIT.
+pub fn has_due(stages: &[Stage]) -> bool {
+    stages.contains(&Stage::Outputs)
 }
 
 /// The first stage, and the rest.

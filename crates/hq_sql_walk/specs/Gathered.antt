@@ -3,7 +3,7 @@ use Rattle.std.specs.Prelude.{◌≡◌, List, map, filter, flat_map, Option, op
 use Rattle.std.specs.Global.{Vec}
 use Rattle.hq_sql_tree.specs.declared.select.Join.{Join}
 use Rattle.hq_sql_tree.specs.declared.select.Pred.{Pred}
-use Rattle.hq_sql_tree.specs.Meaning.{Scope as Names, with_alias, joined, kept, rows_of}
+use Rattle.hq_sql_tree.specs.Meaning.{NamedRow, Scope as Names, with_alias, joined, kept, rows_of}
 use Rattle.hq_sql_tree.specs.Tree.{JoinTrees, joins_of}
 use Rattle.hq_sql_tree.specs.View.{filter_view, join_view}
 use Rattle.hq_sql_rows.specs.Joined.{join_in}
@@ -24,14 +24,13 @@ first_join j js = join_in (join_view j) (joins_view js)
 abbrev pub names_beside : Join → Made → Pinned → Scope → Names
 names_beside j row world scope = with_alias (names_of scope world) (join_view j).alias (made_view row)
 
--- what is in scope where a join has the first row of its select
-abbrev pub names_behind : Join → Pinned → Scope → Names
-names_behind j world scope =
-    with_alias (names_of scope world) (join_view j).alias (first_row (rows_of (join_view j).select (world_of world) (names_of scope world)))
-
 -- what is in scope at a row of joins, of which some are put off
 abbrev pub names_joined : List Join → List (Option Made) → Pinned → Names → Names
 names_joined js rows world names = beside (joins_view js) (world_of world) names (map (option_map made_view) rows)
+
+-- the first row of a join in this scope
+abbrev pub first_beside : Join → Names → Pinned → NamedRow
+first_beside j names world = first_row (rows_of (join_view j).select (world_of world) names)
 
 -- the rows of joins that WHERE keeps
 abbrev pub kept_joins : JoinTrees → Option Pred → Pinned → Names → List Names

@@ -1,4 +1,3 @@
-pub mod Asked
 pub mod Gathered
 pub mod Selected
 pub mod Costs

@@ -1,25 +1,22 @@
 //! The rows of lateral joins, and what is taken at them.
 ghost use Rattle.std.specs.Prelude.{◌≡◌, true, map, IfOk};
-ghost use Rattle.hq_sql_cells.specs.View.{cell_view};
 ghost use Rattle.hq_sql_tree.specs.Tree.{no_join};
 ghost use Rattle.hq_sql_tree.specs.View.{out_view, join_view};
 ghost use Rattle.hq_sql_rows.specs.Keys.{outputs_of};
 ghost use Rattle.hq_sql_rows.specs.Single.{is_single};
 ghost use Rattle.hq_sql_rows.specs.View.{made_view, names_of};
-ghost use Rattle.hq_sql_walk.specs.Asked.{asked_values};
-ghost use Rattle.hq_sql_walk.specs.Gathered.{Gathers, Spreads, first_join, joins_view, names_behind, names_beside, names_joined};
+ghost use Rattle.hq_sql_walk.specs.Gathered.{Gathers, Spreads, first_beside, first_join, joins_view, names_beside, names_joined};
 
 use crate::clauses::{first, rows};
 use crate::truths::kept;
-use crate::values::{keys, value, values};
+use crate::values::value;
 use hq_base::Memory;
-use hq_sql_cells::Cell;
 use hq_sql_rows::pinned::Pinned;
-use hq_sql_rows::place::{Joined, add_lists, first_joined, other_joined, with_none, with_row};
+use hq_sql_rows::place::{Joined, add_lists, copy_joined, put_joined, with_none, with_row};
 use hq_sql_rows::row::{Made, Named, Row, or_null_row};
 use hq_sql_rows::scope::{Group, Scope};
-use hq_sql_rows::stages::{Stage, first_stage, is_put_off};
-use hq_sql_tree::{ExprList, Join, OrderList, OutList, Pred};
+use hq_sql_rows::stages::{Stage, first_stage, has_due, is_due, is_put_off};
+use hq_sql_tree::{Join, OutList, Pred};
 use std::alloc::Global;
 
 /// Of each row of the joins that WHERE keeps, which rows the joins have in it.
@@ -153,52 +150,46 @@ fn gather_beside<'d>(
     gather(alloc, rest, stages, filter, world, &at)
 }
 
-/// What is asked of a row that is kept: its sort keys, or its values of DISTINCT ON.
-#[derive(Clone, Copy)]
-pub enum Asked<'d> {
-    Keys(&'d OrderList),
-    Values(&'d ExprList),
-}
-
-/// What is asked, at the row with these rows of the joins.
+// The first row of a join, beside those before it.
 #[cycle(eval)]
-pub fn asked_at<'d>(
+fn first_beside<'d>(
     alloc: Global,
-    asked: Asked<'d>,
-    joins: &'d [Join],
+    join: &'d Join,
+    before: &'d [Join],
     joined: &[Option<Made<'d>>],
     world: &Pinned<'d>,
     scope: &Scope<'_, 'd>,
-) -> Result<Vec<Cell<'d>>, Memory>
-    ensures { IfOk result (λ cells. map cell_view cells.items ≡ asked_values asked.entry (names_joined joins.now joined.now world.now (names_of scope.now world.now))) }
+) -> Result<Made<'d>, Memory>
+    ensures { IfOk result (λ row. made_view row ≡ first_beside join.now (names_joined before.now joined.now world.now (names_of scope.now world.now)) world.now) }
 {
-    match joins.split_first() {
-        None => match asked {
-            Asked::Keys(order) => keys(alloc, order, world, scope),
-            Asked::Values(exprs) => values(alloc, exprs, world, scope),
-        },
-        Some((join, rest)) => {
-            let others = other_joined(joined);
-            match first_joined(joined) {
-                Some(row) => {
-                    let at = Scope::Bound {
-                        alias: &join.alias,
-                        row: Row::Made { cells: &row.cells },
-                        outer: &*scope,
-                    };
-                    asked_at(alloc, asked, rest, others, world, &at)
-                }
-                None => {
-                    let at = Scope::Later {
-                        alias: &join.alias,
-                        select: &join.select,
-                        outer: &*scope,
-                    };
-                    asked_at(alloc, asked, rest, others, world, &at)
-                }
-            }
+    let at = Scope::Joined {
+        joins: before,
+        rows: joined,
+        outer: &*scope,
+    };
+    first(alloc, &join.select, world, &at)
+}
+
+/// Copies of these rows of joins, beside those of the joins that are evaluated behind LIMIT. What is in scope stays the same.
+#[cycle(eval)]
+pub fn with_due<'d>(
+    alloc: Global,
+    joins: &'d [Join],
+    stages: &[Stage],
+    joined: &[Option<Made<'d>>],
+    world: &Pinned<'d>,
+    scope: &Scope<'_, 'd>,
+) -> Result<Joined<'d>, Memory>
+    ensures { IfOk result (λ all. names_joined joins.now all.items world.now (names_of scope.now world.now) ≡ names_joined joins.now joined.now world.now (names_of scope.now world.now)) }
+{
+    let mut all = copy_joined(alloc, joined)?;
+    for (at, join) in joins.iter().enumerate() {
+        if is_due(stages, &all, at) {
+            let row = first_beside(alloc, join, &joins[..at], &all, world, scope)?;
+            all = put_joined(all, at, row)?;
         }
     }
+    Ok(all)
 }
 
 /// The outputs at the row with these rows of the joins.
@@ -214,58 +205,31 @@ pub fn outputs_at<'d>(
 ) -> Result<Made<'d>, Memory>
     ensures { IfOk result (λ made. made_view made ≡ outputs_of (map out_view outs.now.items) (names_joined joins.now joined.now world.now (names_of scope.now world.now))) }
 {
-    match joins.split_first() {
-        None => outputs(alloc, outs, world, scope),
-        Some((join, rest)) => {
-            let (stage, stages) = first_stage(stages);
-            let others = other_joined(joined);
-            match first_joined(joined) {
-                Some(row) => {
-                    let at = Scope::Bound {
-                        alias: &join.alias,
-                        row: Row::Made { cells: &row.cells },
-                        outer: &*scope,
-                    };
-                    outputs_at(alloc, outs, rest, stages, others, world, &at)
-                }
-                None => outputs_put_off(
-                    alloc, outs, join, rest, stage, stages, others, world, scope,
-                ),
-            }
-        }
+    if has_due(stages) {
+        let all = with_due(alloc, joins, stages, joined, world, scope)?;
+        return outputs_beside(alloc, outs, joins, &all, world, scope);
     }
+    outputs_beside(alloc, outs, joins, joined, world, scope)
 }
 
-// The same where the first join is put off so far.
+// The same where all joins are evaluated that are to be before the outputs.
 #[cycle(eval)]
-fn outputs_put_off<'d>(
+fn outputs_beside<'d>(
     alloc: Global,
     outs: &'d OutList,
-    join: &'d Join,
-    rest: &'d [Join],
-    stage: Stage,
-    stages: &[Stage],
-    others: &[Option<Made<'d>>],
+    joins: &'d [Join],
+    joined: &[Option<Made<'d>>],
     world: &Pinned<'d>,
     scope: &Scope<'_, 'd>,
 ) -> Result<Made<'d>, Memory>
-    ensures { IfOk result (λ made. made_view made ≡ outputs_of (map out_view outs.now.items) (names_joined rest.now others.now world.now (names_behind join.now world.now scope.now))) }
+    ensures { IfOk result (λ made. made_view made ≡ outputs_of (map out_view outs.now.items) (names_joined joins.now joined.now world.now (names_of scope.now world.now))) }
 {
-    if stage == Stage::Outputs {
-        let row = first(alloc, &join.select, world, scope)?;
-        let at = Scope::Bound {
-            alias: &join.alias,
-            row: Row::Made { cells: &row.cells },
-            outer: &*scope,
-        };
-        return outputs_at(alloc, outs, rest, stages, others, world, &at);
-    }
-    let at = Scope::Later {
-        alias: &join.alias,
-        select: &join.select,
+    let at = Scope::Joined {
+        joins,
+        rows: joined,
         outer: &*scope,
     };
-    outputs_at(alloc, outs, rest, stages, others, world, &at)
+    outputs(alloc, outs, world, &at)
 }
 
 #[cycle(eval)]

@@ -11,6 +11,7 @@ mod truths;
 mod values;
 
 pub use clauses::{first, made_of, rows};
+pub use joins::with_due;
 pub use pages::{page, page_sorted};
 pub use scans::{Piece, any_row, scan_from};
 pub use truths::truth;

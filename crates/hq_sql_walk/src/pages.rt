@@ -8,8 +8,8 @@ ghost use Rattle.hq_sql_rows.specs.View.{source_view, names_of};
 ghost use Rattle.hq_sql_walk.specs.Gathered.{names_joined};
 ghost use Rattle.hq_sql_walk.specs.Selected.{Arranges, Pages, PagesFront, keyed_in, scope_at};
 
-use crate::joins::{Asked, asked_at};
 use crate::scans::scan_from;
+use crate::values::{keys, values};
 use hq_base::{Memory, Txt};
 use hq_sql_cells::{Kept, paged};
 use hq_sql_rows::cells::arranged;
@@ -250,16 +250,13 @@ fn with_keys<'d>(
 ) -> Result<Kept<'d, Place<'d>>, Memory>
     ensures { IfOk result (λ kept. with_cells kept ≡ keyed_in order.now.items distinct.now.items (names_joined joins.now place.entry.joined.items world.now (names_of scope.now world.now)) place.entry) }
 {
-    let keys = asked_at(
-        alloc,
-        Asked::Keys(order),
+    let at = Scope::Joined {
         joins,
-        &place.joined,
-        world,
-        scope,
-    )?;
-    let values = Asked::Values(distinct);
-    let distinct = asked_at(alloc, values, joins, &place.joined, world, scope)?;
+        rows: &place.joined,
+        outer: &*scope,
+    };
+    let keys = keys(alloc, order, world, &at)?;
+    let distinct = values(alloc, distinct, world, &at)?;
     Ok(Kept {
         keys,
         distinct,

@@ -13,14 +13,15 @@ use hq_base::{Json, Member, Memory, Txt};
 use hq_sql_cells::Cell;
 use hq_sql_rows::cells::over_none;
 use hq_sql_rows::pinned::Pinned;
+use hq_sql_rows::resolved::{Resolved, resolve};
 use hq_sql_rows::row::{cell_at, cell_taken};
 use hq_sql_rows::scope::{Group, Scope};
 use hq_sql_tree::{Expr, ExprList, ExprPairList, OrderList};
 use std::alloc::Global;
 
-/// The cell of a column of an alias.
+// The cell of a column of an alias.
 #[cycle(eval)]
-pub fn column_cell<'d>(
+fn column_cell<'d>(
     alloc: Global,
     world: &Pinned<'d>,
     scope: &Scope<'_, 'd>,
@@ -29,29 +30,12 @@ pub fn column_cell<'d>(
 ) -> Result<Cell<'d>, Memory>
     ensures { IfOk result (λ cell. cell_view cell ≡ cell_named ((names_of scope.now world.now) alias.now) name.now) }
 {
-    match scope {
-        Scope::Nothing => Ok(Cell::Null),
-        Scope::Bound {
-            alias: bound,
-            row,
-            outer,
-        } => {
-            if **bound == *alias {
-                cell_at(alloc, *row, name)
-            } else {
-                column_cell(alloc, world, outer, alias, name)
-            }
-        }
-        Scope::Later {
-            alias: bound,
-            select,
-            outer,
-        } => {
-            if **bound == *alias {
-                Ok(cell_taken(first(alloc, select, world, outer)?, name))
-            } else {
-                column_cell(alloc, world, outer, alias, name)
-            }
+    match resolve(*scope, alias) {
+        Resolved::Missing => Ok(Cell::Null),
+        Resolved::Lent(row) => cell_at(alloc, row, name),
+        Resolved::First { select, scope } => {
+            let row = first(alloc, select, world, &scope)?;
+            Ok(cell_taken(row, name))
         }
     }
 }

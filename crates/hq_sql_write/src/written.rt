@@ -3,7 +3,7 @@ ghost use Rattle.std.specs.Prelude.{◌≡◌, ◌++◌, [], map, OnOk};
 ghost use Rattle.hq_sql_tree.specs.View.{expr_view, pair_view, select_view};
 ghost use Rattle.hq_sql_tree.specs.Meaning.{rows_of};
 ghost use Rattle.hq_sql_rows.specs.View.{first_row, world_of, names_of};
-ghost use Rattle.hq_sql_walk.specs.Gathered.{names_behind, names_joined};
+ghost use Rattle.hq_sql_walk.specs.Gathered.{names_joined};
 ghost use Rattle.hq_sql_write.specs.Placed.{names_there, found_in};
 ghost use Rattle.hq_sql_write.specs.Selected.{page_at, scopes_in};
 ghost use Rattle.hq_sql_write.specs.Texts.{cell_text, text_of, pairs_text, texts_of, more_texts, first_text, wanted_text, lent_fold};
@@ -16,13 +16,14 @@ use crate::places::{
 };
 use hq_base::{Bytes, Memory, Txt, put_quoted};
 use hq_sql_rows::pinned::Pinned;
-use hq_sql_rows::place::{Place, first_joined, other_joined};
+use hq_sql_rows::place::Place;
 use hq_sql_rows::positions::{Positions, number_of};
-use hq_sql_rows::row::{Made, Row, cell_at};
+use hq_sql_rows::resolved::{Resolved, resolve};
+use hq_sql_rows::row::{Made, cell_at};
 use hq_sql_rows::scope::{Group, Scope, row_at};
-use hq_sql_rows::stages::{Parts, Stage, first_stage, stages};
+use hq_sql_rows::stages::{Parts, has_due, stages};
 use hq_sql_tree::{Expr, ExprPairList, Join, Pred, Select};
-use hq_sql_walk::{first, made_of, value};
+use hq_sql_walk::{made_of, value, with_due};
 use std::alloc::Global;
 
 /// The JSON of an expression in its scope.
@@ -82,31 +83,13 @@ fn write_column<'d>(
 ) -> Result<(), Memory>
     ensures { OnOk result (out.new ≡ out.old ++ cell_text ((names_of scope.now world.now) alias.now) name.now) }
 {
-    match scope {
-        Scope::Nothing => out.append(b"null"),
-        Scope::Bound {
-            alias: bound,
-            row,
-            outer,
-        } => {
-            if **bound == *alias {
-                let cell = cell_at(alloc, *row, name)?;
-                put_cell(alloc, out, &cell)
-            } else {
-                write_column(alloc, alias, name, world, outer, out)
-            }
+    match resolve(*scope, alias) {
+        Resolved::Missing => out.append(b"null"),
+        Resolved::Lent(row) => {
+            let cell = cell_at(alloc, row, name)?;
+            put_cell(alloc, out, &cell)
         }
-        Scope::Later {
-            alias: bound,
-            select,
-            outer,
-        } => {
-            if **bound == *alias {
-                write_output(alloc, select, name, world, outer, out)
-            } else {
-                write_column(alloc, alias, name, world, outer, out)
-            }
-        }
+        Resolved::First { select, scope } => write_output(alloc, select, name, world, &scope, out),
     }
 }
 
@@ -321,9 +304,7 @@ pub fn write_place<'d>(
         row: row_at(placed.source, place.position),
         outer: &*scope,
     };
-    let stages = placed.stages;
-    let joined = place.joined.as_slice();
-    write_at(alloc, expr, placed.joins, stages, joined, world, &at, out)
+    write_at(alloc, expr, placed, &place.joined, world, &at, out)
 }
 
 // An expression at the row with these rows of the joins.
@@ -331,8 +312,27 @@ pub fn write_place<'d>(
 fn write_at<'d>(
     alloc: Global,
     expr: &'d Expr,
+    placed: &Placed<'_, 'd>,
+    joined: &[Option<Made<'d>>],
+    world: &Pinned<'d>,
+    scope: &Scope<'_, 'd>,
+    out: &mut Bytes,
+) -> Result<(), Memory>
+    ensures { OnOk result (out.new ≡ out.old ++ text_of (expr_view expr.now) (names_joined placed.now.joins.now joined.now world.now (names_of scope.now world.now))) }
+{
+    if has_due(placed.stages) {
+        let all = with_due(alloc, placed.joins, placed.stages, joined, world, scope)?;
+        return write_beside(alloc, expr, placed.joins, &all, world, scope, out);
+    }
+    write_beside(alloc, expr, placed.joins, joined, world, scope, out)
+}
+
+// The same where all joins are evaluated that are to be before the outputs.
+#[cycle(write)]
+fn write_beside<'d>(
+    alloc: Global,
+    expr: &'d Expr,
     joins: &'d [Join],
-    stages: &[Stage],
     joined: &[Option<Made<'d>>],
     world: &Pinned<'d>,
     scope: &Scope<'_, 'd>,
@@ -340,57 +340,10 @@ fn write_at<'d>(
 ) -> Result<(), Memory>
     ensures { OnOk result (out.new ≡ out.old ++ text_of (expr_view expr.now) (names_joined joins.now joined.now world.now (names_of scope.now world.now))) }
 {
-    match joins.split_first() {
-        None => write_value(alloc, expr, world, scope, out),
-        Some((join, rest)) => {
-            let (stage, stages) = first_stage(stages);
-            let others = other_joined(joined);
-            match first_joined(joined) {
-                Some(row) => {
-                    let at = Scope::Bound {
-                        alias: &join.alias,
-                        row: Row::Made { cells: &row.cells },
-                        outer: &*scope,
-                    };
-                    write_at(alloc, expr, rest, stages, others, world, &at, out)
-                }
-                None => write_put_off(
-                    alloc, expr, join, rest, stage, stages, others, world, scope, out,
-                ),
-            }
-        }
-    }
-}
-
-// The same where the first join is put off so far.
-#[cycle(write)]
-fn write_put_off<'d>(
-    alloc: Global,
-    expr: &'d Expr,
-    join: &'d Join,
-    rest: &'d [Join],
-    stage: Stage,
-    stages: &[Stage],
-    others: &[Option<Made<'d>>],
-    world: &Pinned<'d>,
-    scope: &Scope<'_, 'd>,
-    out: &mut Bytes,
-) -> Result<(), Memory>
-    ensures { OnOk result (out.new ≡ out.old ++ text_of (expr_view expr.now) (names_joined rest.now others.now world.now (names_behind join.now world.now scope.now))) }
-{
-    if stage == Stage::Outputs {
-        let row = first(alloc, &join.select, world, scope)?;
-        let at = Scope::Bound {
-            alias: &join.alias,
-            row: Row::Made { cells: &row.cells },
-            outer: &*scope,
-        };
-        return write_at(alloc, expr, rest, stages, others, world, &at, out);
-    }
-    let at = Scope::Later {
-        alias: &join.alias,
-        select: &join.select,
+    let at = Scope::Joined {
+        joins,
+        rows: joined,
         outer: &*scope,
     };
-    write_at(alloc, expr, rest, stages, others, world, &at, out)
+    write_value(alloc, expr, world, &at, out)
 }

@@ -11,3 +11,4 @@ pub mod Keys
 pub mod NextRows
 pub mod Valid
 pub mod Indexed
+pub mod Apart

@@ -15,19 +15,19 @@ use Rattle.hq_base.specs.Due.{and_then, mapped}
 use Rattle.hq_base.specs.Lists.{Each, all_differ}
 use Rattle.hq_base.specs.Refused.{text_of}
 use Rattle.hq_base.specs.declared.txt.TxtRefusal.{TxtRefusal}
-use Rattle.hq_base.specs.declared.value.Ty.{Ty}
-use Rattle.hq_base.specs.declared.value.Ty.TheVariants.{Integer, Bigint, Text, Boolean}
 use Rattle.hq_base.specs.declared.value.Val.{Val}
 use Rattle.hq_base.specs.declared.value.Val.TheVariants as val
-use Rattle.hq_terms.specs.Database.{Row, are_rows, int_fits, key_of, row_fits, same_values, value_fits}
-use Rattle.hq_terms.specs.Reading.{is_whole_number, truth_value, whole_number}
+use Rattle.hq_terms.specs.Database.{Row, are_rows, key_of, row_fits, same_values, value_fits}
+use Rattle.hq_terms.specs.Filters.{constant_fits}
+use Rattle.hq_terms.specs.Reading.{read_as}
+use Rattle.hq_terms.specs.declared.want.Want.{Want}
+use Rattle.hq_terms.proofs.Fitting.{read_fits}
 use Rattle.hq_terms.specs.declared.table.Column.{Column}
 use Rattle.hq_terms.specs.declared.table.Table.{Table}
-use Rattle.hq_tables.specs.Field.{field_due, field_text, null_due, null_field, typed_due, value_due}
+use Rattle.hq_tables.specs.Field.{field_due, field_text, null_due, null_field, value_read, typed_due, value_due}
 use Rattle.hq_tables.specs.Header.{columns_named, header_due, in_catalog_order, names_differ, value_named}
 use Rattle.hq_tables.specs.Load.{fields_due, line_of_key, placed, record_due, row_due, rows_due, unless_repeated}
 use Rattle.hq_tables.specs.declared.field.FieldRefusal.{FieldRefusal}
-use Rattle.hq_tables.specs.declared.field.FieldRefusal.TheVariants.{NotBoolean, NotInteger}
 use Rattle.hq_tables.specs.declared.load.refusal.LoadRefusal.{LoadRefusal}
 use Rattle.hq_tables.specs.declared.load.refusal.LoadRefusal.TheVariants.{Width}
 use Rattle.hq_tables.proofs.Placed.{head_of, is_some-position_from}
@@ -70,25 +70,20 @@ null_fits c v e = by c.nullable refl e
     by true is e = let here : val.Null ≡ v = cc in rw (← here) is
     by false is e = cc
 
--- a number that is taken is in the range of its type
-number_fits : (ty : Ty) (s : List ℕ) (v : Val) → ok_or (option_map val.Int (whole_number ty s)) NotInteger ≡ Ok v → (n : ℤ) × (v ≡ val.Int n) × (int_fits ty n ≡ true)
-number_fits ty s v e = by (is_whole_number s && int_fits ty (signed_digits_value 10 s)) refl e
+-- a constant of the column's type fits the column
+constant_value : (c : Column) (v : Val) → constant_fits c.ty v ≡ true → value_fits c v ≡ true
+constant_value c val.Null h = cc
+constant_value c (val.Int n) h = h
+constant_value c (val.Text s) h = h
+constant_value c (val.Bool b) h = h
+
+-- a value that is read by the column's type fits it
+typed_fits : (c : Column) (s : List ℕ) (v : Val) → typed_due c.ty s ≡ Ok v → value_fits c v ≡ true
+typed_fits c s v e = by (read_as c.ty s) refl e
   where
-    by : (b : Bool) → (is_whole_number s && int_fits ty (signed_digits_value 10 s)) ≡ b → ok_or (option_map val.Int (cond b (Some (signed_digits_value 10 s)) None)) NotInteger ≡ Ok v → (n : ℤ) × (v ≡ val.Int n) × (int_fits ty n ≡ true)
-    by true is e = (signed_digits_value 10 s, cc, (and_parts (is_whole_number s) (int_fits ty (signed_digits_value 10 s)) is).1)
-    by false is e = cc
-
--- a truth value that is taken is one
-boolean_of : (o : Option Bool) (v : Val) → ok_or (option_map val.Bool o) NotBoolean ≡ Ok v → (b : Bool) × (v ≡ val.Bool b)
-boolean_of None v e = cc
-boolean_of (Some b) v e = (b, cc)
-
--- a value that is read by type is of this type
-typed_fits : (ty : Ty) (s : List ℕ) (v : Val) → typed_due ty s ≡ Ok v → (c : Column) → c.ty ≡ ty → value_fits c v ≡ true
-typed_fits Integer s v e c is = let n = number_fits Integer s v e in rw (n.1, is) n.2
-typed_fits Bigint s v e c is = let n = number_fits Bigint s v e in rw (n.1, is) n.2
-typed_fits Text s v e c is = let here : val.Text s ≡ v = cc in rw (← here, is) refl
-typed_fits Boolean s v e c is = let b = boolean_of (truth_value s) v e in rw (b.1, is) refl
+    by : (r : Result Val Want) → read_as c.ty s ≡ r → value_read r ≡ Ok v → value_fits c v ≡ true
+    by (Ok w) is e = let same : w ≡ v = cc in constant_value c v (read_fits c.ty s v (is ∙ ap Ok same))
+    by (Err wanted) is e = cc
 
 -- the value of a text fits its column
 value_due-fits : (c : Column) (s : List ℕ) (v : Val) → value_due c s ≡ Ok v → value_fits c v ≡ true
@@ -96,7 +91,7 @@ value_due-fits c s v e = by (bytes_eq s null_field) e
   where
     by : (b : Bool) → cond b (null_due c.nullable) (typed_due c.ty s) ≡ Ok v → value_fits c v ≡ true
     by true e = null_fits c v e
-    by false e = typed_fits c.ty s v e c refl
+    by false e = typed_fits c s v e
 
 -- the value of a field fits its column
 field_due-fits : (c : Column) (f : List ℕ) (v : Val) → field_due c f ≡ Ok v → value_fits c v ≡ true

@@ -1,15 +1,16 @@
 -- A field of a table file, as a value of its column (PostgreSQL, COPY with FORMAT csv and NULL '\N').
-use Rattle.std.specs.Prelude.{ℕ, List, Bool, Result, Ok, Err, ok_or, option_map, bytes_eq, codes, if◌then◌else◌}
+use Rattle.std.specs.Prelude.{ℕ, List, Bool, Result, Ok, Err, bytes_eq, codes, if◌then◌else◌}
 use Rattle.hq_base.specs.Due.{and_then}
 use Rattle.hq_base.specs.Refused.{text_of}
 use Rattle.hq_base.specs.declared.txt.TxtRefusal.{TxtRefusal}
 use Rattle.hq_base.specs.declared.txt.TxtRefusal.TheVariants as txt
 use Rattle.hq_base.specs.declared.value.Ty.{Ty}
-use Rattle.hq_base.specs.declared.value.Ty.TheVariants.{Integer, Bigint, Text, Boolean}
 use Rattle.hq_base.specs.declared.value.Val.{Val}
 use Rattle.hq_base.specs.declared.value.Val.TheVariants as val
-use Rattle.hq_terms.specs.Reading.{truth_value, whole_number}
+use Rattle.hq_terms.specs.Reading.{read_as}
 use Rattle.hq_terms.specs.declared.table.Column.{Column}
+use Rattle.hq_terms.specs.declared.want.Want.{Want}
+use Rattle.hq_terms.specs.declared.want.Want.TheVariants.{Boolean}
 use Rattle.hq_tables.specs.declared.field.FieldRefusal.{FieldRefusal}
 use Rattle.hq_tables.specs.declared.field.FieldRefusal.TheVariants.{NotUtf8, ZeroByte, NotInteger, NotBoolean, NullInNotNull, Memory}
 
@@ -32,12 +33,19 @@ field_text (Err e) = Err (field_refusal e)
 abbrev pub null_due : (nullable : Bool) → Result Val FieldRefusal
 null_due nullable = if nullable then Ok val.Null else Err NullInNotNull
 
+-- why a text is no value, by what it is not
+abbrev pub not_read : Want → FieldRefusal
+not_read Boolean = NotBoolean
+not_read _ = NotInteger
+
+-- a value that was read
+abbrev pub value_read : Result Val Want → Result Val FieldRefusal
+value_read (Ok v) = Ok v
+value_read (Err wanted) = Err (not_read wanted)
+
 -- a text as a value of the type; a text column takes it as it stands
 abbrev pub typed_due : Ty → List ℕ → Result Val FieldRefusal
-typed_due Integer s = ok_or (option_map val.Int (whole_number Integer s)) NotInteger
-typed_due Bigint s = ok_or (option_map val.Int (whole_number Bigint s)) NotInteger
-typed_due Text s = Ok (val.Text s)
-typed_due Boolean s = ok_or (option_map val.Bool (truth_value s)) NotBoolean
+typed_due ty s = value_read (read_as ty s)
 
 -- a text as a value of the column: NULL, or a value of its type
 abbrev pub value_due : Column → List ℕ → Result Val FieldRefusal

@@ -11,3 +11,4 @@ pub mod Keys
 pub mod Readers
 pub mod Layouts
 pub mod Indexed
+pub mod Tested

@@ -1,14 +1,13 @@
-ghost use Rattle.std.specs.Prelude.{◌≡◌, IfOk, MatchOption, Ok, false, true};
+ghost use Rattle.std.specs.Prelude.{◌≡◌, IfOk, MatchOption, false, true};
 ghost use Rattle.std.specs.Str.{is_utf8};
-ghost use Rattle.hq_tables.specs.Field.{field_due, field_text, null_due, typed_due};
+ghost use Rattle.hq_tables.specs.Field.{field_due, field_text, not_read, null_due, typed_due};
 ghost use Rattle.hq_tables.specs.declared.field.FieldRefusal.TheVariants as refusal;
 ghost use Rattle.hq_base.specs.Due.{Gives};
 ghost use Rattle.hq_base.specs.Refused.{text_of};
 ghost use Rattle.hq_base.specs.Text.{has_zero};
-ghost use Rattle.hq_base.specs.declared.value.Val.TheVariants as val;
 
-use hq_base::{Memory, Txt, Ty, Val};
-use hq_terms::{Column, truth_value, whole_number};
+use hq_base::{Memory, Ty, Val};
+use hq_terms::{Column, Want, read_as};
 use std::alloc::Global;
 use std::str;
 
@@ -67,14 +66,14 @@ fn lent_text(field: &[u8]) -> Result<&str, FieldRefusal>
     Ok(text)
 }
 
-// A text as the value of a text column.
-fn text_value(alloc: Global, text: &str) -> Result<Val, FieldRefusal>
-    requires { has_zero text.now ≡ false }
-    ensures { Gives (λ v. v) refusal.Memory (Ok (val.Text text.now)) result }
+// Why a text is no value, by what it is not.
+fn not_read(wanted: Want) -> FieldRefusal
+    ensures { result ≡ not_read wanted }
 {
-    let mut value = Txt::new(alloc);
-    value.push_str(text)?;
-    Ok(Val::Text(value))
+    match wanted {
+        Want::Boolean => FieldRefusal::NotBoolean,
+        _ => FieldRefusal::NotInteger,
+    }
 }
 
 // A text as a value of the type.
@@ -82,16 +81,9 @@ fn typed(alloc: Global, ty: Ty, text: &str) -> Result<Val, FieldRefusal>
     requires { has_zero text.now ≡ false }
     ensures { Gives (λ v. v) refusal.Memory (typed_due ty text.now) result }
 {
-    match ty {
-        Ty::Text => text_value(alloc, text),
-        Ty::Integer | Ty::Bigint => match whole_number(ty, text) {
-            Some(n) => Ok(Val::Int(n)),
-            None => Err(FieldRefusal::NotInteger),
-        },
-        Ty::Boolean => match truth_value(text) {
-            Some(b) => Ok(Val::Bool(b)),
-            None => Err(FieldRefusal::NotBoolean),
-        },
+    match read_as(alloc, ty, text)? {
+        Ok(value) => Ok(value),
+        Err(wanted) => Err(not_read(wanted)),
     }
 }
 

@@ -1,6 +1,7 @@
 pub mod Numbers
 pub mod CellOrders
 mod Lists
+pub mod Fitting
 pub mod Places
 pub mod Steps
 mod Worked

@@ -24,15 +24,16 @@ use Rattle.hq_sql_tree.specs.Tree.{pairs_of, orders_of, joins_of, preds_of, rows
 use Rattle.hq_sql_tree.specs.View.{agg_view, expr_view, pair_view, order_view, out_view, pred_view, select_view, from_view, join_view, filter_view}
 use Rattle.hq_sql_tree.specs.Meaning.{with_alias, truth_at, all_true, value, members, taken, orders_cmp, order_cmp, distinct_on, limited, offset_by, outputs, has_rows, kept, rows_of, joined, any_true}
 use Rattle.hq_sql_rows.specs.View.{made_view, named_view, first_row, source_view, row_in, row_view, joined_view, world_of, names_of, names_at, group_of, beside}
-use Rattle.hq_sql_rows.specs.Joined.{join_in, first_joined}
-use Rattle.hq_sql_walk.proofs.JoinedRows.{beside_row}
+use Rattle.hq_sql_rows.specs.Joined.{join_in, joined_at}
+use Rattle.hq_sql_rows.proofs.Besides.{beside_filled, weight_before}
+use Rattle.hq_sql_walk.specs.Gathered.{names_joined}
 use Rattle.hq_sql_rows.specs.Keys.{with_json, json_at, outputs_of, output_at, key_values, member_at, with_cells, taken_at}
 use Rattle.hq_sql_rows.specs.Sources.{alias_in, rows_given, has_items}
 use Rattle.hq_sql_rows.specs.Positions.{positions_of, rows_at, kept_of, FindsAll, FindsArranged}
 use Rattle.hq_sql_rows.proofs.InOrder.{none_arranged}
 use Rattle.hq_sql_rows.proofs.Looked.{at_place}
 use Rattle.hq_sql_closed.specs.Conjuncts.{all_kept, lent_views, lent_weight}
-use Rattle.hq_sql_closed.specs.Weight.{total, expr_weight, pair_weight, order_weight, out_weight, pred_weight}
+use Rattle.hq_sql_closed.specs.Weight.{total, expr_weight, pair_weight, order_weight, out_weight, join_weight, pred_weight}
 use Rattle.hq_sql_closed.proofs.Weights.{item_weight, pair_item, order_item, out_item, expr_item, pred_item}
 use Rattle.hq_sql_walk.specs.Selected.{keyed_in}
 use Rattle.hq_sql_walk.specs.Costs.{all_at, part_at}
@@ -44,6 +45,7 @@ use Rattle.hq_sql_walk.proofs.Loops.{map_more, scope_more, value_more, holds_nex
 use Rattle.hq_sql_walk.proofs.Told.{none_in, tells_at}
 use Rattle.hq_terms.specs.declared.truth.Truth.TheVariants.{Yes}
 use Rattle.hq_sql_walk.proofs.+eval.Goals.{truths::all_true-in-Opened+in_ok-all-in-Opened, truths::all_true-in-Tried+in_ok-truth-in-Tried, truths::all_true-in-Other}
+use Rattle.hq_sql_walk.proofs.+eval.Goals.{joins::with_due-then-is_due+in_ok-row+in_ok-all-2, joins::with_due-else-is_due}
 use Rattle.hq_sql_walk.proofs.+eval.Goals as goal
 
 -- ---- an item weighs at most its list
@@ -222,39 +224,36 @@ joins::spread-loop-row-preserved t c =
     subst (λ v. map B v ++ kept_items keeps (flat_map (joined r w) (map (with_alias n j.alias) (map made_view (into_iter_items c.next.new.self)))) ≡ whole) (sym more)
     (spread_step j.select j.alias r w n keeps row (map made_view (into_iter_items c.next.new.self)) old views whole before c.in_ok-lists.ensures)
 
-pub joins::outputs_at-returns-in-Some-first_joined : goal.joins::outputs_at-returns-in-Some-first_joined
-joins::outputs_at-returns-in-Some-first_joined t c =
-    let j = join_view c.in-Some.join.now in
-    let r = joins_of (map join_view c.in-Some.rest.now) in
-    let w = world_of c.args.world.now in
-    let n = names_of c.args.scope.now c.args.world.now in
-    let O = map out_view c.args.outs.now.items in
-    let views = map (option_map made_view) c.args.joined.now in
-    let others = map (option_map made_view) c.other_joined-others.result.now in
-    let row = made_view c.in-Some-first_joined.row.now in
-    let all : joins_of (map join_view c.args.joins.now) ≡ join_in j r = search rules in
-    let alias_is : c.in-Some.join.now.alias ≡ j.alias = search (rules, join_lemmas) in
-    let first : Some row ≡ first_joined views = c.in-Some-first_joined.ensures in
-    let same : beside r w (with_alias n c.in-Some.join.now.alias (map named_view c.deref.result.now)) others ≡ beside (joins_of (map join_view c.args.joins.now)) w n views =
-    ap (λ a. beside r w (with_alias n a (map named_view c.deref.result.now)) others) alias_is
-    ∙ ap₂ (λ cells rows. beside r w (with_alias n j.alias (map named_view cells)) rows) c.deref.ensures.value c.other_joined-others.ensures
-    ∙ sym (beside_row j.select j.alias r w n views row first) ∙ ap (λ js. beside js w n views) (sym all) in
-    IfOk-weaker c.outputs_at.result _ _ (λ made h. h ∙ ap (outputs_of O) same) c.outputs_at.ensures
+pub joins::first_beside-returns : goal.joins::first_beside-returns
+joins::first_beside-returns t c =
+    let lent : select_view c.deref.result.now ≡ (join_view c.args.join.now).select = search (rules, join_lemmas) in
+    let scope = names_joined c.args.before.now c.args.joined.now c.args.world.now (names_of c.args.scope.now c.args.world.now) in
+    IfOk-weaker c.first.result _ _ (λ row h. h ∙ ap (λ s. first_row (rows_of s (world_of c.args.world.now) scope)) lent) c.first.ensures
 
-pub joins::outputs_put_off-returns-then-eq : goal.joins::outputs_put_off-returns-then-eq
-joins::outputs_put_off-returns-then-eq t c =
-    let j = join_view c.args.join.now in
-    let r = joins_of (map join_view c.args.rest.now) in
+pub joins::with_due-first_beside-requires : goal.joins::with_due-first_beside-requires
+joins::with_due-first_beside-requires t c =
+    let js = c.args.joins.now in
+    let join = c.index-joins-at.result in
+    let front : total (map join_weight (take c.loop-at.at js)) + join_weight join ≤ total (map join_weight js) = weight_before js c.loop-at.at join c.loop-at-test.true c.index-joins-at.is in
+    omega (arith, front)
+
+pub joins::with_due-loop-at-preserved : goal.joins::with_due-loop-at-preserved
+joins::with_due-loop-at-preserved t c =
+    let js = c.args.joins.now in
     let w = world_of c.args.world.now in
     let n = names_of c.args.scope.now c.args.world.now in
-    let O = map out_view c.args.outs.now.items in
-    let others = map (option_map made_view) c.args.others.now in
-    let alias_is : c.args.join.now.alias ≡ j.alias = search (rules, join_lemmas) in
-    let lent : select_view c.deref.result.now ≡ j.select = search (rules, join_lemmas) in
-    let row : made_view c.in_ok-row.row ≡ first_row (rows_of j.select w n) = subst (λ s. made_view c.in_ok-row.row ≡ first_row (rows_of s w n)) lent c.in_ok-row.ensures in
-    let same : beside r w (with_alias n c.args.join.now.alias (map named_view c.deref-then-eq.result.now)) others ≡ beside r w (with_alias n j.alias (first_row (rows_of j.select w n))) others =
-    ap₂ (λ a cells. beside r w (with_alias n a (map named_view cells)) others) alias_is c.deref-then-eq.ensures.value ∙ ap (λ q. beside r w (with_alias n j.alias q) others) row in
-    IfOk-weaker c.outputs_at.result _ _ (λ made h. h ∙ ap (outputs_of O) same) c.outputs_at.ensures
+    let at = c.loop-at.at in
+    let join = c.index-joins-at.result in
+    let rows = joined_view c.loop-at.all in
+    let N = beside (joins_of (map join_view js)) w n in
+    elim c.if-is_due.branch [
+      | joins::with_due-then-is_due+in_ok-row+in_ok-all-2 v ↦
+          let off : joined_at rows at ≡ None = ap (λ l. joined_at (map (option_map made_view) l) at) (sym c.deref.ensures.value) ∙ c.is_due.ensures v.if-is_due.true in
+          let row : made_view v.in_ok-row.row ≡ first_row (rows_of (join_view join).select w (beside (joins_of (map join_view (take at js))) w n rows)) =
+          v.in_ok-row.ensures ∙ ap (λ l. first_row (rows_of (join_view join).select w (beside (joins_of (map join_view (take at js))) w n (map (option_map made_view) l)))) v.deref-then-is_due.ensures.value in
+          ap (λ a. N (joined_view a)) v.all-is ∙ ap N v.in_ok-all-2.ensures ∙ beside_filled js at join w n rows (made_view v.in_ok-row.row) c.loop-at-test.true c.index-joins-at.is off row ∙ c.loop-at.invariant
+      | joins::with_due-else-is_due v ↦ ap (λ a. N (joined_view a)) v.all-is ∙ c.loop-at.invariant
+    ]
 
 -- ---- rows of FROM
 

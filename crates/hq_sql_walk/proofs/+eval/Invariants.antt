@@ -15,7 +15,7 @@ use Rattle.hq_sql_rows.specs.Positions.{positions_of, rows_at, kept_of}
 use Rattle.hq_sql_closed.specs.Conjuncts.{all_kept, lent_views, lent_weight}
 use Rattle.hq_sql_closed.specs.Weight.{total, agg_weight, expr_weight, pair_weight, order_weight, out_weight, from_weight, select_weight, join_weight, pred_weight, filter_weight}
 use Rattle.hq_sql_rows.specs.Weight.{scope_weight}
-use Rattle.hq_sql_walk.specs.Asked.{asked_weight}
+use Rattle.hq_sql_walk.specs.Gathered.{names_joined}
 use Rattle.hq_sql_walk.specs.Selected.{kept_from, scope_at}
 use Rattle.hq_sql_walk.proofs.+eval.Given as goal
 
@@ -89,6 +89,10 @@ invariant-clauses::all_outputs-loop-place l =
     map made_view l.made.items
     ≡ map (outputs_of (map out_view l.outs.items)) (map (names_at l.source l.alias (joins_of (map join_view l.joins)) (world_of l.world) (names_of l.scope l.world)) (take l.place-index l.places))
 
+abbrev pub invariant-joins::with_due-loop-at : goal.invariant-joins::with_due-loop-at
+invariant-joins::with_due-loop-at l =
+    names_joined l.joins l.all.items l.world (names_of l.scope l.world) ≡ names_joined l.joins l.joined l.world (names_of l.scope l.world)
+
 -- ---- measures: what is left to evaluate
 
 abbrev pub decreases-values::column_cell : goal.decreases-values::column_cell
@@ -154,14 +158,17 @@ decreases-joins::spread l = 6 + (total (map join_weight l.rest.now) + (filter_we
 abbrev pub decreases-joins::gather_beside : goal.decreases-joins::gather_beside
 decreases-joins::gather_beside l = 5 + (total (map join_weight l.rest.now) + (filter_weight l.filter.now + scope_weight l.scope.now))
 
-abbrev pub decreases-joins::asked_at : goal.decreases-joins::asked_at
-decreases-joins::asked_at l = 2 + (asked_weight l.asked + (total (map join_weight l.joins.now) + scope_weight l.scope.now))
+abbrev pub decreases-joins::first_beside : goal.decreases-joins::first_beside
+decreases-joins::first_beside l = join_weight l.join.now + (total (map join_weight l.before.now) + scope_weight l.scope.now)
+
+abbrev pub decreases-joins::with_due : goal.decreases-joins::with_due
+decreases-joins::with_due l = 1 + (total (map join_weight l.joins.now) + scope_weight l.scope.now)
 
 abbrev pub decreases-joins::outputs_at : goal.decreases-joins::outputs_at
-decreases-joins::outputs_at l = 3 + (total (map out_weight l.outs.now.items) + (total (map join_weight l.joins.now) + scope_weight l.scope.now))
+decreases-joins::outputs_at l = 4 + (total (map out_weight l.outs.now.items) + (total (map join_weight l.joins.now) + scope_weight l.scope.now))
 
-abbrev pub decreases-joins::outputs_put_off : goal.decreases-joins::outputs_put_off
-decreases-joins::outputs_put_off l = 2 + (total (map out_weight l.outs.now.items) + (join_weight l.join.now + (total (map join_weight l.rest.now) + scope_weight l.scope.now)))
+abbrev pub decreases-joins::outputs_beside : goal.decreases-joins::outputs_beside
+decreases-joins::outputs_beside l = 3 + (total (map out_weight l.outs.now.items) + (total (map join_weight l.joins.now) + scope_weight l.scope.now))
 
 abbrev pub decreases-joins::outputs : goal.decreases-joins::outputs
 decreases-joins::outputs l = 1 + (total (map out_weight l.outs.now.items) + scope_weight l.scope.now)
@@ -214,4 +221,4 @@ abbrev pub decreases-pages::with_keys : goal.decreases-pages::with_keys
 decreases-pages::with_keys l = 3 + (total (map order_weight l.order.now.items) + (total (map expr_weight l.distinct.now.items) + (total (map join_weight l.joins.now) + scope_weight l.scope.now)))
 
 abbrev pub decreases-clauses::all_outputs : goal.decreases-clauses::all_outputs
-decreases-clauses::all_outputs l = 5 + (total (map out_weight l.outs.now.items) + (total (map join_weight l.joins.now) + scope_weight l.scope.now))
+decreases-clauses::all_outputs l = 6 + (total (map out_weight l.outs.now.items) + (total (map join_weight l.joins.now) + scope_weight l.scope.now))

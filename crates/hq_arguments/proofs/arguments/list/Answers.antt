@@ -1,6 +1,6 @@
 use Rattle.std.proofs.Common.{refl}
 use Rattle.hq_ask_tree.specs.Arguments.{arguments_view}
-use Rattle.hq_coerce.proofs.Refusals.{passed_up}
+use Rattle.hq_base.proofs.Refusals.{passed_up}
 use Rattle.hq_arguments.specs.declared.refusal.ArgRefusal.{ArgRefusal}
 use Rattle.hq_arguments.specs.declared.refusal.ArgRefusal.TheVariants.{Memory}
 use Rattle.hq_arguments.proofs.arguments.list.Goals as goal

@@ -1,13 +1,13 @@
 use Rattle.std.proofs.Common.{refl, sym, inr, List, map}
 use Rattle.hq_base.specs.Json.{json_view}
 use Rattle.hq_base.specs.declared.json.Json.{Json}
-use Rattle.hq_coerce.proofs.Refusals.{passed_up}
+use Rattle.hq_base.proofs.Refusals.{passed_up}
 use Rattle.hq_arguments.specs.Columns.{column_due}
 use Rattle.hq_arguments.specs.Context.{context_view}
 use Rattle.hq_arguments.specs.Reading.{each}
 use Rattle.hq_arguments.specs.declared.refusal.ArgRefusal.{ArgRefusal}
 use Rattle.hq_arguments.specs.declared.refusal.ArgRefusal.TheVariants.{Memory}
-use Rattle.hq_arguments.proofs.Steps.{read_more, read_refused, read_all}
+use Rattle.hq_terms.proofs.Steps.{read_more, read_refused, read_all}
 use Rattle.hq_arguments.proofs.columns.columns.Goals as goal
 
 pub loop-json-preserved : goal.loop-json-preserved

@@ -3,13 +3,13 @@ use Rattle.std.proofs.lemmas.List.{map-append}
 use Rattle.hq_base.specs.Json.{member_view}
 use Rattle.hq_base.specs.declared.json.Member.{Member}
 use Rattle.hq_terms.specs.Bexp.{bexp_view}
-use Rattle.hq_coerce.proofs.Refusals.{passed_up}
+use Rattle.hq_base.proofs.Refusals.{passed_up}
 use Rattle.hq_arguments.specs.Comparisons.{named_due}
 use Rattle.hq_arguments.specs.Context.{context_view}
 use Rattle.hq_arguments.specs.Reading.{each}
 use Rattle.hq_arguments.specs.declared.refusal.ArgRefusal.{ArgRefusal}
 use Rattle.hq_arguments.specs.declared.refusal.ArgRefusal.TheVariants.{Memory}
-use Rattle.hq_arguments.proofs.Steps.{read_more, read_refused, read_all}
+use Rattle.hq_terms.proofs.Steps.{read_more, read_refused, read_all}
 use Rattle.hq_arguments.proofs.comparisons.conditions.Goals as goal
 
 pub loop-member-preserved : goal.loop-member-preserved

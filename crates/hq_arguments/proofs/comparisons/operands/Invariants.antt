@@ -8,5 +8,5 @@ use Rattle.hq_arguments.proofs.comparisons.operands.Given as goal
 -- the operands so far, and then those of the rest
 abbrev pub invariant-loop-json : goal.invariant-loop-json
 invariant-loop-json l =
-    each (operand_due l.ty) (map json_view l.items)
-    ≡ mapped (λ rest. l.operands ++ rest) (each (operand_due l.ty) (map json_view (drop l.json-index l.items)))
+    each (operand_due l.test l.ty) (map json_view l.items)
+    ≡ mapped (λ rest. l.operands ++ rest) (each (operand_due l.test l.ty) (map json_view (drop l.json-index l.items)))

@@ -5,13 +5,13 @@ use Rattle.hq_base.specs.Json.{json_view, member_view, elements_of, members_of}
 use Rattle.hq_base.specs.declared.json.Json.{Json}
 use Rattle.hq_base.specs.declared.json.Member.{Member}
 use Rattle.hq_terms.specs.Bexp.{bexp_view, and_of, or_of, not_of, bexps_of, through}
-use Rattle.hq_coerce.proofs.Refusals.{passed_up}
+use Rattle.hq_base.proofs.Refusals.{passed_up}
 use Rattle.hq_arguments.specs.Context.{context_view}
 use Rattle.hq_arguments.specs.Where.{by_origin, elements_due, filter_due, filters_due, members_due, named_due}
 use Rattle.hq_arguments.specs.declared.refusal.ArgRefusal.{ArgRefusal}
 use Rattle.hq_arguments.specs.declared.refusal.ArgRefusal.TheVariants.{Memory}
 use Rattle.hq_arguments.proofs.Named.{filter_named}
-use Rattle.hq_arguments.proofs.Steps.{read_more, read_refused, read_all}
+use Rattle.hq_terms.proofs.Steps.{read_more, read_refused, read_all}
 use Rattle.hq_arguments.proofs.filter.+filter.Goals as goal
 
 pub element_filters-loop-json-preserved : goal.element_filters-loop-json-preserved

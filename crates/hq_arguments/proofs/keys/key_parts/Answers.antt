@@ -1,5 +1,5 @@
 use Rattle.std.proofs.Common.{refl, ℕ, List, map}
-use Rattle.hq_coerce.proofs.Refusals.{passed_up}
+use Rattle.hq_base.proofs.Refusals.{passed_up}
 use Rattle.hq_gql_tree.specs.Values.{argument_view}
 use Rattle.hq_schema.specs.Schema.{arg_view}
 use Rattle.hq_arguments.specs.Context.{context_view}
@@ -7,7 +7,7 @@ use Rattle.hq_arguments.specs.Keys.{part_due}
 use Rattle.hq_arguments.specs.Reading.{each}
 use Rattle.hq_arguments.specs.declared.refusal.ArgRefusal.{ArgRefusal}
 use Rattle.hq_arguments.specs.declared.refusal.ArgRefusal.TheVariants.{Memory}
-use Rattle.hq_arguments.proofs.Steps.{read_more, read_refused, read_all}
+use Rattle.hq_terms.proofs.Steps.{read_more, read_refused, read_all}
 use Rattle.hq_arguments.proofs.keys.key_parts.Goals as goal
 
 pub loop-column-preserved : goal.loop-column-preserved

@@ -2,14 +2,14 @@ use Rattle.std.proofs.Common.{refl, subst, List, map}
 use Rattle.hq_base.specs.Due.{Gives}
 use Rattle.hq_base.specs.Json.{member_view, members_of}
 use Rattle.hq_base.specs.declared.json.Member.{Member}
-use Rattle.hq_coerce.proofs.Refusals.{passed_up}
+use Rattle.hq_base.proofs.Refusals.{passed_up}
 use Rattle.hq_arguments.specs.Context.{context_view}
 use Rattle.hq_arguments.specs.SortLists.{sorts_view, behind}
 use Rattle.hq_arguments.specs.Sorts.{members_due, named_due}
 use Rattle.hq_arguments.specs.declared.refusal.ArgRefusal.{ArgRefusal}
 use Rattle.hq_arguments.specs.declared.refusal.ArgRefusal.TheVariants.{Memory}
 use Rattle.hq_arguments.proofs.Named.{sort_named}
-use Rattle.hq_arguments.proofs.Steps.{join_more, join_refused, read_all}
+use Rattle.hq_terms.proofs.Steps.{join_more, join_refused, read_all}
 use Rattle.hq_arguments.proofs.sorts.+entry.Goals as goal
 
 pub with_members-loop-member-preserved : goal.with_members-loop-member-preserved

@@ -1,13 +1,13 @@
 use Rattle.std.proofs.Common.{refl, [], List, map}
 use Rattle.hq_base.specs.Json.{json_view}
 use Rattle.hq_base.specs.declared.json.Json.{Json}
-use Rattle.hq_coerce.proofs.Refusals.{passed_up}
+use Rattle.hq_base.proofs.Refusals.{passed_up}
 use Rattle.hq_arguments.specs.Context.{context_view}
 use Rattle.hq_arguments.specs.SortLists.{sorts_view}
 use Rattle.hq_arguments.specs.Sorts.{entries_due, entry_due}
 use Rattle.hq_arguments.specs.declared.refusal.ArgRefusal.{ArgRefusal}
 use Rattle.hq_arguments.specs.declared.refusal.ArgRefusal.TheVariants.{Memory}
-use Rattle.hq_arguments.proofs.Steps.{join_more, join_refused, read_all}
+use Rattle.hq_terms.proofs.Steps.{join_more, join_refused, read_all}
 use Rattle.hq_arguments.proofs.sorts.entries.Goals as goal
 
 pub loop-json-preserved : goal.loop-json-preserved

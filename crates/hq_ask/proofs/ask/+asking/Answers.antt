@@ -2,7 +2,7 @@ use Rattle.std.proofs.Common.{◌∙◌, refl, ap, map, [], ◌∷◌, ◌++◌,
 use Rattle.std.proofs.lemmas.List.{map-append, at_drop_all}
 use Rattle.hq_base.specs.Due.{mapped}
 use Rattle.hq_arguments.specs.Context.{Context, context_view}
-use Rattle.hq_coerce.proofs.Refusals.{passed_up}
+use Rattle.hq_base.proofs.Refusals.{passed_up}
 use Rattle.hq_coerce.specs.declared.refusal.CoerceRefusal.{CoerceRefusal}
 use Rattle.hq_coerce.specs.declared.refusal.CoerceRefusal.TheVariants.{Memory}
 use Rattle.hq_collect.specs.TreeSeen.{collected_view, trees_of}

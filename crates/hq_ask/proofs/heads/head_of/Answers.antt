@@ -5,7 +5,7 @@ use Rattle.hq_ask.specs.Heads.{leaf, list_head_due, aggregate_head_due, head_by}
 use Rattle.hq_ask.specs.HeadSeen.{head_view}
 use Rattle.hq_ask.specs.Seen.{known_view}
 use Rattle.hq_ask_tree.specs.Fields.{typename}
-use Rattle.hq_coerce.proofs.Refusals.{passed_up}
+use Rattle.hq_base.proofs.Refusals.{passed_up}
 use Rattle.hq_coerce.specs.declared.refusal.CoerceRefusal.{CoerceRefusal}
 use Rattle.hq_coerce.specs.declared.refusal.CoerceRefusal.TheVariants.{Memory}
 use Rattle.hq_collect.specs.TreeSeen.{parts_seen}

@@ -3,7 +3,8 @@ use Rattle.std.specs.List.{list_any}
 use Rattle.hq_gql_nodes.specs.Nodes.{part_view}
 use Rattle.hq_gql_nodes.specs.Reach.{graph_view, reached}
 use Rattle.hq_coerce.specs.Required.{required_at}
-use Rattle.hq_coerce.proofs.SameMembers.{any_same, none_noted}
+use Rattle.hq_gql_nodes.proofs.SameMembers.{any_same}
+use Rattle.hq_coerce.proofs.NoNames.{none_noted}
 use Rattle.hq_coerce.proofs.required.required_names.Goals as goal
 
 pub returns : goal.returns

@@ -13,7 +13,7 @@ use Rattle.hq_coerce.specs.Due.{variable_due, values_due}
 use Rattle.hq_coerce.specs.Given.{given_seen}
 use Rattle.hq_coerce.specs.Variables.{var_view}
 use Rattle.hq_coerce.specs.declared.refusal.CoerceRefusal.TheVariants.{Memory}
-use Rattle.hq_coerce.proofs.Refusals.{passed_up}
+use Rattle.hq_base.proofs.Refusals.{passed_up}
 use Rattle.hq_coerce.proofs.ValueSteps.{values_more, values_refused}
 use Rattle.hq_coerce.proofs.variables.values_of.Goals as goal
 

@@ -1,4 +1,4 @@
-use Rattle.std.proofs.Common.{◌∙◌, ◌+◌, ℕ, Option, ap}
+use Rattle.std.proofs.Common.{◌∙◌, ◌+◌, Option, ap}
 use Rattle.std.specs.Prelude.{option_map, unwrap_or}
 use Rattle.std.proofs.lemmas.Result.{IfOk-weaker, on_ok_weaker}
 use Rattle.hq_terms.specs.Bexp.{BexpTree, bexp_view, never}

@@ -2,6 +2,7 @@ use Rattle.std.proofs.Common.{◌≡◌, ◌++◌, ◌∙◌, [], map, rules}
 use Rattle.hq_terms.specs.Schema.{table}
 use Rattle.hq_terms.specs.Selected.{entries}
 use Rattle.hq_ask_tree.specs.Arguments.{arguments_view}
+use Rattle.hq_compiled.specs.Lists.{once}
 use Rattle.hq_compiled.specs.Sorts.{shown_sorts, own_sorts}
 use Rattle.hq_compile_context.specs.Contexts.{context_schema}
 use Rattle.hq_compile_sorts.specs.RowSorts.{row_sort_view}
@@ -12,5 +13,5 @@ use Rattle.hq_compile_sorts.proofs.sorts.list_sorts.Goals as goal
 pub returns : goal.returns
 returns c =
     let key = own_sorts (table (context_schema c.args.context.now) c.args.t).key in
-    let pushed : map row_sort_view c.push_key.new.sorts ≡ shown_sorts (entries (arguments_view c.args.args.now)) [] ++ key = search rules in
-    pushed ∙ shown_sorts-append (entries (arguments_view c.args.args.now)) key
+    let pushed : map row_sort_view c.push_key.new.sorts ≡ shown_sorts (entries (once (arguments_view c.args.args.now))) [] ++ key = search rules in
+    pushed ∙ shown_sorts-append (entries (once (arguments_view c.args.args.now))) key

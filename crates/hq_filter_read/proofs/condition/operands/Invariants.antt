@@ -8,5 +8,5 @@ use Rattle.hq_filter_read.proofs.condition.operands.Given as goal
 -- the operands so far, and then those of the rest
 abbrev pub invariant-loop-place : goal.invariant-loop-place
 invariant-loop-place l =
-    each_element (operand_at l.ty) l.path 0 (map json_view l.list)
-    ≡ mapped (λ rest. l.operands ++ rest) (each_element (operand_at l.ty) l.path l.place (map json_view (drop l.place l.list)))
+    each_element (operand_at l.test l.ty) l.path 0 (map json_view l.list)
+    ≡ mapped (λ rest. l.operands ++ rest) (each_element (operand_at l.test l.ty) l.path l.place (map json_view (drop l.place l.list)))

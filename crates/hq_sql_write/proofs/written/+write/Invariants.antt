@@ -64,7 +64,7 @@ abbrev pub decreases-write_place : goal.decreases-write_place
 decreases-write_place l = 5 + (expr_weight l.expr.now + (total (map join_weight l.placed.now.joins.now) + scope_weight l.scope.now))
 
 abbrev pub decreases-write_at : goal.decreases-write_at
-decreases-write_at l = 3 + (expr_weight l.expr.now + (total (map join_weight l.joins.now) + scope_weight l.scope.now))
+decreases-write_at l = 3 + (expr_weight l.expr.now + (total (map join_weight l.placed.now.joins.now) + scope_weight l.scope.now))
 
-abbrev pub decreases-write_put_off : goal.decreases-write_put_off
-decreases-write_put_off l = 2 + (expr_weight l.expr.now + (join_weight l.join.now + (total (map join_weight l.rest.now) + scope_weight l.scope.now)))
+abbrev pub decreases-write_beside : goal.decreases-write_beside
+decreases-write_beside l = 2 + (expr_weight l.expr.now + (total (map join_weight l.joins.now) + scope_weight l.scope.now))

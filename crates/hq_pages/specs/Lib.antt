@@ -1,0 +1,10 @@
+pub mod Cells
+pub mod Counts
+pub mod Directory
+pub mod Held
+pub mod Pages
+pub mod PinTouches
+pub mod Pins
+pub mod Runs
+pub mod StoreLaws
+pub mod Touch

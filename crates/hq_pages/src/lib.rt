@@ -1,0 +1,26 @@
+//! The rows of tables on a disk, in pages.
+//!
+//! The rows of a table are one run of bytes, cell after cell (`cell`, `run`). The run is cut into pieces, each of which
+//! stands in a page of its own (`page`).
+#![tactic(auto)]
+
+mod cache;
+mod cell;
+mod due;
+mod page;
+mod paged_tables;
+mod pages;
+mod rows_run;
+mod run;
+mod table_rows;
+mod table_run;
+
+pub use cache::{Pieces, TouchRefusal, touch_page};
+pub use cell::{Cell, read_cell, write_cell};
+pub use due::Due;
+pub use page::{PAGE, page_with, piece_in};
+pub use paged_tables::PagedTables;
+pub use pages::touch_run;
+pub use run::{read_run, write_run};
+pub use table_rows::read_table;
+pub use table_run::TableRun;
