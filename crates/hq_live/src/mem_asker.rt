@@ -101,7 +101,8 @@ impl Asker for MemAsker {
 
     /// Fails exactly where the call's number is one of those that are to fail.
     fn reload(&mut self, _alloc: Global) -> Reloaded
-        ensures reloaded { Reloads (due_over self.old.present) (due_over self.new.present) (next_over self.old.next.items) (next_over self.new.next.items) self.old.calls.faults self.new.calls.faults result }
+        ensures reloaded { Reloads (due_over self.old.present) (due_over self.new.present)
+            (next_over self.old.next.items) (next_over self.new.next.items) self.old.calls.faults self.new.calls.faults result }
         ensures later { self.old.calls.faults ≤ self.new.calls.faults }
         ensures fails { HasNotTaken result ↔ IsToFail self.old.calls }
     {

@@ -1,4 +1,5 @@
 mod deepest;
+mod live;
 mod memory;
 mod store;
 mod system;

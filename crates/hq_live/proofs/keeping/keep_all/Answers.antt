@@ -14,7 +14,10 @@ keeping-preserved-then-at-subscriptions c =
     let len : length c.keeping.subscriptions ≡ length all = c.keeping.auto.subscriptions in
     let lt : length answers < length all = omega (arith, len, c.keeping.invariant.place, c.if-at-subscriptions.true) in
     let at : c.keeping.at ≡ length answers = omega (arith, lt, c.keeping.invariant.place) in
-    let is : s ≡ get_or (kept_all all answers) (length answers) s = c.index-subscriptions-at.is ∙ ap (λ (l : List Subscription). get_or l c.keeping.at s) e ∙ ap (λ (n : ℕ). get_or (kept_all all answers) n s) at in
+    let R : List Subscription → ℕ → Subscription = λ l n. get_or l n s in
+    let is : s ≡ get_or (kept_all all answers) (length answers) s =
+    c.index-subscriptions-at.is ∙ (ap (λ l. R l c.keeping.at) e ∙ ap (λ n. R (kept_all all answers) n) at)
+    in
     let k : c.keep.new.subscription ≡ kept s a = c.keep.ensures ∙ ap (λ (x : Subscription). kept x a) (sym c.index-subscriptions-at.is) in
     record {
       so_far =

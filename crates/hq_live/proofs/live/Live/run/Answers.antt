@@ -38,14 +38,16 @@ returns-in_err-append-clause-refused g c =
     let m : Standing = standing (g.A.Asker.due c.running.self.asker) (g.A.Asker.next c.running.self.asker) (g.A.Asker.faults c.running.self.asker) c.running.self.subscriptions.items in
     let t : Standing = standing (g.A.Asker.due c.step.new.self.asker) (g.A.Asker.next c.step.new.self.asker) (g.A.Asker.faults c.step.new.self.asker) c.step.new.self.subscriptions.items in
     at_err c.from_residual-in_err-append.result (RunsInPart c.args.events s t)
-    (lost_at c.args.events c.running.yielded (into_iter_items c.running.event-iterator) (into_iter_items c.next.new.self) c.in-Some.event s m t c.running.sends.items c.in_ok-more.more c.running.invariant.ran
+    (lost_at c.args.events c.running.yielded (into_iter_items c.running.event-iterator) (into_iter_items c.next.new.self)
+    c.in-Some.event s m t c.running.sends.items c.in_ok-more.more c.running.invariant.ran
     (c.in_ok-more.ensures.ok, c.in_ok-more.ensures.asker) c.in-Some.ensures.steps.0 c.running.invariant.items)
 
 pub returns-clause-plain : goal.returns-clause-plain
 returns-clause-plain g c =
     let s : Standing = standing (g.A.Asker.due c.args.self.now.asker) (g.A.Asker.next c.args.self.now.asker) (g.A.Asker.faults c.args.self.now.asker) c.args.self.now.subscriptions.items in
     let t : Standing = standing (g.A.Asker.due c.running.self.asker) (g.A.Asker.next c.running.self.asker) (g.A.Asker.faults c.running.self.asker) c.running.self.subscriptions.items in
-    let none : into_iter_items c.running.event-iterator ≡ [] = nil_from_length (into_iter_items c.running.event-iterator) (omega (arith, c.running.event-iterator.rest.ok.0, c.in-None.ensures.steps.0)) in
+    let left = into_iter_items c.running.event-iterator in
+    let none : left ≡ [] = nil_from_length left (omega (arith, c.running.event-iterator.rest.ok.0, c.in-None.ensures.steps.0)) in
     let all : c.running.yielded ≡ c.args.events = sym (append-nil c.running.yielded) ∙ (ap (λ (l : List Event). c.running.yielded ++ l) (sym none) ∙ c.running.invariant.items) in
     let P : List Event → Type 0 = λ l. Runs l s t c.running.sends.items in
     let Q : List Sent → Type 0 = λ l. Runs c.args.events s t l in
