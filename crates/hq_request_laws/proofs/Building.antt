@@ -79,8 +79,8 @@ collected_ok d vars op o low at collects trees e =
     let ss : List SelectionTree = selections_in o.selections in
     let both = cond_ok (is_small d ss && is_narrow (collected_tree r ss) && is_bounded vars (collected_tree r ss)) (Ok (collected_tree r ss)) _ trees e in
     let same : collected_tree r ss ≡ trees = let is : _ = both.1 in cc in
-    let within = and_parts (is_small d ss) (is_narrow (collected_tree r ss) && is_bounded vars (collected_tree r ss)) both.0 in
-    let narrow = and_parts _ _ (and_parts (is_narrow (collected_tree r ss)) (is_bounded vars (collected_tree r ss)) within.1).0 in
+    let within = and_parts (is_small d ss && is_narrow (collected_tree r ss)) (is_bounded vars (collected_tree r ss)) both.0 in
+    let narrow = and_parts _ _ (and_parts (is_small d ss) (is_narrow (collected_tree r ss)) within.0).1 in
     let distinct = and_parts _ _ collects.distinct in
     subst Limited same (record {
       kept = are_kept (collected_tree r ss) (heads_low r low ss (operation_low d op o low at)) narrow.1 distinct.1;
