@@ -8,3 +8,4 @@ pub mod Pins
 pub mod Runs
 pub mod StoreLaws
 pub mod Touch
+pub mod Writes
