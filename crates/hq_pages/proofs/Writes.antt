@@ -1,18 +1,18 @@
 -- Pages that are written behind others.
-use Rattle.std.proofs.Common.{◌≡◌, ◌∙◌, ℕ, zero, suc, ◌+◌, ◌*◌, ◌<◌, ◌≤◌, ◌&&◌, Bool, true, false, cond, List, [], ◌∷◌, ◌++◌, take, drop, length, Option, Some, None, IsNone, IfSome, nat_eq, refl, sym, ap, ap₂, arith, append_assoc, length-append}
+use Rattle.std.proofs.Common.{◌≡◌, ◌∙◌, ℕ, zero, suc, ◌+◌, ◌*◌, ◌^◌, ◌<◌, ◌≤◌, ◌&&◌, Bool, true, false, cond, List, [], ◌∷◌, ◌++◌, take, drop, length, Option, Some, None, IsNone, IfSome, get_or, nat_eq, nat_le, nat_lt, refl, sym, ap, ap₂, arith, append_assoc, length-append}
 use Rattle.std.specs.Prelude.{slice_get, option_map}
 use Rattle.std.specs.List.{list_all}
 use Rattle.std.specs.Option.{option_and_then}
 use Rattle.std.specs.Str.{bytes_eq}
-use Rattle.std.proofs.lemmas.Bool.{eqb-true}
+use Rattle.std.proofs.lemmas.Bool.{and_parts, eqb-true, le-leb, lt-ltb}
 use Rattle.std.proofs.lemmas.List.{append-nil, drop_all, take_all}
 use Rattle.hq_outside.specs.Disks.{Holds}
-use Rattle.hq_terms.specs.Database.{Row}
+use Rattle.hq_terms.specs.Database.{Row, are_rows, is_database}
 use Rattle.hq_terms.specs.declared.table.Table.{Table}
-use Rattle.hq_pages.specs.Directory.{rows_of_run, table_read, tables_read}
+use Rattle.hq_pages.specs.Directory.{are_inside, rows_of_run, table_read, tables_read}
 use Rattle.hq_pages.specs.Held.{due_piece, due_run, page_at, WhereTold}
 use Rattle.hq_pages.specs.Pages.{header_of, piece_of}
-use Rattle.hq_pages.specs.Writes.{Stores, Wrote}
+use Rattle.hq_pages.specs.Writes.{Stores, Wrote, WroteRows}
 use Rattle.hq_pages.specs.declared.due.Due.{Due}
 use Rattle.hq_pages.specs.declared.table_run.TableRun.{TableRun}
 
@@ -195,3 +195,51 @@ stores_more old new dues more bytes runs ts all t run rows stored wrote first pa
     let whole = tables_more (dues ++ w.1) (w.0 ++ w.2) ts runs all t run rows (tables_stay dues w.1 w.0 w.2 ts runs all s.1) there in
     let long : length (w.0 ++ w.2) ≡ 4096 * length (dues ++ w.1) = (let l = length-append w.0 w.2 in let k = length-append dues w.1 in omega (arith, l, k, s.0, w.6)) in
     (rw (w.5, w.4) long, rw (w.5, w.4) whole)
+
+-- the run of a table more is among the pages
+pub inside_more : (pages most : ℕ) (runs : List TableRun) (run : TableRun) → are_inside pages runs ≡ true → pages ≤ most → run.first + run.pages ≤ most → run.rows < 2 ^ 31 → are_inside most (runs ++ run ∷ []) ≡ true
+inside_more pages most [] run e le inside few = rw (le-leb (run.first + run.pages) most inside, lt-ltb run.rows (2 ^ 31) few) refl
+inside_more pages most (r ∷ runs) run e le inside few =
+    let both = and_parts (nat_le (r.first + r.pages) pages && nat_lt r.rows (2 ^ 31)) (are_inside pages runs) e in
+    let parts = and_parts (nat_le (r.first + r.pages) pages) (nat_lt r.rows (2 ^ 31)) both.0 in
+    let here : r.first + r.pages ≤ pages = grind (arith, parts.0) in
+    rw (le-leb (r.first + r.pages) most (omega (arith, here, le)), parts.1) (inside_more pages most runs run both.1 le inside few)
+
+-- each table of a database has rows that are valid for it
+pub rows_at : (ts : List Table) (all : List (List Row)) (t : ℕ) (table : Table) (rows : List Row) → is_database ts all ≡ true → t < length ts → table ≡ get_or ts t table → rows ≡ get_or all t rows → are_rows table rows ≡ true
+rows_at [] all t table rows e lt is at = absurd (omega (arith, lt))
+rows_at (x ∷ ts) [] t table rows e lt is at = cc
+rows_at (x ∷ ts) (y ∷ all) zero table rows e lt is at = let both = and_parts (are_rows x y) (is_database ts all) e in rw (is, at) both.0
+rows_at (x ∷ ts) (y ∷ all) (suc t) table rows e lt is at = let both = and_parts (are_rows x y) (is_database ts all) e in rows_at ts all t table rows both.1 (omega (arith, lt)) is at
+
+-- a database has rows for each table
+pub as_many : (ts : List Table) (all : List (List Row)) → is_database ts all ≡ true → length all ≡ length ts
+as_many [] [] e = refl
+as_many [] (y ∷ all) e = cc
+as_many (x ∷ ts) [] e = cc
+as_many (x ∷ ts) (y ∷ all) e = let both = and_parts (are_rows x y) (is_database ts all) e in ap suc (as_many ts all both.1)
+
+-- one item more of a list
+pub take_next : {X : Type 0} (xs : List X) (i : ℕ) (x : X) → i < length xs → x ≡ get_or xs i x → take (i + 1) xs ≡ take i xs ++ x ∷ []
+take_next [] i x lt is = absurd (omega (arith, lt))
+take_next (y ∷ xs) zero x lt is = ap (λ z. z ∷ []) (sym is)
+take_next (y ∷ xs) (suc i) x lt is =
+    let e : suc i + 1 ≡ suc (i + 1) = omega arith in
+    ap (λ (k : ℕ). take k (y ∷ xs)) e ∙ ap (λ zs. y ∷ zs) (take_next xs i x (omega (arith, lt)) is)
+
+-- an empty disk stores no table
+pub stores_none : (told : Option (List ℕ)) (size : ℕ) → IfSome told (λ held. length held ≡ size) → size ≡ 0 → WhereTold told (Stores [] [] [] [])
+stores_none None size told none held is = cc
+stores_none (Some h) size told none held is = let same : h ≡ held = cc in (rw (← same) (omega (arith, told, none)), refl)
+
+-- one table more of those of a database
+pub stores_next : (old new : Option (List ℕ)) (dues more : List Due) (runs : List TableRun) (ts : List Table) (all : List (List Row)) (i : ℕ) (t : Table) (run : TableRun) (rows : List Row)
+    → i < length ts → i < length all → t ≡ get_or ts i t → rows ≡ get_or all i rows → WhereTold old (Stores dues runs (take i ts) (take i all)) → WroteRows old new dues more t run rows → run.first ≡ length dues → run.first + run.pages ≡ length more
+    → WhereTold new (Stores more (runs ++ run ∷ []) (take (i + 1) ts) (take (i + 1) all))
+stores_next old new dues more runs ts all i t run rows lt below is at stored wrote first pages =
+    rw (take_next ts i t lt is, take_next all i rows below at)
+    (stores_more old new dues more wrote.0 runs (take i ts) (take i all) t run rows stored wrote.1 first pages wrote.2)
+
+-- all tables are stored
+pub stores_all : (told : Option (List ℕ)) (dues : List Due) (runs : List TableRun) (ts : List Table) (all : List (List Row)) (i : ℕ) → length ts ≤ i → length all ≤ i → WhereTold told (Stores dues runs (take i ts) (take i all)) → WhereTold told (Stores dues runs ts all)
+stores_all told dues runs ts all i le below stored = rw (← take_all i ts le, ← take_all i all below) at stored

@@ -7,6 +7,7 @@
 mod cache;
 mod cell;
 mod due;
+mod make;
 mod page;
 mod page_writer;
 mod paged_tables;
@@ -16,12 +17,13 @@ mod rows_run;
 mod run;
 mod table_rows;
 mod table_run;
+mod table_writer;
 
 pub use cache::{Pieces, TouchRefusal, touch_page};
 pub use cell::{Cell, read_cell, write_cell};
 pub use due::Due;
 pub use page::{PAGE, page_with, piece_in};
-pub use paged_tables::PagedTables;
+pub use paged_tables::{PagedTables, Unmade};
 pub use pages::touch_run;
 pub use refusal::PageRefusal;
 pub use run::{read_run, write_run};
