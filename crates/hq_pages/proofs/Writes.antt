@@ -242,4 +242,5 @@ stores_next old new dues more runs ts all i t run rows lt below is at stored wro
 
 -- all tables are stored
 pub stores_all : (told : Option (List ℕ)) (dues : List Due) (runs : List TableRun) (ts : List Table) (all : List (List Row)) (i : ℕ) → length ts ≤ i → length all ≤ i → WhereTold told (Stores dues runs (take i ts) (take i all)) → WhereTold told (Stores dues runs ts all)
-stores_all told dues runs ts all i le below stored = rw (← take_all i ts le, ← take_all i all below) at stored
+stores_all told dues runs ts all i le below stored held is =
+    ((stored held is).0, sym (ap (λ some. tables_read dues held some runs) (take_all i ts le)) ∙ (stored held is).1 ∙ ap Some (take_all i all below))

@@ -24,7 +24,7 @@ use std::num::NonZeroUsize;
 
 /// What a store of tables has besides its catalog and its disk.
 #[derive(Drop)]
-pub struct Parts {
+pub struct Made {
     pub pieces: Pieces,
     pub directory: Directory,
     pub pins: Vec<Option<Rows>>,
@@ -56,7 +56,7 @@ pub fn parts<K: Disk>(
     tables: &[Table],
     all: &[Rows],
     pages: NonZeroUsize,
-) -> Result<Parts, PageRefusal>
+) -> Result<Made, PageRefusal>
     requires valid { is_database tables.now all.now ≡ true }
     requires few { length tables.now ≤ 500 }
     requires empty { K.size disk.old ≡ 0 }
@@ -74,7 +74,7 @@ pub fn parts<K: Disk>(
     let pieces = no_pieces(alloc, pages)?;
     let pins = no_pins(alloc, tables.len())?;
     let directory = write_tables(alloc, disk, tables, all)?;
-    Ok(Parts {
+    Ok(Made {
         pieces,
         directory,
         pins,
