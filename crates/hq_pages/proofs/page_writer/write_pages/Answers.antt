@@ -1,4 +1,4 @@
-use Rattle.std.proofs.Common.{◌≡◌, ◌∙◌, ◌-◌, ◌+◌, ◌++◌, [], length, append_assoc, refl, ap, sym, rules, arith}
+use Rattle.std.proofs.Common.{◌≡◌, ◌∙◌, ◌-◌, ◌+◌, ◌++◌, [], length, append_assoc, refl, ap, rules, arith}
 use Rattle.std.proofs.lemmas.List.{take-append-drop}
 use Rattle.hq_pages.specs.Counts.{Rises}
 use Rattle.hq_pages.proofs.PageRuns.{rises_more, rises_none}

@@ -1,5 +1,4 @@
-use Rattle.std.proofs.Common.{◌≡◌, ◌∙◌, ◌-◌, ◌+◌, ◌<◌, ◌≤◌, ◌++◌, ◌∷◌, [], true, length, ap, rules, arith}
-use Rattle.hq_pages.specs.Directory.{are_inside}
+use Rattle.std.proofs.Common.{◌≡◌, ◌-◌, ◌+◌, ◌<◌, ◌≤◌, ◌++◌, ◌∷◌, [], length, rules, arith}
 use Rattle.hq_pages.proofs.PageRuns.{rises_more}
 use Rattle.hq_pages.proofs.Writes.{as_many, inside_more, rows_at, stores_all, stores_next}
 use Rattle.hq_pages.proofs.table_writer.write_tables.Goals as goal
