@@ -1,17 +1,18 @@
 -- Pages that are written behind others.
-use Rattle.std.proofs.Common.{◌≡◌, ◌∙◌, ℕ, zero, suc, ◌+◌, ◌*◌, ◌^◌, ◌<◌, ◌≤◌, ◌&&◌, Bool, true, false, cond, List, [], ◌∷◌, ◌++◌, take, drop, length, Option, Some, None, IsNone, IfSome, get_or, nat_eq, nat_le, nat_lt, refl, sym, ap, ap₂, arith, append_assoc, length-append}
-use Rattle.std.specs.Prelude.{slice_get, option_map}
+use Rattle.std.proofs.Common.{◌≡◌, ◌∙◌, ℕ, zero, suc, ◌+◌, ◌-◌, ◌*◌, ◌^◌, ◌<◌, ◌≤◌, ◌&&◌, Bool, true, false, cond, List, [], ◌∷◌, ◌++◌, take, drop, length, min, Option, Some, None, IsNone, IfSome, get_or, nat_eq, nat_le, nat_lt, refl, sym, ap, ap₂, subst, arith, append_assoc, length-append}
+use Rattle.std.specs.Prelude.{slice_get, option_map, replicate}
 use Rattle.std.specs.List.{list_all}
 use Rattle.std.specs.Option.{option_and_then}
 use Rattle.std.specs.Str.{bytes_eq}
 use Rattle.std.proofs.lemmas.Bool.{and_parts, eqb-true, le-leb, lt-ltb}
-use Rattle.std.proofs.lemmas.List.{append-nil, drop_all, take_all}
+use Rattle.std.proofs.lemmas.List.{append-nil, drop_all, length-drop, length-take, take_all}
 use Rattle.hq_outside.specs.Disks.{Holds}
 use Rattle.hq_terms.specs.Database.{Row, are_rows, is_database}
 use Rattle.hq_terms.specs.declared.table.Table.{Table}
 use Rattle.hq_pages.specs.Directory.{are_inside, rows_of_run, table_read, tables_read}
+use Rattle.hq_pages.specs.DiskPages.{Grows, disk_pages, page_bytes, pages_from, rows_bytes, run_pages}
 use Rattle.hq_pages.specs.Held.{due_piece, due_run, page_at, WhereTold}
-use Rattle.hq_pages.specs.Pages.{header_of, piece_of}
+use Rattle.hq_pages.specs.Pages.{header_bytes, header_of, page_of, piece_of}
 use Rattle.hq_pages.specs.Writes.{Stores, Wrote, WroteRows}
 use Rattle.hq_pages.specs.declared.due.Due.{Due}
 use Rattle.hq_pages.specs.declared.table_run.TableRun.{TableRun}
@@ -104,6 +105,14 @@ run_join dues held f (suc a) b x y e g =
     ap (λ (k : ℕ). due_run dues held f k) count ∙ run_whole (due_piece dues held f) (due_run dues held (suc f) (a + b)) parts.0 (parts.1 ++ y) parts.2 later
     ∙ ap Some (sym (append_assoc parts.0 parts.1 y) ∙ ap (λ (xs : List ℕ). xs ++ y) parts.4)
 
+-- one item more of a list
+pub take_next : {X : Type 0} (xs : List X) (i : ℕ) (x : X) → i < length xs → x ≡ get_or xs i x → take (i + 1) xs ≡ take i xs ++ x ∷ []
+take_next [] i x lt is = absurd (omega (arith, lt))
+take_next (y ∷ xs) zero x lt is = ap (λ z. z ∷ []) (sym is)
+take_next (y ∷ xs) (suc i) x lt is =
+    let e : suc i + 1 ≡ suc (i + 1) = omega arith in
+    ap (λ (k : ℕ). take k (y ∷ xs)) e ∙ ap (λ zs. y ∷ zs) (take_next xs i x (omega (arith, lt)) is)
+
 -- ---- what was written
 
 -- nothing yet
@@ -129,20 +138,93 @@ wrote_more old mid new a b c x y first next held is =
       ap (due_run ds pages 0) (length-append m.1 n.1) ∙ run_join ds pages 0 (length m.1) (length n.1) x y stays behind,
     )
 
--- a page
-pub wrote_one : (old new : Option (List ℕ)) (dues : List Due) (d : Due) (page piece : List ℕ) (at size : ℕ) → Holds old at page new → (IsNone old → IsNone new) → IfSome old (λ held. length held ≡ size) → at ≡ size → length page ≡ 4096 → piece_of d page ≡ Some piece
-    → WhereTold new (Wrote old dues (dues ++ d ∷ []) piece)
-wrote_one None None dues d page piece at size holds untold told place whole back held is = cc
-wrote_one None (Some h) dues d page piece at size holds untold told place whole back held is = let bad = untold refl in cc
-wrote_one (Some b) None dues d page piece at size holds untold told place whole back held is = absurd holds
-wrote_one (Some b) (Some h) dues d page piece at size holds untold told place whole back held is =
+-- what is written at the end of a disk stands behind what it had
+pub grows_one : (old new : Option (List ℕ)) (page : List ℕ) (at size : ℕ) → Holds old at page new → (IsNone old → IsNone new) → IfSome old (λ held. length held ≡ size) → at ≡ size → Grows old new page
+grows_one None None page at size holds untold told place held is = cc
+grows_one None (Some h) page at size holds untold told place held is = let bad = untold refl in cc
+grows_one (Some b) None page at size holds untold told place held is = absurd holds
+grows_one (Some b) (Some h) page at size holds untold told place held is =
     let same : held ≡ h = cc in
     let all : at ≡ length b = omega (arith, place, told) in
     let front : take at b ≡ b = ap (λ (k : ℕ). take k b) all ∙ take_all (length b) b (omega arith) in
     let rest : drop (at + length page) b ≡ [] = drop_all (at + length page) b (omega (arith, all)) in
-    let grown : held ≡ b ++ page = same ∙ holds ∙ ap₂ (λ (xs ys : List ℕ). xs ++ page ++ ys) front rest ∙ append-nil (b ++ page) in
+    (b, refl, same ∙ holds ∙ ap₂ (λ (xs ys : List ℕ). xs ++ page ++ ys) front rest ∙ append-nil (b ++ page))
+
+-- a page
+pub wrote_one : (old new : Option (List ℕ)) (dues : List Due) (d : Due) (page piece : List ℕ) → Grows old new page → length page ≡ 4096 → piece_of d page ≡ Some piece → WhereTold new (Wrote old dues (dues ++ d ∷ []) piece)
+wrote_one old new dues d page piece grows whole back held is =
+    let grown = grows held is in
     let one : due_piece (d ∷ []) page 0 ≡ Some piece = ap (piece_of d) (take_all 4096 page (omega (arith, whole))) ∙ back in
-    (b, d ∷ [], page, refl, refl, grown, whole, run_whole (due_piece (d ∷ []) page 0) (Some []) piece [] one refl ∙ ap Some (append-nil piece))
+    (grown.0, d ∷ [], page, grown.1, refl, grown.2, whole, run_whole (due_piece (d ∷ []) page 0) (Some []) piece [] one refl ∙ ap Some (append-nil piece))
+
+-- the bytes of the page of a piece
+pub page_is : (d : Due) (p bytes : List ℕ) → bytes ≡ page_of d p → length p ≡ d.length → bytes ≡ page_bytes d.table d.piece p
+page_is d p bytes is e = is ∙ ap (λ (n : ℕ). header_bytes d.table d.piece n ++ p ++ replicate (4086 - length p) 0) (sym e)
+
+-- what is behind a cut at a bound, or at the end of a list
+pub cut_back : (most n : ℕ) (xs : List ℕ) → n ≡ min most (length xs) → drop n xs ≡ drop most xs
+cut_back zero n xs e = let none : n ≡ 0 = omega (arith, e) in rw none refl
+cut_back (suc most) n [] e = let none : n ≡ 0 = omega (arith, e) in rw none refl
+cut_back (suc most) n (x ∷ xs) e = let some : n ≡ suc (min most (length xs)) = omega (arith, e) in rw some (cut_back most (min most (length xs)) xs refl)
+
+-- nothing, and pages behind pages
+pub grows_none : (old : Option (List ℕ)) → Grows old old []
+grows_none old held is = (held, is, sym (append-nil held))
+
+pub grows_more : (old mid new : Option (List ℕ)) (x y : List ℕ) → Grows old mid x → Grows mid new y → Grows old new (x ++ y)
+grows_more old mid new x y first next held is =
+    let n = next held is in
+    let m = first n.0 n.1 in
+    (m.0, m.1, n.2 ∙ ap (λ (xs : List ℕ). xs ++ y) m.2 ∙ append_assoc m.0 x y)
+
+-- the next page of a run
+pub next_pages : (table piece most : ℕ) (done rest front behind whole : List ℕ) → 0 < length rest → length rest ≤ most → front ≡ take 4086 rest → behind ≡ drop 4086 rest → done ++ pages_from table piece most rest ≡ whole
+    → (length behind ≤ most - 1) × ((done ++ page_bytes table piece front) ++ pages_from table (piece + 1) (most - 1) behind ≡ whole)
+next_pages table piece most done [] front behind whole some le f b e = absurd (omega (arith, some))
+next_pages table piece zero done (c ∷ rest) front behind whole some le f b e = absurd (omega (arith, le))
+next_pages table piece (suc most) done (c ∷ rest) front behind whole some le f b e =
+    let less : suc most - 1 ≡ most = omega arith in
+    let next : piece + 1 ≡ suc piece = omega arith in
+    let short : length behind ≤ suc most - 1 = (let l = length-drop 4086 (c ∷ rest) in let k = ap length b in omega (arith, l, k, le)) in
+    (short, rw (f, b, less, next) (append_assoc done (page_bytes table piece (take 4086 (c ∷ rest))) (pages_from table (suc piece) most (drop 4086 (c ∷ rest))) ∙ e))
+
+-- no byte is left of a run
+pub last_pages : (table piece most : ℕ) (done rest whole : List ℕ) → length rest < 1 → done ++ pages_from table piece most rest ≡ whole → done ≡ whole
+last_pages table piece most done rest whole none e = sym (append-nil done) ∙ ap (λ (xs : List ℕ). done ++ xs) (sym (empty most)) ∙ ap (λ (xs : List ℕ). done ++ pages_from table piece most xs) (sym (nothing rest none)) ∙ e
+  where
+    nothing : (xs : List ℕ) → length xs < 1 → xs ≡ []
+    nothing [] few = refl
+    nothing (x ∷ xs) few = absurd (omega (arith, few))
+
+    empty : (most : ℕ) → pages_from table piece most [] ≡ []
+    empty zero = refl
+    empty (suc most) = refl
+
+-- the pages of a table more
+disk_more : (table : ℕ) (all : List (List Row)) (rows : List Row) → disk_pages table (all ++ rows ∷ []) ≡ disk_pages table all ++ run_pages (table + length all) (rows_bytes rows)
+disk_more table [] rows = let e : table ≡ table + 0 = omega arith in append-nil (run_pages table (rows_bytes rows)) ∙ ap (λ (n : ℕ). run_pages n (rows_bytes rows)) e
+disk_more table (some ∷ all) rows =
+    let e : suc table + length all ≡ table + suc (length all) = omega arith in
+    ap (λ (xs : List ℕ). run_pages table (rows_bytes some) ++ xs) (disk_more (suc table) all rows ∙ ap (λ (n : ℕ). disk_pages (suc table) all ++ run_pages n (rows_bytes rows)) e)
+    ∙ sym (append_assoc (run_pages table (rows_bytes some)) (disk_pages (suc table) all) (run_pages (table + suc (length all)) (rows_bytes rows)))
+
+pub next_table : (old mid new : Option (List ℕ)) (all : List (List Row)) (i : ℕ) (rows : List Row) → i < length all → rows ≡ get_or all i rows → Grows old mid (disk_pages 0 (take i all)) → Grows mid new (run_pages i (rows_bytes rows)) → Grows old new (disk_pages 0 (take (i + 1) all))
+next_table old mid new all i rows lt at so_far next =
+    let number : 0 + length (take i all) ≡ i = (let l = length-take i all in omega (arith, l, lt)) in
+    let pages : disk_pages 0 (take (i + 1) all) ≡ disk_pages 0 (take i all) ++ run_pages i (rows_bytes rows) =
+    ap (disk_pages 0) (take_next all i rows lt at) ∙ disk_more 0 (take i all) rows ∙ ap (λ (n : ℕ). disk_pages 0 (take i all) ++ run_pages n (rows_bytes rows)) number in
+    subst (Grows old new) (sym pages) (grows_more old mid new (disk_pages 0 (take i all)) (run_pages i (rows_bytes rows)) so_far next)
+
+-- the pages of all tables on a disk that was empty
+pub all_pages : (old new : Option (List ℕ)) (all : List (List Row)) (i size : ℕ) → IfSome old (λ held. length held ≡ size) → size ≡ 0 → length all ≤ i → Grows old new (disk_pages 0 (take i all)) → WhereTold new (λ held. held ≡ disk_pages 0 all)
+all_pages old new all i size told none le grows held is =
+    let g = grows held is in
+    g.2 ∙ ap (λ (xs : List ℕ). xs ++ disk_pages 0 (take i all)) (empty old g.0 told g.1) ∙ ap (disk_pages 0) (take_all i all le)
+  where
+    empty : (o : Option (List ℕ)) (before : List ℕ) → IfSome o (λ held. length held ≡ size) → o ≡ Some before → before ≡ []
+    empty None before told is = cc
+    empty (Some []) before told is = cc
+    empty (Some (b ∷ bs)) before told is = absurd (omega (arith, told, none))
 
 -- ---- the rows of tables
 
@@ -218,14 +300,6 @@ as_many [] [] e = refl
 as_many [] (y ∷ all) e = cc
 as_many (x ∷ ts) [] e = cc
 as_many (x ∷ ts) (y ∷ all) e = let both = and_parts (are_rows x y) (is_database ts all) e in ap suc (as_many ts all both.1)
-
--- one item more of a list
-pub take_next : {X : Type 0} (xs : List X) (i : ℕ) (x : X) → i < length xs → x ≡ get_or xs i x → take (i + 1) xs ≡ take i xs ++ x ∷ []
-take_next [] i x lt is = absurd (omega (arith, lt))
-take_next (y ∷ xs) zero x lt is = ap (λ z. z ∷ []) (sym is)
-take_next (y ∷ xs) (suc i) x lt is =
-    let e : suc i + 1 ≡ suc (i + 1) = omega arith in
-    ap (λ (k : ℕ). take k (y ∷ xs)) e ∙ ap (λ zs. y ∷ zs) (take_next xs i x (omega (arith, lt)) is)
 
 -- an empty disk stores no table
 pub stores_none : (told : Option (List ℕ)) (size : ℕ) → IfSome told (λ held. length held ≡ size) → size ≡ 0 → WhereTold told (Stores [] [] [] [])

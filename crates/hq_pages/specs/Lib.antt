@@ -1,6 +1,7 @@
 pub mod Cells
 pub mod Counts
 pub mod Directory
+pub mod DiskPages
 pub mod Held
 pub mod Pages
 pub mod PinTouches

@@ -1,11 +1,12 @@
 //! Puts the rows of tables on a disk.
-ghost use Rattle.std.specs.Prelude.{◌≡◌, ◌≤◌, ◌^◌, ℕ, [], true, false, length, IfOk, IsErrOf};
+ghost use Rattle.std.specs.Prelude.{◌≡◌, ◌≤◌, ◌^◌, ℕ, [], true, false, length, IfOk, OnOk, IsErrOf};
 ghost use Rattle.std.specs.NonZero.{non_zero_usize_get};
 ghost use Rattle.lru.specs.LruCache.{lru_cache};
 ghost use Rattle.hq_outside.specs.Causes.{Rose};
 ghost use Rattle.hq_terms.specs.Database.{is_database};
 ghost use Rattle.hq_pages.specs.Counts.{Rises};
 ghost use Rattle.hq_pages.specs.Directory.{are_inside};
+ghost use Rattle.hq_pages.specs.DiskPages.{disk_pages};
 ghost use Rattle.hq_pages.specs.Held.{WhereTold};
 ghost use Rattle.hq_pages.specs.Pins.{is_pinned};
 ghost use Rattle.hq_pages.specs.Writes.{Stores};
@@ -64,6 +65,7 @@ pub fn parts<K: Disk>(
     ensures places { IfOk result (λ p. length p.pins.items ≡ length tables.now) }
     ensures none { IfOk result (λ p. (t : ℕ) → is_pinned p.pins.items t ≡ false) }
     ensures stores { IfOk result (λ p. WhereTold (K.held disk.new) (Stores p.directory.dues.items p.directory.runs.items tables.now all.now)) }
+    ensures bytes { OnOk result (WhereTold (K.held disk.new) (λ held. held ≡ disk_pages 0 all.now)) }
     ensures inside { IfOk result (λ p. are_inside (length p.directory.dues.items) p.directory.runs.items ≡ true) }
     ensures each { IfOk result (λ p. length p.directory.runs.items ≡ length tables.now) }
     ensures pages { IfOk result (λ p. length p.directory.dues.items ≤ 2 ^ 51) }

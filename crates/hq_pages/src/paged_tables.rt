@@ -9,6 +9,7 @@ ghost use Rattle.hq_outside.specs.Causes.{Rose};
 ghost use Rattle.hq_terms.specs.Database.{is_database};
 ghost use Rattle.hq_pages.specs.Counts.{Rises};
 ghost use Rattle.hq_pages.specs.Directory.{are_inside, reads_database, tables_read};
+ghost use Rattle.hq_pages.specs.DiskPages.{disk_pages};
 ghost use Rattle.hq_pages.specs.Held.{are_pieces, WhereTold};
 ghost use Rattle.hq_pages.specs.Pins.{is_pinned, pinned_rows, PinsFit, PinsOf};
 ghost use Rattle.hq_pages.specs.PinTouches.{Reads, TouchesFirst, Touches, sum_of};
@@ -68,6 +69,7 @@ impl<K: Disk> PagedTables<K> {
         requires empty { K.size disk ≡ 0 }
         ensures tables { IfOk result (λ s. s.catalog.tables ≡ catalog.tables) }
         ensures database { IfOk result (λ s. WhereTold (K.held s.disk) (λ held. tables_read s.dues.items held s.catalog.tables s.runs.items ≡ Some all)) }
+        ensures bytes { IfOk result (λ s. WhereTold (K.held s.disk) (λ held. held ≡ disk_pages 0 all)) }
         ensures cached { IfOk result (λ s. s.pieces ≡ lru_cache [] (non_zero_usize_get pages)) }
         ensures released { IfOk result (λ s. (t : ℕ) → is_pinned s.pins.items t ≡ false) }
         ensures sound { IfOk result (λ s. s.broken ≡ 0) }

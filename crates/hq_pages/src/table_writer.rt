@@ -4,6 +4,7 @@ ghost use Rattle.hq_outside.specs.Causes.{Rose};
 ghost use Rattle.hq_terms.specs.Database.{are_rows, is_database};
 ghost use Rattle.hq_pages.specs.Counts.{Rises};
 ghost use Rattle.hq_pages.specs.Directory.{are_inside};
+ghost use Rattle.hq_pages.specs.DiskPages.{Grows, disk_pages, rows_bytes, run_pages};
 ghost use Rattle.hq_pages.specs.Held.{WhereTold};
 ghost use Rattle.hq_pages.specs.Writes.{Stores, WroteRows};
 ghost use Rattle.hq_pages.specs.declared.refusal.PageRefusal.TheVariants as refusal;
@@ -37,6 +38,7 @@ fn write_table<K: Disk>(
     ensures pages { IfOk result (λ run. run.first + run.pages ≡ length dues.new.items) }
     ensures rows { IfOk result (λ run. run.rows < 2 ^ 31) }
     ensures wrote { IfOk result (λ run. WroteRows (K.held disk.old) (K.held disk.new) dues.old.items dues.new.items table.now run rows.now) }
+    ensures grown { OnOk result (Grows (K.held disk.old) (K.held disk.new) (run_pages number (rows_bytes rows.now))) }
     ensures calls { OnOk result (Rises (K.calls disk.old) (K.calls disk.new) (length dues.new.items - length dues.old.items)) }
     ensures failed { IsErrOf result refusal.Failed → Rose (K.faults disk.old) (K.faults disk.new) }
     ensures later { K.faults disk.old ≤ K.faults disk.new }
@@ -72,6 +74,7 @@ pub fn write_tables<K: Disk>(
     requires few { length tables.now ≤ 500 }
     requires empty { K.size disk.old ≡ 0 }
     ensures stores { IfOk result (λ d. WhereTold (K.held disk.new) (Stores d.dues.items d.runs.items tables.now all.now)) }
+    ensures bytes { OnOk result (WhereTold (K.held disk.new) (λ held. held ≡ disk_pages 0 all.now)) }
     ensures inside { IfOk result (λ d. are_inside (length d.dues.items) d.runs.items ≡ true) }
     ensures each { IfOk result (λ d. length d.runs.items ≡ length tables.now) }
     ensures pages { IfOk result (λ d. length d.dues.items ≤ 2 ^ 51) }

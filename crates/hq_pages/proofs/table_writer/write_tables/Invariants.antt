@@ -1,6 +1,7 @@
 use Rattle.std.proofs.Common.{◌≡◌, ◌-◌, ◌*◌, ◌^◌, ◌≤◌, true, take, length}
 use Rattle.hq_pages.specs.Counts.{Rises}
 use Rattle.hq_pages.specs.Directory.{are_inside}
+use Rattle.hq_pages.specs.DiskPages.{Grows, disk_pages}
 use Rattle.hq_pages.specs.Held.{WhereTold}
 use Rattle.hq_pages.specs.Writes.{Stores}
 use Rattle.hq_pages.proofs.table_writer.write_tables.Given as goal
@@ -14,6 +15,7 @@ invariant-tables g l = record {
   each : length l.runs.items ≡ l.at;
   inside : are_inside (length l.dues.items) l.runs.items ≡ true;
   stored : WhereTold (g.K.Disk.held l.disk) (Stores l.dues.items l.runs.items (take l.at l.tables) (take l.at l.all));
+  grown : Grows (g.K.Disk.held l.fn.disk) (g.K.Disk.held l.disk) (disk_pages 0 (take l.at l.all));
   calls : Rises (g.K.Disk.calls l.fn.disk) (g.K.Disk.calls l.disk) (length l.dues.items);
   later : g.K.Disk.faults l.fn.disk ≤ g.K.Disk.faults l.disk;
 }
