@@ -1,6 +1,5 @@
 //! A store of tables whose rows lie on a disk.
 ghost use Rattle.std.specs.Prelude.{◌≡◌, ◌≤◌, ◌<◌, ◌+◌, ◌-◌, ◌^◌, ◌||◌, ◌==◌, ℕ, true, false, length, min, slice_get, [], Some, IfOk, MatchResult, IfErr, IsOk, OnOk, OnErr};
-ghost use Rattle.std.specs.Map.{keys_of};
 ghost use Rattle.std.specs.Option.{option_and_then};
 ghost use Rattle.std.proofs.Props.{props};
 ghost use Rattle.std.specs.NonZero.{non_zero_usize_get};
@@ -149,10 +148,14 @@ impl<K: Disk> Tables for PagedTables<K> {
     /// not the table's rows, count as a fault.
     fn pin(&mut self, alloc: Global, t: TableId) -> Result<(), StoreRefusal>
         requires { t < length self.old.catalog.tables }
-        ensures there { is_pinned self.old.pins.items t ≡ true → IsOk result × (self.new.disk ≡ self.old.disk) × (self.new.pieces ≡ self.old.pieces) × (self.new.pins ≡ self.old.pins) × (self.new.broken ≡ self.old.broken) }
-        ensures touched { OnOk result (is_pinned self.old.pins.items t ≡ false → Touches self.old.runs.items t self.old.pieces.cap (keys_of self.old.pieces.entries) (keys_of self.new.pieces.entries)) }
-        ensures calls { OnOk result (is_pinned self.old.pins.items t ≡ false → Reads self.old.runs.items t self.old.pieces.cap (keys_of self.old.pieces.entries) (K.calls self.old.disk) (K.calls self.new.disk)) }
-        ensures touched_some { OnErr result (TouchesFirst self.old.runs.items t self.old.pieces.cap (keys_of self.old.pieces.entries) (keys_of self.new.pieces.entries)) }
+        ensures there { is_pinned self.old.pins.items t ≡ true → IsOk result }
+        ensures disk_there { is_pinned self.old.pins.items t ≡ true → self.new.disk ≡ self.old.disk }
+        ensures pieces_there { is_pinned self.old.pins.items t ≡ true → self.new.pieces ≡ self.old.pieces }
+        ensures pins_there { is_pinned self.old.pins.items t ≡ true → self.new.pins ≡ self.old.pins }
+        ensures broken_there { is_pinned self.old.pins.items t ≡ true → self.new.broken ≡ self.old.broken }
+        ensures touched { OnOk result (is_pinned self.old.pins.items t ≡ false → Touches self.old.runs.items t self.old.pieces self.new.pieces) }
+        ensures calls { OnOk result (is_pinned self.old.pins.items t ≡ false → Reads self.old.runs.items t self.old.pieces (K.calls self.old.disk) (K.calls self.new.disk)) }
+        ensures touched_some { OnErr result (TouchesFirst self.old.runs.items t self.old.pieces self.new.pieces) }
         ensures held { K.held self.new.disk ≡ K.held self.old.disk }
         ensures cap { self.new.pieces.cap ≡ self.old.pieces.cap }
         ensures runs { self.new.runs ≡ self.old.runs }
