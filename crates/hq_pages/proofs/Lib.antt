@@ -6,3 +6,4 @@ pub mod PageRuns
 pub mod Pieces
 pub mod RowsBack
 pub mod Stores
+pub mod Writes

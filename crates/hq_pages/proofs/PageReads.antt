@@ -5,7 +5,7 @@ use Rattle.hq_outside.specs.Disks.{HoldsAt}
 use Rattle.hq_pages.specs.Held.{page_at, WhereTold}
 
 -- as many items as there are, or as were asked for
-taken : (most n : ℕ) (xs : List ℕ) → n ≡ min most (length xs) → take n xs ≡ take most xs
+pub taken : (most n : ℕ) (xs : List ℕ) → n ≡ min most (length xs) → take n xs ≡ take most xs
 taken zero n xs e = let none : n ≡ 0 = omega (arith, e) in rw none refl
 taken (suc most) n [] e = let none : n ≡ 0 = omega (arith, e) in rw none refl
 taken (suc most) n (x ∷ xs) e = let some : n ≡ suc (min most (length xs)) = omega (arith, e) in rw some (ap (λ (ys : List ℕ). x ∷ ys) (taken most (min most (length xs)) xs refl))

@@ -10,7 +10,6 @@ use Rattle.hq_terms.specs.Database.{Row, are_rows, is_database}
 use Rattle.hq_terms.specs.declared.table.Table.{Table}
 use Rattle.hq_pages.specs.Directory.{are_inside, reads_database, reads_rows, table_read, tables_read}
 use Rattle.hq_pages.specs.Held.{WhereTold}
-use Rattle.hq_pages.specs.PinTouches.{Reads, Touches, TouchesFirst}
 use Rattle.hq_pages.specs.Counts.{more, Rises}
 use Rattle.hq_pages.specs.Pins.{pin_at, PinsFit, PinsOf}
 use Rattle.hq_pages.specs.Touch.{missed_from, touched_from, TouchesSome}
@@ -43,13 +42,13 @@ one_item o x y e f = cc
 
 -- ---- what the cache went through
 
-pub touches_here : (runs : List TableRun) (t room : ℕ) (old new : List ℕ) (r : TableRun) → slice_get runs t ≡ Some r → new ≡ touched_from r.first r.pages room old → Touches runs t room old new
+pub touches_here : (runs : List TableRun) (t room : ℕ) (old new : List ℕ) (r : TableRun) → slice_get runs t ≡ Some r → new ≡ touched_from r.first r.pages room old → (run : TableRun) → slice_get runs t ≡ Some run → new ≡ touched_from run.first run.pages room old
 touches_here runs t room old new r is e run there = e ∙ ap (λ x. touched_from x.first x.pages room old) (one_item (slice_get runs t) r run is there)
 
-pub reads_here : (runs : List TableRun) (t room : ℕ) (pages : List ℕ) (old new : Option ℕ) (r : TableRun) → slice_get runs t ≡ Some r → Rises old new (missed_from r.first r.pages room pages) → Reads runs t room pages old new
+pub reads_here : (runs : List TableRun) (t room : ℕ) (pages : List ℕ) (old new : Option ℕ) (r : TableRun) → slice_get runs t ≡ Some r → Rises old new (missed_from r.first r.pages room pages) → (run : TableRun) → slice_get runs t ≡ Some run → Rises old new (missed_from run.first run.pages room pages)
 reads_here runs t room pages old new r is e run there = e ∙ ap (λ x. option_map (λ c. more c (missed_from x.first x.pages room pages)) old) (one_item (slice_get runs t) r run is there)
 
-pub first_here : (runs : List TableRun) (t room : ℕ) (old new : List ℕ) (r : TableRun) → slice_get runs t ≡ Some r → TouchesSome r.first r.pages room old new → TouchesFirst runs t room old new
+pub first_here : (runs : List TableRun) (t room : ℕ) (old new : List ℕ) (r : TableRun) → slice_get runs t ≡ Some r → TouchesSome r.first r.pages room old new → (run : TableRun) → slice_get runs t ≡ Some run → TouchesSome run.first run.pages room old new
 first_here runs t room old new r is e run there = subst (λ x. TouchesSome x.first x.pages room old new) (one_item (slice_get runs t) r run is there) e
 
 -- ---- how large the run of a table is

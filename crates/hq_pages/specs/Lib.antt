@@ -1,6 +1,7 @@
 pub mod Cells
 pub mod Counts
 pub mod Directory
+pub mod DiskPages
 pub mod Held
 pub mod Pages
 pub mod PinTouches
@@ -8,3 +9,4 @@ pub mod Pins
 pub mod Runs
 pub mod StoreLaws
 pub mod Touch
+pub mod Writes

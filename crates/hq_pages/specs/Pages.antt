@@ -6,8 +6,12 @@ use Rattle.std.specs.List.{list_all}
 use Rattle.hq_pages.specs.declared.due.Due.{Due}
 
 -- the table's number, the piece's number and its length, high byte first
+abbrev pub header_bytes : (table piece length : ℕ) → List ℕ
+header_bytes table piece length = to_be_bytes w32 table ++ to_be_bytes w32 piece ++ to_be_bytes w16 length
+
+-- the header that is due
 abbrev pub header_of : Due → List ℕ
-header_of d = to_be_bytes w32 d.table ++ to_be_bytes w32 d.piece ++ to_be_bytes w16 d.length
+header_of d = header_bytes d.table d.piece d.length
 
 -- the page of a piece
 abbrev pub page_of : Due → List ℕ → List ℕ

@@ -1,9 +1,14 @@
 //! A store of tables whose rows lie on a disk.
-ghost use Rattle.std.specs.Prelude.{◌≡◌, ◌≤◌, ◌<◌, ◌+◌, ◌-◌, ◌^◌, ◌||◌, ◌==◌, ℕ, true, false, length, min, slice_get, Some, IfErr, IsOk, OnOk, OnErr};
-ghost use Rattle.std.specs.Map.{keys_of};
+ghost use Rattle.std.specs.Prelude.{◌≡◌, ◌≤◌, ◌<◌, ◌+◌, ◌-◌, ◌^◌, ◌||◌, ◌==◌, ℕ, true, false, length, min, slice_get, [], Some, IfOk, MatchResult, IfErr, IsOk, OnOk, OnErr};
 ghost use Rattle.std.specs.Option.{option_and_then};
 ghost use Rattle.std.proofs.Props.{props};
+ghost use Rattle.std.specs.NonZero.{non_zero_usize_get};
+ghost use Rattle.lru.specs.LruCache.{lru_cache};
+ghost use Rattle.hq_outside.specs.Causes.{Rose};
+ghost use Rattle.hq_terms.specs.Database.{is_database};
+ghost use Rattle.hq_pages.specs.Counts.{Rises};
 ghost use Rattle.hq_pages.specs.Directory.{are_inside, reads_database, tables_read};
+ghost use Rattle.hq_pages.specs.DiskPages.{disk_pages};
 ghost use Rattle.hq_pages.specs.Held.{are_pieces, WhereTold};
 ghost use Rattle.hq_pages.specs.Pins.{is_pinned, pinned_rows, PinsFit, PinsOf};
 ghost use Rattle.hq_pages.specs.PinTouches.{Reads, TouchesFirst, Touches, sum_of};
@@ -11,12 +16,15 @@ ghost use Rattle.hq_tables.specs.Store.{TellsRise};
 
 use crate::Due;
 use crate::cache::{Pieces, TouchRefusal};
+use crate::make::parts;
+use crate::refusal::PageRefusal;
 use crate::table_rows::read_table;
 use crate::table_run::TableRun;
 use hq_outside::{Disk, count_fault};
-use hq_tables::{Rows, StoreRefusal, Tables};
+use hq_tables::{Rows, RowsList, StoreRefusal, Tables};
 use hq_terms::{Catalog, Table, TableId};
 use std::alloc::Global;
+use std::num::NonZeroUsize;
 
 /// The tables of a catalog, whose rows lie on a disk in pages. The rows of a table are in memory while it is pinned, and
 /// the pieces of the pages that were touched last stay there.
@@ -40,7 +48,50 @@ pub struct PagedTables<K: Disk> {
     ghost sound: { WhereTold (K.held disk) (λ _. broken ≡ 0) },
 }
 
+/// What is left where the rows of tables are not on a disk: the disk, and why.
+pub struct Unmade<K> {
+    pub disk: K,
+    pub why: PageRefusal,
+}
+
 impl<K: Disk> PagedTables<K> {
+    /// Puts these rows, which has one entry for each table of the catalog, on a disk without bytes, by one write a page. Nothing
+    /// is pinned. So many pages at most are in the cache, which is empty. The disk is handed back where it fails.
+    pub fn make(
+        alloc: Global,
+        catalog: Catalog,
+        all: RowsList,
+        disk: K,
+        pages: NonZeroUsize,
+    ) -> Result<PagedTables<K>, Unmade<K>>
+        requires fits { is_database catalog.tables all ≡ true }
+        requires empty { K.size disk ≡ 0 }
+        ensures tables { IfOk result (λ s. s.catalog.tables ≡ catalog.tables) }
+        ensures database { IfOk result (λ s. WhereTold (K.held s.disk) (λ held. tables_read s.dues.items held s.catalog.tables s.runs.items ≡ Some all)) }
+        ensures bytes { IfOk result (λ s. WhereTold (K.held s.disk) (λ held. held ≡ disk_pages 0 all)) }
+        ensures cached { IfOk result (λ s. s.pieces ≡ lru_cache [] (non_zero_usize_get pages)) }
+        ensures released { IfOk result (λ s. (t : ℕ) → is_pinned s.pins.items t ≡ false) }
+        ensures sound { IfOk result (λ s. s.broken ≡ 0) }
+        ensures calls { IfOk result (λ s. Rises (K.calls disk) (K.calls s.disk) (length s.dues.items)) }
+        ensures failed { IfErr result (λ unmade. unmade.why ≡ PageRefusal.Failed → Rose (K.faults disk) (K.faults unmade.disk)) }
+        ensures later { MatchResult result (λ s. K.faults disk ≤ K.faults s.disk) (λ unmade. K.faults disk ≤ K.faults unmade.disk) }
+    {
+        let mut disk = disk;
+        let tables = catalog.tables.as_slice();
+        match parts(alloc, &mut disk, tables, all.as_slice(), pages) {
+            Ok(parts) => Ok(PagedTables {
+                catalog,
+                disk,
+                pieces: parts.pieces,
+                dues: parts.directory.dues,
+                runs: parts.directory.runs,
+                pins: parts.pins,
+                broken: 0,
+            }),
+            Err(why) => Err(Unmade { disk, why }),
+        }
+    }
+
     /// The disk. Takes no memory.
     pub fn into_disk(self) -> K
         ensures { result ≡ self.disk }
@@ -97,10 +148,14 @@ impl<K: Disk> Tables for PagedTables<K> {
     /// not the table's rows, count as a fault.
     fn pin(&mut self, alloc: Global, t: TableId) -> Result<(), StoreRefusal>
         requires { t < length self.old.catalog.tables }
-        ensures there { is_pinned self.old.pins.items t ≡ true → IsOk result × (self.new.disk ≡ self.old.disk) × (self.new.pieces ≡ self.old.pieces) × (self.new.pins ≡ self.old.pins) × (self.new.broken ≡ self.old.broken) }
-        ensures touched { OnOk result (is_pinned self.old.pins.items t ≡ false → Touches self.old.runs.items t self.old.pieces.cap (keys_of self.old.pieces.entries) (keys_of self.new.pieces.entries)) }
-        ensures calls { OnOk result (is_pinned self.old.pins.items t ≡ false → Reads self.old.runs.items t self.old.pieces.cap (keys_of self.old.pieces.entries) (K.calls self.old.disk) (K.calls self.new.disk)) }
-        ensures touched_some { OnErr result (TouchesFirst self.old.runs.items t self.old.pieces.cap (keys_of self.old.pieces.entries) (keys_of self.new.pieces.entries)) }
+        ensures there { is_pinned self.old.pins.items t ≡ true → IsOk result }
+        ensures disk_there { is_pinned self.old.pins.items t ≡ true → self.new.disk ≡ self.old.disk }
+        ensures pieces_there { is_pinned self.old.pins.items t ≡ true → self.new.pieces ≡ self.old.pieces }
+        ensures pins_there { is_pinned self.old.pins.items t ≡ true → self.new.pins ≡ self.old.pins }
+        ensures broken_there { is_pinned self.old.pins.items t ≡ true → self.new.broken ≡ self.old.broken }
+        ensures touched { OnOk result (is_pinned self.old.pins.items t ≡ false → Touches self.old.runs.items t self.old.pieces self.new.pieces) }
+        ensures calls { OnOk result (is_pinned self.old.pins.items t ≡ false → Reads self.old.runs.items t self.old.pieces (K.calls self.old.disk) (K.calls self.new.disk)) }
+        ensures touched_some { OnErr result (TouchesFirst self.old.runs.items t self.old.pieces self.new.pieces) }
         ensures held { K.held self.new.disk ≡ K.held self.old.disk }
         ensures cap { self.new.pieces.cap ≡ self.old.pieces.cap }
         ensures runs { self.new.runs ≡ self.old.runs }

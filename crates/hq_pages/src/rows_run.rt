@@ -4,6 +4,7 @@ ghost use Rattle.hq_base.specs.Lists.{Each};
 ghost use Rattle.hq_terms.specs.Database.{are_rows};
 ghost use Rattle.hq_pages.specs.Cells.{ReadsBack};
 ghost use Rattle.hq_pages.specs.Directory.{rows_of_run};
+ghost use Rattle.hq_pages.specs.DiskPages.{rows_bytes};
 ghost use Rattle.hq_pages.specs.Runs.{run_of};
 
 use crate::run::write_run;
@@ -29,7 +30,8 @@ fn cells_run(alloc: Global, rows: &Rows) -> Result<Vec<u8>, Memory>
 /// The run of a table's rows, from which they read back.
 pub fn rows_run(alloc: Global, rows: &Rows, table: &Table) -> Result<Vec<u8>, Memory>
     requires { are_rows table.now rows.now ≡ true }
-    ensures { IfOk result (λ bytes. rows_of_run table.now (length rows.now) bytes.items ≡ Some rows.now) }
+    ensures bytes { IfOk result (λ bytes. bytes.items ≡ rows_bytes rows.now) }
+    ensures back { IfOk result (λ bytes. rows_of_run table.now (length rows.now) bytes.items ≡ Some rows.now) }
 {
     let _columns = table.columns.len();
     cells_run(alloc, rows)

@@ -3,5 +3,5 @@ use Rattle.hq_pages.proofs.RowsBack.{rows_back}
 use Rattle.hq_pages.proofs.rows_run.rows_run.Goals as goal
 
 -- the rows read back
-pub returns : goal.returns
-returns c = search (rules, rows_back)
+pub returns-clause-back : goal.returns-clause-back
+returns-clause-back c = search (rules, rows_back)
