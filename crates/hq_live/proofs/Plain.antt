@@ -95,11 +95,11 @@ runs_plain [] s t sends h k = ([], refl, h.1)
 runs_plain (e ∷ events) s t sends h k =
     let mid = h.0 in
     let all : AreReplies (h.1 ++ h.2) = rw (← h.5) k in
-    let one = step_plain s.due s.faults mid.faults e s.subscriptions mid.subscriptions h.1 h.3.0 (replies_left h.1 h.2 all) in
+    let one = step_plain s.due s.faults mid.faults e s.subscriptions mid.subscriptions h.1 h.3.1 (replies_left h.1 h.2 all) in
     let more = runs_plain events mid t h.2 h.4 (replies_right h.1 h.2 all) in
     let m : Moment = record { event = e; due = s.due } in (
       m ∷ more.0,
-      (refl, (mid.due, mid.next, h.3.1, more.1)),
+      (refl, (mid.due, mid.next, h.3.2, more.1)),
       h.5
           ∙ (ap (λ l. l ++ h.2) one.0
           ∙ (ap (λ l. sent_at e s.due s.subscriptions ++ l) more.2 ∙ ap (λ l. sent_at e s.due s.subscriptions ++ live_run more.0 l) one.1)),

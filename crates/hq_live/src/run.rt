@@ -1,4 +1,4 @@
-ghost use Rattle.std.specs.Prelude.{◌≡◌, ◌++◌, IfOk, OnOk, OnErr};
+ghost use Rattle.std.specs.Prelude.{◌≡◌, ◌++◌, IfOk, IfErr, OnOk};
 ghost use Rattle.hq_live.specs.Runs.{Runs, RunsInPart, AreReplies, IsLiveRun, standing};
 
 use crate::{Asker, Event, Live, Sends, Sent, StepRefusal};
@@ -23,7 +23,7 @@ impl<A: Asker> Live<A> {
             (standing (A.due self.new.asker) (A.next self.new.asker) (A.faults self.new.asker) self.new.subscriptions.items)) }
         ensures plain { IfOk result (λ sends. AreReplies sends → IsLiveRun events
             (standing (A.due self.old.asker) (A.next self.old.asker) (A.faults self.old.asker) self.old.subscriptions.items) sends) }
-        ensures refused { OnErr result (RunsInPart events
+        ensures refused { IfErr result (RunsInPart events
             (standing (A.due self.old.asker) (A.next self.old.asker) (A.faults self.old.asker) self.old.subscriptions.items)
             (standing (A.due self.new.asker) (A.next self.new.asker) (A.faults self.new.asker) self.new.subscriptions.items)) }
     {
