@@ -49,6 +49,7 @@ pub struct PagedTables<K: Disk> {
 }
 
 /// What is left where the rows of tables are not on a disk: the disk, and why.
+#[derive(Drop)]
 pub struct Unmade<K> {
     pub disk: K,
     pub why: PageRefusal,

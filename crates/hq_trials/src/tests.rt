@@ -1,5 +1,6 @@
 mod deepest;
 mod live;
 mod memory;
+mod pages;
 mod store;
 mod system;
