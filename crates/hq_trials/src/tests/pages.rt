@@ -107,7 +107,11 @@ fn calls(alloc: Global, pages: usize) -> Result<Option<u64>, Fail> {
 
 // How often it is called where they are written only.
 fn writes(alloc: Global) -> Result<Option<u64>, Fail> {
-    Ok(made(alloc, ROOM, 0, 1)?.ok().map(|store| store.into_disk().calls()))
+    Ok(
+        made(alloc, ROOM, 0, 1)?
+            .ok()
+            .map(|store| store.into_disk().calls()),
+    )
 }
 
 #[test]
@@ -140,7 +144,15 @@ fn a_read_that_fails_is_tried_again(rt: HostRuntime) -> Result<(), Fail> {
         assert!(rt; false);
         return Ok(());
     };
-    assert!(rt; matches!(pin_both(alloc, &mut store), Err(StoreRefusal::Failed { before: 0, after: 1 })));
+    assert!(rt;
+        matches!(
+            pin_both(alloc, &mut store),
+            Err(StoreRefusal::Failed {
+                before: 0,
+                after: 1
+            })
+        )
+    );
     let mut memory = in_memory(alloc)?;
     assert!(rt; has_same(alloc, &mut memory, &mut store, 0));
     assert!(rt; store.faults() == 1);
