@@ -1,8 +1,8 @@
 -- What is read fits the catalog.
-use Rattle.std.proofs.Common.{◌≡◌, ◌∙◌, ℕ, zero, suc, ◌+◌, ◌<◌, ◌≤◌, ◌==◌, List, [], ◌∷◌, ◌++◌, length, map, Bool, true, false, not, ◌&&◌, ◌||◌, Option, Some, None, option_map, slice_get, Result, Ok, Err, refl, sym, ap, subst, arith}
+use Rattle.std.proofs.Common.{◌≡◌, ◌∙◌, ℕ, zero, suc, ◌+◌, ◌<◌, ◌==◌, List, [], ◌∷◌, length, map, Bool, true, not, ◌&&◌, ◌||◌, Option, Some, None, option_map, slice_get, Ok, refl, sym, ap, subst, arith}
 use Rattle.std.specs.Prelude.{IfOk, ⊤, is_some, nat_lt, nat_le, unwrap_or, bytes_eq}
 use Rattle.std.specs.List.{AllByRecursion, AllZip, list_all, list_any, zip}
-use Rattle.std.proofs.lemmas.Bool.{and_parts, and_from, lt-ltb, le-leb, eq-eqb}
+use Rattle.std.proofs.lemmas.Bool.{and_from, lt-ltb, le-leb, eq-eqb}
 use Rattle.std.proofs.lemmas.List.{length-map}
 use Rattle.std.proofs.lemmas.Option.{unwrap_or-slice_get, slice_get_within}
 use Rattle.std.proofs.lemmas.Result.{IfOk-at_ok}
@@ -10,7 +10,6 @@ use Rattle.std.proofs.lemmas.Slice.Zip.{AllZip-long}
 use Rattle.hq_base.specs.Due.{and_then}
 use Rattle.hq_base.specs.Json.{JsonTree}
 use Rattle.hq_base.specs.Lists.{all_differ}
-use Rattle.hq_base.specs.declared.value.Ty.{Ty}
 use Rattle.hq_meta_names.specs.Repeats.{names_due}
 use Rattle.hq_terms.specs.Bexp.{depth}
 use Rattle.hq_terms.specs.Catalog.{is_catalog, can_pair, type_of}
@@ -18,13 +17,11 @@ use Rattle.hq_terms.specs.Filters.{column_ty, is_filter}
 use Rattle.hq_terms.specs.Fits.{fits, fits_tracked, fits_rel, fits_perm, are_free_roots, objects_first, limit_fits}
 use Rattle.hq_terms.specs.Meta.{PermTree, TrackedTree, MetaTree, tracked_table}
 use Rattle.hq_terms.specs.Names.{is_free_name, is_admin_name}
-use Rattle.hq_terms.specs.Schema.{Schema, SchemaTable, schema_of, schema_table, numbered, table, no_table}
+use Rattle.hq_terms.specs.Schema.{SchemaTable, schema_of, schema_table, numbered, table, no_table}
 use Rattle.hq_terms.specs.SchemaNames.{names_differ}
-use Rattle.hq_terms.specs.declared.meta.Pair.{Pair}
 use Rattle.hq_terms.specs.declared.meta.Rel.{Rel}
 use Rattle.hq_terms.specs.declared.table.Column.{Column}
 use Rattle.hq_terms.specs.declared.table.Table.{Table}
-use Rattle.hq_meta_tables.specs.declared.refusal.MetaRefusal.{MetaRefusal}
 use Rattle.hq_meta_tables.specs.Each.{each, each_after}
 use Rattle.hq_meta_tables.specs.Found.{columns_of}
 use Rattle.hq_meta_read.specs.Permitted.{perms_at, with_perms, permitted}
@@ -35,11 +32,11 @@ use Rattle.hq_meta_tables.specs.Top.{tables_path, table_entries, unwrapped}
 use Rattle.hq_meta_tables.specs.Tracked.{tracked_at, tables_of}
 use Rattle.hq_meta_read.proofs.Beside.{WithRels, put_rels, WithPerms, put_perms, same_tracked, same_schema, long_zip}
 use Rattle.hq_meta_read.proofs.Heads.{Head, Tracked, all_tracked-Tracked}
-use Rattle.hq_meta_read.proofs.Keys.{joins, Pairs}
+use Rattle.hq_meta_read.proofs.Keys.{joins}
 use Rattle.hq_meta_read.proofs.Links.{Related, Rels, rels_at-Rels}
 use Rattle.hq_meta_read.proofs.Lists.{list_all-from, all_both}
 use Rattle.hq_meta_read.proofs.Perms.{Permits, Perms, perms_at-Perms}
-use Rattle.hq_meta_read.proofs.Steps.{ok_always, ok_weaker, ok_both, ok_and_then, ok_next, Behind, each_after-Behind}
+use Rattle.hq_meta_read.proofs.Steps.{ok_always, ok_both, ok_and_then, ok_next, Behind, each_after-Behind}
 
 -- ---- the schema, by the catalog
 
@@ -139,27 +136,27 @@ tracked_fits tables m n k same h =
 
 -- ---- the passes
 
-named-is : (tables : List Table) (js : List JsonTree) → IfOk (named tables js) (λ m. Tracked tables m.tracked × (length js ≡ length m.tracked))
+named-is : (tables : List Table) (path : List ℕ) (js : List JsonTree) → IfOk (named tables path js) (λ m. Tracked tables m.tracked × (length js ≡ length m.tracked))
 unfolding named
-named-is tables js =
+named-is tables path js =
     let made = λ (ks : List TrackedTree). let m : MetaTree = record { tracked = ks } in m in
-    let read = each_after (tracked_at tables) tables_path 0 [] js in
+    let read = each_after (tracked_at tables) path 0 [] js in
     ok_and_then (λ ks. Ok (made ks)) (λ ks. Tracked tables ks × Behind (λ j k. ⊤) [] js ks) (λ m. Tracked tables m.tracked × (length js ≡ length m.tracked))
     (λ ks h. (h.0, sym (AllZip-long (λ j k. ⊤) js h.1.new h.1.beside) ∙ ap length (sym h.1.are)))
-    read (ok_both read (Tracked tables) (Behind (λ j k. ⊤) [] js) (all_tracked-Tracked tables tables_path js) (each_after-Behind (λ j k. ⊤) (tracked_at tables) (λ before p j. ok_always (tracked_at tables before p j)) tables_path 0 [] js))
+    read (ok_both read (Tracked tables) (Behind (λ j k. ⊤) [] js) (all_tracked-Tracked tables path js) (each_after-Behind (λ j k. ⊤) (tracked_at tables) (λ before p j. ok_always (tracked_at tables before p j)) path 0 [] js))
 
 head_kept : (tables : List Table) (k : TrackedTree) (rs : List Rel) → Head tables k → Head tables (record k { rels = rs })
 head_kept tables k rs h = record { table = h.table; there = h.there; named = h.named; columns = h.columns; roots = h.roots }
 
-related-is : (tables : List Table) (js : List JsonTree) (m : MetaTree) → is_catalog tables ≡ true → AllByRecursion (Head tables) m.tracked → length js ≡ length m.tracked → IfOk (related tables tables_path js m) (λ n. WithRels (Head tables) (Rels tables m) m.tracked n.tracked)
+related-is : (tables : List Table) (path : List ℕ) (js : List JsonTree) (m : MetaTree) → is_catalog tables ≡ true → AllByRecursion (Head tables) m.tracked → length js ≡ length m.tracked → IfOk (related tables path js m) (λ n. WithRels (Head tables) (Rels tables m) m.tracked n.tracked)
 unfolding related
-related-is tables js m catalog heads long =
+related-is tables path js m catalog heads long =
     let entries = zip (tables_of m) js in
     let R = λ (e : ℕ × JsonTree) (rs : List Rel). Rels tables m e.0 rs in
     ok_and_then (λ rels. Ok (with_rels m rels)) (Behind R [] entries) (λ n. WithRels (Head tables) (Rels tables m) m.tracked n.tracked)
     (λ rels h. put_rels (Head tables) (Rels tables m) (head_kept tables) m.tracked js rels long heads (subst (AllZip R entries) (sym h.are) h.beside))
-    (each (rels_at tables m) tables_path entries)
-    (each_after-Behind R (λ before. rels_at tables m) (λ before p e. rels_at-Rels tables m p e catalog) tables_path 0 [] entries)
+    (each (rels_at tables m) path entries)
+    (each_after-Behind R (λ before. rels_at tables m) (λ before p e. rels_at-Rels tables m p e catalog) path 0 [] entries)
 
 -- a table with its names and relationships
 abbrev Joined : List Table → MetaTree → TrackedTree → Type 0
@@ -179,15 +176,15 @@ permitted-schema tables path js n long =
     (each (perms_at tables n) path entries)
     (each_after-Behind (λ e ps. ⊤) (λ before. perms_at tables n) (λ before p e. ok_always (perms_at tables n p e)) path 0 [] entries)
 
-permitted-is : (tables : List Table) (js : List JsonTree) (m n : MetaTree) → AllByRecursion (Joined tables m) n.tracked → length js ≡ length n.tracked → IfOk (permitted tables tables_path js n) (λ q. WithPerms (Joined tables m) (Perms tables) n.tracked q.tracked)
+permitted-is : (tables : List Table) (path : List ℕ) (js : List JsonTree) (m n : MetaTree) → AllByRecursion (Joined tables m) n.tracked → length js ≡ length n.tracked → IfOk (permitted tables path js n) (λ q. WithPerms (Joined tables m) (Perms tables) n.tracked q.tracked)
 unfolding permitted
-permitted-is tables js m n heads long =
+permitted-is tables path js m n heads long =
     let entries = zip (tables_of n) js in
     let R = λ (e : ℕ × JsonTree) (ps : List PermTree). Perms tables e.0 ps in
     ok_and_then (λ perms. Ok (with_perms n perms)) (Behind R [] entries) (λ q. WithPerms (Joined tables m) (Perms tables) n.tracked q.tracked)
     (λ perms h. put_perms (Joined tables m) (Perms tables) (joined_kept tables m) n.tracked js perms long heads (subst (AllZip R entries) (sym h.are) h.beside))
-    (each (perms_at tables n) tables_path entries)
-    (each_after-Behind R (λ before. perms_at tables n) (λ before p e. perms_at-Perms tables n p e) tables_path 0 [] entries)
+    (each (perms_at tables n) path entries)
+    (each_after-Behind R (λ before. perms_at tables n) (λ before p e. perms_at-Perms tables n p e) path 0 [] entries)
 
 all_differ-places : (ks : List TrackedTree) → all_differ (λ j k. j.table == k.table) ks ≡ all_differ (λ a b. a == b) (map (λ k. k.table) ks)
 all_differ-places [] = refl
@@ -218,26 +215,26 @@ whole_fits tables m n q h f g sound names =
 long_as : (ks ls : List TrackedTree) → map (λ k. k.table) ks ≡ map (λ k. k.table) ls → length ls ≡ length ks
 long_as ks ls same = sym (length-map ls (λ (k : TrackedTree). k.table)) ∙ ap length (sym same) ∙ length-map ks (λ (k : TrackedTree). k.table)
 
-pub tracked_of-FitsIf : (tables : List Table) (js : List JsonTree) → is_catalog tables ≡ true → IfOk (tracked_of tables js) (FitsIf tables)
+pub tracked_of-FitsIf : (tables : List Table) (path : List ℕ) (js : List JsonTree) → is_catalog tables ≡ true → IfOk (tracked_of tables path js) (FitsIf tables)
 unfolding tracked_of
-tracked_of-FitsIf tables js catalog =
-    let end = λ (q : MetaTree). and_then (λ u. Ok q) (names_in (names_due (schema_of tables q) q tables_path)) in
-    ok_and_then (λ m. and_then (λ n. and_then end (permitted tables tables_path js n)) (related tables tables_path js m)) (λ m. Tracked tables m.tracked × (length js ≡ length m.tracked)) (FitsIf tables)
-    (λ m h. ok_and_then (λ n. and_then end (permitted tables tables_path js n)) (λ n. WithRels (Head tables) (Rels tables m) m.tracked n.tracked) (FitsIf tables)
+tracked_of-FitsIf tables path js catalog =
+    let end = λ (q : MetaTree). and_then (λ u. Ok q) (names_in (names_due (schema_of tables q) q path)) in
+    ok_and_then (λ m. and_then (λ n. and_then end (permitted tables path js n)) (related tables path js m)) (λ m. Tracked tables m.tracked × (length js ≡ length m.tracked)) (FitsIf tables)
+    (λ m h. ok_and_then (λ n. and_then end (permitted tables path js n)) (λ n. WithRels (Head tables) (Rels tables m) m.tracked n.tracked) (FitsIf tables)
     (λ n f. ok_and_then end (λ q. WithPerms (Joined tables m) (Perms tables) n.tracked q.tracked) (FitsIf tables)
-    (λ q g. ok_next (λ u. Ok q) (FitsIf tables) (λ u. whole_fits tables m n q h.0 f g) (names_in (names_due (schema_of tables q) q tables_path)))
-    (permitted tables tables_path js n) (permitted-is tables js m n f.each (h.1 ∙ long_as n.tracked m.tracked f.same)))
-    (related tables tables_path js m) (related-is tables js m catalog h.0.heads h.1))
-    (named tables js) (named-is tables js)
+    (λ q g. ok_next (λ u. Ok q) (FitsIf tables) (λ u. whole_fits tables m n q h.0 f g) (names_in (names_due (schema_of tables q) q path)))
+    (permitted tables path js n) (permitted-is tables path js m n f.each (h.1 ∙ long_as n.tracked m.tracked f.same)))
+    (related tables path js m) (related-is tables path js m catalog h.0.heads h.1))
+    (named tables path js) (named-is tables path js)
 
 pub meta_of-FitsIf : (tables : List Table) (j : JsonTree) → is_catalog tables ≡ true → IfOk (meta_of tables j) (FitsIf tables)
 unfolding meta_of
 meta_of-FitsIf tables j catalog =
-    ok_next (λ entries. tracked_of tables entries) (FitsIf tables) (λ entries. tracked_of-FitsIf tables entries catalog) (table_entries (unwrapped j))
+    ok_next (λ entries. tracked_of tables (tables_path entries.0) entries.1) (FitsIf tables) (λ entries. tracked_of-FitsIf tables (tables_path entries.0) entries.1 catalog) (table_entries (unwrapped j))
 
 -- the schema of what the passes gave is that before permissions
-pub tracked_of-schema : (tables : List Table) (js : List JsonTree) (m n q : MetaTree) → is_catalog tables ≡ true → named tables js ≡ Ok m → related tables tables_path js m ≡ Ok n → permitted tables tables_path js n ≡ Ok q → schema_of tables q ≡ schema_of tables n
-tracked_of-schema tables js m n q catalog is_m is_n is_q =
-    let h = IfOk-at_ok (λ m. Tracked tables m.tracked × (length js ≡ length m.tracked)) is_m (named-is tables js) in
-    let f = IfOk-at_ok (λ n. WithRels (Head tables) (Rels tables m) m.tracked n.tracked) is_n (related-is tables js m catalog h.0.heads h.1) in
-    IfOk-at_ok (λ q. schema_of tables q ≡ schema_of tables n) is_q (permitted-schema tables tables_path js n (h.1 ∙ long_as n.tracked m.tracked f.same))
+pub tracked_of-schema : (tables : List Table) (path : List ℕ) (js : List JsonTree) (m n q : MetaTree) → is_catalog tables ≡ true → named tables path js ≡ Ok m → related tables path js m ≡ Ok n → permitted tables path js n ≡ Ok q → schema_of tables q ≡ schema_of tables n
+tracked_of-schema tables path js m n q catalog is_m is_n is_q =
+    let h = IfOk-at_ok (λ m. Tracked tables m.tracked × (length js ≡ length m.tracked)) is_m (named-is tables path js) in
+    let f = IfOk-at_ok (λ n. WithRels (Head tables) (Rels tables m) m.tracked n.tracked) is_n (related-is tables path js m catalog h.0.heads h.1) in
+    IfOk-at_ok (λ q. schema_of tables q ≡ schema_of tables n) is_q (permitted-schema tables path js n (h.1 ∙ long_as n.tracked m.tracked f.same))

@@ -9,7 +9,7 @@ use Rattle.hq_filter_read.specs.declared.refusal.FilterRefusal.{FilterRefusal}
 use Rattle.hq_terms.specs.Bexp.{BexpTree}
 use Rattle.hq_terms.specs.Meta.{PermTree, TrackedTree, MetaTree}
 use Rattle.hq_terms.specs.Names.{is_admin_name}
-use Rattle.hq_terms.specs.Schema.{Schema, schema_of, numbered}
+use Rattle.hq_terms.specs.Schema.{schema_of, numbered}
 use Rattle.hq_terms.specs.declared.table.Column.{Column}
 use Rattle.hq_terms.specs.declared.table.Table.{Table}
 use Rattle.hq_meta_tables.specs.declared.field.Field.{Field}
@@ -18,7 +18,7 @@ use Rattle.hq_meta_tables.specs.declared.refusal.MetaRefusal.{MetaRefusal}
 use Rattle.hq_meta_tables.specs.declared.refusal.MetaRefusal.TheVariants as refusal
 use Rattle.hq_meta_tables.specs.Each.{each, each_after}
 use Rattle.hq_meta_tables.specs.Found.{columns_of, column_at}
-use Rattle.hq_meta_tables.specs.Node.{required, checked, at, value_of, object_at, text_at, member_at, text_member, object_member, entries_member}
+use Rattle.hq_meta_tables.specs.Node.{required, checked, at, value_of, object_at, member_at, text_member, object_member, entries_member}
 use Rattle.hq_meta_read.specs.Linked.{is_among}
 use Rattle.hq_meta_tables.specs.Refused.{filter_refusal}
 use Rattle.hq_meta_tables.specs.Tracked.{tables_of}

@@ -8,15 +8,15 @@ use hq_meta_names::NameRefusal;
 use thiserror::Error;
 
 /// Why a file is no metadata that fits the catalog. A path tells a place in the file, such as
-/// `$.sources[0].tables[1].select_permissions[0].permission.columns[1]`; an absent member has the path that it would have.
+/// `$.sources[0].tables[1].select_permissions[0].permission.columns[1]`, or with version 2 `$.tables[1]` and so on; an absent member has the path that it would have.
 /// Where the file is wrapped, `$` is what stands in the wrapper.
 #[derive(Debug, Drop, Error)]
 pub enum MetaRefusal {
     /// The bytes are no JSON value of whole numbers and texts without a zero byte.
     #[error("not JSON")]
     NotJson,
-    /// The version is not 3. It is told as compact JSON, and is empty where there is none.
-    #[error("the version is not 3")]
+    /// The version is neither 2 nor 3. It is told as compact JSON, and is empty where there is none.
+    #[error("the version is neither 2 nor 3")]
     Version { found: Txt },
     /// A member is absent or of another kind, a name of a table, root field or relationship is no GraphQL Name that a schema
     /// may give, or a member stands there that would change names or what a role may see.
