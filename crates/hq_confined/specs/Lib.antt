@@ -1,0 +1,6 @@
+pub mod Origins
+pub mod Conjuncts
+pub mod Renamed
+pub mod Members
+pub mod Uses
+pub mod Faults
