@@ -1,5 +1,5 @@
 -- Conjuncts that a session's rights ask for: those of a table's filter and of a column's mask, and those of a relationship.
-use Rattle.std.specs.Prelude.{ℕ, List, [], ◌∷◌, length, Bool, false, not, ◌&&◌, ◌==◌, nat_eq, Option, Some, None, is_none, bytes_eq}
+use Rattle.std.specs.Prelude.{ℕ, List, [], ◌∷◌, length, Bool, false, not, ◌&&◌, ◌==◌, Option, Some, None, is_none, bytes_eq}
 use Rattle.std.specs.List.{list_all, list_any}
 use Rattle.hq_terms.specs.Grants.{Grants, grant}
 use Rattle.hq_terms.specs.Permission.{Permission}
@@ -86,10 +86,10 @@ is_linking s scope all t a (Some q) = not (bytes_eq a q.own_alias) && links_shap
 
 -- the column has a mask
 abbrev pub has_mask : Permission → (c : ℕ) → Bool
-has_mask p c = list_any (λ m. nat_eq m.column c) p.masks
+has_mask p c = list_any (λ m. m.column == c) p.masks
 
 abbrev pub is_permitted : Permission → (c : ℕ) → Bool
-is_permitted p c = list_any (nat_eq c) p.columns
+is_permitted p c = list_any (λ d. d == c) p.columns
 
 -- the conjuncts of a column's mask, as they are written at the alias of number 0
 abbrev pub mask_conjuncts : Schema → Grants → (t c : ℕ) → List PredTree

@@ -1,12 +1,12 @@
 -- Conditions that are equal up to the aliases inside EXISTS.
-use Rattle.std.specs.Prelude.{ℕ, List, [], ◌∷◌, Bool, true, false, cond, not, ◌&&◌, None, bytes_eq}
+use Rattle.std.specs.Prelude.{ℕ, List, [], ◌∷◌, Bool, true, false, cond, not, ◌&&◌, ◌==◌, length, Option, is_none, bytes_eq}
 use Rattle.std.specs.Ordering.{int_cmp, bool_cmp, is_eq}
 use Rattle.hq_terms.specs.declared.op.Op.{Op}
 use Rattle.hq_terms.specs.declared.op.Op.TheVariants.{Eq, Ne, Lt, Le, Gt, Ge}
 use Rattle.hq_terms.specs.declared.test.Test.{Test}
 use Rattle.hq_terms.specs.declared.test.Test.TheVariants.{Compare, Among, IsNull, Like}
 use Rattle.hq_sql_tree.specs.Tree as tree
-use Rattle.hq_sql_tree.specs.Tree.{ExprTree, PairTrees, OutTree, SelectTree, FromTree, JoinTrees, FilterTree, PredTree, PredTrees}
+use Rattle.hq_sql_tree.specs.Tree.{ExprTree, OrderTree, OutTree, SelectTree, FromTree, JoinTrees, FilterTree, PredTree, PredTrees}
 use Rattle.hq_sql_tree.specs.Form.{is_no_join}
 
 -- aliases of the one condition with those that stand for them in the other, the innermost first
@@ -49,10 +49,30 @@ are_alike_exprs r [] [] = true
 are_alike_exprs r (e ∷ es) (f ∷ fs) = is_alike_expr r e f && are_alike_exprs r es fs
 are_alike_exprs r _ _ = false
 
+abbrev pub is_alike_out : Renaming → OutTree → OutTree → Bool
+is_alike_out r o p = is_alike_expr r o.value p.value && bytes_eq o.name p.name
+
 abbrev pub are_alike_outs : Renaming → List OutTree → List OutTree → Bool
 are_alike_outs r [] [] = true
-are_alike_outs r (o ∷ os) (p ∷ ps) = is_alike_expr r o.value p.value && bytes_eq o.name p.name && are_alike_outs r os ps
+are_alike_outs r (o ∷ os) (p ∷ ps) = is_alike_out r o p && are_alike_outs r os ps
 are_alike_outs r _ _ = false
+
+-- rows without joins, DISTINCT ON, ORDER BY, LIMIT and OFFSET
+abbrev pub is_bare : List ExprTree → JoinTrees → List OrderTree → (limit offset : Option ℕ) → Bool
+is_bare distinct joins keys limit offset = (length distinct == 0) && is_no_join joins && (length keys == 0) && is_none limit && is_none offset
+
+abbrev pub alias_of : FromTree → List ℕ
+alias_of (tree.table schema name alias) = alias
+alias_of (tree.sub select alias) = alias
+alias_of (tree.one alias) = alias
+
+abbrev pub same_table : FromTree → FromTree → Bool
+same_table (tree.table schema name alias) (tree.table other_schema other_name other_alias) = bytes_eq schema other_schema && bytes_eq name other_name
+same_table _ _ = false
+
+-- within two selects, the alias of the one stands for that of the other
+abbrev pub beside : Renaming → FromTree → FromTree → Renaming
+beside r from other = (alias_of from, alias_of other) ∷ r
 
 -- Equal conditions. An EXISTS equals another where both are over one table, without joins, DISTINCT ON, ORDER BY, LIMIT and OFFSET.
 abbrev mutual
@@ -72,9 +92,9 @@ abbrev mutual
   are_alike r _ _ = false
 
   pub is_alike_select : Renaming → SelectTree → SelectTree → Bool
-  is_alike_select r (tree.rows [] outs (tree.table schema name alias) joins condition [] None None) (tree.rows [] other_outs (tree.table other_schema other_name other_alias) other_joins other_condition [] None None) =
-      bytes_eq schema other_schema && bytes_eq name other_name && is_no_join joins && is_no_join other_joins
-      && are_alike_outs ((alias, other_alias) ∷ r) outs other_outs && is_alike_filter ((alias, other_alias) ∷ r) condition other_condition
+  is_alike_select r (tree.rows distinct outs from joins condition keys limit offset) (tree.rows other_distinct other_outs other_from other_joins other_condition other_keys other_limit other_offset) =
+      is_bare distinct joins keys limit offset && is_bare other_distinct other_joins other_keys other_limit other_offset && same_table from other_from
+      && are_alike_outs (beside r from other_from) outs other_outs && is_alike_filter (beside r from other_from) condition other_condition
   is_alike_select r _ _ = false
 
   pub is_alike_filter : Renaming → FilterTree → FilterTree → Bool

@@ -1,5 +1,5 @@
 -- Where a column may stand.
-use Rattle.std.specs.Prelude.{ℕ, zero, suc, List, [], ◌∷◌, ◌++◌, length, Bool, true, false, cond, not, ◌&&◌, ◌||◌, nat_eq}
+use Rattle.std.specs.Prelude.{ℕ, zero, suc, List, [], ◌∷◌, ◌++◌, length, Bool, true, false, cond, not, ◌&&◌, ◌||◌, ◌==◌}
 use Rattle.std.specs.List.{list_any}
 use Rattle.hq_terms.specs.Grants.{Grants, grant}
 use Rattle.hq_terms.specs.Schema.{Schema, table}
@@ -18,7 +18,7 @@ abbrev pub needs : Bool → (rule : ℕ) → (alias : List ℕ) → List Fault
 needs b rule alias = cond b [] (record { rule = rule; alias = alias } ∷ [])
 
 abbrev pub is_key : Schema → (t c : ℕ) → Bool
-is_key s t c = list_any (nat_eq c) (table s t).key
+is_key s t c = list_any (λ d. d == c) (table s t).key
 
 -- a cell that both databases of one view show alike: one that the statement makes, or of a permitted column without a mask
 abbrev pub is_plain : Grants → Origin → Bool
@@ -92,7 +92,7 @@ abbrev mutual
   orders_faults s g scope left tree.no_order = []
   orders_faults s g scope (suc left) (tree.order e desc nulls_first os) = orders_faults s g scope left os
   orders_faults s g scope zero (tree.order e desc nulls_first os) =
-      cond (nat_eq (run_from s scope (origin s scope e) (tree.order e desc nulls_first os)) 0) (expr_faults s g scope e ++ orders_faults s g scope 0 os)
+      cond (run_from s scope (origin s scope e) (tree.order e desc nulls_first os) == 0) (expr_faults s g scope e ++ orders_faults s g scope 0 os)
       (orders_faults s g scope (less_one (run_from s scope (origin s scope e) (tree.order e desc nulls_first os))) os)
 
 abbrev pub exprs_faults : Schema → Grants → Shapes → List ExprTree → List Fault
