@@ -1,1 +1,7 @@
 mod Worked
+mod Renaming
+mod Clean
+mod Runs
+mod Scopes
+mod Filters
+mod Exempt

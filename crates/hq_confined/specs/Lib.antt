@@ -4,3 +4,4 @@ pub mod Renamed
 pub mod Members
 pub mod Uses
 pub mod Faults
+pub mod Ready

@@ -66,9 +66,13 @@ alias_of (tree.table schema name alias) = alias
 alias_of (tree.sub select alias) = alias
 alias_of (tree.one alias) = alias
 
+abbrev pub is_from_table : (schema name : List ℕ) → FromTree → Bool
+is_from_table schema name (tree.table other_schema other_name alias) = bytes_eq schema other_schema && bytes_eq name other_name
+is_from_table schema name _ = false
+
 abbrev pub same_table : FromTree → FromTree → Bool
-same_table (tree.table schema name alias) (tree.table other_schema other_name other_alias) = bytes_eq schema other_schema && bytes_eq name other_name
-same_table _ _ = false
+same_table (tree.table schema name alias) other = is_from_table schema name other
+same_table _ other = false
 
 -- within two selects, the alias of the one stands for that of the other
 abbrev pub beside : Renaming → FromTree → FromTree → Renaming
