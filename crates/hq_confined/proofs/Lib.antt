@@ -5,3 +5,9 @@ mod Runs
 mod Scopes
 mod Filters
 mod Exempt
+mod Wanted
+mod Chains
+mod Sorts
+mod Lists
+mod Alike
+mod Permitted

@@ -5,3 +5,4 @@ pub mod Members
 pub mod Uses
 pub mod Faults
 pub mod Ready
+pub mod Laws
