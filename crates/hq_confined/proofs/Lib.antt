@@ -1,0 +1,13 @@
+mod Worked
+mod Renaming
+mod Clean
+mod Runs
+mod Scopes
+mod Filters
+mod Exempt
+mod Wanted
+mod Chains
+mod Sorts
+mod Lists
+mod Alike
+mod Permitted
