@@ -11,6 +11,7 @@ mod tcp;
 
 pub use disk::FileDisk;
 pub use files::DirFiles;
-pub use link::TcpLink;
+pub use link::{TcpLink, set_limits};
+pub use silent::SilentPeers;
 pub use streams::{StdSink, StdSource};
-pub use tcp::TcpDoor;
+pub use tcp::{TcpDoor, listener_at};

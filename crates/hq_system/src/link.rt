@@ -33,8 +33,8 @@ pub struct TcpLink<S> {
     write_faults: u64,
 }
 
-// Limits how long the peer is waited for, and lets each reply leave at once.
-fn set_limits<S: OpenStream>(stream: &S) -> io::Result<()> {
+/// Limits how long the peer of a stream is waited for, to 60 seconds, and lets each reply leave at once.
+pub fn set_limits<S: OpenStream>(stream: &S) -> io::Result<()> {
     stream.set_read_timeout(Some(Duration::from_secs(PATIENCE)))?;
     stream.set_write_timeout(Some(Duration::from_secs(PATIENCE)))?;
     stream.set_nodelay(true)

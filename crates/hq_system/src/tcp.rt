@@ -22,8 +22,8 @@ pub struct TcpDoor<R: Net + Clock> {
     faults: u64,
 }
 
-// A listener at this port, whose calls do not block.
-fn listener_at<R: Net>(rt: &R, port: u16) -> io::Result<R::Listener> {
+/// A listener at this port of 127.0.0.1, whose calls do not block.
+pub fn listener_at<R: Net>(rt: &R, port: u16) -> io::Result<R::Listener> {
     let listener = TcpListener::bind(rt, ("127.0.0.1", port))?;
     listener.set_nonblocking(true)?;
     Ok(listener)
