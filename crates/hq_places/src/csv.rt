@@ -137,3 +137,20 @@ pub fn field_at(text: &[u8], record: u64, field: u64) -> Option<(usize, &[u8])> 
     }
     None
 }
+
+/// The place of the quoted field that a file ends in, where its quote is not closed.
+pub fn open_quote(text: &[u8]) -> Option<usize> {
+    let mut walk = Walk::new();
+    for (at, byte) in text.iter().enumerate() {
+        let step = walk.state.step(*byte);
+        if walk.state == State::Between && step != Step::LineEnd {
+            walk.begin(at);
+        }
+        walk.go(at, step);
+    }
+    if walk.state == State::Quoted {
+        Some(walk.field_start)
+    } else {
+        None
+    }
+}
