@@ -7,3 +7,4 @@ pub mod Pieces
 pub mod RowsBack
 pub mod Stores
 pub mod Writes
+pub mod Told

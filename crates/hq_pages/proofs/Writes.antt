@@ -1,5 +1,5 @@
 -- Pages that are written behind others.
-use Rattle.std.proofs.Common.{◌≡◌, ◌∙◌, ℕ, zero, suc, ◌+◌, ◌-◌, ◌*◌, ◌^◌, ◌<◌, ◌≤◌, ◌&&◌, Bool, true, false, cond, List, [], ◌∷◌, ◌++◌, take, drop, length, min, Option, Some, None, IsNone, IfSome, get_or, nat_eq, nat_le, nat_lt, refl, sym, ap, ap₂, subst, arith, append_assoc, length-append}
+use Rattle.std.proofs.Common.{◌≡◌, ◌∙◌, ℕ, zero, suc, ◌+◌, ◌-◌, ◌*◌, ◌^◌, ◌<◌, ◌≤◌, ◌&&◌, Bool, true, false, cond, List, [], ◌∷◌, ◌++◌, take, drop, length, min, Option, Some, None, IsNone, IfSome, is_some, get_or, nat_eq, nat_le, nat_lt, refl, sym, ap, ap₂, subst, arith, append_assoc, length-append}
 use Rattle.std.specs.Prelude.{slice_get, option_map, replicate}
 use Rattle.std.specs.List.{list_all}
 use Rattle.std.specs.Option.{option_and_then}
@@ -318,3 +318,12 @@ stores_next old new dues more runs ts all i t run rows lt below is at stored wro
 pub stores_all : (told : Option (List ℕ)) (dues : List Due) (runs : List TableRun) (ts : List Table) (all : List (List Row)) (i : ℕ) → length ts ≤ i → length all ≤ i → WhereTold told (Stores dues runs (take i ts) (take i all)) → WhereTold told (Stores dues runs ts all)
 stores_all told dues runs ts all i le below stored held is =
     ((stored held is).0, sym (ap (λ some. tables_read dues held some runs) (take_all i ts le)) ∙ (stored held is).1 ∙ ap Some (take_all i all below))
+
+-- ---- what a disk tells
+
+-- a disk tells its bytes after a write if it did before
+pub told_kept : (old new : Option (List ℕ)) (at : ℕ) (piece : List ℕ) → Holds old at piece new → (IsNone old → IsNone new) → is_some new ≡ is_some old
+told_kept None None at piece holds untold = refl
+told_kept None (Some new) at piece holds untold = let bad : IsNone (Some new) = untold refl in absurd cc
+told_kept (Some old) None at piece holds untold = absurd holds
+told_kept (Some old) (Some new) at piece holds untold = refl

@@ -1,5 +1,5 @@
 //! Puts the rows of tables on a disk.
-ghost use Rattle.std.specs.Prelude.{◌≡◌, ◌≤◌, ◌^◌, ℕ, [], true, false, length, IfOk, OnOk, IsErrOf};
+ghost use Rattle.std.specs.Prelude.{◌≡◌, ◌≤◌, ◌^◌, ℕ, [], true, false, length, is_some, IfOk, OnOk, IsErrOf};
 ghost use Rattle.std.specs.NonZero.{non_zero_usize_get};
 ghost use Rattle.lru.specs.LruCache.{lru_cache};
 ghost use Rattle.hq_outside.specs.Causes.{Rose};
@@ -69,6 +69,7 @@ pub fn parts<K: Disk>(
     ensures inside { IfOk result (λ p. are_inside (length p.directory.dues.items) p.directory.runs.items ≡ true) }
     ensures each { IfOk result (λ p. length p.directory.runs.items ≡ length tables.now) }
     ensures pages { IfOk result (λ p. length p.directory.dues.items ≤ 2 ^ 51) }
+    ensures told { OnOk result (is_some (K.held disk.new) ≡ is_some (K.held disk.old)) }
     ensures calls { IfOk result (λ p. Rises (K.calls disk.old) (K.calls disk.new) (length p.directory.dues.items)) }
     ensures failed { IsErrOf result refusal.Failed → Rose (K.faults disk.old) (K.faults disk.new) }
     ensures later { K.faults disk.old ≤ K.faults disk.new }

@@ -1,5 +1,5 @@
 //! Writes the pages of runs, one behind the other.
-ghost use Rattle.std.specs.Prelude.{◌≡◌, ◌≤◌, ◌<◌, ◌+◌, ◌-◌, ◌*◌, ◌^◌, length, OnOk, IsErrOf, option_map};
+ghost use Rattle.std.specs.Prelude.{◌≡◌, ◌≤◌, ◌<◌, ◌+◌, ◌-◌, ◌*◌, ◌^◌, length, is_some, OnOk, IsErrOf, option_map};
 ghost use Rattle.hq_outside.specs.Causes.{Rose, one_more};
 ghost use Rattle.hq_pages.specs.Counts.{Rises};
 ghost use Rattle.hq_pages.specs.DiskPages.{Grows, page_bytes, run_pages};
@@ -31,6 +31,7 @@ fn write_page<K: Disk>(
     ensures count { OnOk result (length dues.new.items ≡ length dues.old.items + 1) }
     ensures wrote { OnOk result (WhereTold (K.held disk.new) (Wrote (K.held disk.old) dues.old.items dues.new.items piece.now)) }
     ensures grown { OnOk result (Grows (K.held disk.old) (K.held disk.new) (page_bytes due.table due.piece piece.now)) }
+    ensures told { OnOk result (is_some (K.held disk.new) ≡ is_some (K.held disk.old)) }
     ensures calls { OnOk result (K.calls disk.new ≡ option_map one_more (K.calls disk.old)) }
     ensures failed { IsErrOf result refusal.Failed → Rose (K.faults disk.old) (K.faults disk.new) }
     ensures later { K.faults disk.old ≤ K.faults disk.new }
@@ -57,6 +58,7 @@ pub fn write_pages<K: Disk>(
     ensures few { OnOk result (length dues.new.items ≤ 2 ^ 51) }
     ensures wrote { OnOk result (WhereTold (K.held disk.new) (Wrote (K.held disk.old) dues.old.items dues.new.items run.now)) }
     ensures grown { OnOk result (Grows (K.held disk.old) (K.held disk.new) (run_pages table run.now)) }
+    ensures told { OnOk result (is_some (K.held disk.new) ≡ is_some (K.held disk.old)) }
     ensures calls { OnOk result (Rises (K.calls disk.old) (K.calls disk.new) (length dues.new.items - length dues.old.items)) }
     ensures failed { IsErrOf result refusal.Failed → Rose (K.faults disk.old) (K.faults disk.new) }
     ensures later { K.faults disk.old ≤ K.faults disk.new }

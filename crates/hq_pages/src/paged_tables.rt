@@ -1,5 +1,5 @@
 //! A store of tables whose rows lie on a disk.
-ghost use Rattle.std.specs.Prelude.{◌≡◌, ◌≤◌, ◌<◌, ◌+◌, ◌-◌, ◌^◌, ◌||◌, ◌==◌, ℕ, true, false, length, min, slice_get, [], Some, IfOk, MatchResult, IfErr, IsOk, OnOk, OnErr};
+ghost use Rattle.std.specs.Prelude.{◌≡◌, ◌≤◌, ◌<◌, ◌+◌, ◌-◌, ◌^◌, ◌||◌, ◌==◌, ℕ, true, false, length, min, slice_get, [], Some, is_some, option_map, IfOk, IfSome, MatchResult, IfErr, IsOk, OnOk, OnErr};
 ghost use Rattle.std.specs.Option.{option_and_then};
 ghost use Rattle.std.proofs.Props.{props};
 ghost use Rattle.std.specs.NonZero.{non_zero_usize_get};
@@ -69,11 +69,13 @@ impl<K: Disk> PagedTables<K> {
         requires empty { K.size disk ≡ 0 }
         ensures tables { IfOk result (λ s. s.catalog.tables ≡ catalog.tables) }
         ensures database { IfOk result (λ s. WhereTold (K.held s.disk) (λ held. tables_read s.dues.items held s.catalog.tables s.runs.items ≡ Some all)) }
+        ensures told { IfOk result (λ s. ⟦<PagedTables<K> as Tables>⟧.database s ≡ option_map (λ _. all) (K.held disk)) }
         ensures bytes { IfOk result (λ s. WhereTold (K.held s.disk) (λ held. held ≡ disk_pages 0 all)) }
         ensures cached { IfOk result (λ s. s.pieces ≡ lru_cache [] (non_zero_usize_get pages)) }
         ensures released { IfOk result (λ s. (t : ℕ) → is_pinned s.pins.items t ≡ false) }
         ensures sound { IfOk result (λ s. s.broken ≡ 0) }
         ensures calls { IfOk result (λ s. Rises (K.calls disk) (K.calls s.disk) (length s.dues.items)) }
+        ensures faults { IfOk result (λ s. min (K.faults disk) (2 ^ 64 - 1) ≤ ⟦<PagedTables<K> as Tables>⟧.faults s) }
         ensures failed { IfErr result (λ unmade. unmade.why ≡ PageRefusal.Failed → Rose (K.faults disk) (K.faults unmade.disk)) }
         ensures later { MatchResult result (λ s. K.faults disk ≤ K.faults s.disk) (λ unmade. K.faults disk ≤ K.faults unmade.disk) }
     {
@@ -93,9 +95,11 @@ impl<K: Disk> PagedTables<K> {
         }
     }
 
-    /// The disk. Takes no memory.
+    /// The disk. Takes no memory. Where it tells its bytes, the faults of the tables are its own.
     pub fn into_disk(self) -> K
-        ensures { result ≡ self.disk }
+        ensures disk { result ≡ self.disk }
+        ensures told { is_some (K.held result) ≡ is_some (⟦<PagedTables<K> as Tables>⟧.database self) }
+        ensures faults { IfSome (K.held result) (λ _. ⟦<PagedTables<K> as Tables>⟧.faults self ≡ min (K.faults result) (2 ^ 64 - 1)) }
     {
         self.disk
     }

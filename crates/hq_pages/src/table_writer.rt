@@ -1,5 +1,5 @@
 //! Writes the rows of tables, one table behind the other.
-ghost use Rattle.std.specs.Prelude.{◌≡◌, ◌≤◌, ◌<◌, ◌+◌, ◌-◌, ◌*◌, ◌^◌, ℕ, List, true, length, IfOk, OnOk, IsErrOf, Some};
+ghost use Rattle.std.specs.Prelude.{◌≡◌, ◌≤◌, ◌<◌, ◌+◌, ◌-◌, ◌*◌, ◌^◌, ℕ, List, true, length, is_some, IfOk, OnOk, IsErrOf, Some};
 ghost use Rattle.hq_outside.specs.Causes.{Rose};
 ghost use Rattle.hq_terms.specs.Database.{are_rows, is_database};
 ghost use Rattle.hq_pages.specs.Counts.{Rises};
@@ -39,6 +39,7 @@ fn write_table<K: Disk>(
     ensures rows { IfOk result (λ run. run.rows < 2 ^ 31) }
     ensures wrote { IfOk result (λ run. WroteRows (K.held disk.old) (K.held disk.new) dues.old.items dues.new.items table.now run rows.now) }
     ensures grown { OnOk result (Grows (K.held disk.old) (K.held disk.new) (run_pages number (rows_bytes rows.now))) }
+    ensures told { OnOk result (is_some (K.held disk.new) ≡ is_some (K.held disk.old)) }
     ensures calls { OnOk result (Rises (K.calls disk.old) (K.calls disk.new) (length dues.new.items - length dues.old.items)) }
     ensures failed { IsErrOf result refusal.Failed → Rose (K.faults disk.old) (K.faults disk.new) }
     ensures later { K.faults disk.old ≤ K.faults disk.new }
@@ -78,6 +79,7 @@ pub fn write_tables<K: Disk>(
     ensures inside { IfOk result (λ d. are_inside (length d.dues.items) d.runs.items ≡ true) }
     ensures each { IfOk result (λ d. length d.runs.items ≡ length tables.now) }
     ensures pages { IfOk result (λ d. length d.dues.items ≤ 2 ^ 51) }
+    ensures told { OnOk result (is_some (K.held disk.new) ≡ is_some (K.held disk.old)) }
     ensures calls { IfOk result (λ d. Rises (K.calls disk.old) (K.calls disk.new) (length d.dues.items)) }
     ensures failed { IsErrOf result refusal.Failed → Rose (K.faults disk.old) (K.faults disk.new) }
     ensures later { K.faults disk.old ≤ K.faults disk.new }

@@ -1,6 +1,6 @@
 use Rattle.std.proofs.Common.{◌*◌, length, subst, rules}
 use Rattle.hq_pages.specs.DiskPages.{Grows}
-use Rattle.hq_pages.proofs.Writes.{grows_one, page_is, wrote_one}
+use Rattle.hq_pages.proofs.Writes.{grows_one, page_is, told_kept, wrote_one}
 use Rattle.hq_pages.proofs.page_writer.write_page.Goals as goal
 
 -- the page is there
@@ -20,3 +20,7 @@ returns-clause-wrote g c =
     let grown = one (search rules) (search rules) told (search rules) in
     let piece = wrote_one (g.K.Disk.held c.args.disk.now) (g.K.Disk.held c.write_at.new.self) c.args.dues.now.items c.args.due c.in_ok-page.page.items c.args.piece.now grown in
     search (rules, piece)
+
+-- the disk tells its bytes if it did
+pub returns-clause-told : goal.returns-clause-told
+returns-clause-told g c = told_kept (g.K.Disk.held c.args.disk.now) (g.K.Disk.held c.write_at.new.self) (4096 * length c.args.dues.now.items) c.in_ok-page.page.items (search rules) (search rules)

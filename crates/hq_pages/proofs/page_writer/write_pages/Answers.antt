@@ -20,6 +20,7 @@ pieces-init g c =
       few = search rules;
       wrote = ([], refl, wrote_none (g.K.Disk.held c.args.disk.now) c.args.dues.now.items);
       grown = ([], length c.args.run.now, search rules, refl, grows_none (g.K.Disk.held c.args.disk.now));
+      told = refl;
       calls = rw none (rises_none o);
       later = search rules;
     }
@@ -52,6 +53,7 @@ pieces-preserved g c =
         wrote_more (g.K.Disk.held c.args.disk.now) (g.K.Disk.held c.pieces.disk) (g.K.Disk.held c.write_page.new.disk) c.args.dues.now.items c.pieces.dues.items c.write_page.new.dues.items done front so_far.wrote.2 c.in_ok-write_page.ensures.wrote,
       );
       grown = (pages.0 ++ page_bytes c.args.table c.pieces.piece front, pages.1 - 1, page.0, page.1, grown);
+      told = c.in_ok-write_page.ensures.told ∙ so_far.told;
       calls = rw one (rises_more (g.K.Disk.calls c.args.disk.now) (g.K.Disk.calls c.pieces.disk) (g.K.Disk.calls c.write_page.new.disk) (length c.pieces.dues.items - length c.args.dues.now.items) 1 so_far.calls next);
       later = search rules;
     }

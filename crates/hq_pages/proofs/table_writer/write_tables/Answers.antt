@@ -1,4 +1,4 @@
-use Rattle.std.proofs.Common.{◌≡◌, ◌-◌, ◌+◌, ◌<◌, ◌≤◌, ◌++◌, ◌∷◌, [], length, rules, arith}
+use Rattle.std.proofs.Common.{◌≡◌, ◌∙◌, ◌-◌, ◌+◌, ◌<◌, ◌≤◌, ◌++◌, ◌∷◌, [], length, rules, arith}
 use Rattle.hq_pages.proofs.PageRuns.{rises_more}
 use Rattle.hq_pages.proofs.Writes.{all_pages, as_many, inside_more, next_table, rows_at, stores_all, stores_next}
 use Rattle.hq_pages.proofs.table_writer.write_tables.Goals as goal
@@ -40,6 +40,7 @@ tables-preserved g c =
       inside = rw runs inside;
       stored = rw runs stored;
       grown = grown;
+      told = wrote.told ∙ so_far.told;
       calls = rw (← sum) calls;
       later = search rules;
     }

@@ -1,4 +1,4 @@
-use Rattle.std.proofs.Common.{◌≡◌, ◌-◌, ◌*◌, ◌^◌, ◌≤◌, true, take, length}
+use Rattle.std.proofs.Common.{◌≡◌, ◌-◌, ◌*◌, ◌^◌, ◌≤◌, true, take, length, is_some}
 use Rattle.hq_pages.specs.Counts.{Rises}
 use Rattle.hq_pages.specs.Directory.{are_inside}
 use Rattle.hq_pages.specs.DiskPages.{Grows, disk_pages}
@@ -16,6 +16,7 @@ invariant-tables g l = record {
   inside : are_inside (length l.dues.items) l.runs.items ≡ true;
   stored : WhereTold (g.K.Disk.held l.disk) (Stores l.dues.items l.runs.items (take l.at l.tables) (take l.at l.all));
   grown : Grows (g.K.Disk.held l.fn.disk) (g.K.Disk.held l.disk) (disk_pages 0 (take l.at l.all));
+  told : is_some (g.K.Disk.held l.disk) ≡ is_some (g.K.Disk.held l.fn.disk);
   calls : Rises (g.K.Disk.calls l.fn.disk) (g.K.Disk.calls l.disk) (length l.dues.items);
   later : g.K.Disk.faults l.fn.disk ≤ g.K.Disk.faults l.disk;
 }
