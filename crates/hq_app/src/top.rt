@@ -1,4 +1,4 @@
-ghost use Rattle.std.specs.Prelude.{◌≡◌, ◌≢◌, ◌⊎◌, ◌≤◌, IsErrOf, IfErr, IfSome, None, Some, false};
+ghost use Rattle.std.specs.Prelude.{◌≡◌, ◌≢◌, ◌⊎◌, ◌≤◌, IsErrOf, IfErr, IfSome, None, Some, true, false};
 ghost use Rattle.hq_outside.specs.Causes.{Rose};
 ghost use Rattle.hq_words.specs.Asked.{HasFewAuthors, command_of};
 ghost use Rattle.hq_commands.specs.Ending.{Answer, Silent, Tells, NotDatabase, status_of, told_line};

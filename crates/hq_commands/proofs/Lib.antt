@@ -2,3 +2,4 @@ mod Endings
 mod Statings
 mod Servings
 mod Lines
+mod OnDisk

@@ -12,11 +12,6 @@ pub record SeenDisk : Type 0 where
 abbrev pub seen_disk : (told : Option (List ℕ)) → (faults : ℕ) → SeenDisk
 seen_disk told faults = record { told = told; faults = faults }
 
--- tables whose count of faults rose from f to f' lay on it. Where it tells its bytes, its own count is at least as high.
-pub record Counted (before after : SeenDisk) (f f' : ℕ) : Type 0 where
-  pub first : before.faults ≤ f
-  pub last : IfSome after.told (λ bytes. f' ≤ after.faults)
-
 -- where it tells its bytes, its count did not fall
 abbrev pub DiskLater : (before after : SeenDisk) → Type 0
 DiskLater before after = IfSome after.told (λ bytes. before.faults ≤ after.faults)

@@ -1,5 +1,5 @@
 -- How a run of `serve` ends: what the directory holds is served at a door.
-use Rattle.std.specs.Prelude.{◌≡◌, ◌⊎◌, ℕ, List, Option, Some, Result, Ok, Err, IfSome}
+use Rattle.std.specs.Prelude.{◌≡◌, ◌⊎◌, ◌≤◌, ℕ, List, Option, Some, Result, Ok, Err, IfSome}
 use Rattle.hq_outside.specs.declared.files.File.{File}
 use Rattle.hq_loading.specs.Loading.{Contents}
 use Rattle.hq_responder.specs.Due.{denies, gives}
@@ -10,7 +10,7 @@ use Rattle.hq_session.specs.declared.secret.SecretRule.{SecretRule}
 use Rattle.hq_terms.specs.Database.{Row}
 use Rattle.hq_terms.specs.Meta.{MetaTree}
 use Rattle.hq_terms.specs.declared.table.Table.{Table}
-use Rattle.hq_commands.specs.Disks.{SeenDisk, Counted}
+use Rattle.hq_commands.specs.Disks.{SeenDisk}
 use Rattle.hq_commands.specs.Ending.{Answer}
 use Rattle.hq_commands.specs.Output.{told_rows}
 use Rattle.hq_commands.specs.Refusals.{contents_due, of_serving}
@@ -79,12 +79,17 @@ module _ {L : Type 0} (t : Told L) (rule : SecretRule) (connections : ℕ) (befo
   abbrev pub ServeEnds : Option (List File) → (dir : List ℕ) → Answer → Type 0
   ServeEnds files dir answer = EndsOver before after old new ServesOver files dir answer
 
-  -- over tables on a disk one does only where their count of faults rose, which is the disk's where this tells its bytes
+  -- over tables on a disk one does only where their count of faults rose. Where the disk tells its bytes, its own count is at least
+  -- as high as theirs in the end.
+  pub record ServesFrom (first : ℕ) (left : SeenDisk) (tables : List Table) (meta : MetaTree) (rows : Option (List (List Row))) (result : Result (Unit {0}) ServeRefusal) : Type 0 where
+    pub last : ℕ
+    pub serves : ServesTables first last tables meta rows result
+    pub disk : IfSome left.told (λ bytes. last ≤ left.faults)
+
   pub record ServesOnDisk (disk left : SeenDisk) (held : Contents) (result : Result (Unit {0}) ServeRefusal) : Type 0 where
     pub first : ℕ
-    pub last : ℕ
-    pub counts : Counted disk left first last
-    pub serves : ServesTables first last held.tables held.meta (told_rows disk.told held.rows) result
+    pub begins : disk.faults ≤ first
+    pub serves : ServesFrom first left held.tables held.meta (told_rows disk.told held.rows) result
 
   abbrev pub PagedServeEnds : (disk left : SeenDisk) → Option (List File) → (dir : List ℕ) → Answer → Type 0
   PagedServeEnds disk left files dir answer = EndsOver before after old new (ServesOnDisk disk left) files dir answer

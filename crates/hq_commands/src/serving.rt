@@ -1,11 +1,11 @@
 //! Serving a directory.
-ghost use Rattle.std.specs.Prelude.{◌≡◌, ◌≤◌, ◌⊎◌, ℕ, IfErr, IfSome, IsErrOf};
+ghost use Rattle.std.specs.Prelude.{◌≡◌, ◌≤◌, ◌⊎◌, IfErr, IfSome, IsErrOf};
 ghost use Rattle.hq_outside.specs.Causes.{Rose};
 ghost use Rattle.hq_terms.specs.Meta.{meta_view};
 ghost use Rattle.hq_loading.specs.Loading.{contents};
 ghost use Rattle.hq_commands.specs.Disks.{DiskLater, seen_disk};
 ghost use Rattle.hq_commands.specs.Ending.{NotDatabase};
-ghost use Rattle.hq_commands.specs.Serving.{OpensOver, PagedServeEnds, ServeEnds, ServesOver, ServesTables, answer_of, seen_door};
+ghost use Rattle.hq_commands.specs.Serving.{OpensOver, PagedServeEnds, ServeEnds, ServesFrom, ServesOver, answer_of, seen_door};
 
 use crate::{Done, Instance, OnDisk, Refusal};
 use hq_base::Txt;
@@ -91,9 +91,9 @@ fn serve_instance<X: Disk, D: Door, K: Sink>(
 ) -> OnDisk<X, Result<(), ServeRefusal>>
     requires { ⟦<SqlDb<PagedTables<X>> as Database>⟧.tables instance.db ≡ instance.engine.catalog.tables }
     ensures opens { OpensOver (seen_door (D.links door.old) (D.accepted door.old) (D.faults door.old)) (seen_door (D.links door.new) (D.accepted door.new) (D.faults door.new)) (K.written out.old) (K.written out.new)
-        (λ r. (last : ℕ) × IfSome (X.held result.disk) (λ _. last ≤ X.faults result.disk) × (⟦<SqlDb<PagedTables<X>> as Database>⟧.faults instance.db ≤ last)
-        × ServesTables (record { left = D.Link.left; written = D.Link.written; read_faults = D.Link.read_faults; write_faults = D.Link.write_faults }) rule.now connections (seen_door (D.links door.old) (D.accepted door.old) (D.faults door.old)) (seen_door (D.links door.new) (D.accepted door.new) (D.faults door.new)) (K.written out.old) (K.written out.new)
-        (⟦<SqlDb<PagedTables<X>> as Database>⟧.faults instance.db) last instance.engine.catalog.tables (meta_view instance.engine.meta) (⟦<SqlDb<PagedTables<X>> as Database>⟧.database instance.db) r) result.answer }
+        (ServesFrom (record { left = D.Link.left; written = D.Link.written; read_faults = D.Link.read_faults; write_faults = D.Link.write_faults }) rule.now connections (seen_door (D.links door.old) (D.accepted door.old) (D.faults door.old)) (seen_door (D.links door.new) (D.accepted door.new) (D.faults door.new)) (K.written out.old) (K.written out.new)
+        (⟦<SqlDb<PagedTables<X>> as Database>⟧.faults instance.db) (seen_disk (X.held result.disk) (X.faults result.disk)) instance.engine.catalog.tables (meta_view instance.engine.meta)
+        (⟦<SqlDb<PagedTables<X>> as Database>⟧.database instance.db)) result.answer }
     ensures door { IsErrOf result.answer ServeRefusal.DoorFailed → Rose (D.faults door.old) (D.faults door.new) }
     ensures write { IsErrOf result.answer ServeRefusal.WriteFailed → Rose (K.faults out.old) (K.faults out.new) }
     ensures disk_later { IfSome (X.held result.disk) (λ _. ⟦<SqlDb<PagedTables<X>> as Database>⟧.faults instance.db ≤ X.faults result.disk) }

@@ -2,20 +2,21 @@ ghost use Rattle.std.specs.Prelude.{◌≡◌, None};
 
 use hq_base::Txt;
 use hq_outside::{Disk, DiskFailed, count_fault};
-use std::fs::OpenOptions;
+use std::fs::{File, OpenOptions};
 use std::io::{Read, Seek, SeekFrom, Write};
 use std::rt;
 
-/// A file of the system that is written and read at places. Before `start` it has none.
+/// A file of the system that is written and read at places. Before `start` it has none. No other such disk has the same file
+/// at the same time, where the system can lock it.
 #[derive(Drop)]
-pub struct FileDisk<R: rt::Files> {
+pub struct FileDisk<R: rt::Files<File = File>> {
     rt: R,
-    file: Option<R::File>,
+    file: Option<File>,
     size: u64,
     faults: u64,
 }
 
-impl<R: rt::Files> FileDisk<R> {
+impl<R: rt::Files<File = File>> FileDisk<R> {
     /// A disk without a file, on the files that this runtime reaches.
     pub fn new(rt: R) -> Self
         ensures size { ⟦<FileDisk<R> as Disk>⟧.size result ≡ 0 }
@@ -30,6 +31,16 @@ impl<R: rt::Files> FileDisk<R> {
     }
 }
 
+// The file of this path without bytes, made where there is none, and locked. A file that is locked keeps its bytes.
+fn emptied<R: rt::Files<File = File>>(rt: &R, path: &str) -> Option<File> {
+    let mut options = OpenOptions::new();
+    options.read(true).write(true).create(true);
+    let file = options.open(rt, path).ok()?;
+    file.try_lock().ok()?;
+    file.set_len(0).ok()?;
+    Some(file)
+}
+
 // Writes all of the piece at its place.
 fn write_all_at<W: Write + Seek>(file: &mut W, at: u64, piece: &[u8]) -> bool {
     file.seek(SeekFrom::Start(at)).is_ok() && file.write_all(piece).is_ok()
@@ -40,7 +51,7 @@ fn read_all_at<R: Read + Seek>(file: &mut R, at: u64, buf: &mut [u8]) -> bool {
     file.seek(SeekFrom::Start(at)).is_ok() && file.read_exact(buf).is_ok()
 }
 
-impl<R: rt::Files> Disk for FileDisk<R> {
+impl<R: rt::Files<File = File>> Disk for FileDisk<R> {
     ghost size = { λ d. d.size };
 
     ghost held = { λ _. None };
@@ -53,17 +64,15 @@ impl<R: rt::Files> Disk for FileDisk<R> {
         self.faults
     }
 
-    /// Makes the file of this path, or empties the one that is there.
+    /// Makes the file of this path, or empties the one that is there. Fails where another disk has it, in this program or another.
     fn start(&mut self, name: &Txt) -> Result<(), DiskFailed> {
-        let mut options = OpenOptions::new();
-        options.read(true).write(true).create(true).truncate(true);
-        match options.open(&self.rt, name.as_str()) {
-            Ok(file) => {
+        match emptied(&self.rt, name.as_str()) {
+            Some(file) => {
                 self.file = Some(file);
                 self.size = 0;
                 Ok(())
             }
-            Err(_) => {
+            None => {
                 count_fault(&mut self.faults);
                 Err(DiskFailed)
             }

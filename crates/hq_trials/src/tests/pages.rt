@@ -1,8 +1,11 @@
 //! Tables whose rows lie in the pages of a disk in memory.
-use hq_base::List;
+ghost use Rattle.std.specs.Prelude.{None};
+ghost use Rattle.std.specs.Io.{ReadsAtMost};
+
+use hq_base::{List, Txt};
 use hq_generator::{Generated, generate};
 use hq_memory::MemDisk;
-use hq_outside::NumList;
+use hq_outside::{Disk, DiskFailed, NumList};
 use hq_pages::{PageRefusal, PagedTables};
 use hq_tables::{MemTables, StoreRefusal, Tables};
 use hq_terms::TableId;
@@ -156,5 +159,79 @@ fn a_read_that_fails_is_tried_again(rt: HostRuntime) -> Result<(), Fail> {
     let mut memory = in_memory(alloc)?;
     assert!(rt; has_same(alloc, &mut memory, &mut store, 0));
     assert!(rt; store.faults() == 1);
+    Ok(())
+}
+
+// A disk in memory that gives one byte of its first page changed, and does not tell its bytes.
+#[derive(Drop)]
+struct ChangedDisk {
+    disk: MemDisk,
+    place: usize,
+}
+
+impl Disk for ChangedDisk {
+    ghost size = { λ d. ⟦<MemDisk as Disk>⟧.size d.disk };
+
+    ghost held = { λ _. None };
+
+    ghost calls = { λ d. ⟦<MemDisk as Disk>⟧.calls d.disk };
+
+    ghost faults = { λ d. ⟦<MemDisk as Disk>⟧.faults d.disk };
+
+    fn faults(&self) -> u64 {
+        self.disk.faults()
+    }
+
+    fn start(&mut self, name: &Txt) -> Result<(), DiskFailed> {
+        self.disk.start(name)
+    }
+
+    fn write_at(&mut self, at: u64, piece: &[u8]) -> Result<(), DiskFailed> {
+        self.disk.write_at(at, piece)
+    }
+
+    fn read_at(&mut self, at: u64, buf: &mut [u8]) -> Result<usize, DiskFailed> {
+        let count = self.disk.read_at(at, buf)?;
+        if at == 0 && self.place < buf.len() {
+            buf[self.place] ^= 1;
+        }
+        Ok(count)
+    }
+
+    ghost told_size = { λ _. tt };
+}
+
+// What two pins of the first table and one of the second come to, where this byte of the first page is changed.
+fn pins_of_changed(alloc: Global, place: usize) -> Result<Option<[bool; 3]>, Fail> {
+    let disk = ChangedDisk {
+        disk: MemDisk::new(alloc, &[], ROOM, List::new(alloc))?,
+        place,
+    };
+    let Generated {
+        catalog,
+        meta: _,
+        rows,
+    } = generate(alloc, AUTHORS)?;
+    let Ok(mut store) = PagedTables::make(alloc, catalog, rows, disk, NonZeroUsize::MIN) else {
+        return Ok(None);
+    };
+    if store.catalog().tables.len() < 2 {
+        return Ok(None);
+    }
+    let failed = |pin: Result<(), StoreRefusal>, count: u64| {
+        matches!(pin, Err(StoreRefusal::Failed { before, after }) if before == count && after > count)
+    };
+    let first = failed(store.pin(alloc, TableId::new(0)), 0);
+    let again = failed(store.pin(alloc, TableId::new(0)), 1);
+    let other = store.pin(alloc, TableId::new(1)).is_ok();
+    Ok(Some([first, again, other]))
+}
+
+// Each pin of the table of that page fails, and the other table is there.
+#[test]
+fn a_changed_page_is_told_each_time(rt: HostRuntime) -> Result<(), Fail> {
+    for place in 0..10 {
+        assert!(rt; pins_of_changed(rt.alloc(), place)? == Some([true, true, true]));
+    }
     Ok(())
 }

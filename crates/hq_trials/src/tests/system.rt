@@ -2,8 +2,8 @@
 ghost use Rattle.std.specs.Prelude.{◌≤◌, IfOk};
 
 use hq_base::{Bytes, Txt};
-use hq_outside::{Door, Files, Link, Sink, Source, read_all, write_all};
-use hq_system::{DirFiles, StdSink, StdSource, TcpDoor};
+use hq_outside::{Disk, Door, Files, Link, Sink, Source, read_all, write_all};
+use hq_system::{DirFiles, FileDisk, StdSink, StdSource, TcpDoor};
 use std::alloc::Global;
 use std::io::{Read, Write};
 use std::net::{Shutdown, TcpStream};
@@ -53,6 +53,62 @@ fn a_file_is_loaded(rt: HostRuntime) -> Result<(), Fail> {
     assert!(rt; !loads(alloc, &mut files, "hq_trials_no_file")?);
     assert!(rt; files.faults() == 1);
     fs::remove_file(&rt, LOADED)?;
+    Ok(())
+}
+
+const PAGES: &str = "hq_trials_pages";
+
+// Whether a disk is begun under the name of the pages.
+fn begins<X: Disk>(alloc: Global, disk: &mut X) -> Result<bool, Fail> {
+    let name = Txt::of(alloc, PAGES.as_bytes())?;
+    Ok(disk.start(&name).is_ok())
+}
+
+// What a disk reads from this place on, of at most four bytes.
+fn read_from<X: Disk>(alloc: Global, disk: &mut X, at: u64) -> Result<Option<Bytes>, Fail> {
+    let mut buf = [0u8; 4];
+    match disk.read_at(at, &mut buf) {
+        Ok(count) => Ok(Some(Bytes::from_slice(alloc, &buf[..count])?)),
+        Err(_) => Ok(None),
+    }
+}
+
+// Whether a disk reads these bytes from this place on.
+fn disk_reads<X: Disk>(alloc: Global, disk: &mut X, at: u64, due: &[u8]) -> Result<bool, Fail> {
+    Ok(read_from(alloc, disk, at)?.is_some_and(|bytes| bytes.as_slice() == due))
+}
+
+#[test]
+fn a_disk_of_the_system_is_written_and_read(rt: HostRuntime) -> Result<(), Fail> {
+    let alloc = rt.alloc();
+    let mut disk = FileDisk::new(rt);
+    assert!(rt; !disk.write_at(0, b"ab").is_ok());
+    assert!(rt; disk.faults() == 1);
+    assert!(rt; begins(alloc, &mut disk)?);
+    assert!(rt; disk.write_at(0, b"abcde").is_ok());
+    assert!(rt; disk.write_at(0, b"xy").is_ok());
+    assert!(rt; disk_reads(alloc, &mut disk, 0, b"xycd")?);
+    assert!(rt; disk_reads(alloc, &mut disk, 3, b"de")?);
+    assert!(rt; disk_reads(alloc, &mut disk, 9, b"")?);
+    assert!(rt; begins(alloc, &mut disk)?);
+    assert!(rt; disk_reads(alloc, &mut disk, 0, b"")?);
+    fs::remove_file(&rt, PAGES)?;
+    Ok(())
+}
+
+// A second disk under the same name is refused, and leaves the first one's bytes.
+#[test]
+fn a_file_is_one_disk(rt: HostRuntime) -> Result<(), Fail> {
+    let alloc = rt.alloc();
+    let (mut first, mut second) = (FileDisk::new(rt), FileDisk::new(rt));
+    assert!(rt; begins(alloc, &mut first)?);
+    assert!(rt; first.write_at(0, b"abcd").is_ok());
+    assert!(rt; !begins(alloc, &mut second)?);
+    assert!(rt; second.faults() == 1);
+    assert!(rt; disk_reads(alloc, &mut first, 0, b"abcd")?);
+    drop(first);
+    assert!(rt; begins(alloc, &mut second)?);
+    fs::remove_file(&rt, PAGES)?;
     Ok(())
 }
 
