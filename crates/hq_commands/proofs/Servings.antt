@@ -20,7 +20,7 @@ use Rattle.hq_commands.specs.Disks.{SeenDisk}
 use Rattle.hq_commands.specs.Ending.{Answer}
 use Rattle.hq_commands.specs.Output.{told_rows}
 use Rattle.hq_commands.specs.Refusals.{contents_due, of_loading, of_pages, of_serving}
-use Rattle.hq_commands.specs.Serving.{SeenDoor, Untouched, answer_of, ServesFrom, ServesOnDisk, ServesTables, OpensOver, ServesDirectory, EndsOver}
+use Rattle.hq_commands.specs.Serving.{SeenDoor, Untouched, answer_of, ServesFrom, ServesOnDisk, ServesTables, OpensOver, PagedServeEnds, ServesDirectory, EndsOver}
 use Rattle.hq_commands.specs.declared.refusal.Refusal.TheVariants as refusal
 
 -- what is due of the directory, by what its loading gives
@@ -115,3 +115,17 @@ from_same t rule n before after old new disk left first held ts m database resul
     disk = s.disk;
   };
 }
+
+-- what a link tells
+abbrev pub link_tells : {L : Type 0} → (left written : L → Option (List ℕ)) → (read_faults write_faults : L → ℕ) → Told L
+link_tells left written read_faults write_faults = record { left = left; written = written; read_faults = read_faults; write_faults = write_faults }
+
+-- how a run ends that serves over tables on a disk
+pub ends_on_disk : {L : Type 0} (t : Told L) (rule : SecretRule) (n : ℕ) (before after : SeenDoor L) (old new : Option (List ℕ)) (disk left : SeenDisk) (files : Option (List File)) (dir : List ℕ) (held : Contents)
+    (first : ℕ) (ts : List Table) (m : MetaTree) (database : Option (List (List Row))) (result : Result (Unit {0}) ServeRefusal) (a : Answer)
+    → IfSome files (λ fs. loading_due fs dir ≡ Ok held) → ts ≡ held.tables → m ≡ held.meta → database ≡ told_rows disk.told held.rows → disk.faults ≤ first → a ≡ answer_of result
+    → OpensOver before after old new (ServesFrom t rule n before after old new first left ts m database) result → PagedServeEnds t rule n before after old new disk left files dir a
+ends_on_disk t rule n before after old new disk left files dir held first ts m database result a holds same_tables same_meta told begins is s =
+    ends_as before after old new (ServesOnDisk t rule n before after old new disk left) files dir held holds result a is
+    (opens_weaker before after old new (ServesFrom t rule n before after old new first left ts m database) (ServesOnDisk t rule n before after old new disk left held) result
+    (λ r. from_same t rule n before after old new disk left first held ts m database r same_tables same_meta told begins) s)

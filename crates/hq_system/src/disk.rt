@@ -66,6 +66,10 @@ impl<R: rt::Files<File = File>> Disk for FileDisk<R> {
 
     /// Makes the file of this path, or empties the one that is there. Fails where another disk has it, in this program or another.
     fn start(&mut self, name: &Txt) -> Result<(), DiskFailed> {
+        // The file that it has may be the one of this path.
+        if let Some(file) = &self.file {
+            let _ = file.unlock();
+        }
         match emptied(&self.rt, name.as_str()) {
             Some(file) => {
                 self.file = Some(file);
@@ -73,6 +77,9 @@ impl<R: rt::Files<File = File>> Disk for FileDisk<R> {
                 Ok(())
             }
             None => {
+                if let Some(file) = &self.file {
+                    let _ = file.try_lock();
+                }
                 count_fault(&mut self.faults);
                 Err(DiskFailed)
             }

@@ -8,5 +8,8 @@ asked : {A E : Type 0} (o : Option A) (e : E) (x : A) → ok_or o e ≡ Ok x →
 asked None e x h = absurd cc
 asked (Some y) e x h = let same : y ≡ x = cc in ap (λ z. Some z) same
 
-pub returns-in_Ok-clause-runs : goal.returns-in_Ok-clause-runs
-returns-in_Ok-clause-runs g c = rw (asked (command_of c.args.words.now) _ _ c.read.ensures.asked) c.obey.ensures.runs
+pub returns-in-Ok-clause-runs : goal.returns-in-Ok-clause-runs
+returns-in-Ok-clause-runs g c = rw (asked (command_of c.args.words.now) _ _ c.in-Ok.ensures.asked) c.obey.ensures.runs
+
+pub returns-in-Ok-clause-read : goal.returns-in-Ok-clause-read
+returns-in-Ok-clause-read g c = rw (asked (command_of c.args.words.now) _ _ c.in-Ok.ensures.asked) c.obey.ensures.read

@@ -3,13 +3,13 @@ use Rattle.std.proofs.lemmas.Result.{err_from_is_err_and}
 use Rattle.hq_loading.specs.Loading.{loaded_view}
 use Rattle.hq_commands.specs.Serving.{ServesOver, seen_door}
 use Rattle.hq_commands.specs.declared.done.Done.TheVariants.{Answered}
-use Rattle.hq_commands.proofs.Servings.{ends_as, load_refused}
+use Rattle.hq_commands.proofs.Servings.{ends_as, link_tells, load_refused}
 use Rattle.hq_commands.proofs.serving.serve.Goals as goal
 
 pub returns-in_err-loaded-clause-ends : goal.returns-in_err-loaded-clause-ends
 returns-in_err-loaded-clause-ends g c =
     let p = err_from_is_err_and c.from_residual.result c.from_residual.ensures.1 in
-    let t = record { left = g.D.Link.Link.left; written = g.D.Link.Link.written; read_faults = g.D.Link.Link.read_faults; write_faults = g.D.Link.Link.write_faults } in
+    let t = link_tells g.D.Link.Link.left g.D.Link.Link.written g.D.Link.Link.read_faults g.D.Link.Link.write_faults in
     let door = seen_door (g.D.Door.links c.args.door.now) (g.D.Door.accepted c.args.door.now) (g.D.Door.faults c.args.door.now) in
     let old = g.K.Sink.written c.args.out.now in
     load_refused door door old old (ServesOver t c.args.rule.now c.args.connections door door old old) (g.F.Files.folder c.args.files.now) c.args.dir.now
@@ -18,7 +18,7 @@ returns-in_err-loaded-clause-ends g c =
 pub returns-in_err-serve_loaded-clause-ends : goal.returns-in_err-serve_loaded-clause-ends
 returns-in_err-serve_loaded-clause-ends g c =
     let p = err_from_is_err_and c.from_residual-in_err-serve_loaded.result c.from_residual-in_err-serve_loaded.ensures.1 in
-    let t = record { left = g.D.Link.Link.left; written = g.D.Link.Link.written; read_faults = g.D.Link.Link.read_faults; write_faults = g.D.Link.Link.write_faults } in
+    let t = link_tells g.D.Link.Link.left g.D.Link.Link.written g.D.Link.Link.read_faults g.D.Link.Link.write_faults in
     let before = seen_door (g.D.Door.links c.args.door.now) (g.D.Door.accepted c.args.door.now) (g.D.Door.faults c.args.door.now) in
     let after = seen_door (g.D.Door.links c.serve_loaded.new.door) (g.D.Door.accepted c.serve_loaded.new.door) (g.D.Door.faults c.serve_loaded.new.door) in
     let old = g.K.Sink.written c.args.out.now in
@@ -28,7 +28,7 @@ returns-in_err-serve_loaded-clause-ends g c =
 
 pub returns-clause-ends : goal.returns-clause-ends
 returns-clause-ends g c =
-    let t = record { left = g.D.Link.Link.left; written = g.D.Link.Link.written; read_faults = g.D.Link.Link.read_faults; write_faults = g.D.Link.Link.write_faults } in
+    let t = link_tells g.D.Link.Link.left g.D.Link.Link.written g.D.Link.Link.read_faults g.D.Link.Link.write_faults in
     let before = seen_door (g.D.Door.links c.args.door.now) (g.D.Door.accepted c.args.door.now) (g.D.Door.faults c.args.door.now) in
     let after = seen_door (g.D.Door.links c.serve_loaded.new.door) (g.D.Door.accepted c.serve_loaded.new.door) (g.D.Door.faults c.serve_loaded.new.door) in
     let old = g.K.Sink.written c.args.out.now in

@@ -3,14 +3,14 @@ use Rattle.std.proofs.lemmas.Result.{err_from_is_err_and}
 use Rattle.hq_terms.specs.Meta.{meta_view}
 use Rattle.hq_loading.specs.Loading.{contents}
 use Rattle.hq_commands.specs.Serving.{ServesOver, seen_door}
-use Rattle.hq_commands.proofs.Servings.{door_same, opened, over_same}
+use Rattle.hq_commands.proofs.Servings.{door_same, link_tells, opened, over_same}
 use Rattle.hq_commands.proofs.serving.serve_loaded.Goals as goal
 
 pub returns-clause-opens : goal.returns-clause-opens
 returns-clause-opens g c =
     let loaded = c.args.loaded in
     let engine = c.in_ok-instance.instance.engine in
-    let t = record { left = g.D.Link.Link.left; written = g.D.Link.Link.written; read_faults = g.D.Link.Link.read_faults; write_faults = g.D.Link.Link.write_faults } in
+    let t = link_tells g.D.Link.Link.left g.D.Link.Link.written g.D.Link.Link.read_faults g.D.Link.Link.write_faults in
     let before = seen_door (g.D.Door.links c.args.door.now) (g.D.Door.accepted c.args.door.now) (g.D.Door.faults c.args.door.now) in
     let after = seen_door (g.D.Door.links c.serve_by_secret.new.door) (g.D.Door.accepted c.serve_by_secret.new.door) (g.D.Door.faults c.serve_by_secret.new.door) in
     let old = g.K.Sink.written c.args.out.now in
