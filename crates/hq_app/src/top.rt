@@ -11,8 +11,8 @@ use crate::laws::outputs_agree;
 use crate::{Observed, Ran, World};
 use hq_base::Txt;
 use hq_commands::{
-    Done, Refusal, check, generate_and_answer, query, query_on_disk, reply_to, serve, serve_on_disk,
-    show, sql, tell,
+    Done, Refusal, check, generate_and_answer, query, query_on_disk, reply_to, serve,
+    serve_on_disk, show, sql, tell,
 };
 use hq_db::SqlDb;
 use hq_engine::Engine;
@@ -99,7 +99,15 @@ fn serve_paged<F: Files, D: Door, X: Disk, S: Source, K: Sink, E: Sink>(
     } = world;
     let (files_in, door_in, out_in) = (&mut files, &mut door, &mut out);
     let done = serve_on_disk(
-        alloc, dir, rule, port, connections, files_in, disk, door_in, out_in,
+        alloc,
+        dir,
+        rule,
+        port,
+        connections,
+        files_in,
+        disk,
+        door_in,
+        out_in,
     );
     Ended {
         answer: done.answer,

@@ -30,17 +30,16 @@ pub trait Observed {
     ghost seen: { Self → Outside Self.Link };
 }
 
-impl<F: Files, D: Door, X: Disk, S: Source, K: Sink, E: Sink> Observed
-    for World<F, D, X, S, K, E> {
+impl<F: Files, D: Door, X: Disk, S: Source, K: Sink, E: Sink> Observed for World<F, D, X, S, K, E> {
     type Link = D::Link;
 
     ghost seen = { λ world. record {
-        files = record { told = F.folder world.files; faults = F.faults world.files };
-        door = record { links = D.links world.door; accepted = D.accepted world.door; faults = D.faults world.door };
-        links = record { left = D.Link.left; written = D.Link.written; read_faults = D.Link.read_faults; write_faults = D.Link.write_faults };
-        disk = record { told = X.held world.disk; faults = X.faults world.disk };
-        input = record { told = S.left world.input; faults = S.faults world.input };
-        out = record { told = K.written world.out; faults = K.faults world.out };
-        err = record { told = E.written world.err; faults = E.faults world.err };
+      files = record { told = F.folder world.files; faults = F.faults world.files };
+      door = record { links = D.links world.door; accepted = D.accepted world.door; faults = D.faults world.door };
+      links = record { left = D.Link.left; written = D.Link.written; read_faults = D.Link.read_faults; write_faults = D.Link.write_faults };
+      disk = record { told = X.held world.disk; faults = X.faults world.disk };
+      input = record { told = S.left world.input; faults = S.faults world.input };
+      out = record { told = K.written world.out; faults = K.faults world.out };
+      err = record { told = E.written world.err; faults = E.faults world.err };
     } };
 }

@@ -2,4 +2,3 @@ mod Endings
 mod Statings
 mod Servings
 mod Lines
-mod OnDisk

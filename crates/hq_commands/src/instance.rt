@@ -38,12 +38,7 @@ fn engine_over(alloc: Global, catalog: &Catalog, meta: Meta) -> Result<Engine, M
 
 impl Instance<MemTables> {
     /// An engine for this catalog and a metadata that fits it, and a database in memory of the catalog with these rows.
-    pub fn over(
-        alloc: Global,
-        catalog: Catalog,
-        meta: Meta,
-        rows: RowsList,
-    ) -> Result<Self, Memory>
+    pub fn over(alloc: Global, catalog: Catalog, meta: Meta, rows: RowsList) -> Result<Self, Memory>
         requires database { is_database catalog.tables rows ≡ true }
         requires fits { fits catalog.tables (meta_view meta) ≡ true }
         ensures catalog { IfOk result (λ made. made.engine.catalog.tables ≡ catalog.tables) }
@@ -90,12 +85,7 @@ fn start<X: Disk>(alloc: Global, disk: &mut X, dir: &Txt) -> Result<(), PageRefu
 impl<X: Disk> Instance<PagedTables<X>> {
     /// An engine for what a directory holds, and a database whose tables are kept on the disk, in pages. The disk is handed back
     /// where it fails.
-    pub fn on_disk(
-        alloc: Global,
-        loaded: Loaded,
-        dir: &Txt,
-        disk: X,
-    ) -> Result<Self, Unmade<X>>
+    pub fn on_disk(alloc: Global, loaded: Loaded, dir: &Txt, disk: X) -> Result<Self, Unmade<X>>
         ensures catalog { IfOk result (λ made. made.engine.catalog.tables ≡ loaded.catalog.tables) }
         ensures meta { IfOk result (λ made. meta_view made.engine.meta ≡ meta_view loaded.meta) }
         ensures tables { IfOk result (λ made. ⟦<SqlDb<PagedTables<X>> as Database>⟧.tables made.db ≡ loaded.catalog.tables) }

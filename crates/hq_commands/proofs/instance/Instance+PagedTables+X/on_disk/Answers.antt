@@ -1,5 +1,5 @@
 use Rattle.std.proofs.Common.{◌∙◌}
-use Rattle.hq_commands.proofs.OnDisk.{rows_same}
+use Rattle.hq_commands.proofs.Endings.{rows_same}
 use Rattle.hq_commands.proofs.instance.Instance+PagedTables+X.on_disk.Goals as goal
 
 pub returns-in-Ok-make-clause-rows : goal.returns-in-Ok-make-clause-rows
