@@ -3,23 +3,21 @@
 use crate::{Odd, Words, first_odd, place_of, put_excerpt, syntax_error};
 use std::alloc::Global;
 
-/// Adds what is wrong with a text that is no such JSON, and where, and then its line.
+/// Adds the place from which a text is no such JSON, and why, and then its line.
 pub fn put_not_json(alloc: Global, words: &mut Words, text: &[u8]) {
     if let Some(place) = syntax_error(alloc, text) {
-        words.put("no JSON from ");
         words.put_place(place);
-        words.put(" on\n");
+        words.put(": no JSON from here on\n");
         return;
     }
     let Some((at, odd)) = first_odd(text) else {
-        words.put("no JSON that hq reads\n");
+        words.put("1:1: no JSON that hq reads\n");
         return;
     };
-    words.put(match odd {
-        Odd::Fraction => "a number that is not a whole number of 64 bits at ",
-        Odd::ZeroByte => "a zero byte at ",
-    });
     words.put_place(place_of(text, at));
-    words.put("\n");
+    words.put(match odd {
+        Odd::Fraction => ": a number that is not a whole number of 64 bits\n",
+        Odd::ZeroByte => ": a zero byte\n",
+    });
     put_excerpt(words, text, at);
 }
