@@ -4,8 +4,9 @@ use Rattle.hq_outside.specs.Causes.{Rose}
 use Rattle.hq_outside.specs.declared.files.File.{File}
 use Rattle.hq_serve.specs.Serving.{Told}
 use Rattle.hq_words.specs.declared.command.Command.{Command}
-use Rattle.hq_words.specs.declared.command.Command.TheVariants.{Query, Sql, Check, Serve, Gen, Show}
+use Rattle.hq_words.specs.declared.command.Command.TheVariants.{Query, Sql, Explain, Check, Serve, Gen, Show}
 use Rattle.hq_commands.specs.Ending.{Answer, Ends}
+use Rattle.hq_commands.specs.Explaining.{Explains, explain_output}
 use Rattle.hq_commands.specs.Generating.{GenEnds}
 use Rattle.hq_commands.specs.Output.{query_output, sql_output}
 use Rattle.hq_commands.specs.Check.{check_output}
@@ -39,6 +40,7 @@ abbrev pub reads_input : Option Command → Bool
 reads_input None = false
 reads_input (Some (Query dir headers)) = true
 reads_input (Some (Sql dir headers)) = true
+reads_input (Some (Explain dir headers)) = true
 reads_input (Some (Check dir)) = false
 reads_input (Some (Serve dir port connections secret unauthorized)) = false
 reads_input (Some (Gen n)) = false
@@ -48,12 +50,24 @@ abbrev pub opens_door : Option Command → Bool
 opens_door None = false
 opens_door (Some (Query dir headers)) = false
 opens_door (Some (Sql dir headers)) = false
+opens_door (Some (Explain dir headers)) = false
 opens_door (Some (Check dir)) = false
 opens_door (Some (Serve dir port connections secret unauthorized)) = true
 opens_door (Some (Gen n)) = false
 opens_door (Some (Show page)) = false
 
--- The answer is the due one, as far as it says what was due: of a query and of `sql` over told files and a told input, of a check
+-- whether a command tells of a refused file on the output
+abbrev pub tells_files : Option Command → Bool
+tells_files None = false
+tells_files (Some (Query dir headers)) = false
+tells_files (Some (Sql dir headers)) = false
+tells_files (Some (Explain dir headers)) = true
+tells_files (Some (Check dir)) = false
+tells_files (Some (Serve dir port connections secret unauthorized)) = false
+tells_files (Some (Gen n)) = false
+tells_files (Some (Show page)) = false
+
+-- The answer is the due one, as far as it says what was due: of a query, of `sql` and of `explain` over told files and a told input, of a check
 -- over told files, of `serve` over what the directory holds, of `gen`, and of a page. A check and a page tell
 -- no fault. Words that ask for no command are bad, unless memory is wanted.
 abbrev pub Runs : {L : Type 0} → Told L → Option Command → (before after : Outside L) → Answer → Type 0
@@ -62,6 +76,8 @@ Runs t (Some (Query dir headers)) before after answer =
     IfSome before.files.told (λ files. IfSome before.input.told (λ text. Ends before.out.told after.out.told (query_output dir headers files text) answer))
 Runs t (Some (Sql dir headers)) before after answer =
     IfSome before.files.told (λ files. IfSome before.input.told (λ text. Ends before.out.told after.out.told (sql_output dir headers files text) answer))
+Runs t (Some (Explain dir headers)) before after answer =
+    IfSome before.files.told (λ files. IfSome before.input.told (λ text. Explains before.out.told after.out.told (explain_output dir headers files text) answer))
 Runs t (Some (Check dir)) before after answer =
     IfSome before.files.told (λ files. Ends before.out.told after.out.told (check_output dir files) answer) × (answer ≢ Ok Faulty)
 Runs t (Some (Serve dir port connections secret unauthorized)) before after answer =
@@ -86,6 +102,7 @@ abbrev pub ReadCause : {L : Type 0} → Option Command → (before after : Outsi
 ReadCause None before after = ⊥
 ReadCause (Some (Query dir headers)) before after = FilesThenInput before after
 ReadCause (Some (Sql dir headers)) before after = FilesThenInput before after
+ReadCause (Some (Explain dir headers)) before after = FilesThenInput before after
 ReadCause (Some (Check dir)) before after = Rose before.files.faults after.files.faults
 ReadCause (Some (Serve dir port connections secret unauthorized)) before after = FilesThenDoor before after
 ReadCause (Some (Gen n)) before after = ⊥

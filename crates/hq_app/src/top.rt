@@ -5,13 +5,13 @@ ghost use Rattle.hq_commands.specs.Ending.{Answer, Silent, Tells, NotDatabase, s
 ghost use Rattle.hq_commands.specs.Answers.{Answers};
 ghost use Rattle.hq_commands.specs.Serving.{seen_door};
 ghost use Rattle.hq_app.specs.Laws.{AnswersAlike};
-ghost use Rattle.hq_app.specs.Runs.{ReadCause, Runs, opens_door, outside, reads_input};
+ghost use Rattle.hq_app.specs.Runs.{ReadCause, Runs, opens_door, outside, reads_input, tells_files};
 
 use crate::laws::outputs_agree;
 use crate::{Ran, World};
 use hq_base::Txt;
 use hq_commands::{
-    Done, Refusal, check, generate_and_answer, query, reply_to, serve, show, sql, tell,
+    Done, Refusal, check, explain, generate_and_answer, query, reply_to, serve, show, sql, tell,
 };
 use hq_db::SqlDb;
 use hq_engine::Engine;
@@ -38,7 +38,7 @@ fn answered<F: Files, D: Door, S: Source, K: Sink>(
     ensures read { IsErrOf result Refusal.ReadFailed → ReadCause (command_of words.now)
         (outside (F.folder files.old) (F.faults files.old) (S.left input.old) (S.faults input.old) (K.written out.old) (K.faults out.old) (seen_door (D.links door.old) (D.accepted door.old) (D.faults door.old)))
         (outside (F.folder files.new) (F.faults files.new) (S.left input.new) (S.faults input.new) (K.written out.new) (K.faults out.new) (seen_door (D.links door.new) (D.accepted door.new) (D.faults door.new))) }
-    ensures silent { opens_door (command_of words.now) ≡ false → Silent (K.written out.old) (K.written out.new) result }
+    ensures silent { opens_door (command_of words.now) ≡ false → tells_files (command_of words.now) ≡ false → Silent (K.written out.old) (K.written out.new) result }
     ensures words { IsErrOf result Refusal.BadWords → command_of words.now ≡ None }
     ensures input { reads_input (command_of words.now) ≡ false → input.new ≡ input.old }
     ensures door { opens_door (command_of words.now) ≡ false → door.new ≡ door.old }
@@ -53,6 +53,7 @@ fn answered<F: Files, D: Door, S: Source, K: Sink>(
     match Command::read(alloc, words)? {
         Command::Query { dir, headers } => query(alloc, &dir, &headers, files, input, out),
         Command::Sql { dir, headers } => sql(alloc, &dir, &headers, files, input, out),
+        Command::Explain { dir, headers } => explain(alloc, &dir, &headers, files, input, out),
         Command::Check { dir } => check(alloc, &dir, files, out),
         Command::Serve {
             dir,
@@ -126,7 +127,7 @@ pub fn answer_one<T: Tables, S: Source, K: Sink, E: Sink>(
 
 /// The program. `query DIR [HEADER]...` answers the request on the standard input over the directory, for the session of the
 /// headers; `sql DIR [HEADER]...` writes the text of SQL that is asked for it and a line end, or `none` and a line end where
-/// none is. `check DIR` loads the directory and writes `ok: T tables, R roles, N rows`. `serve DIR --port P --connections N`
+/// none is. `explain DIR [HEADER]...` tells a person of it, or of the directory where that is refused. `check DIR` loads the directory and writes `ok: T tables, R roles, N rows`. `serve DIR --port P --connections N`
 /// serves so many connections of HTTP at this machine's port, one after the other, and writes a line after each. `gen N` makes a
 /// database of N authors, answers five requests over it, and writes how long the replies are. `help`, `--help` or `-h` writes the
 /// commands and the statuses, and `--version` the program's line and the kit's. Everything that it touches is handed in, and handed back with
@@ -144,8 +145,8 @@ pub fn run<F: Files, D: Door, S: Source, K: Sink, E: Sink>(
         (outside (F.folder world.files) (F.faults world.files) (S.left world.input) (S.faults world.input) (K.written world.out) (K.faults world.out) (seen_door (D.links world.door) (D.accepted world.door) (D.faults world.door)))
         (outside (F.folder result.world.files) (F.faults result.world.files) (S.left result.world.input) (S.faults result.world.input) (K.written result.world.out) (K.faults result.world.out) (seen_door (D.links result.world.door) (D.accepted result.world.door) (D.faults result.world.door))) answer }
 
-    // Nothing is written at a status other than 0, 1 and 5, but the lines of `serve`.
-    ensures silent { opens_door (command_of words.now) ≡ false → result.status ≢ 0 → result.status ≢ 1 → result.status ≢ 5
+    // Nothing is written at a status other than 0, 1 and 5, but the lines of `serve`, and what `explain` tells of a refused file.
+    ensures silent { opens_door (command_of words.now) ≡ false → tells_files (command_of words.now) ≡ false → result.status ≢ 0 → result.status ≢ 1 → result.status ≢ 5
         → K.written result.world.out ≡ K.written world.out }
 
     // It ends with 2 only where the words ask for no command, and there with nothing else but want of memory.

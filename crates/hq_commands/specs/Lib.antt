@@ -7,3 +7,4 @@ pub mod Check
 pub mod Serving
 pub mod Generating
 pub mod Showing
+pub mod Explaining

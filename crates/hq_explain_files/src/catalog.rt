@@ -30,7 +30,7 @@ fn expected(name: &[u8], element: bool) -> &'static str {
 // Adds what is to stand at a node, and what does.
 fn put_shape(words: &mut Words, node: &Node<'_>) {
     words.put("expected ");
-    if node.name() == b"type" {
+    if node.name() == b"type".as_slice() {
         words.put("a type: ");
         put_types(words);
     } else {

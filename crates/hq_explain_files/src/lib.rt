@@ -4,6 +4,7 @@
 mod catalog;
 mod known;
 mod metadata;
+mod missing;
 mod node;
 mod path;
 mod spot;
@@ -11,4 +12,5 @@ mod table;
 
 pub use catalog::catalog_words;
 pub use metadata::metadata_words;
+pub use missing::missing_words;
 pub use table::table_words;

@@ -138,7 +138,7 @@ fn name_spot(tables: &[Json], name: &Txt) -> Option<Spot> {
 // The most columns of a table.
 const COLUMNS: usize = 200;
 
-fn spot(tables: &[Json], refusal: &CatalogRefusal) -> Option<Spot> {
+fn spot_of(tables: &[Json], refusal: &CatalogRefusal) -> Option<Spot> {
     match refusal {
         CatalogRefusal::Repeated { name } => repeated_spot(tables, name),
         CatalogRefusal::NameLength { name } => name_spot(tables, name),
@@ -170,7 +170,7 @@ fn put_spot(words: &mut Words, spot: Spot) {
 /// The path of what a refusal of a catalog is of.
 pub fn path_of(alloc: Global, json: &Json, refusal: &CatalogRefusal) -> Result<Bytes, Memory> {
     let mut words = Words::new(alloc);
-    match (refusal, spot(list_in(json, "tables"), refusal)) {
+    match (refusal, spot_of(list_in(json, "tables"), refusal)) {
         (CatalogRefusal::Shape { path }, _) => words.put_bytes(path.as_bytes()),
         (_, Some(spot)) => put_spot(&mut words, spot),
         (CatalogRefusal::TooMany { .. }, None) => words.put("$.tables"),

@@ -16,6 +16,10 @@ pub returns-in-Sql-clause-runs : goal.returns-in-Sql-clause-runs
 returns-in-Sql-clause-runs g c =
     rw (asked (command_of c.args.words.now) _ _ c.in_ok-dir.ensures.asked ∙ ap (λ z. Some z) c.in-Sql.is) c.sql.ensures.told
 
+pub returns-in-Explain-clause-runs : goal.returns-in-Explain-clause-runs
+returns-in-Explain-clause-runs g c =
+    rw (asked (command_of c.args.words.now) _ _ c.in_ok-dir.ensures.asked ∙ ap (λ z. Some z) c.in-Explain.is) c.explain.ensures.told
+
 pub returns-in-Check-clause-runs : goal.returns-in-Check-clause-runs
 returns-in-Check-clause-runs g c =
     rw (asked (command_of c.args.words.now) _ _ c.in_ok-dir.ensures.asked ∙ ap (λ z. Some z) c.in-Check.is) (c.check.ensures.told, c.check.ensures.fault)
