@@ -32,6 +32,11 @@ const CLAUSES: [&str; 6] = [
     "OFFSET ",
 ];
 
+// Whether what stands behind a bracket is a select that gets lines of its own: not the one row that a statement begins with.
+fn begins_select(rest: &[u8]) -> bool {
+    rest.starts_with(b"SELECT ") && !rest.starts_with(b"SELECT TRUE AS \"u\")")
+}
+
 fn begins_clause(rest: &[u8]) -> bool {
     CLAUSES
         .iter()
@@ -85,7 +90,7 @@ impl Layout {
         }
         words.put_byte(byte);
         if byte == b'(' {
-            let is_select = rest.starts_with(b"SELECT ");
+            let is_select = begins_select(rest);
             self.open(is_select);
             if is_select {
                 self.put_line(words);

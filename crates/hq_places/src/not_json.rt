@@ -5,9 +5,10 @@ use std::alloc::Global;
 
 /// Adds the place from which a text is no such JSON, and why, and then its line.
 pub fn put_not_json(alloc: Global, words: &mut Words, text: &[u8]) {
-    if let Some(place) = syntax_error(alloc, text) {
-        words.put_place(place);
+    if let Some(at) = syntax_error(alloc, text) {
+        words.put_place(place_of(text, at));
         words.put(": no JSON from here on\n");
+        put_excerpt(words, text, at);
         return;
     }
     let Some((at, odd)) = first_odd(text) else {

@@ -1,6 +1,5 @@
 //! What keeps a text from being a JSON value of whole numbers and of texts without a zero byte.
 
-use crate::Place;
 use serde_json::Value;
 use std::alloc::Global;
 
@@ -117,13 +116,26 @@ pub fn first_odd(text: &[u8]) -> Option<(usize, Odd)> {
     walk.odd
 }
 
-/// The line and column at which a text is no JSON, as `serde_json` tells it.
-pub fn syntax_error(alloc: Global, text: &[u8]) -> Option<Place> {
+// The place of a column of a line, both from 1.
+fn index_of(text: &[u8], line: usize, column: usize) -> usize {
+    let mut left = line;
+    let mut start = 0usize;
+    for (at, byte) in text.iter().enumerate() {
+        if left > 1 && *byte == b'\n' {
+            left = left.saturating_sub(1);
+            start = at.saturating_add(1);
+        }
+    }
+    start
+        .saturating_add(column.saturating_sub(1))
+        .min(text.len())
+}
+
+/// The place from which on a text is no JSON, as `serde_json` tells it.
+pub fn syntax_error(alloc: Global, text: &[u8]) -> Option<usize> {
     match Value::from_slice(alloc, text) {
         Ok(_) => None,
-        Err(error) => Some(Place {
-            line: error.line() as u128,
-            column: error.column() as u128,
-        }),
+        Err(error) if error.is_eof() => Some(text.len()),
+        Err(error) => Some(index_of(text, error.line(), error.column())),
     }
 }
