@@ -122,15 +122,20 @@ fn explain_loaded<S: Source, K: Sink>(
     explain_over(alloc, &engine, session, body.as_slice(), out)
 }
 
-// The bytes of a file, none where they are not loaded again.
-fn bytes_of<F: Files>(alloc: Global, files: &mut F, dir: &Txt, file: &Txt) -> Result<Bytes, Memory>
+// The bytes of a file, None where they are not loaded again.
+fn bytes_of<F: Files>(
+    alloc: Global,
+    files: &mut F,
+    dir: &Txt,
+    file: &Txt,
+) -> Result<Option<Bytes>, Memory>
     ensures folder { F.folder files.new ≡ F.folder files.old }
     ensures later { F.faults files.old ≤ F.faults files.new }
 {
     match load_file(alloc, files, dir, file) {
-        Ok(bytes) => Ok(bytes),
+        Ok(bytes) => Ok(Some(bytes)),
         Err(FileRefusal::Memory) => Err(Memory),
-        Err(_) => Ok(Bytes::new(alloc)),
+        Err(_) => Ok(None),
     }
 }
 
@@ -146,7 +151,9 @@ fn words_of_table<F: Files>(
     ensures folder { F.folder files.new ≡ F.folder files.old }
     ensures later { F.faults files.old ≤ F.faults files.new }
 {
-    let bytes = bytes_of(alloc, files, dir, file)?;
+    let Some(bytes) = bytes_of(alloc, files, dir, file)? else {
+        return Ok(Bytes::new(alloc));
+    };
     for table in catalog.tables.as_slice() {
         if table_file_name(alloc, table)? == *file {
             return table_words(alloc, bytes.as_slice(), table, refusal);
@@ -180,10 +187,10 @@ fn words_over<F: Files>(
     ensures later { F.faults files.old ≤ F.faults files.new }
 {
     match fault {
-        FileFault::Meta(refusal) => {
-            let bytes = bytes_of(alloc, files, dir, file)?;
-            metadata_words(alloc, bytes.as_slice(), catalog, refusal)
-        }
+        FileFault::Meta(refusal) => match bytes_of(alloc, files, dir, file)? {
+            Some(bytes) => metadata_words(alloc, bytes.as_slice(), catalog, refusal),
+            None => Ok(Bytes::new(alloc)),
+        },
         FileFault::Table(refusal) => words_of_table(alloc, files, dir, file, catalog, *refusal),
         FileFault::Missing | FileFault::TooLarge | FileFault::Catalog(_) => Ok(Bytes::new(alloc)),
     }
@@ -203,10 +210,10 @@ fn words_of<F: Files>(
     match fault {
         FileFault::Missing => missing_words(alloc, dir, file, true),
         FileFault::TooLarge => missing_words(alloc, dir, file, false),
-        FileFault::Catalog(refusal) => {
-            let bytes = bytes_of(alloc, files, dir, file)?;
-            catalog_words(alloc, bytes.as_slice(), refusal)
-        }
+        FileFault::Catalog(refusal) => match bytes_of(alloc, files, dir, file)? {
+            Some(bytes) => catalog_words(alloc, bytes.as_slice(), refusal),
+            None => Ok(Bytes::new(alloc)),
+        },
         FileFault::Meta(_) | FileFault::Table(_) => match catalog_of(alloc, files, dir)? {
             Some(catalog) => words_over(alloc, files, dir, file, &catalog, fault),
             None => Ok(Bytes::new(alloc)),
