@@ -1,6 +1,5 @@
 //! Names of what is there.
 
-use hq_base::Txt;
 use hq_places::Words;
 use hq_schema::Named;
 
@@ -35,9 +34,4 @@ pub fn put_comma(words: &mut Words, first: bool) {
     if !first {
         words.put(", ");
     }
-}
-
-/// Adds a name, or nothing.
-pub fn put_text(words: &mut Words, name: &Txt) {
-    words.put_bytes(name.as_bytes());
 }

@@ -1,7 +1,5 @@
 use hq_gql_nodes::{Node, Part};
-use hq_gql_tree::{
-    Argument, Definition, Directive, Document, Field, Fragment, Operation, TypeRefTree, VarDef,
-};
+use hq_gql_tree::{Argument, Definition, Directive, Document, Field, Fragment, Operation};
 use hq_schema::Schema;
 
 /// A document with the text that it was read from, its nodes with what they stand in, and a place in the text.
@@ -121,18 +119,4 @@ impl<'a> Subject<'a> {
         }
         None
     }
-}
-
-/// The place of a type that a document writes.
-pub fn type_place(ty: &TypeRefTree) -> u64 {
-    match ty {
-        TypeRefTree::Named { at, .. }
-        | TypeRefTree::List { at, .. }
-        | TypeRefTree::NonNull { at, .. } => *at,
-    }
-}
-
-/// The variable of this name of an operation.
-pub fn variable_named<'a>(vars: &'a [VarDef], name: &str) -> Option<&'a VarDef> {
-    vars.iter().find(|var_def| var_def.name.as_str() == name)
 }
