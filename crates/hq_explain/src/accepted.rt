@@ -26,7 +26,7 @@ fn put_columns(words: &mut Words, tracked: &Tracked, cols: &[ColId]) {
     }
 }
 
-fn put_rows(words: &mut Words, scope: Scope<'_>, filter: &Bexp) {
+fn put_rows(words: &mut Words, scope: &Scope<'_>, filter: &Bexp) {
     match filter {
         Bexp::True => words.put("all"),
         filter => {
@@ -70,7 +70,7 @@ fn put_table(
         meta,
         table: bound.table,
     };
-    put_rows(words, scope, &bound.filter);
+    put_rows(words, &scope, &bound.filter);
     put_limit(words, &perm);
     Ok(())
 }

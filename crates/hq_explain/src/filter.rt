@@ -62,7 +62,7 @@ fn test_word(test: Test, negated: bool) -> &'static str {
     }
 }
 
-fn put_column(words: &mut Words, scope: Scope<'_>, col: ColId) {
+fn put_column(words: &mut Words, scope: &Scope<'_>, col: ColId) {
     if let Some(table) = scope.catalog.table(scope.table)
         && let Some(column) = table.column(col)
     {
@@ -82,7 +82,7 @@ fn put_test(words: &mut Words, test: Test, negated: bool, operands: &[Operand]) 
 }
 
 #[cycle(bexp)]
-fn put_members(words: &mut Words, scope: Scope<'_>, word: &str, bexps: &BexpList) {
+fn put_members(words: &mut Words, scope: &Scope<'_>, word: &str, bexps: &BexpList) {
     words.put("(");
     for (at, bexp) in bexps.iter().enumerate() {
         words.put(if at == 0 { "" } else { word });
@@ -92,7 +92,7 @@ fn put_members(words: &mut Words, scope: Scope<'_>, word: &str, bexps: &BexpList
 }
 
 // The rows behind a relationship, and what it is named.
-fn behind<'a>(scope: Scope<'a>, rel: RelId, words: &mut Words) -> Option<Scope<'a>> {
+fn behind<'a>(scope: &Scope<'a>, rel: RelId, words: &mut Words) -> Option<Scope<'a>> {
     let tracked = scope.meta.tracked_table(scope.table)?;
     let found = tracked.rel(rel)?;
     words.put_bytes(found.name.as_bytes());
@@ -104,17 +104,17 @@ fn behind<'a>(scope: Scope<'a>, rel: RelId, words: &mut Words) -> Option<Scope<'
 }
 
 #[cycle(bexp)]
-fn put_through(words: &mut Words, scope: Scope<'_>, rel: RelId, inner: &Bexp) {
+fn put_through(words: &mut Words, scope: &Scope<'_>, rel: RelId, inner: &Bexp) {
     words.put("some ");
-    if let Some(scope) = behind(scope, rel, words) {
+    if let Some(remote) = behind(scope, rel, words) {
         words.put(" with ");
-        put_filter(words, scope, inner);
+        put_filter(words, &remote, inner);
     }
 }
 
 /// Adds a filter.
 #[cycle(bexp)]
-pub fn put_filter(words: &mut Words, scope: Scope<'_>, bexp: &Bexp) {
+pub fn put_filter(words: &mut Words, scope: &Scope<'_>, bexp: &Bexp) {
     match bexp {
         Bexp::True => words.put("true"),
         Bexp::And(bexps) => put_members(words, scope, " and ", bexps),
