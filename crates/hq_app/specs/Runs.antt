@@ -2,8 +2,9 @@
 use Rattle.std.specs.Prelude.{◌≡◌, ◌≢◌, ◌⊎◌, ℕ, Bool, true, false, Option, Some, None, Ok, Err, IfErr, IfSome}
 use Rattle.hq_outside.specs.Causes.{Rose}
 use Rattle.hq_words.specs.declared.command.Command.{Command}
-use Rattle.hq_words.specs.declared.command.Command.TheVariants.{Query, Sql, Check, Serve, Gen, Show}
+use Rattle.hq_words.specs.declared.command.Command.TheVariants.{Query, Sql, Explain, Check, Serve, Gen, Show}
 use Rattle.hq_commands.specs.Ending.{Answer, Ends, NotDatabase, status_of, told_line}
+use Rattle.hq_commands.specs.Explaining.{Explains, explain_output}
 use Rattle.hq_commands.specs.Generating.{GenEnds}
 use Rattle.hq_commands.specs.Disks.{DiskFailed}
 use Rattle.hq_commands.specs.Output.{paged_output, query_output, sql_output}
@@ -19,6 +20,7 @@ use Rattle.hq_app.specs.Outside.{Outside, TellsLine}
 abbrev pub reads_input : Option Command → Bool
 reads_input (Some (Query dir headers paged)) = true
 reads_input (Some (Sql dir headers)) = true
+reads_input (Some (Explain dir headers)) = true
 reads_input command = false
 
 -- whether it opens the door
@@ -26,14 +28,19 @@ abbrev pub opens_door : Option Command → Bool
 opens_door (Some (Serve dir port connections secret unauthorized paged)) = true
 opens_door command = false
 
+-- whether it tells of a refused file on the output
+abbrev pub tells_files : Option Command → Bool
+tells_files (Some (Explain dir headers)) = true
+tells_files command = false
+
 -- whether it keeps tables on the disk
 abbrev pub uses_disk : Option Command → Bool
 uses_disk (Some (Query dir headers paged)) = paged
 uses_disk (Some (Serve dir port connections secret unauthorized paged)) = paged
 uses_disk command = false
 
--- The answer is the due one, as far as it says what was due: of a query and of `sql` over told files and a told input, of a check
--- over told files, of `serve` over what the directory holds, of `gen`, and of a page. With tables on a disk it is the same where
+-- The answer is the due one, as far as it says what was due: of a query, of `sql` and of `explain` over told files and a told input,
+-- of a check over told files, of `serve` over what the directory holds, of `gen`, and of a page. With tables on a disk it is the same where
 -- this tells its bytes. A check and a page tell no fault. Words that ask for no command are bad, unless memory is wanted.
 abbrev pub Runs : {L : Type 0} → Option Command → (before after : Outside L) → Answer → Type 0
 Runs None before after answer = (answer ≡ Err BadWords) ⊎ (answer ≡ Err Memory)
@@ -44,6 +51,8 @@ Runs (Some (Query dir headers false)) before after answer =
     IfSome before.files.told (λ files. IfSome before.input.told (λ text. Ends before.out.told after.out.told (query_output dir headers files text) answer))
 Runs (Some (Sql dir headers)) before after answer =
     IfSome before.files.told (λ files. IfSome before.input.told (λ text. Ends before.out.told after.out.told (sql_output dir headers files text) answer))
+Runs (Some (Explain dir headers)) before after answer =
+    IfSome before.files.told (λ files. IfSome before.input.told (λ text. Explains before.out.told after.out.told (explain_output dir headers files text) answer))
 Runs (Some (Check dir)) before after answer =
     IfSome before.files.told (λ files. Ends before.out.told after.out.told (check_output dir files) answer) × (answer ≢ Ok Faulty)
 Runs (Some (Serve dir port connections secret unauthorized true)) before after answer =
@@ -86,6 +95,7 @@ ReadCause None before after = ⊥
 ReadCause (Some (Query dir headers true)) before after = ThenInput (FilesOrDiskRose before after) before after
 ReadCause (Some (Query dir headers false)) before after = ThenInput (FilesRose before after) before after
 ReadCause (Some (Sql dir headers)) before after = ThenInput (FilesRose before after) before after
+ReadCause (Some (Explain dir headers)) before after = ThenInput (FilesRose before after) before after
 ReadCause (Some (Check dir)) before after = FilesRose before after
 ReadCause (Some (Serve dir port connections secret unauthorized true)) before after = ThenDoor (FilesOrDiskRose before after) before after
 ReadCause (Some (Serve dir port connections secret unauthorized false)) before after = ThenDoor (FilesRose before after) before after

@@ -5,13 +5,13 @@ ghost use Rattle.hq_commands.specs.Ending.{Answer, Silent, Tells, NotDatabase, s
 ghost use Rattle.hq_commands.specs.Answers.{Answers};
 ghost use Rattle.hq_app.specs.Laws.{AnswersAlike};
 ghost use Rattle.hq_app.specs.Outside.{NoneFell};
-ghost use Rattle.hq_app.specs.Runs.{DatabaseCause, EndsWith, MayFail, ReadCause, Runs, opens_door, reads_input, uses_disk};
+ghost use Rattle.hq_app.specs.Runs.{DatabaseCause, EndsWith, MayFail, ReadCause, Runs, opens_door, reads_input, uses_disk, tells_files};
 
 use crate::laws::outputs_agree;
 use crate::{Observed, Ran, World};
 use hq_base::Txt;
 use hq_commands::{
-    Done, Refusal, check, generate_and_answer, query, query_on_disk, reply_to, serve,
+    Done, Refusal, check, explain, generate_and_answer, query, query_on_disk, reply_to, serve,
     serve_on_disk, show, sql, tell,
 };
 use hq_db::SqlDb;
@@ -131,7 +131,7 @@ fn obey<F: Files, D: Door, X: Disk, S: Source, K: Sink, E: Sink>(
     requires { HasFewAuthors command }
     ensures runs { Runs (Some command) (⟦<World<F, D, X, S, K, E> as Observed>⟧.seen world) (⟦<World<F, D, X, S, K, E> as Observed>⟧.seen result.world) result.answer }
     ensures read { IsErrOf result.answer Refusal.ReadFailed → ReadCause (Some command) (⟦<World<F, D, X, S, K, E> as Observed>⟧.seen world) (⟦<World<F, D, X, S, K, E> as Observed>⟧.seen result.world) }
-    ensures silent { opens_door (Some command) ≡ false → Silent (K.written world.out) (K.written result.world.out) result.answer }
+    ensures silent { opens_door (Some command) ≡ false → tells_files (Some command) ≡ false → Silent (K.written world.out) (K.written result.world.out) result.answer }
     ensures words { result.answer ≢ Err Refusal.BadWords }
     ensures input { reads_input (Some command) ≡ false → result.world.input ≡ world.input }
     ensures door { opens_door (Some command) ≡ false → result.world.door ≡ world.door }
@@ -159,6 +159,11 @@ fn obey<F: Files, D: Door, X: Disk, S: Source, K: Sink, E: Sink>(
         Command::Sql { dir, headers } => {
             let (files, input, out) = (&mut world.files, &mut world.input, &mut world.out);
             let answer = sql(alloc, &dir, &headers, files, input, out);
+            Ended { answer, world }
+        }
+        Command::Explain { dir, headers } => {
+            let (files, input, out) = (&mut world.files, &mut world.input, &mut world.out);
+            let answer = explain(alloc, &dir, &headers, files, input, out);
             Ended { answer, world }
         }
         Command::Check { dir } => {
@@ -203,7 +208,7 @@ fn answered<F: Files, D: Door, X: Disk, S: Source, K: Sink, E: Sink>(
 ) -> Ended<F, D, X, S, K, E>
     ensures runs { Runs (command_of words.now) (⟦<World<F, D, X, S, K, E> as Observed>⟧.seen world) (⟦<World<F, D, X, S, K, E> as Observed>⟧.seen result.world) result.answer }
     ensures read { IsErrOf result.answer Refusal.ReadFailed → ReadCause (command_of words.now) (⟦<World<F, D, X, S, K, E> as Observed>⟧.seen world) (⟦<World<F, D, X, S, K, E> as Observed>⟧.seen result.world) }
-    ensures silent { opens_door (command_of words.now) ≡ false → Silent (K.written world.out) (K.written result.world.out) result.answer }
+    ensures silent { opens_door (command_of words.now) ≡ false → tells_files (command_of words.now) ≡ false → Silent (K.written world.out) (K.written result.world.out) result.answer }
     ensures words { IsErrOf result.answer Refusal.BadWords → command_of words.now ≡ None }
     ensures input { reads_input (command_of words.now) ≡ false → result.world.input ≡ world.input }
     ensures door { opens_door (command_of words.now) ≡ false → result.world.door ≡ world.door }
@@ -277,7 +282,8 @@ pub fn answer_one<T: Tables, S: Source, K: Sink, E: Sink>(
 
 /// The program. `query DIR [HEADER]...` answers the request on the standard input over the directory, for the session of the
 /// headers; `sql DIR [HEADER]...` writes the text of SQL that is asked for it and a line end, or `none` and a line end where
-/// none is. `check DIR` loads the directory and writes `ok: T tables, R roles, N rows`. `serve DIR --port P --connections N`
+/// none is. `explain DIR [HEADER]...` tells a person of it, or of the directory where that is refused. `check DIR` loads the
+/// directory and writes `ok: T tables, R roles, N rows`. `serve DIR --port P --connections N`
 /// serves so many connections of HTTP at this machine's port, one after the other, and writes a line after each. With `--paged` these
 /// two keep the tables on the disk, under the name `hq.pages` in the directory. `gen N` makes a
 /// database of N authors, answers five requests over it, and writes how long the replies are. `help`, `--help` or `-h` writes the
@@ -292,8 +298,8 @@ pub fn run<F: Files, D: Door, X: Disk, S: Source, K: Sink, E: Sink>(
     // the words ask for, unless memory or an object of the outside failed.
     ensures ends { EndsWith (command_of words.now) (⟦<World<F, D, X, S, K, E> as Observed>⟧.seen world) (⟦<World<F, D, X, S, K, E> as Observed>⟧.seen result.world) result.status }
 
-    // Nothing is written at a status other than 0, 1 and 5, but the lines of `serve`.
-    ensures silent { opens_door (command_of words.now) ≡ false → result.status ≢ 0 → result.status ≢ 1 → result.status ≢ 5
+    // Nothing is written at a status other than 0, 1 and 5, but the lines of `serve`, and what `explain` tells of a refused file.
+    ensures silent { opens_door (command_of words.now) ≡ false → tells_files (command_of words.now) ≡ false → result.status ≢ 0 → result.status ≢ 1 → result.status ≢ 5
         → K.written result.world.out ≡ K.written world.out }
 
     // It ends with 2 only where the words ask for no command, and there with nothing else but want of memory.

@@ -8,3 +8,4 @@ pub mod Serving
 pub mod Generating
 pub mod Showing
 pub mod Disks
+pub mod Explaining

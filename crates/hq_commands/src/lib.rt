@@ -1,10 +1,11 @@
-//! The commands: `query` and `sql`, which read a request; `check`, `serve` and `gen`, which read none; the pages in which the program
+//! The commands: `query`, `sql` and `explain`, which read a request; `check`, `serve` and `gen`, which read none; the pages in which the program
 //! tells of itself; and how each ends.
 #![tactic(auto)]
 
 mod caller;
 mod checking;
 mod done;
+mod explaining;
 mod generating;
 mod instance;
 mod paging;
@@ -17,6 +18,7 @@ mod telling;
 
 pub use checking::check;
 pub use done::Done;
+pub use explaining::explain;
 pub use generating::generate_and_answer;
 pub use instance::Instance;
 pub use paging::{OnDisk, query_on_disk};

@@ -36,8 +36,8 @@ fn meta_file_name(alloc: Global) -> Result<Txt, Memory>
     Ok(name)
 }
 
-// The catalog of a directory.
-fn load_catalog<F: Files>(
+/// Loads the catalog of a directory.
+pub fn load_catalog<F: Files>(
     alloc: Global,
     files: &mut F,
     dir: &Txt,

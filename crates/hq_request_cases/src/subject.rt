@@ -15,6 +15,7 @@ pub enum About {
     Skipped,
     Directories,
     Runs,
+    Explain,
     Serving,
     Statements,
     Pins,
@@ -22,7 +23,7 @@ pub enum About {
 
 impl About {
     /// Each subject, in the order of its line.
-    pub const ALL: [About; 14] = [
+    pub const ALL: [About; 15] = [
         About::Worked,
         About::Blog,
         About::Shop,
@@ -34,6 +35,7 @@ impl About {
         About::Skipped,
         About::Directories,
         About::Runs,
+        About::Explain,
         About::Serving,
         About::Statements,
         About::Pins,
@@ -54,6 +56,7 @@ impl Subject for About {
             About::Skipped => "skipped",
             About::Directories => "directories",
             About::Runs => "runs",
+            About::Explain => "explain",
             About::Serving => "serving",
             About::Statements => "statements",
             About::Pins => "pins",

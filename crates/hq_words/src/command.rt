@@ -27,6 +27,11 @@ pub enum Command {
         dir: Txt,
         headers: Headers,
     },
+    /// To tell a person of a request, or of a directory that is refused.
+    Explain {
+        dir: Txt,
+        headers: Headers,
+    },
     /// To check a directory.
     Check {
         dir: Txt,
@@ -61,7 +66,7 @@ fn request_from(alloc: Global, matches: &ArgMatches<'_>) -> Result<(Txt, Headers
     Ok((dir, headers))
 }
 
-// The directory and the headers of the words behind `sql`.
+// The directory and the headers of the words behind `sql` or `explain`.
 fn request(alloc: Global, words: &[Txt]) -> Result<(Txt, Headers), WordsRefusal>
     ensures { Gives (λ request. request) WordsRefusal.Memory (ok_or (request_of words.now) WordsRefusal.BadWords) result }
 {
@@ -190,6 +195,10 @@ fn command_named(alloc: Global, name: &str, words: &[Txt]) -> Result<Command, Wo
         "sql" => {
             let (dir, headers) = request(alloc, words)?;
             Ok(Command::Sql { dir, headers })
+        }
+        "explain" => {
+            let (dir, headers) = request(alloc, words)?;
+            Ok(Command::Explain { dir, headers })
         }
         "check" => check(alloc, words),
         "serve" => serve(alloc, words),

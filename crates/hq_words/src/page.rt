@@ -14,6 +14,7 @@ pub enum Page {
 pub const USAGE: &str = "\
 hq query DIR [HEADER]... [--paged]    answers the request on the standard input over the directory, for the caller of the headers
 hq sql DIR [HEADER]...      writes the text of SQL that query would ask
+hq explain DIR [HEADER]...  tells in words what is wrong with the request or the directory, and where, or what the request asks
 hq check DIR                reads the directory, and writes what it holds
 hq serve DIR --port P --connections N [--admin-secret S] [--unauthorized-role R] [--paged]    serves N connections of HTTP at 127.0.0.1
 hq gen N                    answers requests over a generated database of N authors
