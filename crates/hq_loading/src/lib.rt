@@ -12,7 +12,7 @@ mod refusal;
 
 pub use file_fault::FileFault;
 pub use loaded::{Description, Loaded};
-pub use loading::{load, load_description};
+pub use loading::{load, load_description, load_tables};
 pub use parts::{Field, Fields, Part, write_both, write_parts};
 pub use phrase::Phrase;
 pub use refusal::LoadingRefusal;
