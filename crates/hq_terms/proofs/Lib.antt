@@ -5,3 +5,4 @@ pub mod Fitting
 pub mod Places
 pub mod Steps
 mod Worked
+pub mod Together

@@ -99,6 +99,7 @@ meta = record {
         perms = record { role = codes "user"; cols = 0 ∷ 2 ∷ 4 ∷ []; filter = own_or_published; limit = None; aggregations = true } ∷ [];
       }
       ∷ [];
+  inherited = [];
 }
 
 -- the schema of the two
@@ -316,7 +317,7 @@ with_perms (a ∷ b ∷ []) = more_of author_perms a ∷ more_of article_perms b
 with_perms others = others
 
 abbrev more : MetaTree
-more = record { tracked = with_perms meta.tracked }
+more = record { tracked = with_perms meta.tracked; inherited = [] }
 
 -- what a role is granted, without a variable and with a user id
 abbrev granted : List ℕ → Grants
