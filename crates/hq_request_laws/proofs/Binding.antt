@@ -1,7 +1,7 @@
 -- Bound filters: they are conditions over their tables without session names, as high as what was bound.
 use Rattle.std.proofs.Common.{◌≡◌, ◌∙◌, refl, sym, ap, subst, ℕ, suc, max, List, [], ◌∷◌, length, map, filter, Bool, true, ◌&&◌, ◌==◌, ◌≤◌, arith, nat_lt, nat_le, Option, Some, None, Result, Ok, Err, is_some, option_map, option_and_then, slice_get, find, bytes_eq}
 use Rattle.std.specs.List.{list_all, list_any}
-use Rattle.std.proofs.lemmas.Bool.{and_parts, and_from, leb-true, false≢true}
+use Rattle.std.proofs.lemmas.Bool.{and_parts, and_from, leb-true, le-leb, false≢true}
 use Rattle.std.proofs.lemmas.Option.{get_or_from_slice_get}
 use Rattle.std.specs.Result.{result_ok}
 use Rattle.hq_base.specs.Due.{mapped}
