@@ -1,10 +1,7 @@
 -- The statement of a typed request is well-formed for the catalog, and means what nested resolvers give.
 use Rattle.std.proofs.Common.{◌≡◌, ℕ, ◌+◌, ◌*◌, ◌≤◌, List, [], ◌∷◌, length, refl, sym, ap, subst, ◌∙◌, suc, arith}
-use Rattle.hq_base.specs.Lists.{Each}
-use Rattle.hq_terms.specs.Bexp.{depth}
 use Rattle.hq_terms.specs.Database.{Row}
 use Rattle.hq_terms.specs.Meta.{MetaTree}
-use Rattle.hq_terms.specs.Permission.{Mask}
 use Rattle.hq_terms.specs.Schema.{Schema, schema_of, schema_table, numbered}
 use Rattle.hq_terms.specs.declared.session.Session.{Session}
 use Rattle.hq_terms.specs.declared.table.Table.{Table}
@@ -18,7 +15,7 @@ use Rattle.hq_ask_tree.specs.WellFormed.{IsRequest}
 use Rattle.hq_ask_tree.specs.Fields.{FieldTrees}
 use Rattle.hq_ask_tree.specs.Request.{AskTree, grants_in}
 use Rattle.hq_ask_tree.specs.Root.{table_fields}
-use Rattle.hq_compiled.specs.Fine.{Known, FineMask, FineRights}
+use Rattle.hq_compiled.specs.Fine.{Known, FineRights}
 use Rattle.hq_compiled.specs.Rights.{Rights}
 use Rattle.hq_compiled.specs.Shallow.{LowRights, fields_height}
 use Rattle.hq_compiled.proofs.Meaning.{means_resolved}

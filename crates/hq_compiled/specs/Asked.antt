@@ -1,6 +1,5 @@
 -- The statement that is asked for a typed request: that of the root fields that start at a table, by what the request grants.
-use Rattle.std.specs.Prelude.{◌≡◌, ℕ, ◌+◌, ◌≤◌, ◌^◌, List, [], length, true}
-use Rattle.hq_base.specs.Lists.{Each}
+use Rattle.std.specs.Prelude.{◌≡◌, ℕ, ◌+◌, ◌≤◌, ◌^◌, List, length, true}
 use Rattle.hq_terms.specs.Catalog.{is_catalog}
 use Rattle.hq_terms.specs.Database.{Row, is_database}
 use Rattle.hq_terms.specs.Fits.{fits}

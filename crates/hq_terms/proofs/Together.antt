@@ -1,6 +1,6 @@
 -- What roles permit together: the masks bind where the filter does, and are one level deeper than the filters at most.
 use Rattle.std.proofs.Common.{◌≡◌, ℕ, ◌≤◌, suc, max, List, [], ◌∷◌, ◌++◌, filter, find, Bool, true, false, cond, Option, Some, None, Result, Ok, Err, bytes_eq, refl, sym, ap, subst, ◌∙◌, arith}
-use Rattle.std.specs.Prelude.{is_ok, option_and_then}
+use Rattle.std.specs.Prelude.{is_ok, option_and_then, ◌==◌}
 use Rattle.std.specs.List.{list_all, list_any}
 use Rattle.std.proofs.lemmas.Bool.{false≢true}
 use Rattle.std.proofs.Math.Nat.{max-le}
@@ -10,7 +10,7 @@ use Rattle.hq_base.proofs.Lists.{each_all}
 use Rattle.hq_terms.specs.Bexp.{BexpTree, always, or_of, BexpTrees, no_bexp, bexp, bexps_of, depth, depth_of_all}
 use Rattle.hq_terms.specs.Binding.{bound, bound_all, bound_masks}
 use Rattle.hq_terms.specs.Laws.{MasksBind, AreLow}
-use Rattle.hq_terms.specs.Meta.{PermTree, TrackedTree, MetaTree}
+use Rattle.hq_terms.specs.Meta.{PermTree, TrackedTree, MetaTree, tracked_table}
 use Rattle.hq_terms.specs.Permission.{Mask, Permission, with_columns, named_columns, told_permission, own_permission, option_list, permissions_of, either, permits, filters_of, filters_for, limit_of, some_aggregate, masks_for, columns_of_any, combined, set_of, or_inherited, permission_in, permission}
 use Rattle.hq_terms.specs.Schema.{Schema}
 use Rattle.hq_terms.specs.declared.bind.BindRefusal.{BindRefusal}
@@ -99,27 +99,29 @@ columns_keep p q [] e = cc
 columns_keep p q (c ∷ cs) e = let same : record p { columns = c ∷ cs } ≡ q = cc in (ap (λ x. x.filter) same, ap (λ x. x.masks) same)
 
 -- an entry's own permission has the entry's filter, and no masks
+found_own : (P : BexpTree → Type 0) (k : TrackedTree) (name : List ℕ) (q : Permission) (ps : List PermTree) → Each (λ p. P p.filter) ps
+    → option_and_then (told_permission k) (find (λ p. bytes_eq p.role name) ps) ≡ Some q → P q.filter × (q.masks ≡ [])
+found_own P k name q [] h f = cc
+found_own P k name q (p ∷ ps) h f =
+    let here : option_and_then (told_permission k) (Some p) ≡ Some q → P q.filter × (q.masks ≡ []) =
+    λ g.
+    let kept = columns_keep (record { columns = []; filter = p.filter; limit = p.limit; aggregations = p.aggregations; masks = [] }) q (filter (λ c. list_any (λ d. d == c) p.cols) (named_columns k)) g in
+    (subst P kept.0 h.0, sym kept.1) in
+    let go : (b : Bool) → option_and_then (told_permission k) (cond b (Some p) (find (λ r. bytes_eq r.role name) ps)) ≡ Some q → P q.filter × (q.masks ≡ []) =
+    elim [ true ↦ here | false ↦ λ g. found_own P k name q ps h.1 g ] in
+    go (bytes_eq p.role name) f
+
 own_of : (P : BexpTree → Type 0) (k : TrackedTree) (name : List ℕ) (q : Permission) → Each (λ p. P p.filter) k.perms → own_permission k name ≡ Some q → P q.filter × (q.masks ≡ [])
-own_of P k name q all e = by k.perms all e
-  where
-    by : (ps : List PermTree) → Each (λ p. P p.filter) ps → option_and_then (told_permission k) (find (λ p. bytes_eq p.role name) ps) ≡ Some q → P q.filter × (q.masks ≡ [])
-    by [] h f = cc
-    by (p ∷ ps) h f = here (bytes_eq p.role name) f
-      where
-        here : (b : Bool) → option_and_then (told_permission k) (cond b (Some p) (find (λ r. bytes_eq r.role name) ps)) ≡ Some q → P q.filter × (q.masks ≡ [])
-        here true g =
-            let kept = columns_keep (record { columns = []; filter = p.filter; limit = p.limit; aggregations = p.aggregations; masks = [] }) q _ g in
-            (subst P kept.0 h.0, sym kept.1)
-        here false g = by ps h.1 g
+own_of P k name q all e = found_own P k name q k.perms all e
 
 -- what holds of the filters of all entries holds of those of a set
 set_of_filters : (P : BexpTree → Type 0) (k : TrackedTree) → Each (λ p. P p.filter) k.perms → (rs : List (List ℕ)) → Each P (filters_of (permissions_of k rs))
 set_of_filters P k all [] = tt
-set_of_filters P k all (r ∷ rs) = by (own_permission k r) refl
-  where
-    by : (o : Option Permission) → own_permission k r ≡ o → Each P (filters_of (option_list o ++ permissions_of k rs))
-    by None is = set_of_filters P k all rs
-    by (Some p) is = ((own_of P k r p all is).0, set_of_filters P k all rs)
+set_of_filters P k all (r ∷ rs) =
+    let later : Each P (filters_of (permissions_of k rs)) = set_of_filters P k all rs in
+    let by : (o : Option Permission) → own_permission k r ≡ o → Each P (filters_of (option_list o ++ permissions_of k rs)) =
+    elim [ None ↦ λ is. later | Some p ↦ λ is. ((own_of P k r p all is).0, later) ] in
+    by (own_permission k r) refl
 
 -- what holds of filters holds of those for a column
 some_filters : (P : BexpTree → Type 0) (test : Permission → Bool) (ps : List Permission) → Each P (filters_of ps) → Each P (filters_of (filter test ps))
