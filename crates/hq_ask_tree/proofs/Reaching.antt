@@ -2,6 +2,7 @@
 use Rattle.std.specs.Prelude.{◌≡◌, ℕ, negsuc, List, [], ◌∷◌, map, true, false, None, Ok, Err, Some, codes, refl}
 use Rattle.std.specs.Fmt.{digits}
 use Rattle.std.specs.Str.{is_utf8, chars}
+use Rattle.std.specs.Char.{encode_utf8}
 use Rattle.hq_base.specs.Compact.{escaped}
 use Rattle.hq_base.specs.declared.value.Ty.TheVariants.{Integer, Text, Boolean}
 use Rattle.hq_base.specs.declared.value.Val.TheVariants as val
@@ -40,7 +41,7 @@ abbrev listed : BexpTree
 listed = test 0 Among (operands.Session (codes "x-hasura-ids")) false
 
 some_listed : articles_by listed (codes "{12, 10}") ≡ codes "{\"article\":[{\"id\":10},{\"id\":12}]}"
-unfolding digits escaped is_utf8 chars
+unfolding digits escaped is_utf8 chars encode_utf8
 some_listed = refl
 
 none_listed : articles_by listed (codes "{}") ≡ codes "{\"article\":[]}"
@@ -48,14 +49,14 @@ unfolding digits escaped
 none_listed = refl
 
 none_but_listed : articles_by (test 0 Among (operands.Session (codes "x-hasura-ids")) true) (codes "{12, 10}") ≡ codes "{\"article\":[{\"id\":11},{\"id\":13}]}"
-unfolding digits escaped is_utf8 chars
+unfolding digits escaped is_utf8 chars encode_utf8
 none_but_listed = refl
 
 no_list : bound listed schema (asking (codes "{10,}")).vars 1 ≡ Err (BadVariable (codes "x-hasura-ids") want.IntegerList)
 no_list = refl
 
 no_number : bound listed schema (asking (codes "{10,a}")).vars 1 ≡ Err (BadVariable (codes "x-hasura-ids") want.IntegerList)
-unfolding is_utf8 chars
+unfolding is_utf8 chars encode_utf8
 no_number = refl
 
 no_variable : bound listed schema [] 1 ≡ Err (NoVariable (codes "x-hasura-ids"))
@@ -63,7 +64,7 @@ no_variable = refl
 
 -- a list is bound to the list of its values
 list_bound : bound listed schema (asking (codes "{12, 10}")).vars 1 ≡ Ok (test 0 Among (operands.List (operand.Const (number 12) ∷ operand.Const (number 10) ∷ [])) false)
-unfolding is_utf8 chars
+unfolding is_utf8 chars encode_utf8
 list_bound = refl
 
 -- a list of a session is for a test that takes many
@@ -87,7 +88,7 @@ elements_spelled = refl
 values_read :
     listed_values Among Integer (codes "{-1, \"2\"}") ∷ listed_values Among Boolean (codes "{t,false}") ∷ listed_values Among Text (codes "{t}") ∷ listed_values Among Integer (codes "{2147483648}") ∷ []
     ≡ Some (val.Int (negsuc 0) ∷ number 2 ∷ []) ∷ Some (val.Bool true ∷ val.Bool false ∷ []) ∷ Some (val.Text (codes "t") ∷ []) ∷ None ∷ []
-unfolding is_utf8 chars
+unfolding is_utf8 chars encode_utf8
 values_read = refl
 
 -- an article whose id is greater than its rating; one without a rating is neither greater nor not

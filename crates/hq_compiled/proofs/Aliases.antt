@@ -284,7 +284,6 @@ module _ (s : Schema) (m : Mode) (ok : ModeBinds m) where
         (λ l. ap (λ k. table_alias n ∷ k) (joins_last (n + 1) from (m.joins u cs n) M (aliases_in_filter (where_of (with_member L (with_member (m.guard u n from) (with_member inner [])))) l)
         ∙ ap M.front (of_three L (m.guard u n from) inner l (link_none s t (rel s t r) p n))))
         (binds_then n (n + 1) hi (λ l. table_alias n ∷ l) (λ l. M.front (G (X l))) (omega arith) (omega arith) (binds_table n (omega arith)) rest)
-
     predicate_binds (exists_in u b) look t p n bound =
         let cs : List ℕ = columns_in b in
         let from : ℕ = guard_from m u cs n in

@@ -208,7 +208,6 @@ module _ (s : Schema) (m : Mode) (h : ModeForms m) where
         let B : PredTree = predicate b s m (m.look u cs n) u n (inner_from m u cs n) in
         rows_form [] (record { value = tree.bool true; name = unit_name } ∷ []) (table s u).schema (table s u).name (table_alias n) (joins_of js) (where_of (with_member L (with_member A (with_member B [])))) [] None None refl refl refl
         (joins_form js (h.joins u cs n)) (three_form L A B (linked_form s t (rel s t r) p n) (h.guard u n (guard_from m u cs n)) (predicate_form b (m.look u cs n) u n (inner_from m u cs n))) refl
-
     predicate_form (exists_in u b) look t p n =
         let cs : List ℕ = columns_in b in
         let js : List JoinTree = m.joins u cs n in

@@ -201,7 +201,6 @@ module _ (s : Schema) (m : Mode) (G : ℕ) (h : LowMode m G) where
         let rows = rows_low (1 + k) [] (record { value = tree.bool true; name = unit_name } ∷ []) (tree.table (table s u).schema (table s u).name (table_alias n)) (joins_of (m.joins u (columns_in b) n))
         (where_of (with_member L (with_member A (with_member B [])))) [] None None z z z j f z in
         omega (arith, rows)
-
     predicate_low (exists_in u b) look t p n =
         let k : ℕ = 2 * depth b + G + 2 in
         let A : PredTree = m.guard u n (guard_from m u (columns_in b) n) in

@@ -283,7 +283,6 @@ module _ (s : Schema) (g : Rights) (tables : List Table) (ok : FineTables s g ta
           let inner = predicate_typed b (m.look far cs n) far n (inner_from m far cs n) final f.1 here (omega arith) shown (looks_under_later (n + 1 + m.extra far cs) (inner_from m far cs n) (m.look far cs n) (omega arith) (h.under far n cs (omega arith))) (omega arith) in
           table_typed scope final far n [] (record { value = tree.bool true; name = unit_name } ∷ []) (joins_of (m.joins far cs n)) (where_of (with_member L (with_member A (with_member B [])))) [] None None f.0.0
           (typed_last tables in_scope (n + 1) (n + 1 + m.extra far cs) (m.joins far cs n) _ j) (joined_last tables in_scope (n + 1) (n + 1 + m.extra far cs) (m.joins far cs n) _ j) (three_typed tables final L A B linked kept inner) refl
-
       predicate_typed (exists_in far b) look t p n scope f own lt k u bound =
           let cs : List ℕ = columns_in b in
           let in_scope : Aliases = with_table s tables far n scope in
