@@ -299,7 +299,7 @@ module _ (s : Schema) (m : Mode) (ok : ModeBinds m) where
         (λ l. ap (λ k. table_alias n ∷ k) (joins_last (n + 1) from (m.joins u cs n) M (aliases_in_filter (where_of (with_member tree.always (with_member (m.guard u n from) (with_member inner [])))) l)
         ∙ ap M.front (of_three tree.always (m.guard u n from) inner l (λ k. refl))))
         (binds_then n (n + 1) hi (λ l. table_alias n ∷ l) (λ l. M.front (G (X l))) (omega arith) (omega arith) (binds_table n (omega arith)) rest)
-    predicate_binds (two_columns i op j) look t p n bound = binds_none n (n + 0)
+    predicate_binds (two_columns i op j) look t p n bound = binds_as n (n + 0) (λ l. l) _ (λ l. refl) (binds_none n (n + 0))
 
     predicates_bind : (bs : BexpTrees) (look : Look) (t p n : ℕ) → n + numbers_all bs s m t ≤ 2 ^ 64 → Binds n (n + numbers_all bs s m t) (lists_in (predicates bs s m look t p n))
     predicates_bind no_bexp look t p n bound = binds_none n (n + 0)

@@ -1,5 +1,5 @@
 -- A condition over a table of the catalog is one whose columns, operands and relationships are there and of their kinds.
-use Rattle.std.proofs.Common.{◌≡◌, ℕ, List, [], ◌∷◌, length, map, Bool, true, ◌&&◌, Option, Some, None, is_some, refl, sym, ap₂, subst, ◌∙◌, ◌≤◌}
+use Rattle.std.proofs.Common.{◌≡◌, ℕ, List, [], ◌∷◌, length, map, Bool, true, ◌&&◌, Option, Some, None, is_some, refl, sym, subst, ◌≤◌}
 use Rattle.std.specs.Prelude.{slice_get, nat_le, codes}
 use Rattle.std.specs.List.{list_all}
 use Rattle.std.proofs.lemmas.Bool.{and_parts, leb-true, false≢true}
@@ -118,11 +118,20 @@ of_column P passes s t c step h =
 kinds_compare : (a b : Ty) → comparable a b ≡ true → compare_kinds (Some (kind_of_type a)) (Some (kind_of_type b)) ≡ true
 kinds_compare Integer Integer h = refl
 kinds_compare Integer Bigint h = refl
+kinds_compare Integer Text h = absurd (false≢true h)
+kinds_compare Integer Boolean h = absurd (false≢true h)
 kinds_compare Bigint Integer h = refl
 kinds_compare Bigint Bigint h = refl
+kinds_compare Bigint Text h = absurd (false≢true h)
+kinds_compare Bigint Boolean h = absurd (false≢true h)
+kinds_compare Text Integer h = absurd (false≢true h)
+kinds_compare Text Bigint h = absurd (false≢true h)
 kinds_compare Text Text h = refl
+kinds_compare Text Boolean h = absurd (false≢true h)
+kinds_compare Boolean Integer h = absurd (false≢true h)
+kinds_compare Boolean Bigint h = absurd (false≢true h)
+kinds_compare Boolean Text h = absurd (false≢true h)
 kinds_compare Boolean Boolean h = refl
-kinds_compare _ _ h = absurd (false≢true h)
 
 -- columns whose values can be compared
 columns_fine : (s : Schema) (t i j : ℕ) → can_pair (column_ty s t i) (column_ty s t j) ≡ true → Has s t i × Has s t j × (compare_kinds (Some (kind_of s t i)) (Some (kind_of s t j)) ≡ true)
@@ -134,7 +143,7 @@ columns_fine s t i j h = by (column_ty s t i) (column_ty s t j) refl refl h
     by (Some a) (Some b) e f g =
         let one = column_is s t i a e in
         let other = column_is s t j b f in
-        (one.0, other.0, ap₂ (λ x y. compare_kinds (Some (kind_of_type x)) (Some (kind_of_type y))) one.1 other.1 ∙ kinds_compare a b g)
+        (one.0, other.0, rw (one.1, other.1) (kinds_compare a b g))
 
 -- ---- conditions
 
