@@ -8,6 +8,7 @@ use Rattle.hq_terms.specs.Bexp.{BexpTree, always, or_of, test, no_bexp, bexp}
 use Rattle.hq_terms.specs.Database.{Row}
 use Rattle.hq_terms.specs.Grants.{Grants, grants_of}
 use Rattle.hq_terms.specs.Meta.{MetaTree, PermTree}
+use Rattle.hq_terms.specs.declared.meta.Inherited.{Inherited}
 use Rattle.hq_terms.specs.Schema.{Schema, schema_of}
 use Rattle.hq_terms.specs.Selected.{ListArguments}
 use Rattle.hq_terms.specs.declared.bexp.Operand.TheVariants as operand

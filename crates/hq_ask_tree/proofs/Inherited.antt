@@ -2,6 +2,7 @@
 use Rattle.std.specs.Prelude.{◌≡◌, ℕ, List, [], ◌∷◌, true, false, Some, None, codes, refl}
 use Rattle.std.specs.Fmt.{digits}
 use Rattle.hq_base.specs.Compact.{compact, escaped}
+use Rattle.hq_base.specs.declared.aggregate.Aggregate.TheVariants.{Sum}
 use Rattle.hq_base.specs.declared.value.Val.TheVariants as val
 use Rattle.hq_terms.specs.Bexp.{test}
 use Rattle.hq_terms.specs.Database.{Row}
@@ -52,7 +53,7 @@ abbrev counted : FieldTrees
 counted =
     only (codes "article_aggregate") (aggregate (from_table 1) plain (part (codes "aggregate") (summary (
     record { key = codes "count"; field = take.Count None false }
-    ∷ record { key = codes "sum"; field = take.Sum (record { key = codes "rating"; field = of.Column 4 } ∷ []) } ∷ [])) no_part))
+    ∷ record { key = codes "sum"; field = take.Columns Sum (record { key = codes "rating"; field = of.Column 4 } ∷ []) } ∷ [])) no_part))
 
 aggregates_shown : given mix counted ≡ codes "{\"article_aggregate\":{\"aggregate\":{\"count\":4,\"sum\":{\"rating\":5}}}}"
 unfolding digits escaped

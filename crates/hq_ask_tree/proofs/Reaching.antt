@@ -12,7 +12,7 @@ use Rattle.hq_terms.specs.Filters.{is_filter}
 use Rattle.hq_terms.specs.Grants.{Grants, grants_of}
 use Rattle.hq_terms.specs.Meta.{MetaTree, PermTree}
 use Rattle.hq_terms.specs.SessionLists.{elements_of, listed_values}
-use Rattle.hq_terms.specs.Tests.{Compare, Among, IsNull}
+use Rattle.hq_terms.specs.declared.test.Test.TheVariants.{Compare, Among, IsNull}
 use Rattle.hq_terms.specs.declared.bexp.Operand.TheVariants as operand
 use Rattle.hq_terms.specs.declared.bexp.Operands.TheVariants as operands
 use Rattle.hq_terms.specs.declared.bind.BindRefusal.TheVariants.{NoVariable, BadVariable}
