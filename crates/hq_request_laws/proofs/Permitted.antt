@@ -4,6 +4,7 @@ use Rattle.std.specs.Prelude.{unwrap_or}
 use Rattle.std.specs.List.{list_any}
 use Rattle.std.specs.Option.{option_map_or}
 use Rattle.std.proofs.lemmas.Bool.{and_parts, eqb-true, false≢true, ltb-true}
+use Rattle.std.proofs.lemmas.List.{nil_from_length}
 use Rattle.std.proofs.lemmas.Option.{slice_get-get_or, get_or_from_slice_get}
 use Rattle.hq_base.specs.Lists.{Each}
 use Rattle.hq_base.proofs.Lists.{each_weaken}
@@ -65,17 +66,13 @@ permitted_within (Named name) k = subst (λ o. Each (Within k) (permitted_column
 
 -- ---- all that fits
 
-none_long : {A : Type 0} (xs : List A) → length xs ≡ 0 → xs ≡ []
-none_long [] e = refl
-none_long (x ∷ xs) e = cc
-
 module _ (tables : List Table) (m : MetaTree) (metadata_fits : fits tables m ≡ true) where
   abbrev s : Schema
   s = schema_of tables m
 
   -- there are no inherited roles
   pub none_inherited : m.inherited ≡ []
-  none_inherited = none_long m.inherited (eqb-true _ _ (and_parts _ _ (and_parts _ _ metadata_fits).1).1)
+  none_inherited = nil_from_length m.inherited (eqb-true _ _ (and_parts _ _ (and_parts _ _ metadata_fits).1).1)
 
   -- the entry of a table fits
   pub entry : (t : ℕ) (k : TrackedTree) → tracked_table m t ≡ Some k → (k.table ≡ t) × (fits_tracked s m k ≡ true)

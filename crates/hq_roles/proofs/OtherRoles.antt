@@ -4,6 +4,8 @@ use Rattle.std.specs.Prelude.{◌||◌, ◌==◌, flat_map, slice_get}
 use Rattle.std.specs.HashMap.{HashMap}
 use Rattle.std.specs.List.{cons_option, filter_map, list_all, list_any}
 use Rattle.hq_base.specs.Lists.{Each}
+use Rattle.std.proofs.lemmas.Bool.{eqb-true}
+use Rattle.std.proofs.lemmas.List.{nil_from_length}
 use Rattle.std.proofs.lemmas.Slice.Eq.{bytes_eq-Decides}
 use Rattle.hq_role_schema.specs.Placed.{placed}
 use Rattle.hq_role_schema.specs.RoleSchema.{schema_over, role_schema}
@@ -164,12 +166,8 @@ entries_have_no_admin s m (k ∷ ks) fit =
 admin_has_none : (tables : List Table) (m : MetaTree) → fits tables m ≡ true → has_none (codes "admin") m.tracked
 admin_has_none tables m fit = entries_have_no_admin (schema_of tables m) m m.tracked (both _ _ (both _ _ (both _ _ fit).0).0).1
 
-none_long : {A : Type 0} (xs : List A) → length xs ≡ 0 → xs ≡ []
-none_long [] e = refl
-none_long (x ∷ xs) e = cc
-
 -- each role that is not among those with a permission has the schema of a role of the name `admin`
 pub other_role : (tables : List Table) (m : MetaTree) (name : List ℕ) → fits tables m ≡ true → is_among name (roles_in m) ≡ false → role_schema tables m (Named name) ≡ role_schema tables m (Named (codes "admin"))
 other_role tables m name fit h =
-    let alone : m.inherited ≡ [] = none_long m.inherited (eqb-true _ _ (both _ _ (both _ _ fit).1).1) in
+    let alone : m.inherited ≡ [] = nil_from_length m.inherited (eqb-true _ _ (both _ _ (both _ _ fit).1).1) in
     alike tables m name (codes "admin") alone (others_have_none m name h) (admin_has_none tables m fit)
