@@ -17,9 +17,10 @@ use Rattle.hq_terms.specs.Meta.{MetaTree, TrackedTree, PermTree, tracked_table}
 use Rattle.hq_terms.specs.Permission.{Permission, permission, permission_in, with_columns, told_permission, named_columns}
 use Rattle.hq_terms.specs.Schema.{Schema, schema_of, table, column, no_column, rel}
 use Rattle.hq_terms.specs.SessionLists.{element_value, element_values, elements_of, list_want}
-use Rattle.hq_terms.specs.Tests.{Test, arity, has_arity, takes, takes_many, applies, reads}
+use Rattle.hq_terms.specs.Tests.{arity, has_arity, takes, takes_many, applies, reads}
 use Rattle.hq_terms.specs.declared.test.Arity.{Arity}
 use Rattle.hq_terms.specs.declared.test.Arity.TheVariants.{Nothing, One, Many}
+use Rattle.hq_terms.specs.declared.test.Test.{Test}
 use Rattle.hq_terms.specs.declared.bexp.Operand.{Operand}
 use Rattle.hq_terms.specs.declared.bexp.Operand.TheVariants.{Const, Session}
 use Rattle.hq_terms.specs.declared.bexp.Operands.{Operands}
