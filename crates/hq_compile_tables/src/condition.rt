@@ -1,5 +1,5 @@
 //! Conditions: literals, lists of conditions in one, WHERE, and a test of one column.
-ghost use Rattle.std.specs.Prelude.{◌≡◌, ◌++◌, ◌∷◌, [], IfOk, map, cond};
+ghost use Rattle.std.specs.Prelude.{◌≡◌, ◌++◌, ◌∷◌, [], ℕ, IfOk, map, cond};
 ghost use Rattle.hq_terms.specs.Bexp.{operands_of};
 ghost use Rattle.hq_terms.specs.Tests.{is_of_nothing};
 ghost use Rattle.hq_terms.specs.declared.test.Test.TheVariants.{Compare};
@@ -242,7 +242,7 @@ pub fn columns_test(
     op: Op,
     right: ColId,
 ) -> Result<Pred, Memory>
-    ensures { let at = λ c. compared_at columns.now (own_look columns.now number c) c in
+    ensures { let at = λ (c : ℕ). compared_at columns.now (own_look columns.now number c) c in
         IfOk result (λ p. pred_view p ≡ tree.test (at left) (Compare op) (at right ∷ [])) }
 {
     let left = compared_column(alloc, columns, number, left)?;
