@@ -1,7 +1,7 @@
 -- A role that sees what two roles see: the rows of both, and of each row only what one of them shows of it.
-use Rattle.std.specs.Prelude.{◌≡◌, ℕ, List, [], ◌∷◌, true, false, Some, None, codes, refl}
+use Rattle.std.specs.Prelude.{◌≡◌, List, [], ◌∷◌, true, false, None, codes, refl}
 use Rattle.std.specs.Fmt.{digits}
-use Rattle.hq_base.specs.Compact.{compact, escaped}
+use Rattle.hq_base.specs.Compact.{escaped}
 use Rattle.hq_base.specs.declared.aggregate.Aggregate.TheVariants.{Sum}
 use Rattle.hq_base.specs.declared.value.Val.TheVariants as val
 use Rattle.hq_terms.specs.Bexp.{test}
@@ -16,7 +16,7 @@ use Rattle.hq_terms.specs.declared.test.Test.TheVariants.{Compare}
 use Rattle.hq_ask_tree.specs.Fields.{FieldTrees, field, column, list, aggregate, from_table, part, no_part, summary}
 use Rattle.hq_ask_tree.specs.declared.aggregate.AggCol.TheVariants as of
 use Rattle.hq_ask_tree.specs.declared.aggregate.AggField.TheVariants as take
-use Rattle.hq_ask_tree.proofs.Blog.{number, authors, articles_rated, database, schema, tables, inheriting, session_of, given, given_over, plain, only, ids}
+use Rattle.hq_ask_tree.proofs.Blog.{number, authors, articles_rated, database, schema, tables, inheriting, session_of, given, given_over, plain, only}
 use Rattle.hq_ask_tree.proofs.Worked.{by, listed}
 
 abbrev meta : MetaTree

@@ -9,8 +9,8 @@ use Rattle.hq_base.specs.declared.value.Val.TheVariants as val
 use Rattle.hq_terms.specs.Bexp.{BexpTree, and_of, not_of, test, exists_in, two_columns, no_bexp, bexp}
 use Rattle.hq_terms.specs.Binding.{bound}
 use Rattle.hq_terms.specs.Filters.{is_filter}
-use Rattle.hq_terms.specs.Grants.{Grants, grants_of}
-use Rattle.hq_terms.specs.Meta.{MetaTree, PermTree}
+use Rattle.hq_terms.specs.Grants.{grants_of}
+use Rattle.hq_terms.specs.Meta.{PermTree}
 use Rattle.hq_terms.specs.SessionLists.{elements_of, listed_values}
 use Rattle.hq_terms.specs.declared.test.Test.TheVariants.{Compare, Among, IsNull}
 use Rattle.hq_terms.specs.declared.bexp.Operand.TheVariants as operand

@@ -1,6 +1,6 @@
 -- A condition on rows behind a relationship, put together from its parts.
 use Rattle.std.proofs.Common.{◌≡◌, ◌∙◌, ℕ, ◌+◌, List, [], ◌++◌, refl, ap, arith}
-use Rattle.hq_terms.specs.Bexp.{BexpTree, through, exists_in}
+use Rattle.hq_terms.specs.Bexp.{BexpTree, through}
 use Rattle.hq_terms.specs.Schema.{Schema, rel}
 use Rattle.hq_sql_tree.specs.Tree.{PredTree}
 use Rattle.hq_compiled.specs.Conditions.{with_member, where_of}

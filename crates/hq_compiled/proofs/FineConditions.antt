@@ -10,7 +10,7 @@ use Rattle.hq_base.specs.declared.value.Val.{Val}
 use Rattle.hq_base.specs.declared.value.Val.TheVariants as val
 use Rattle.hq_terms.specs.Bexp.{BexpTree, always, and_of, or_of, not_of, test, through, exists_in, two_columns, BexpTrees, no_bexp, bexp, operands_of, depth}
 use Rattle.hq_terms.specs.Catalog.{can_pair, comparable}
-use Rattle.hq_terms.specs.Filters.{column_ty, constant_fits, is_pattern, test_fits, operand_fits, are_taken, is_test, of_type, is_filter, are_filters}
+use Rattle.hq_terms.specs.Filters.{column_ty, constant_fits, is_pattern, test_fits, operand_fits, is_test, of_type, is_filter, are_filters}
 use Rattle.hq_terms.specs.Database.{is_text}
 use Rattle.hq_terms.specs.Schema.{Schema, table, rel}
 use Rattle.hq_terms.specs.Tests.{arity, has_arity, takes, applies}

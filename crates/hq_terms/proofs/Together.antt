@@ -1,5 +1,5 @@
 -- What roles permit together: the masks bind where the filter does, and are one level deeper than the filters at most.
-use Rattle.std.proofs.Common.{◌≡◌, ℕ, ◌≤◌, suc, max, List, [], ◌∷◌, ◌++◌, filter, find, Bool, true, false, cond, Option, Some, None, Result, Ok, Err, bytes_eq, refl, sym, ap, subst, ◌∙◌, arith}
+use Rattle.std.proofs.Common.{◌≡◌, ℕ, ◌≤◌, suc, List, [], ◌∷◌, ◌++◌, filter, find, Bool, true, false, cond, Option, Some, None, Result, Ok, Err, bytes_eq, refl, sym, ap, subst, ◌∙◌, arith}
 use Rattle.std.specs.Prelude.{is_ok, option_and_then, ◌==◌}
 use Rattle.std.specs.List.{list_all, list_any}
 use Rattle.std.proofs.lemmas.Bool.{false≢true}
@@ -7,11 +7,11 @@ use Rattle.std.proofs.Math.Nat.{max-le}
 use Rattle.hq_base.specs.Due.{and_then, mapped}
 use Rattle.hq_base.specs.Lists.{Each}
 use Rattle.hq_base.proofs.Lists.{each_all}
-use Rattle.hq_terms.specs.Bexp.{BexpTree, always, or_of, BexpTrees, no_bexp, bexp, bexps_of, depth, depth_of_all}
+use Rattle.hq_terms.specs.Bexp.{BexpTree, always, or_of, bexps_of, depth, depth_of_all}
 use Rattle.hq_terms.specs.Binding.{bound, bound_all, bound_masks}
 use Rattle.hq_terms.specs.Laws.{MasksBind, AreLow}
 use Rattle.hq_terms.specs.Meta.{PermTree, TrackedTree, MetaTree, tracked_table}
-use Rattle.hq_terms.specs.Permission.{Mask, Permission, with_columns, named_columns, told_permission, own_permission, option_list, permissions_of, either, permits, filters_of, filters_for, limit_of, some_aggregate, masks_for, columns_of_any, combined, set_of, or_inherited, permission_in, permission}
+use Rattle.hq_terms.specs.Permission.{Mask, Permission, with_columns, named_columns, told_permission, own_permission, option_list, permissions_of, either, permits, filters_of, filters_for, limit_of, some_aggregate, masks_for, columns_of_any, combined, set_of, or_inherited, permission_in}
 use Rattle.hq_terms.specs.Schema.{Schema}
 use Rattle.hq_terms.specs.declared.bind.BindRefusal.{BindRefusal}
 use Rattle.hq_terms.specs.declared.meta.Inherited.{Inherited}

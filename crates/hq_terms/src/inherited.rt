@@ -49,7 +49,10 @@ fn different_names(alloc: Global, names: &TxtList) -> Result<TxtList, Memory>
 fn entry_of<'a>(inherited: &'a InheritedList, name: &Txt) -> Option<&'a Inherited>
     ensures { option_copied result ≡ find (λ i. bytes_eq i.role name.now) inherited.now }
 {
-    inherited.as_slice().iter().find(|entry| entry.role == *name)
+    inherited
+        .as_slice()
+        .iter()
+        .find(|entry| entry.role == *name)
 }
 
 // The set of an inherited role, each name once.
@@ -117,11 +120,7 @@ fn all_permit(views: &[PermView], col: ColId) -> bool
 }
 
 // The columns that some permission has.
-fn columns_of_any(
-    alloc: Global,
-    tracked: &Tracked,
-    views: &[PermView],
-) -> Result<ColList, Memory>
+fn columns_of_any(alloc: Global, tracked: &Tracked, views: &[PermView]) -> Result<ColList, Memory>
     ensures { IfOk result (λ cols. cols ≡ columns_of_any (tracked_view tracked.now) (map permission_view views.now)) }
 {
     let named = named_columns(alloc, tracked)?;
