@@ -1,6 +1,9 @@
 pub mod Numbers
 pub mod CellOrders
 mod Lists
+pub mod Joining
+pub mod Names
+pub mod ListsRead
 pub mod Fitting
 pub mod Places
 pub mod Steps

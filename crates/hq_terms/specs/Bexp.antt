@@ -19,7 +19,7 @@ mutual
     test : (column : ℕ) → Test → Operands → (negated : Bool) → BexpTree
     through : (relationship : ℕ) → BexpTree → BexpTree
     exists_in : (table : ℕ) → BexpTree → BexpTree
-    columns : (left : ℕ) → Op → (right : ℕ) → BexpTree
+    two_columns : (left : ℕ) → Op → (right : ℕ) → BexpTree
 
   pub data BexpTrees : Type 0 where
     no_bexp : BexpTrees
@@ -54,7 +54,7 @@ bexp_step (Bexp-F.Not b) = not_of b.value
 bexp_step (Bexp-F.Test column t vs negated) = test column t vs negated
 bexp_step (Bexp-F.Through relationship inner) = through relationship inner.value
 bexp_step (Bexp-F.Exists table inner) = exists_in table inner.value
-bexp_step (Bexp-F.Columns left op right) = columns left op right
+bexp_step (Bexp-F.Columns left op right) = two_columns left op right
 
 -- what an expression is seen as
 abbrev pub bexp_view : Bexp → BexpTree
@@ -70,7 +70,7 @@ abbrev mutual
   depth (test column t vs negated) = 1
   depth (through relationship b) = suc (depth b)
   depth (exists_in table b) = suc (depth b)
-  depth (columns left op right) = 1
+  depth (two_columns left op right) = 1
 
   pub depth_of_all : BexpTrees → ℕ
   depth_of_all no_bexp = 0

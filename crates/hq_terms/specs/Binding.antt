@@ -4,7 +4,7 @@ use Rattle.std.specs.Prelude.{ℕ, List, [], ◌∷◌, map, find, Option, Some,
 use Rattle.hq_base.specs.Due.{and_then, mapped}
 use Rattle.hq_base.specs.declared.value.Ty.{Ty}
 use Rattle.hq_base.specs.declared.value.Val.{Val}
-use Rattle.hq_terms.specs.Bexp.{BexpTree, always, and_of, or_of, not_of, test, through, exists_in, columns, BexpTrees, no_bexp, bexp, bexps_of}
+use Rattle.hq_terms.specs.Bexp.{BexpTree, always, and_of, or_of, not_of, test, through, exists_in, two_columns, BexpTrees, no_bexp, bexp, bexps_of}
 use Rattle.hq_terms.specs.Permission.{Mask, Permission}
 use Rattle.hq_terms.specs.Schema.{Schema, column, rel}
 use Rattle.hq_terms.specs.SessionLists.{listed_values, list_want}
@@ -67,7 +67,7 @@ abbrev mutual
   bound (test c tested vs negated) s vars t = mapped (λ os. test c tested os negated) (bound_operands tested (column s t c).ty vars vs)
   bound (through r b) s vars t = mapped (through r) (bound b s vars (rel s t r).remote)
   bound (exists_in u b) s vars t = mapped (exists_in u) (bound b s vars u)
-  bound (columns l op r) s vars t = Ok (columns l op r)
+  bound (two_columns l op r) s vars t = Ok (two_columns l op r)
 
   pub bound_all : BexpTrees → Schema → List Var → ℕ → Result (List BexpTree) BindRefusal
   bound_all no_bexp s vars t = Ok []

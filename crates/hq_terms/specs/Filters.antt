@@ -6,7 +6,7 @@ use Rattle.hq_base.specs.Patterns.{pattern_of}
 use Rattle.hq_base.specs.declared.value.Ty.{Ty}
 use Rattle.hq_base.specs.declared.value.Val.{Val}
 use Rattle.hq_base.specs.declared.value.Val.TheVariants as val
-use Rattle.hq_terms.specs.Bexp.{BexpTree, always, and_of, or_of, not_of, test, through, exists_in, columns, BexpTrees, no_bexp, bexp, operands_of}
+use Rattle.hq_terms.specs.Bexp.{BexpTree, always, and_of, or_of, not_of, test, through, exists_in, two_columns, BexpTrees, no_bexp, bexp, operands_of}
 use Rattle.hq_terms.specs.Database.{int_fits, is_text, is_boolean}
 use Rattle.hq_terms.specs.Schema.{Schema, table, rel}
 use Rattle.hq_terms.specs.Catalog.{can_pair}
@@ -67,7 +67,7 @@ abbrev mutual
   is_filter (test c tested vs negated) s t = of_type (is_test tested vs) (column_ty s t c)
   is_filter (through r b) s t = is_some (slice_get (table s t).rels r) && is_filter b s (rel s t r).remote
   is_filter (exists_in u b) s t = nat_lt u (length s) && is_filter b s u
-  is_filter (columns l op r) s t = can_pair (column_ty s t l) (column_ty s t r)
+  is_filter (two_columns l op r) s t = can_pair (column_ty s t l) (column_ty s t r)
 
   pub are_filters : BexpTrees → Schema → ℕ → Bool
   are_filters no_bexp s t = true

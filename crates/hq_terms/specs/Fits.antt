@@ -2,7 +2,7 @@
 use Rattle.std.specs.Prelude.{ℕ, ◌^◌, List, [], ◌∷◌, length, Bool, true, not, cond, ◌&&◌, ◌==◌, nat_lt, nat_le, Option, Some, None, is_some, bytes_eq}
 use Rattle.std.specs.List.{list_all, list_any}
 use Rattle.hq_base.specs.Lists.{all_differ}
-use Rattle.hq_terms.specs.Bexp.{BexpTree, always, and_of, or_of, not_of, test, through, exists_in, columns, BexpTrees, no_bexp, bexp, depth}
+use Rattle.hq_terms.specs.Bexp.{BexpTree, always, and_of, or_of, not_of, test, through, exists_in, two_columns, BexpTrees, no_bexp, bexp, depth}
 use Rattle.hq_terms.specs.Catalog.{can_pair}
 use Rattle.hq_terms.specs.Filters.{column_ty, is_filter}
 use Rattle.hq_terms.specs.Meta.{PermTree, TrackedTree, MetaTree, tracked_table}
@@ -42,7 +42,7 @@ abbrev mutual
   asks_tracked m (test c tested vs negated) = true
   asks_tracked m (through r b) = asks_tracked m b
   asks_tracked m (exists_in u b) = is_some (tracked_table m u) && asks_tracked m b
-  asks_tracked m (columns l op r) = true
+  asks_tracked m (two_columns l op r) = true
 
   pub all_ask_tracked : MetaTree → BexpTrees → Bool
   all_ask_tracked m no_bexp = true

@@ -25,3 +25,4 @@ pub mod View
 pub mod Filters
 pub mod SchemaNames
 pub mod Fits
+pub mod Laws

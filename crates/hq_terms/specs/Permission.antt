@@ -94,6 +94,15 @@ abbrev pub largest : Option ℕ → List Permission → Option ℕ
 largest limit [] = limit
 largest limit (p ∷ ps) = largest (larger limit p.limit) ps
 
+-- the largest limit of several permissions
+abbrev pub limit_of : List Permission → Option ℕ
+limit_of [] = None
+limit_of (p ∷ ps) = largest p.limit ps
+
+-- one of them allows aggregates
+abbrev pub some_aggregate : List Permission → Bool
+some_aggregate ps = list_any (λ p. p.aggregations) ps
+
 -- the mask of a column that not each permission has: it is shown where a filter of those that have it is true
 abbrev pub mask_for : List Permission → ℕ → List Mask
 mask_for ps c = cond (list_all (permits c) ps) [] (record { column = c; shown = either (filters_for c ps) } ∷ [])
@@ -107,17 +116,16 @@ masks_for ps (c ∷ cs) = mask_for ps c ++ masks_for ps cs
 abbrev pub columns_of_any : TrackedTree → List Permission → List ℕ
 columns_of_any k ps = filter (λ c. list_any (permits c) ps) (named_columns k)
 
--- what several permissions permit together
+-- what several permissions permit together; nothing where there are none, as none has a column then
 abbrev pub combined : TrackedTree → List Permission → Option Permission
-combined k [] = None
-combined k (p ∷ ps) =
+combined k ps =
     with_columns (record {
       columns = [];
-      filter = either (filters_of (p ∷ ps));
-      limit = largest p.limit ps;
-      aggregations = list_any (λ q. q.aggregations) (p ∷ ps);
-      masks = masks_for (p ∷ ps) (columns_of_any k (p ∷ ps));
-    }) (columns_of_any k (p ∷ ps))
+      filter = either (filters_of ps);
+      limit = limit_of ps;
+      aggregations = some_aggregate ps;
+      masks = masks_for ps (columns_of_any k ps);
+    }) (columns_of_any k ps)
 
 -- a name behind others, where it is not among them
 abbrev pub with_name : List (List ℕ) → List ℕ → List (List ℕ)

@@ -4,7 +4,7 @@ use Rattle.std.specs.List.{list_any}
 use Rattle.hq_base.specs.Cells.{CellTree, null, cell_of}
 use Rattle.hq_terms.specs.declared.bexp.Operand.{Operand}
 use Rattle.hq_terms.specs.declared.bexp.Operand.TheVariants.{Const, Session}
-use Rattle.hq_terms.specs.Bexp.{BexpTree, always, and_of, or_of, not_of, test, through, exists_in, columns, BexpTrees, no_bexp, bexp, operands_of}
+use Rattle.hq_terms.specs.Bexp.{BexpTree, always, and_of, or_of, not_of, test, through, exists_in, two_columns, BexpTrees, no_bexp, bexp, operands_of}
 use Rattle.hq_terms.specs.Logic.{Truth, Yes, No, is_true, truth_of, not3, and3, or3, negated_if, compared}
 use Rattle.hq_terms.specs.Schema.{Schema, rel}
 use Rattle.hq_terms.specs.Seen.{Sees}
@@ -26,7 +26,7 @@ abbrev mutual
   truth (through r b) s S t x =
       truth_of (list_any (λ far. S.linked t r x far && is_true (truth b s S (rel s t r).remote far)) (S.rows (rel s t r).remote))
   truth (exists_in u b) s S t x = truth_of (list_any (λ other. is_true (truth b s S u other)) (S.rows u))
-  truth (columns l op r) s S t x = compared op (S.cell t x l) (S.cell t x r)
+  truth (two_columns l op r) s S t x = compared op (S.cell t x l) (S.cell t x r)
 
   -- And over a list: true where it is empty
   pub truth_of_all : {R : Type 0} → BexpTrees → Schema → Sees R → ℕ → R → Truth

@@ -4,7 +4,7 @@ ghost use Rattle.std.specs.List.{list_any, list_all};
 ghost use Rattle.hq_base.specs.Lists.{firsts};
 ghost use Rattle.hq_terms.specs.Bexp.{bexp_view};
 ghost use Rattle.hq_terms.specs.Meta.{tracked_view};
-ghost use Rattle.hq_terms.specs.Permission.{columns_of_any, combined, either, filters_for, filters_of, larger, largest, mask_for, masks_for, option_list, permissions_of, permits, set_of, with_name};
+ghost use Rattle.hq_terms.specs.Permission.{columns_of_any, combined, either, filters_for, filters_of, larger, largest, limit_of, mask_for, masks_for, option_list, permissions_of, permits, set_of, some_aggregate, with_name};
 ghost use Rattle.hq_terms.specs.PermView.{mask_view, permission_view};
 
 use crate::permission::{named_columns, own_view};
@@ -96,14 +96,24 @@ fn permits(view: &PermView, col: ColId) -> bool
 fn some_permits(views: &[PermView], col: ColId) -> bool
     ensures { result ≡ list_any (permits col) (map permission_view views.now) }
 {
-    views.iter().any(|view| permits(view, col))
+    for view in views {
+        if permits(view, col) {
+            return true;
+        }
+    }
+    false
 }
 
 // Whether each permission has a column.
 fn all_permit(views: &[PermView], col: ColId) -> bool
     ensures { result ≡ list_all (permits col) (map permission_view views.now) }
 {
-    views.iter().all(|view| permits(view, col))
+    for view in views {
+        if !permits(view, col) {
+            return false;
+        }
+    }
+    true
 }
 
 // The columns that some permission has.
@@ -183,6 +193,27 @@ fn largest(limit: Option<u64>, views: &[PermView]) -> Option<u64>
     largest
 }
 
+fn limit_of(views: &[PermView]) -> Option<u64>
+    ensures { result ≡ limit_of (map permission_view views.now) }
+{
+    match views {
+        [first, others @ ..] => largest(first.limit, others),
+        [] => None,
+    }
+}
+
+// Whether some permission allows aggregates.
+fn some_aggregate(views: &[PermView]) -> bool
+    ensures { result ≡ some_aggregate (map permission_view views.now) }
+{
+    for view in views {
+        if view.aggregations {
+            return true;
+        }
+    }
+    false
+}
+
 // A column that not each permission has is masked.
 fn push_mask(
     alloc: Global,
@@ -217,9 +248,6 @@ fn combined(
 ) -> Result<Option<PermView>, Memory>
     ensures { IfOk result (λ view. option_map permission_view view ≡ combined (tracked_view tracked.now) (map permission_view views.now)) }
 {
-    let [first, others @ ..] = views else {
-        return Ok(None);
-    };
     let cols = columns_of_any(alloc, tracked, views)?;
     if cols.len() == 0 {
         return Ok(None);
@@ -228,8 +256,8 @@ fn combined(
     Ok(Some(PermView {
         cols,
         filter: either(filters_of(alloc, views)?),
-        limit: largest(first.limit, others),
-        aggregations: views.iter().any(|view| view.aggregations),
+        limit: limit_of(views),
+        aggregations: some_aggregate(views),
         masks,
     }))
 }

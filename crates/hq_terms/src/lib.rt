@@ -9,6 +9,7 @@ mod constant;
 mod copy;
 mod ids;
 mod inherited;
+mod laws;
 mod meta;
 mod name;
 mod op;
@@ -31,6 +32,7 @@ pub use bind::BindRefusal;
 pub use catalog::Catalog;
 pub use constant::{constant_in, read_as, read_operand, read_pattern, whole_value};
 pub use copy::{TryCopy, copy_list};
+pub use laws::masks_add_no_fault;
 pub use ids::{ColId, ColList, RelId, TableId, has_column};
 pub use meta::{
     Inherited, InheritedList, Meta, Pair, PairList, Perm, PermList, Rel, RelList, RootNames, Tracked,
