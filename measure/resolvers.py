@@ -38,6 +38,12 @@ def table_key(table):
     return ("public", table) if isinstance(table, str) else (table.get("schema", "public"), table["name"])
 
 
+def entries_of(metadata):
+    """The tables of an export: at the top in version 2, and in the one source in version 3."""
+    metadata = metadata.get("metadata", metadata)
+    return (metadata if metadata["version"] == 2 else metadata["sources"][0])["tables"]
+
+
 def pairs_of(t, by_key, using):
     """The remote table of a relationship and the pairs of columns that link."""
     if "manual_configuration" in using:
@@ -54,9 +60,7 @@ def pairs_of(t, by_key, using):
 def read_model(directory):
     """The tracked tables of a directory, whose metadata has the forms that the examples have."""
     catalog = {table_key(t): t for t in json.load(open(f"{directory}/catalog.json", encoding="utf-8"))["tables"]}
-    metadata = json.load(open(f"{directory}/metadata.json", encoding="utf-8"))
-    metadata = metadata.get("metadata", metadata)
-    entries = (metadata if metadata["version"] == 2 else metadata["sources"][0])["tables"]
+    entries = entries_of(json.load(open(f"{directory}/metadata.json", encoding="utf-8")))
     model = [Table(at, catalog[table_key(e["table"])]) for at, e in enumerate(entries)]
     by_key = {table_key(t.catalog): t for t in model}
     for t, entry in zip(model, entries):
