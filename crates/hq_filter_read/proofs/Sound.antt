@@ -8,7 +8,7 @@ use Rattle.hq_base.specs.Json.{JsonTree, null, bool, int, str, arr, obj, Element
 use Rattle.hq_base.specs.Look.{str_in, array_in, member_list}
 use Rattle.hq_base.specs.Path.{member_path, item_path}
 use Rattle.hq_base.specs.declared.value.Ty.{Ty}
-use Rattle.hq_terms.specs.Bexp.{BexpTree, and_of, or_of, not_of, test, through, exists_in, columns, operands_of, bexps_of, conjunction, depth, depth_of_all}
+use Rattle.hq_terms.specs.Bexp.{BexpTree, and_of, or_of, not_of, test, through, exists_in, two_columns, operands_of, bexps_of, conjunction, depth, depth_of_all}
 use Rattle.hq_terms.specs.Catalog.{can_pair, type_of}
 use Rattle.hq_terms.specs.Filters.{column_ty, is_filter, are_filters, operand_fits, are_taken, is_test, of_type}
 use Rattle.hq_terms.specs.Fits.{asks_tracked, all_ask_tracked}
@@ -125,8 +125,8 @@ compared_good : (tables : List Table) (d : MetaTree) (t c : ℕ) (op : Op) (path
 unfolding compared_due
 compared_good tables d t c op path j =
     let x = table (schema_of tables d) t in
-    ok_and_then (λ name. and_then (λ e. cond (can_pair (type_of (slice_get x.columns c)) (type_of (slice_get x.columns e))) (Ok (columns c op e)) (Err (BadOperand path))) (ok_or (column_named x name) (UnknownColumn path))) (Good 1 tables d t) (λ _. ⊤)
-    (λ name _. ok_and_then (λ e. cond (can_pair (type_of (slice_get x.columns c)) (type_of (slice_get x.columns e))) (Ok (columns c op e)) (Err (BadOperand path))) (Good 1 tables d t) (λ _. ⊤)
+    ok_and_then (λ name. and_then (λ e. cond (can_pair (type_of (slice_get x.columns c)) (type_of (slice_get x.columns e))) (Ok (two_columns c op e)) (Err (BadOperand path))) (ok_or (column_named x name) (UnknownColumn path))) (Good 1 tables d t) (λ _. ⊤)
+    (λ name _. ok_and_then (λ e. cond (can_pair (type_of (slice_get x.columns c)) (type_of (slice_get x.columns e))) (Ok (two_columns c op e)) (Err (BadOperand path))) (Good 1 tables d t) (λ _. ⊤)
     (λ e _. by e (can_pair (type_of (slice_get x.columns c)) (type_of (slice_get x.columns e))) refl)
     (ok_or (column_named x name) (UnknownColumn path)) (ok_always (ok_or (column_named x name) (UnknownColumn path))))
     (ok_or (str_in j) (Shape path)) (ok_always (ok_or (str_in j) (Shape path)))
@@ -134,7 +134,7 @@ compared_good tables d t c op path j =
     pairs : (e : ℕ) → can_pair (column_ty (schema_of tables d) t c) (column_ty (schema_of tables d) t e) ≡ can_pair (type_of (slice_get (table (schema_of tables d) t).columns c)) (type_of (slice_get (table (schema_of tables d) t).columns e))
     pairs e = rw (type_by (slice_get (table (schema_of tables d) t).columns c), type_by (slice_get (table (schema_of tables d) t).columns e)) refl
 
-    by : (e : ℕ) (b : Bool) → can_pair (type_of (slice_get (table (schema_of tables d) t).columns c)) (type_of (slice_get (table (schema_of tables d) t).columns e)) ≡ b → IfOk (cond b (Ok (columns c op e)) (Err (BadOperand path))) (Good 1 tables d t)
+    by : (e : ℕ) (b : Bool) → can_pair (type_of (slice_get (table (schema_of tables d) t).columns c)) (type_of (slice_get (table (schema_of tables d) t).columns e)) ≡ b → IfOk (cond b (Ok (two_columns c op e)) (Err (BadOperand path))) (Good 1 tables d t)
     by e true is = record { is = pairs e ∙ is; tracked = refl; shallow = omega arith }
     by e false is = tt
 

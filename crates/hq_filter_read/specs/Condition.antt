@@ -4,7 +4,7 @@ use Rattle.hq_base.specs.Due.{mapped, ◌>>=◌}
 use Rattle.hq_base.specs.Json.{JsonTree, obj}
 use Rattle.hq_base.specs.Look.{str_in, array_in, member_list}
 use Rattle.hq_base.specs.declared.value.Ty.{Ty}
-use Rattle.hq_terms.specs.Bexp.{BexpTree, test, columns, conjunction}
+use Rattle.hq_terms.specs.Bexp.{BexpTree, test, two_columns, conjunction}
 use Rattle.hq_terms.specs.Catalog.{can_pair, type_of}
 use Rattle.hq_terms.specs.Operators.{operator, column_operator_named}
 use Rattle.hq_terms.specs.Schema.{SchemaTable}
@@ -31,7 +31,7 @@ unfoldable pub compared_due : SchemaTable → (c : ℕ) → Op → (path : List 
 compared_due x c op path j = do
   name ← ok_or (str_in j) (Shape path)
   d ← ok_or (column_named x name) (UnknownColumn path)
-  if can_pair (type_of (slice_get x.columns c)) (type_of (slice_get x.columns d)) then Ok (columns c op d) else Err (BadOperand path)
+  if can_pair (type_of (slice_get x.columns c)) (type_of (slice_get x.columns d)) then Ok (two_columns c op d) else Err (BadOperand path)
 
 -- a test that takes no operand: the truth value at a path tells whether it is to hold, or its opposite
 unfoldable pub told_due : (c : ℕ) → Operator → (path : List ℕ) → JsonTree → Result BexpTree FilterRefusal
@@ -72,8 +72,8 @@ named_due x c ty name path j None = condition_due c ty path (operator_named name
 abbrev pub written_on : SchemaTable → (c : ℕ) → Ty → (name path : List ℕ) → JsonTree → Result BexpTree FilterRefusal
 written_on x c ty name path j = named_due x c ty name path j (column_operator_named name)
 
--- The conditions on column c of a table, which is of a type: all operators of an object, in order, each at the path of its member; any other
--- value stands for `_eq`, and is an operand at the column's own path.
+-- The conditions on column c of a table, which is of a type: all operators of an object, in order, each at the path of its
+-- member; any other value stands for `_eq`, and is an operand at the column's own path.
 abbrev pub column_due : SchemaTable → (c : ℕ) → Ty → (path : List ℕ) → JsonTree → Result BexpTree FilterRefusal
 column_due x c ty path (obj ms) = mapped conjunction (each_member (written_on x c ty) path (member_list ms))
 column_due x c ty path j = single_due c ty (operator (Compare Eq) false) path j

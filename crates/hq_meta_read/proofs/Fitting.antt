@@ -12,7 +12,7 @@ use Rattle.hq_base.specs.Json.{JsonTree}
 use Rattle.hq_base.specs.Lists.{all_differ}
 use Rattle.hq_base.specs.declared.value.Ty.{Ty}
 use Rattle.hq_meta_names.specs.Repeats.{names_due}
-use Rattle.hq_terms.specs.Bexp.{BexpTree, always, and_of, or_of, not_of, test, through, exists_in, columns, BexpTrees, no_bexp, bexp, depth}
+use Rattle.hq_terms.specs.Bexp.{BexpTree, always, and_of, or_of, not_of, test, through, exists_in, two_columns, BexpTrees, no_bexp, bexp, depth}
 use Rattle.hq_terms.specs.Catalog.{is_catalog, can_pair, type_of}
 use Rattle.hq_terms.specs.Filters.{column_ty, is_filter}
 use Rattle.hq_terms.specs.Fits.{fits, fits_tracked, fits_rel, fits_perm, asks_tracked, all_ask_tracked, are_inherited, are_free_roots, objects_first, limit_fits}
@@ -278,7 +278,7 @@ mutual
   asks_same m n same (test c t vs negated) = refl
   asks_same m n same (through r b) = asks_same m n same b
   asks_same m n same (exists_in u b) = rw (same u, asks_same m n same b) refl
-  asks_same m n same (columns l op r) = refl
+  asks_same m n same (two_columns l op r) = refl
 
   all_ask_same : (m n : MetaTree) → ((u : ℕ) → is_some (tracked_table m u) ≡ is_some (tracked_table n u)) → (bs : BexpTrees) → all_ask_tracked m bs ≡ all_ask_tracked n bs
   all_ask_same m n same no_bexp = refl
