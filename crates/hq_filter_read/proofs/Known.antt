@@ -1,5 +1,5 @@
 -- The table whose rows `_exists` asks for is there, and tracked.
-use Rattle.std.proofs.Common.{◌≡◌, ◌∙◌, refl, sym, ap, subst, ℕ, suc, ◌<◌, Bool, true, false, cond, List, [], ◌∷◌, length, Option, Some, None, Result, Ok, Err}
+use Rattle.std.proofs.Common.{◌≡◌, refl, sym, ap, subst, ℕ, suc, ◌<◌, Bool, true, false, cond, List, [], ◌∷◌, length, Option, Some, None, Ok, Err}
 use Rattle.std.specs.Prelude.{⊤, IfOk, ◌&&◌, is_some, nat_lt, ok_or, position, bytes_eq, codes}
 use Rattle.std.proofs.lemmas.Bool.{lt-ltb}
 use Rattle.std.proofs.lemmas.List.Quantifiers.{position-Some}
@@ -10,7 +10,6 @@ use Rattle.hq_base.specs.Path.{member_path}
 use Rattle.hq_terms.specs.Meta.{MetaTree, tracked_table}
 use Rattle.hq_terms.specs.Schema.{numbered, schema_table, schema_of}
 use Rattle.hq_terms.specs.declared.table.Table.{Table}
-use Rattle.hq_filter_read.specs.declared.refusal.FilterRefusal.{FilterRefusal}
 use Rattle.hq_filter_read.specs.declared.refusal.FilterRefusal.TheVariants.{Shape, UnknownTable}
 use Rattle.hq_filter_read.specs.Asked.{parts_due, asked_due}
 use Rattle.hq_filter_read.specs.Tables.{text_member, table_named, qualified_table, table_by, table_at, tracked_due, remote_at}

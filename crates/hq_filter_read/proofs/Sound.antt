@@ -15,7 +15,7 @@ use Rattle.hq_terms.specs.Fits.{asks_tracked, all_ask_tracked}
 use Rattle.hq_terms.specs.Meta.{MetaTree}
 use Rattle.hq_terms.specs.Operators.{operator, column_operator_named}
 use Rattle.hq_terms.specs.Schema.{schema_of, table, column, rel, no_column}
-use Rattle.hq_terms.specs.Tests.{Test, arity, has_arity, takes_many, applies}
+use Rattle.hq_terms.specs.Tests.{arity, has_arity, takes_many, applies}
 use Rattle.hq_terms.specs.declared.bexp.Operands.{Operands}
 use Rattle.hq_terms.specs.declared.bexp.Operands.TheVariants as operands
 use Rattle.hq_terms.specs.declared.op.Op.{Op}
@@ -23,6 +23,7 @@ use Rattle.hq_terms.specs.declared.op.Op.TheVariants.{Eq}
 use Rattle.hq_terms.specs.declared.operator.Operator.{Operator}
 use Rattle.hq_terms.specs.declared.test.Arity.{Arity}
 use Rattle.hq_terms.specs.declared.test.Arity.TheVariants.{Nothing, One, Many}
+use Rattle.hq_terms.specs.declared.test.Test.{Test}
 use Rattle.hq_terms.specs.declared.test.Test.TheVariants.{Compare}
 use Rattle.hq_terms.specs.declared.table.Column.{Column as ColumnOf}
 use Rattle.hq_terms.specs.declared.table.Table.{Table}
