@@ -9,6 +9,7 @@ pub enum About {
     Filters,
     Bindings,
     Metadata,
+    OlderMetadata,
     Exports,
     Permissions,
     RoleSchemas,
@@ -17,12 +18,13 @@ pub enum About {
 
 impl About {
     /// Each subject, in the order of its line.
-    pub const ALL: [About; 9] = [
+    pub const ALL: [About; 10] = [
         About::Catalogs,
         About::TableFiles,
         About::Filters,
         About::Bindings,
         About::Metadata,
+        About::OlderMetadata,
         About::Exports,
         About::Permissions,
         About::RoleSchemas,
@@ -38,6 +40,7 @@ impl Subject for About {
             About::Filters => "filters",
             About::Bindings => "bindings",
             About::Metadata => "metadata",
+            About::OlderMetadata => "older_metadata",
             About::Exports => "exports",
             About::Permissions => "permissions",
             About::RoleSchemas => "role_schemas",
@@ -52,7 +55,7 @@ impl Subject for About {
             About::TableFiles => rows::tell_table_file(alloc, case, words),
             About::Filters => filters::tell_filter(alloc, case, words),
             About::Bindings => filters::tell_binding(alloc, case, words),
-            About::Metadata => metadata::tell_verdict(alloc, case, words),
+            About::Metadata | About::OlderMetadata => metadata::tell_verdict(alloc, case, words),
             About::Exports => metadata::tell_export(alloc, case, words),
             About::Permissions => metadata::tell_permission(alloc, case, words),
             About::RoleSchemas => schemas::tell_role_schema(alloc, case, words),

@@ -16,9 +16,11 @@ use Rattle.hq_meta_tables.specs.declared.refusal.MetaRefusal.{MetaRefusal}
 use Rattle.hq_meta_tables.specs.declared.refusal.MetaRefusal.TheVariants as refusal
 use Rattle.hq_meta_tables.specs.Field.{field_name}
 use Rattle.hq_meta_tables.specs.Node.{at, value_of, checked, object_at, text_member, list_at, member_at, list_member, object_member, entries_in, entries_member}
+use Rattle.hq_meta_tables.specs.declared.version.MetaVersion.{MetaVersion}
+use Rattle.hq_meta_tables.specs.declared.version.MetaVersion.TheVariants.{Two, Three}
 use Rattle.hq_meta_read.specs.Reading.{json_in}
 use Rattle.hq_meta_read.specs.Sound.{Shallow}
-use Rattle.hq_meta_tables.specs.Top.{unwrapped_by, unwrapped, version_due, sole, roles_due, kind_due, plain_in, source_path, source_tables, table_entries}
+use Rattle.hq_meta_tables.specs.Top.{unwrapped_by, unwrapped, version_due, sole, roles_due, kind_due, plain_in, source_path, source_tables, own_entries, source_entries, top_entries, table_entries}
 use Rattle.hq_meta_read.proofs.Steps.{ok_weaker, ok_and_then, ok_next, ok_found, ok_tested}
 
 -- a member nests no deeper than its object
@@ -122,23 +124,42 @@ source_tables-shallow j h =
     (kind_due source)) (text_member source_path source field.Name))
     (object_at source_path j) (object_at-shallow source_path j h)
 
-entries-shallow : (j : JsonTree) → Shallow j → IfOk (table_entries j) (AllByRecursion Shallow)
-unfolding table_entries
-entries-shallow j h =
+own_entries-shallow : (j : JsonTree) → Shallow j → IfOk (own_entries j) (AllByRecursion Shallow)
+unfolding own_entries
+own_entries-shallow j h =
     let all = AllByRecursion Shallow in
-    let top = top_path in
-    ok_next (λ u. and_then (λ o. and_then (λ sources. and_then (λ v. and_then (λ source. source_tables source) (sole sources)) (roles_due o)) (list_member top o field.Sources)) (object_at top j)) all
-    (λ u. ok_and_then (λ o. and_then (λ sources. and_then (λ v. and_then (λ source. source_tables source) (sole sources)) (roles_due o)) (list_member top o field.Sources)) Shallow all
-    (λ o g. ok_and_then (λ sources. and_then (λ v. and_then (λ source. source_tables source) (sole sources)) (roles_due o)) all all
-    (λ sources f. ok_next (λ v. and_then (λ source. source_tables source) (sole sources)) all
-    (λ v. ok_and_then (λ source. source_tables source) Shallow all (λ source s. source_tables-shallow source s) (sole sources) (sole-shallow sources f))
-    (roles_due o))
-    (list_member top o field.Sources) (list_member-shallow top o field.Sources g))
-    (object_at top j) (object_at-shallow top j h))
-    (version_due (value_of j field.Version))
+    ok_and_then (λ tables. and_then (λ u. Ok tables) (roles_due j)) all all (λ tables g. ok_next (λ u. Ok tables) all (λ u. g) (roles_due j))
+    (list_member top_path j field.Tables) (list_member-shallow top_path j field.Tables h)
+
+source_entries-shallow : (j : JsonTree) → Shallow j → IfOk (source_entries j) (AllByRecursion Shallow)
+unfolding source_entries
+source_entries-shallow j h =
+    let all = AllByRecursion Shallow in
+    ok_and_then (λ sources. and_then (λ u. and_then (λ source. source_tables source) (sole sources)) (roles_due j)) all all
+    (λ sources g. ok_next (λ u. and_then (λ source. source_tables source) (sole sources)) all
+    (λ u. ok_and_then (λ source. source_tables source) Shallow all (λ source s. source_tables-shallow source s) (sole sources) (sole-shallow sources g))
+    (roles_due j))
+    (list_member top_path j field.Sources) (list_member-shallow top_path j field.Sources h)
+
+top_entries-shallow : (version : MetaVersion) (j : JsonTree) → Shallow j → IfOk (top_entries version j) (AllByRecursion Shallow)
+top_entries-shallow Two j h = own_entries-shallow j h
+top_entries-shallow Three j h = source_entries-shallow j h
 
 -- the entries of a file's tables
-pub table_entries-shallow : (j : JsonTree) → Shallow j → IfOk (table_entries (unwrapped j)) (AllByRecursion Shallow)
+abbrev pub ShallowEntries : MetaVersion × List JsonTree → Type 0
+ShallowEntries found = AllByRecursion Shallow found.1
+
+entries-shallow : (j : JsonTree) → Shallow j → IfOk (table_entries j) ShallowEntries
+unfolding table_entries
+entries-shallow j h =
+    let told = λ (version : MetaVersion) (js : List JsonTree). let found : MetaVersion × List JsonTree = (version, js) in Ok found in
+    ok_next (λ version. and_then (λ top. and_then (told version) (top_entries version top)) (object_at top_path j)) ShallowEntries
+    (λ version. ok_and_then (λ top. and_then (told version) (top_entries version top)) Shallow ShallowEntries
+    (λ top g. ok_and_then (told version) (AllByRecursion Shallow) ShallowEntries (λ js all. all) (top_entries version top) (top_entries-shallow version top g))
+    (object_at top_path j) (object_at-shallow top_path j h))
+    (version_due (value_of j field.Version))
+
+pub table_entries-shallow : (j : JsonTree) → Shallow j → IfOk (table_entries (unwrapped j)) ShallowEntries
 table_entries-shallow j h = entries-shallow (unwrapped j) (unwrapped-shallow j h)
 
 -- ---- what holds of all items holds of each

@@ -20,31 +20,31 @@ use Rattle.hq_meta_tables.specs.Top.{unwrapped, table_entries, tables_path}
 use Rattle.hq_meta_tables.specs.Refused.{name_refusal}
 use Rattle.hq_meta_tables.specs.Tracked.{tracked_at}
 
--- the tables that the entries track, with their names
-unfoldable pub named : List Table → List JsonTree → Result MetaTree MetaRefusal
-named tables js = do
-  tracked ← each_after (tracked_at tables) tables_path 0 [] js
-  Ok (record { tracked = tracked })
+-- the tables that the entries of the list at a path track, with their names
+unfoldable pub named : List Table → (path : List ℕ) → List JsonTree → Result MetaTree MetaRefusal
+named tables path js = do
+  tracked ← each_after (tracked_at tables) path 0 [] js
+  Ok (record { tracked = tracked; inherited = [] })
 
 -- names that stand twice are refused
 abbrev pub names_in : Result (Unit {0}) NameRefusal → Result (Unit {0}) MetaRefusal
 names_in (Ok u) = Ok u
 names_in (Err e) = Err (name_refusal e)
 
--- the metadata that the entries give
-unfoldable pub tracked_of : List Table → List JsonTree → Result MetaTree MetaRefusal
-tracked_of tables js = do
-  names ← named tables js
-  rels ← related tables tables_path js names
-  m ← permitted tables tables_path js rels
-  _ ← names_in (names_due (schema_of tables m) m tables_path)
+-- the metadata that the entries of the list at a path give
+unfoldable pub tracked_of : List Table → (path : List ℕ) → List JsonTree → Result MetaTree MetaRefusal
+tracked_of tables path js = do
+  names ← named tables path js
+  rels ← related tables path js names
+  m ← permitted tables path js rels
+  _ ← names_in (names_due (schema_of tables m) m path)
   Ok m
 
 -- the metadata of a JSON value
 unfoldable pub meta_of : List Table → JsonTree → Result MetaTree MetaRefusal
 meta_of tables j = do
   entries ← table_entries (unwrapped j)
-  tracked_of tables entries
+  tracked_of tables (tables_path entries.0) entries.1
 
 -- any cause that a body is no JSON of whole numbers makes it no JSON here
 abbrev pub json_in : Result JsonTree JsonRefusal → Result JsonTree MetaRefusal

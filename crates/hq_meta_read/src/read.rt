@@ -10,11 +10,10 @@ ghost use Rattle.hq_terms.specs.SchemaNames.{names_differ};
 ghost use Rattle.hq_meta_names.specs.Repeats.{names_due};
 ghost use Rattle.hq_meta_read.specs.Reading.{json_in, names_in, named, tracked_of, meta_of, meta_due};
 ghost use Rattle.hq_meta_read.specs.Sound.{Shallow, TablesSound};
-ghost use Rattle.hq_meta_tables.specs.Top.{tables_path};
 
 use crate::permissions::permitted;
 use crate::relationships::related;
-use hq_base::{Json, JsonRefusal, Txt};
+use hq_base::{Json, JsonRefusal, List, Txt};
 use hq_filter_read::nesting_is_bounded;
 use hq_meta_names::check_names;
 use hq_meta_tables::MetaRefusal;
@@ -23,9 +22,9 @@ use hq_meta_tables::tracking::all_tracked;
 use hq_terms::{Catalog, Meta};
 use std::alloc::Global;
 
-/// Reads the bytes of a `metadata.json`, an export of Hasura v2's metadata of version 3, over a catalog. The tests come in
+/// Reads the bytes of a `metadata.json`, an export of Hasura v2's metadata of version 2 or 3, over a catalog. The tests come in
 /// this order, each over the whole file before the next, lists in order and members in the order of the form: NotJson,
-/// Version, Shape of the top, Sources, Shape of the source, tables and their names, relationships, permissions, and names
+/// Version, Shape of the top, in version 3 Sources and Shape of the source, tables and their names, relationships, permissions, and names
 /// that stand twice. The first refusal is the answer.
 #[tactic(auto, unfolding(crate::specs::Reading::meta_due))]
 pub fn read_meta(alloc: Global, bytes: &[u8], catalog: &Catalog) -> Result<Meta, MetaRefusal>
@@ -55,14 +54,14 @@ fn json_of(alloc: Global, bytes: &[u8]) -> Result<Json, MetaRefusal>
 fn meta_of(alloc: Global, catalog: &Catalog, json: &Json) -> Result<Meta, MetaRefusal>
     requires { Shallow (json_view json.now) }
     ensures due { Gives meta_view MetaRefusal.Memory (meta_of catalog.now.tables (json_view json.now)) result }
-    ensures sound { IfOk result (λ meta. TablesSound (schema_of catalog.now.tables (meta_view meta)) (meta_view meta).tracked) }
+    ensures sound { IfOk result (λ meta. TablesSound catalog.now.tables (meta_view meta) (meta_view meta).tracked) }
     ensures names { IfOk result (λ meta. names_differ (schema_of catalog.now.tables (meta_view meta)) (meta_view meta) ≡ true) }
 {
-    let entries = table_entries(alloc, unwrapped(json))?;
-    tracked_of(alloc, catalog, entries)
+    let (version, entries) = table_entries(alloc, unwrapped(json))?;
+    tracked_of(alloc, catalog, &tables_path(alloc, version)?, entries)
 }
 
-// The tables that the entries track, with their names.
+// The tables that the entries of the list at a path track, with their names.
 #[tactic(auto, unfolding(crate::specs::Reading::named))]
 fn named(
     alloc: Global,
@@ -70,11 +69,13 @@ fn named(
     path: &Txt,
     entries: &[Json],
 ) -> Result<Meta, MetaRefusal>
-    requires { path.now ≡ tables_path }
-    ensures { Gives meta_view MetaRefusal.Memory (named catalog.now.tables (map json_view entries.now)) result }
+    ensures { Gives meta_view MetaRefusal.Memory (named catalog.now.tables path.now (map json_view entries.now)) result }
 {
     let tracked = all_tracked(alloc, catalog, path, entries)?;
-    Ok(Meta { tracked })
+    Ok(Meta {
+        tracked,
+        inherited: List::new(alloc),
+    })
 }
 
 // Names that stand twice are refused.
@@ -91,18 +92,22 @@ fn check_all_names(
     Ok(())
 }
 
-// The metadata that the entries give.
+// The metadata that the entries of the list at a path give.
 #[tactic(auto, unfolding(crate::specs::Reading::tracked_of))]
-fn tracked_of(alloc: Global, catalog: &Catalog, list: &[Json]) -> Result<Meta, MetaRefusal>
+fn tracked_of(
+    alloc: Global,
+    catalog: &Catalog,
+    path: &Txt,
+    list: &[Json],
+) -> Result<Meta, MetaRefusal>
     requires { AllByRecursion (λ j. Shallow (json_view j)) list.now }
-    ensures due { Gives meta_view MetaRefusal.Memory (tracked_of catalog.now.tables (map json_view list.now)) result }
-    ensures sound { IfOk result (λ meta. TablesSound (schema_of catalog.now.tables (meta_view meta)) (meta_view meta).tracked) }
+    ensures due { Gives meta_view MetaRefusal.Memory (tracked_of catalog.now.tables path.now (map json_view list.now)) result }
+    ensures sound { IfOk result (λ meta. TablesSound catalog.now.tables (meta_view meta) (meta_view meta).tracked) }
     ensures names { IfOk result (λ meta. names_differ (schema_of catalog.now.tables (meta_view meta)) (meta_view meta) ≡ true) }
 {
-    let path = tables_path(alloc)?;
-    let tables = named(alloc, catalog, &path, list)?;
-    let joined = related(alloc, catalog, &path, list, tables)?;
-    let meta = permitted(alloc, catalog, &path, list, joined)?;
-    check_all_names(alloc, catalog, &meta, &path)?;
+    let tables = named(alloc, catalog, path, list)?;
+    let joined = related(alloc, catalog, path, list, tables)?;
+    let meta = permitted(alloc, catalog, path, list, joined)?;
+    check_all_names(alloc, catalog, &meta, path)?;
     Ok(meta)
 }

@@ -1,5 +1,5 @@
--- The top of a metadata file down to the entries of its tables (Hasura v2, metadata format: version 3).
-use Rattle.std.specs.Prelude.{ℕ, ℤ, pos, List, [], ◌∷◌, length, Bool, true, false, is_some, Option, Some, None, option_and_then, Result, Ok, Err, if◌then◌else◌, bytes_eq, codes}
+-- The top of a metadata file down to the entries of its tables (Hasura v2, metadata format: versions 2 and 3).
+use Rattle.std.specs.Prelude.{ℕ, ℤ, pos, List, [], ◌∷◌, length, Bool, true, false, is_some, Option, Some, None, ok_or, Result, Ok, Err, if◌then◌else◌, bytes_eq, codes}
 use Rattle.std.specs.Ordering.{int_eq}
 use Rattle.hq_base.specs.Compact.{compact}
 use Rattle.hq_base.specs.Due.{◌>>=◌}
@@ -10,6 +10,8 @@ use Rattle.hq_meta_tables.specs.declared.field.Field.{Field}
 use Rattle.hq_meta_tables.specs.declared.field.Field.TheVariants.{Customization, DisabledForRoles, GraphqlSchemaIntrospection, InheritedRoles, Kind, Metadata, Name, Sources, Tables, Version}
 use Rattle.hq_meta_tables.specs.declared.refusal.MetaRefusal.{MetaRefusal}
 use Rattle.hq_meta_tables.specs.declared.refusal.MetaRefusal.TheVariants as refusal
+use Rattle.hq_meta_tables.specs.declared.version.MetaVersion.{MetaVersion}
+use Rattle.hq_meta_tables.specs.declared.version.MetaVersion.TheVariants.{Two, Three}
 use Rattle.hq_meta_tables.specs.Node.{required, checked, at, value_of, object_at, text_member, list_member, entries_member, given_value}
 
 -- a wrapper has no version, and an object `metadata`, which is read in its place
@@ -20,14 +22,15 @@ unwrapped_by _ _ j = j
 unfoldable pub unwrapped : JsonTree → JsonTree
 unwrapped j = unwrapped_by (value_of j Version) (value_of j Metadata) j
 
--- the version is the number 3
-abbrev pub is_three : Option ℤ → Bool
-is_three None = false
-is_three (Some n) = int_eq n (pos 3)
+-- the version that a number tells
+abbrev pub version_of : Option ℤ → Option MetaVersion
+version_of None = None
+version_of (Some n) = if int_eq n (pos 2) then Some Two else (if int_eq n (pos 3) then Some Three else None)
 
-abbrev pub version_due : Option JsonTree → Result (Unit {0}) MetaRefusal
+-- the version of the format is 2 or 3
+abbrev pub version_due : Option JsonTree → Result MetaVersion MetaRefusal
 version_due None = Err (refusal.Version [])
-version_due (Some j) = if is_three (int_in j) then Ok tt else Err (refusal.Version (compact j))
+version_due (Some j) = ok_or (version_of (int_in j)) (refusal.Version (compact j))
 
 -- a list of one element, or how many there are
 abbrev pub sole : List JsonTree → Result JsonTree MetaRefusal
@@ -58,12 +61,14 @@ roles_due object = do
   _ ← no_entries top_path object InheritedRoles
   open_in (at top_path GraphqlSchemaIntrospection) (given_value (Some object) GraphqlSchemaIntrospection)
 
--- the path of the one source, and of its tables
+-- the path of the one source
 unfoldable pub source_path : List ℕ
 source_path = item_path (at top_path Sources) 0
 
-unfoldable pub tables_path : List ℕ
-tables_path = at source_path Tables
+-- the path of the list of tables: it stands at the top in version 2, and in the one source in version 3
+unfoldable pub tables_path : MetaVersion → List ℕ
+tables_path Two = at top_path Tables
+tables_path Three = at source_path Tables
 
 -- the source is a database of PostgreSQL
 unfoldable pub kind_due : JsonTree → Result (Unit {0}) MetaRefusal
@@ -87,17 +92,29 @@ source_tables j = do
   _ ← plain_in (at source_path Customization) (value_of source Customization)
   list_member source_path source Tables
 
--- the entries of the tables of the one source of the object at the top
-abbrev pub top_entries : JsonTree → Result (List JsonTree) MetaRefusal
-top_entries j = do
-  top ← object_at top_path j
+-- the entries of the tables, where the object at the top holds them itself
+unfoldable pub own_entries : JsonTree → Result (List JsonTree) MetaRefusal
+own_entries top = do
+  tables ← list_member top_path top Tables
+  _ ← roles_due top
+  Ok tables
+
+-- the entries of the tables, where the object at the top has a list of one source that holds them
+unfoldable pub source_entries : JsonTree → Result (List JsonTree) MetaRefusal
+source_entries top = do
   sources ← list_member top_path top Sources
   _ ← roles_due top
   source ← sole sources
   source_tables source
 
--- the entries of the tables of the one source
-unfoldable pub table_entries : JsonTree → Result (List JsonTree) MetaRefusal
+abbrev pub top_entries : MetaVersion → JsonTree → Result (List JsonTree) MetaRefusal
+top_entries Two top = own_entries top
+top_entries Three top = source_entries top
+
+-- the version of a file, and the entries of its tables
+unfoldable pub table_entries : JsonTree → Result (MetaVersion × List JsonTree) MetaRefusal
 table_entries j = do
-  _ ← version_due (value_of j Version)
-  top_entries j
+  version ← version_due (value_of j Version)
+  top ← object_at top_path j
+  entries ← top_entries version top
+  Ok (version, entries)

@@ -9,5 +9,6 @@ pub mod node;
 mod refusal;
 pub mod top;
 pub mod tracking;
+pub mod version;
 
 pub use refusal::MetaRefusal;

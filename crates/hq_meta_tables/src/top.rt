@@ -1,16 +1,16 @@
 ghost use Rattle.std.specs.Prelude.{◌≡◌, map, option_map, option_copied, IfOk};
-ghost use Rattle.hq_base.specs.Compact.{compact};
-ghost use Rattle.hq_base.specs.Due.{Gives};
+ghost use Rattle.hq_base.specs.Due.{Gives, and_then};
 ghost use Rattle.hq_base.specs.Json.{json_view};
 ghost use Rattle.hq_base.specs.Path.{top_path};
 ghost use Rattle.hq_meta_tables.specs.declared.field.Field.TheVariants.{Customization};
-ghost use Rattle.hq_meta_tables.specs.Node.{at, value_of};
-ghost use Rattle.hq_meta_tables.specs.Top.{unwrapped, is_three, version_due, sole, is_empty, no_entries, open_in, roles_due, source_path, tables_path, kind_due, plain_in, source_tables, top_entries, table_entries};
+ghost use Rattle.hq_meta_tables.specs.Node.{at, value_of, object_at};
+ghost use Rattle.hq_meta_tables.specs.Top.{unwrapped, sole, is_empty, no_entries, open_in, roles_due, source_path, tables_path, kind_due, plain_in, source_tables, own_entries, source_entries, top_entries, table_entries};
 
 use crate::MetaRefusal;
 use crate::field::Field;
 use crate::node::{at, entries_member, given_value, list_member, object_at, text_member};
-use hq_base::{Bytes, Json, Memory, Txt, item_path, top_path};
+use crate::version::{MetaVersion, version_at};
+use hq_base::{Json, Memory, Txt, item_path, top_path};
 use std::alloc::Global;
 
 // Nothing stands in a list.
@@ -31,43 +31,6 @@ pub fn unwrapped(json: &Json) -> &Json
     ) {
         (None, Some(metadata)) if metadata.as_object().is_some() => metadata,
         _ => json,
-    }
-}
-
-// The compact text of a value. It is UTF-8 without a zero byte, so only memory can be wanting.
-fn compact_text(alloc: Global, json: &Json) -> Result<Txt, Memory>
-    ensures { IfOk result (λ text. text ≡ compact (json_view json.now)) }
-{
-    let mut bytes = Bytes::new(alloc);
-    json.write_to(alloc, &mut bytes)?;
-    match Txt::of(alloc, bytes.as_slice()) {
-        Ok(text) => Ok(text),
-        Err(_) => Err(Memory),
-    }
-}
-
-// Whether this is the number 3.
-fn is_three(number: Option<i128>) -> bool
-    ensures { result ≡ is_three number }
-{
-    match number {
-        Some(number) => number == 3,
-        None => false,
-    }
-}
-
-// The version must be 3.
-fn check_version(alloc: Global, version: Option<&Json>) -> Result<(), MetaRefusal>
-    ensures { Gives (λ done. done) MetaRefusal.Memory (version_due (option_map (λ j. json_view j.now) version.entry)) result }
-{
-    match version {
-        Some(version) if is_three(version.as_int()) => Ok(()),
-        Some(version) => Err(MetaRefusal::Version {
-            found: compact_text(alloc, version)?,
-        }),
-        None => Err(MetaRefusal::Version {
-            found: Txt::new(alloc),
-        }),
     }
 }
 
@@ -136,12 +99,16 @@ fn source_path(alloc: Global) -> Result<Txt, Memory>
     item_path(alloc, &at(alloc, &top, Field::Sources)?, 0)
 }
 
-/// The path of the list of tables.
+/// The path of the list of tables in a file of a version.
 #[tactic(auto, unfolding(crate::specs::Top::tables_path))]
-pub fn tables_path(alloc: Global) -> Result<Txt, Memory>
-    ensures { IfOk result (λ path. path ≡ tables_path) }
+pub fn tables_path(alloc: Global, version: MetaVersion) -> Result<Txt, Memory>
+    ensures { IfOk result (λ path. path ≡ tables_path version) }
 {
-    at(alloc, &source_path(alloc)?, Field::Tables)
+    let holder = match version {
+        MetaVersion::Two => top_path(alloc)?,
+        MetaVersion::Three => source_path(alloc)?,
+    };
+    at(alloc, &holder, Field::Tables)
 }
 
 // The source must be a database of PostgreSQL.
@@ -210,22 +177,51 @@ fn source_tables(alloc: Global, json: &Json) -> Result<&[Json], MetaRefusal>
     tables_of_source(alloc, &source_path(alloc)?, json)
 }
 
-// The entries of the tables of the one source of the object at the top, whose path this is.
-fn entries_of_top<'a>(alloc: Global, path: &Txt, json: &'a Json) -> Result<&'a [Json], MetaRefusal>
+// The entries of the tables, where the object at the top, whose path this is, holds them itself.
+#[tactic(auto, unfolding(crate::specs::Top::own_entries))]
+fn own_entries<'a>(alloc: Global, path: &Txt, top: &'a Json) -> Result<&'a [Json], MetaRefusal>
     requires { path.now ≡ top_path }
-    ensures { Gives (λ js. map json_view js.now) MetaRefusal.Memory (top_entries (json_view json.now)) result }
+    ensures { Gives (λ js. map json_view js.now) MetaRefusal.Memory (own_entries (json_view top.now)) result }
 {
-    let top = object_at(alloc, path, json)?;
+    let tables = list_member(alloc, path, top, Field::Tables)?;
+    check_roles(alloc, top)?;
+    Ok(tables)
+}
+
+// The entries of the tables of the one source of the object at the top, whose path this is.
+#[tactic(auto, unfolding(crate::specs::Top::source_entries))]
+fn source_entries<'a>(alloc: Global, path: &Txt, top: &'a Json) -> Result<&'a [Json], MetaRefusal>
+    requires { path.now ≡ top_path }
+    ensures { Gives (λ js. map json_view js.now) MetaRefusal.Memory (source_entries (json_view top.now)) result }
+{
     let sources = list_member(alloc, path, top, Field::Sources)?;
     check_roles(alloc, top)?;
     source_tables(alloc, sole(sources)?)
 }
 
-/// The entries of the tables of the one source, in order.
-#[tactic(auto, unfolding(crate::specs::Top::table_entries))]
-pub fn table_entries(alloc: Global, json: &Json) -> Result<&[Json], MetaRefusal>
-    ensures { Gives (λ js. map json_view js.now) MetaRefusal.Memory (table_entries (json_view json.now)) result }
+// The entries of the tables of the object at the top, whose path this is, in a file of a version.
+fn top_entries<'a>(
+    alloc: Global,
+    version: MetaVersion,
+    path: &Txt,
+    json: &'a Json,
+) -> Result<&'a [Json], MetaRefusal>
+    requires { path.now ≡ top_path }
+    ensures { Gives (λ js. map json_view js.now) MetaRefusal.Memory (and_then (top_entries version) (object_at top_path (json_view json.now))) result }
 {
-    check_version(alloc, json.member(Field::Version.name()))?;
-    entries_of_top(alloc, &top_path(alloc)?, json)
+    let top = object_at(alloc, path, json)?;
+    match version {
+        MetaVersion::Two => own_entries(alloc, path, top),
+        MetaVersion::Three => source_entries(alloc, path, top),
+    }
+}
+
+/// The version of a file, and the entries of its tables, in order.
+#[tactic(auto, unfolding(crate::specs::Top::table_entries))]
+pub fn table_entries(alloc: Global, json: &Json) -> Result<(MetaVersion, &[Json]), MetaRefusal>
+    ensures { Gives (λ found. (found.0, map json_view found.1.now)) MetaRefusal.Memory (table_entries (json_view json.now)) result }
+{
+    let version = version_at(alloc, json.member(Field::Version.name()))?;
+    let entries = top_entries(alloc, version, &top_path(alloc)?, json)?;
+    Ok((version, entries))
 }

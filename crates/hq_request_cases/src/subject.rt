@@ -7,6 +7,7 @@ pub enum About {
     Worked,
     Blog,
     Shop,
+    ReachingFilters,
     Relationships,
     Aggregates,
     Introspection,
@@ -22,10 +23,11 @@ pub enum About {
 
 impl About {
     /// Each subject, in the order of its line.
-    pub const ALL: [About; 14] = [
+    pub const ALL: [About; 15] = [
         About::Worked,
         About::Blog,
         About::Shop,
+        About::ReachingFilters,
         About::Relationships,
         About::Aggregates,
         About::Introspection,
@@ -46,6 +48,7 @@ impl Subject for About {
             About::Worked => "worked",
             About::Blog => "blog",
             About::Shop => "shop",
+            About::ReachingFilters => "reaching_filters",
             About::Relationships => "relationships",
             About::Aggregates => "aggregates",
             About::Introspection => "introspection",
