@@ -8,6 +8,7 @@ use Rattle.hq_terms.specs.Grants.{Grants}
 use Rattle.hq_terms.specs.Schema.{Schema}
 use Rattle.hq_terms.specs.Selected.{ListArguments}
 use Rattle.hq_terms.specs.declared.bexp.Operand.TheVariants.{Const}
+use Rattle.hq_terms.specs.declared.bexp.Operands.TheVariants as operands
 use Rattle.hq_terms.specs.declared.op.Op.TheVariants.{Eq}
 use Rattle.hq_terms.specs.declared.test.Test.TheVariants.{Compare}
 use Rattle.hq_ask_tree.specs.Fields.{FieldTrees, no_field, field, column, list, from_table}
@@ -43,7 +44,7 @@ grants =
     Some (record { columns = 0 ∷ 1 ∷ []; filter = always; limit = None; aggregations = false; masks = [] })
     ∷ Some (record {
       columns = 0 ∷ 2 ∷ 4 ∷ [];
-      filter = or_of (bexp (test 3 (Compare Eq) (Const (val.Bool true) ∷ []) false) (bexp (test 1 (Compare Eq) (Const (val.Int (pos 1)) ∷ []) false) no_bexp));
+      filter = or_of (bexp (test 3 (Compare Eq) (operands.List (Const (val.Bool true) ∷ [])) false) (bexp (test 1 (Compare Eq) (operands.List (Const (val.Int (pos 1)) ∷ [])) false) no_bexp));
       limit = None;
       aggregations = true;
       masks = [];
@@ -57,7 +58,7 @@ plain = record { wanted = always; sorts = []; distinct = []; limit = None; offse
 abbrev named : FieldTrees
 named =
     field (codes "author")
-    (list (from_table 0) (record plain { wanted = test 1 (Compare Eq) (Const (val.Text (codes "O'Hara")) ∷ []) false }) (field (codes "id") (column 0) (field (codes "name") (column 1) no_field))) no_field
+    (list (from_table 0) (record plain { wanted = test 1 (Compare Eq) (operands.List (Const (val.Text (codes "O'Hara")) ∷ [])) false }) (field (codes "id") (column 0) (field (codes "name") (column 1) no_field))) no_field
 
 named_text : select_text (statement named schema (rights_of grants))
     ≡ codes "SELECT json_build_object('author'::text, \"j1\".\"v\") AS \"v\" FROM (SELECT TRUE AS \"u\") AS \"t0\" LEFT JOIN LATERAL (SELECT COALESCE(json_agg(\"s1\".\"v\" ORDER BY \"s1\".\"o0\" ASC NULLS LAST), '[]'::json) AS \"v\" FROM (SELECT json_build_object('id'::text, \"t1\".\"id\", 'name'::text, \"t1\".\"name\") AS \"v\", \"t1\".\"id\" AS \"o0\" FROM \"public\".\"author\" AS \"t1\" WHERE (\"t1\".\"name\" COLLATE \"C\" = 'O''Hara'::text) ORDER BY \"t1\".\"id\" ASC NULLS LAST) AS \"s1\") AS \"j1\" ON TRUE"
