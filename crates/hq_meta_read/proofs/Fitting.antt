@@ -1,8 +1,8 @@
 -- What is read fits the catalog.
-use Rattle.std.proofs.Common.{◌≡◌, ◌∙◌, ℕ, zero, suc, ◌+◌, ◌<◌, ◌≤◌, ◌==◌, List, [], ◌∷◌, ◌++◌, length, map, Bool, true, false, not, ◌&&◌, ◌||◌, Option, Some, None, option_map, slice_get, Result, Ok, Err, refl, sym, ap, subst, arith}
+use Rattle.std.proofs.Common.{◌≡◌, ◌∙◌, ℕ, zero, suc, ◌+◌, ◌<◌, ◌==◌, List, [], ◌∷◌, length, map, Bool, true, not, ◌&&◌, ◌||◌, Option, Some, None, option_map, slice_get, Ok, refl, sym, ap, subst, arith}
 use Rattle.std.specs.Prelude.{IfOk, ⊤, is_some, nat_lt, nat_le, unwrap_or, bytes_eq}
 use Rattle.std.specs.List.{AllByRecursion, AllZip, list_all, list_any, zip}
-use Rattle.std.proofs.lemmas.Bool.{and_parts, and_from, lt-ltb, le-leb, eq-eqb}
+use Rattle.std.proofs.lemmas.Bool.{and_from, lt-ltb, le-leb, eq-eqb}
 use Rattle.std.proofs.lemmas.List.{length-map}
 use Rattle.std.proofs.lemmas.Option.{unwrap_or-slice_get, slice_get_within}
 use Rattle.std.proofs.lemmas.Result.{IfOk-at_ok}
@@ -10,7 +10,6 @@ use Rattle.std.proofs.lemmas.Slice.Zip.{AllZip-long}
 use Rattle.hq_base.specs.Due.{and_then}
 use Rattle.hq_base.specs.Json.{JsonTree}
 use Rattle.hq_base.specs.Lists.{all_differ}
-use Rattle.hq_base.specs.declared.value.Ty.{Ty}
 use Rattle.hq_meta_names.specs.Repeats.{names_due}
 use Rattle.hq_terms.specs.Bexp.{BexpTree, always, and_of, or_of, not_of, test, through, exists_in, two_columns, BexpTrees, no_bexp, bexp, depth}
 use Rattle.hq_terms.specs.Catalog.{is_catalog, can_pair, type_of}
@@ -21,11 +20,9 @@ use Rattle.hq_terms.specs.Names.{is_free_name, is_admin_name}
 use Rattle.hq_terms.specs.Schema.{Schema, SchemaTable, schema_of, schema_table, numbered, table, no_table}
 use Rattle.hq_terms.specs.SchemaNames.{names_differ}
 use Rattle.hq_terms.specs.declared.meta.Inherited.{Inherited}
-use Rattle.hq_terms.specs.declared.meta.Pair.{Pair}
 use Rattle.hq_terms.specs.declared.meta.Rel.{Rel}
 use Rattle.hq_terms.specs.declared.table.Column.{Column}
 use Rattle.hq_terms.specs.declared.table.Table.{Table}
-use Rattle.hq_meta_tables.specs.declared.refusal.MetaRefusal.{MetaRefusal}
 use Rattle.hq_meta_tables.specs.Each.{each, each_after}
 use Rattle.hq_meta_tables.specs.Found.{columns_of}
 use Rattle.hq_meta_read.specs.Permitted.{perms_at, with_perms, permitted}
@@ -36,11 +33,11 @@ use Rattle.hq_meta_tables.specs.Top.{tables_path, table_entries, unwrapped}
 use Rattle.hq_meta_tables.specs.Tracked.{tracked_at, tables_of}
 use Rattle.hq_meta_read.proofs.Beside.{WithRels, put_rels, WithPerms, put_perms, same_tracked, same_schema, long_zip}
 use Rattle.hq_meta_read.proofs.Heads.{Head, Tracked, all_tracked-Tracked}
-use Rattle.hq_meta_read.proofs.Keys.{joins, Pairs}
+use Rattle.hq_meta_read.proofs.Keys.{joins}
 use Rattle.hq_meta_read.proofs.Links.{Related, Rels, rels_at-Rels}
 use Rattle.hq_meta_read.proofs.Lists.{list_all-from, all_both}
 use Rattle.hq_meta_read.proofs.Perms.{Permits, Perms, perms_at-Perms}
-use Rattle.hq_meta_read.proofs.Steps.{ok_always, ok_weaker, ok_both, ok_and_then, ok_next, Behind, each_after-Behind}
+use Rattle.hq_meta_read.proofs.Steps.{ok_always, ok_both, ok_and_then, ok_next, Behind, each_after-Behind}
 
 -- ---- the schema, by the catalog
 
@@ -205,7 +202,7 @@ all_known tables m n (k ∷ ks) each sound =
 
 -- ---- no inherited role is read
 
-NoneInherited : MetaTree → Type 0
+abbrev NoneInherited : MetaTree → Type 0
 NoneInherited m = m.inherited ≡ []
 
 named-none : (tables : List Table) (path : List ℕ) (js : List JsonTree) → IfOk (named tables path js) NoneInherited
@@ -249,16 +246,16 @@ unfolding tracked_of
 tracked_of-FitsIf tables path js catalog =
     let end = λ (q : MetaTree). and_then (λ u. Ok q) (names_in (names_due (schema_of tables q) q path)) in
     let Names = λ (m : MetaTree). Tracked tables m.tracked × (length js ≡ length m.tracked) in
-    let Rels = λ (m n : MetaTree). WithRels (Head tables) (Rels tables m) m.tracked n.tracked in
-    let Perms = λ (m n q : MetaTree). WithPerms (Joined tables m) (Perms tables) n.tracked q.tracked in
+    let Linked = λ (m n : MetaTree). WithRels (Head tables) (Rels tables m) m.tracked n.tracked in
+    let Granted = λ (m n q : MetaTree). WithPerms (Joined tables m) (Perms tables) n.tracked q.tracked in
     ok_and_then (λ m. and_then (λ n. and_then end (permitted tables path js n)) (related tables path js m)) (λ m. Names m × NoneInherited m) (FitsIf tables)
-    (λ m h. ok_and_then (λ n. and_then end (permitted tables path js n)) (λ n. Rels m n × NoneInherited n) (FitsIf tables)
-    (λ n f. ok_and_then end (λ q. Perms m n q × NoneInherited q) (FitsIf tables)
+    (λ m h. ok_and_then (λ n. and_then end (permitted tables path js n)) (λ n. Linked m n × NoneInherited n) (FitsIf tables)
+    (λ n f. ok_and_then end (λ q. Granted m n q × NoneInherited q) (FitsIf tables)
     (λ q g. ok_next (λ u. Ok q) (FitsIf tables) (λ u. whole_fits tables m n q g.1 h.0.0 f.0 g.0) (names_in (names_due (schema_of tables q) q path)))
     (permitted tables path js n)
-    (ok_both (permitted tables path js n) (Perms m n) NoneInherited (permitted-is tables path js m n f.0.each (h.0.1 ∙ long_as n.tracked m.tracked f.0.same)) (permitted-none tables path js n f.1)))
+    (ok_both (permitted tables path js n) (Granted m n) NoneInherited (permitted-is tables path js m n f.0.each (h.0.1 ∙ long_as n.tracked m.tracked f.0.same)) (permitted-none tables path js n f.1)))
     (related tables path js m)
-    (ok_both (related tables path js m) (Rels m) NoneInherited (related-is tables path js m catalog h.0.0.heads h.0.1) (related-none tables path js m h.1)))
+    (ok_both (related tables path js m) (Linked m) NoneInherited (related-is tables path js m catalog h.0.0.heads h.0.1) (related-none tables path js m h.1)))
     (named tables path js)
     (ok_both (named tables path js) Names NoneInherited (named-is tables path js) (named-none tables path js))
 
