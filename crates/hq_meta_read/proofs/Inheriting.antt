@@ -1,7 +1,7 @@
 -- Inherited roles that are read fit.
-use Rattle.std.proofs.Common.{◌≡◌, ◌∙◌, refl, sym, ap, subst, ℕ, List, [], ◌∷◌, ◌++◌, length, Bool, true, false, not, ◌&&◌, ◌||◌, Option, Some, None, Ok}
+use Rattle.std.proofs.Common.{◌≡◌, ◌∙◌, refl, sym, ap, subst, ℕ, List, [], ◌∷◌, ◌++◌, length, Bool, true, false, not, ◌&&◌, ◌||◌, Option, Some, Ok}
 use Rattle.std.specs.Prelude.{IfOk, ⊤, is_some, nat_lt, option_and_then, bytes_eq}
-use Rattle.std.specs.List.{AllByRecursion, AllZip, list_all, list_any}
+use Rattle.std.specs.List.{AllZip, list_all, list_any}
 use Rattle.std.proofs.lemmas.Bool.{and_from}
 use Rattle.hq_base.specs.Due.{and_then}
 use Rattle.hq_base.specs.Json.{JsonTree}
@@ -22,7 +22,7 @@ use Rattle.hq_meta_read.proofs.Lists.{push_differ, list_all-push, list_all-same,
 use Rattle.hq_meta_read.proofs.Steps.{ok_always, ok_weaker, ok_both, ok_and_then, ok_next, ok_found, ok_tested, ok_unless, ok_checked, each_after-keeps, Behind, each_after-Behind}
 
 -- a role that a set may have
-may_stand : (entries : List JsonTree) → (role : List ℕ) → Bool
+abbrev may_stand : (entries : List JsonTree) → (role : List ℕ) → Bool
 may_stand entries role = not (is_admin_name role) && not (is_entered entries role)
 
 role_at-plain : (path : List ℕ) (j : JsonTree) → IfOk (role_at path j) (λ role. not (is_admin_name role) ≡ true)
@@ -33,7 +33,7 @@ role_at-plain path j =
     (text_at path j)
 
 member_role_at-stands : (entries : List JsonTree) (path : List ℕ) (j : JsonTree) → IfOk (member_role_at entries path j) (λ role. may_stand entries role ≡ true)
-unfolding member_role_at may_stand
+unfolding member_role_at
 member_role_at-stands entries path j =
     let P = λ (role : List ℕ). may_stand entries role ≡ true in
     ok_and_then (λ role. and_then (λ u. Ok role) (checked path (not (is_entered entries role)))) (λ role. not (is_admin_name role) ≡ true) P
@@ -74,7 +74,7 @@ set_at-Set entries path j =
     (list_at path j)
 
 -- the name that an entry gives
-given : JsonTree → Option (List ℕ)
+abbrev given : JsonTree → Option (List ℕ)
 given j = option_and_then str_in (value_of j field.RoleName)
 
 -- an inherited role as its entry gives it
@@ -163,7 +163,6 @@ three : (a b c : Bool) → a ≡ true → b ≡ true → c ≡ true → (a && b 
 three a b c p q r = cc
 
 each_fits : (entries : List JsonTree) (whole : List Inherited) → ((name : List ℕ) → is_entered entries name ≡ is_inherited whole name) → (js : List JsonTree) (is : List Inherited) → AllZip (Entered entries) js is → list_all (fits_inherited whole) is ≡ true
-unfolding may_stand
 each_fits entries whole same [] [] beside = refl
 each_fits entries whole same [] (i ∷ is) beside = absurd beside
 each_fits entries whole same (j ∷ js) [] beside = absurd beside
