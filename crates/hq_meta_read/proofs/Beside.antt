@@ -1,16 +1,14 @@
 -- Relationships and permissions that are put into tracked tables.
-use Rattle.std.proofs.Common.{◌≡◌, ◌∙◌, ℕ, suc, ◌==◌, List, [], ◌∷◌, ◌++◌, length, map, find, Bool, true, false, cond, Option, Some, None, option_map, refl, sym, ap, subst}
-use Rattle.std.specs.Prelude.{IfOk, is_some, unwrap_or}
+use Rattle.std.proofs.Common.{◌≡◌, ◌∙◌, ℕ, suc, ◌==◌, List, [], ◌∷◌, length, map, find, Bool, true, false, cond, Some, option_map, refl, sym, ap}
+use Rattle.std.specs.Prelude.{is_some, unwrap_or}
 use Rattle.std.specs.List.{AllByRecursion, AllZip, zip}
-use Rattle.std.proofs.lemmas.Slice.Zip.{AllZip-long}
 use Rattle.hq_base.specs.Json.{JsonTree}
 use Rattle.hq_terms.specs.Meta.{PermTree, TrackedTree, MetaTree, tracked_table}
 use Rattle.hq_terms.specs.Schema.{schema_of, schema_table, numbered, rels_of}
 use Rattle.hq_terms.specs.declared.meta.Rel.{Rel}
 use Rattle.hq_terms.specs.declared.table.Table.{Table}
 use Rattle.hq_meta_read.specs.Permitted.{perms_beside, with_perms}
-use Rattle.hq_meta_read.specs.Related.{rels_beside, with_rels}
-use Rattle.hq_meta_tables.specs.Tracked.{tables_of}
+use Rattle.hq_meta_read.specs.Related.{rels_beside}
 
 -- lists that are as long are as long behind their first items
 shorter : {A B : Type 0} (x : A) (xs : List A) (y : B) (ys : List B) → length (x ∷ xs) ≡ length (y ∷ ys) → length xs ≡ length ys

@@ -1,8 +1,8 @@
 -- What is read fits the catalog.
-use Rattle.std.proofs.Common.{◌≡◌, ◌∙◌, ℕ, zero, suc, ◌+◌, ◌<◌, ◌≤◌, ◌==◌, List, [], ◌∷◌, ◌++◌, length, map, Bool, true, false, not, ◌&&◌, ◌||◌, Option, Some, None, option_map, slice_get, Result, Ok, Err, refl, sym, ap, subst, arith}
+use Rattle.std.proofs.Common.{◌≡◌, ◌∙◌, ℕ, zero, suc, ◌+◌, ◌<◌, ◌==◌, List, [], ◌∷◌, length, map, Bool, true, not, ◌&&◌, ◌||◌, Option, Some, None, option_map, slice_get, Ok, refl, sym, ap, subst, arith}
 use Rattle.std.specs.Prelude.{IfOk, ⊤, is_some, nat_lt, nat_le, unwrap_or, bytes_eq}
 use Rattle.std.specs.List.{AllByRecursion, AllZip, list_all, list_any, zip}
-use Rattle.std.proofs.lemmas.Bool.{and_parts, and_from, lt-ltb, le-leb, eq-eqb}
+use Rattle.std.proofs.lemmas.Bool.{lt-ltb, le-leb, eq-eqb}
 use Rattle.std.proofs.lemmas.List.{length-map}
 use Rattle.std.proofs.lemmas.Option.{unwrap_or-slice_get, slice_get_within}
 use Rattle.std.proofs.lemmas.Result.{IfOk-at_ok}
@@ -10,7 +10,6 @@ use Rattle.std.proofs.lemmas.Slice.Zip.{AllZip-long}
 use Rattle.hq_base.specs.Due.{and_then}
 use Rattle.hq_base.specs.Json.{JsonTree}
 use Rattle.hq_base.specs.Lists.{all_differ}
-use Rattle.hq_base.specs.declared.value.Ty.{Ty}
 use Rattle.hq_meta_names.specs.Repeats.{names_due}
 use Rattle.hq_terms.specs.Bexp.{BexpTree, always, and_of, or_of, not_of, test, through, exists_in, two_columns, BexpTrees, no_bexp, bexp, depth}
 use Rattle.hq_terms.specs.Catalog.{is_catalog, can_pair, type_of}
@@ -21,11 +20,9 @@ use Rattle.hq_terms.specs.Names.{is_free_name, is_admin_name}
 use Rattle.hq_terms.specs.Schema.{Schema, SchemaTable, schema_of, schema_table, numbered, table, no_table}
 use Rattle.hq_terms.specs.SchemaNames.{names_differ}
 use Rattle.hq_terms.specs.declared.meta.Inherited.{Inherited}
-use Rattle.hq_terms.specs.declared.meta.Pair.{Pair}
 use Rattle.hq_terms.specs.declared.meta.Rel.{Rel}
 use Rattle.hq_terms.specs.declared.table.Column.{Column}
 use Rattle.hq_terms.specs.declared.table.Table.{Table}
-use Rattle.hq_meta_tables.specs.declared.refusal.MetaRefusal.{MetaRefusal}
 use Rattle.hq_meta_tables.specs.Each.{each, each_after}
 use Rattle.hq_meta_tables.specs.Found.{columns_of}
 use Rattle.hq_meta_read.specs.Permitted.{perms_at, with_perms, permitted}
@@ -37,12 +34,12 @@ use Rattle.hq_meta_tables.specs.Top.{tables_path, table_entries, role_entries, u
 use Rattle.hq_meta_tables.specs.Tracked.{tracked_at, tables_of}
 use Rattle.hq_meta_read.proofs.Beside.{WithRels, put_rels, WithPerms, put_perms, same_tracked, same_schema, long_zip}
 use Rattle.hq_meta_read.proofs.Heads.{Head, Tracked, all_tracked-Tracked}
-use Rattle.hq_meta_read.proofs.Keys.{joins, Pairs}
+use Rattle.hq_meta_read.proofs.Keys.{joins}
 use Rattle.hq_meta_read.proofs.Links.{Related, Rels, rels_at-Rels}
 use Rattle.hq_meta_read.proofs.Inheriting.{inherited_due-fits}
 use Rattle.hq_meta_read.proofs.Lists.{list_all-from, list_all-same, all_both}
 use Rattle.hq_meta_read.proofs.Perms.{Permits, Perms, perms_at-Perms}
-use Rattle.hq_meta_read.proofs.Steps.{ok_always, ok_weaker, ok_both, ok_and_then, ok_next, Behind, each_after-Behind}
+use Rattle.hq_meta_read.proofs.Steps.{ok_always, ok_both, ok_and_then, ok_next, Behind, each_after-Behind}
 
 -- ---- the schema, by the catalog
 

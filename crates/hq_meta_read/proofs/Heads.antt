@@ -1,22 +1,21 @@
 -- The tracked tables and their names.
-use Rattle.std.proofs.Common.{◌≡◌, ◌∙◌, ℕ, ◌==◌, List, [], ◌∷◌, ◌++◌, length, map, Bool, true, false, cond, not, ◌&&◌, Option, Some, None, slice_get, codes, Result, Ok, Err, refl, sym, ap, subst, append-nil}
-use Rattle.std.specs.Prelude.{IfOk, IfSome, ⊤, is_some, unwrap_or, bytes_eq}
-use Rattle.std.specs.List.{AllByRecursion, list_all, list_any}
+use Rattle.std.proofs.Common.{◌≡◌, ◌∙◌, ℕ, ◌==◌, List, [], ◌∷◌, ◌++◌, length, map, Bool, true, false, ◌&&◌, Option, Some, None, slice_get, codes, Ok, refl, sym, ap, subst, append-nil}
+use Rattle.std.specs.Prelude.{IfOk, IfSome, is_some, unwrap_or}
+use Rattle.std.specs.List.{AllByRecursion, list_any}
 use Rattle.std.proofs.lemmas.Bool.{and_from}
 use Rattle.std.proofs.lemmas.List.{length-map}
-use Rattle.hq_base.specs.Due.{and_then, mapped}
+use Rattle.hq_base.specs.Due.{and_then}
 use Rattle.hq_base.specs.Json.{JsonTree}
 use Rattle.hq_base.specs.Look.{str_in, object_in}
 use Rattle.hq_base.specs.Lists.{all_differ}
 use Rattle.hq_terms.specs.Fits.{are_free_roots}
 use Rattle.hq_terms.specs.Meta.{TrackedTree}
-use Rattle.hq_terms.specs.Names.{is_free_name, continues_name}
+use Rattle.hq_terms.specs.Names.{is_free_name}
 use Rattle.hq_terms.specs.declared.meta.RootNames.{RootNames}
 use Rattle.hq_terms.specs.declared.table.Column.{Column}
 use Rattle.hq_terms.specs.declared.table.Table.{Table}
 use Rattle.hq_meta_tables.specs.declared.field.Field.{Field}
 use Rattle.hq_meta_tables.specs.declared.field.Field.TheVariants as field
-use Rattle.hq_meta_tables.specs.declared.refusal.MetaRefusal.{MetaRefusal}
 use Rattle.hq_meta_tables.specs.declared.refusal.MetaRefusal.TheVariants.{Shape, UnknownTable, RepeatedName}
 use Rattle.hq_meta_tables.specs.Configured.{is_table_name, own_name, own_name_due, table_name_at, table_name_due, column_config_at, column_text_at, members_due, column_name_of, column_names_due, root_text_due, root_by, root_in, root_due, roots_due}
 use Rattle.hq_meta_tables.specs.Each.{each_after}
@@ -24,7 +23,7 @@ use Rattle.hq_meta_tables.specs.Found.{table_at}
 use Rattle.hq_meta_tables.specs.Node.{at, checked, object_at, text_at, free_name_at, member_at, given_value, given_object}
 use Rattle.hq_meta_tables.specs.Tracked.{new_table, table_of, entry_table, configured, tracked_at}
 use Rattle.hq_meta_read.proofs.Lists.{push_differ, push_all}
-use Rattle.hq_meta_read.proofs.Steps.{ok_always, ok_weaker, ok_both, ok_mapped, ok_and_then, ok_next, ok_found, ok_tested, ok_unless, ok_checked, each_after-keeps}
+use Rattle.hq_meta_read.proofs.Steps.{ok_weaker, ok_mapped, ok_and_then, ok_next, ok_found, ok_tested, ok_unless, ok_checked, each_after-keeps}
 use Rattle.hq_meta_read.proofs.TableNames.{table_name-free, with_end-free}
 
 object_at-same : (path : List ℕ) (j : JsonTree) → IfOk (object_at path j) (λ o. o ≡ j)

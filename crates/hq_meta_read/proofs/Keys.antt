@@ -1,6 +1,6 @@
 -- Foreign keys of a catalog join columns whose values can be compared.
-use Rattle.std.proofs.Common.{◌≡◌, ◌∙◌, ℕ, suc, ◌==◌, List, [], ◌∷◌, length, map, find, Bool, true, false, ◌&&◌, Option, Some, None, slice_get, refl, sym, ap, subst}
-use Rattle.std.specs.Prelude.{nat_lt, nat_le, bytes_eq, IfOk, ok_or}
+use Rattle.std.proofs.Common.{◌≡◌, ◌∙◌, ℕ, suc, ◌==◌, List, [], ◌∷◌, length, find, Bool, true, ◌&&◌, Option, Some, None, slice_get, refl, sym, ap}
+use Rattle.std.specs.Prelude.{nat_lt, nat_le, bytes_eq, IfOk}
 use Rattle.std.specs.List.{list_all, zip}
 use Rattle.std.proofs.lemmas.Bool.{and_parts, and_from}
 use Rattle.std.proofs.lemmas.Bool.Decides.{Decides-eqb}

@@ -1,13 +1,12 @@
 -- Relationships go to tracked tables by pairs that can be compared.
-use Rattle.std.proofs.Common.{◌≡◌, ◌∙◌, ℕ, List, [], ◌∷◌, ◌++◌, length, Bool, true, false, not, Option, Some, None, slice_get, Result, Ok, Err, refl, sym, ap, subst}
-use Rattle.std.specs.Prelude.{IfOk, ⊤, is_some, nat_lt, ◌&&◌, bytes_eq, codes}
+use Rattle.std.proofs.Common.{◌≡◌, ℕ, List, [], ◌∷◌, ◌++◌, length, Bool, true, false, not, Option, Some, None, Result, Ok, Err, refl, sym, ap, subst}
+use Rattle.std.specs.Prelude.{IfOk, is_some, nat_lt, ◌&&◌, bytes_eq, codes}
 use Rattle.std.specs.List.{AllByRecursion, AllZip, list_all}
-use Rattle.std.proofs.lemmas.Slice.Zip.{AllZip-long}
-use Rattle.hq_base.specs.Due.{and_then, mapped}
+use Rattle.hq_base.specs.Due.{and_then}
 use Rattle.hq_base.specs.Json.{JsonTree}
 use Rattle.hq_base.specs.Look.{str_in, array_in, object_in}
 use Rattle.hq_filter_read.specs.Each.{each_member}
-use Rattle.hq_terms.specs.Catalog.{is_catalog, can_pair, type_of}
+use Rattle.hq_terms.specs.Catalog.{is_catalog}
 use Rattle.hq_terms.specs.Fits.{objects_first}
 use Rattle.hq_terms.specs.Meta.{MetaTree, tracked_table}
 use Rattle.hq_terms.specs.Names.{is_free_name}
@@ -18,8 +17,7 @@ use Rattle.hq_terms.specs.declared.table.ForeignKey.{ForeignKey}
 use Rattle.hq_terms.specs.declared.table.Table.{Table}
 use Rattle.hq_meta_tables.specs.declared.field.Field.TheVariants as field
 use Rattle.hq_meta_read.specs.declared.link.Link.{Link}
-use Rattle.hq_meta_tables.specs.declared.refusal.MetaRefusal.{MetaRefusal}
-use Rattle.hq_meta_tables.specs.declared.refusal.MetaRefusal.TheVariants.{Shape, BadMapping}
+use Rattle.hq_meta_tables.specs.declared.refusal.MetaRefusal.TheVariants.{BadMapping}
 use Rattle.hq_meta_tables.specs.Each.{each, each_after}
 use Rattle.hq_meta_tables.specs.Found.{columns_of, column_named, column_at, remote_at, tracked_due}
 use Rattle.hq_meta_tables.specs.Refused.{refused}
@@ -32,7 +30,7 @@ use Rattle.hq_meta_read.specs.Related.{rel_name_at, rel_at, objects_at, rels_at}
 use Rattle.hq_meta_read.proofs.Heads.{free_name_at-free}
 use Rattle.hq_meta_read.proofs.Keys.{joins, Pairs, Key, own_pairs, remote_pairs, own_key-Key, remote_key-Key}
 use Rattle.hq_meta_read.proofs.Lists.{positive, push_all, list_all-push, list_all-from, beside_all, objects-only, objects-push}
-use Rattle.hq_meta_read.proofs.Steps.{ok_always, ok_weaker, ok_both, ok_mapped, ok_and_then, ok_next, ok_tested, each_after-keeps, each_member-beside}
+use Rattle.hq_meta_read.proofs.Steps.{ok_weaker, ok_and_then, ok_next, ok_tested, each_after-keeps, each_member-beside}
 
 -- to a tracked table, by pairs that can be compared
 record Joined (tables : List Table) (m : MetaTree) (t : ℕ) (l : Link) : Type 0 where

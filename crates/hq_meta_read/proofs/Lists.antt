@@ -1,6 +1,6 @@
 -- Lists: an item more at the end, and tests of items.
-use Rattle.std.proofs.Common.{◌≡◌, ◌∙◌, ℕ, zero, suc, ◌+◌, List, [], ◌∷◌, ◌++◌, length, map, filter, find, Bool, true, false, cond, not, ◌&&◌, ◌||◌, Option, Some, None, slice_get, refl, sym, ap, subst, append_assoc, arith, append-nil}
-use Rattle.std.specs.List.{AllByRecursion, AllZip, list_all, list_any, zip}
+use Rattle.std.proofs.Common.{◌≡◌, ◌∙◌, ℕ, zero, suc, List, [], ◌∷◌, ◌++◌, length, map, filter, find, Bool, true, false, cond, not, ◌&&◌, Some, slice_get, refl, sym, ap, subst, append_assoc, arith}
+use Rattle.std.specs.List.{AllByRecursion, AllZip, list_all, list_any}
 use Rattle.std.specs.Prelude.{nat_lt, is_some}
 use Rattle.std.proofs.lemmas.Bool.{and_parts, and_from, or_parts, or_from, not_from_false, not-true, lt-ltb}
 use Rattle.std.proofs.lemmas.List.Folds.{list_any-append}

@@ -1,27 +1,25 @@
 -- What stands in a file nests no deeper than the file.
-use Rattle.std.proofs.Common.{◌≡◌, ◌∙◌, ℕ, zero, suc, max, ◌+◌, ◌*◌, ◌<◌, ◌≤◌, List, [], ◌∷◌, length, map, get_or, slice_get, Bool, true, false, cond, Option, Some, None, option_and_then, Result, Ok, Err, refl, sym, ap, subst, arith}
-use Rattle.std.specs.Prelude.{IfOk, IfSome, ⊤, ok_or, bytes_eq, is_some}
+use Rattle.std.proofs.Common.{◌≡◌, ℕ, zero, suc, max, ◌<◌, ◌≤◌, List, [], ◌∷◌, length, map, get_or, slice_get, Bool, true, false, cond, Option, Some, None, Result, Ok, Err, refl, sym, subst, arith}
+use Rattle.std.specs.Prelude.{IfOk, IfSome, bytes_eq, is_some}
 use Rattle.std.specs.List.{AllByRecursion}
 use Rattle.std.specs.Map.{lookup}
 use Rattle.hq_base.specs.Due.{and_then}
-use Rattle.hq_base.specs.Json.{JsonTree, null, bool, int, str, arr, obj, ElementTrees, no_element, element, MemberTrees, no_member, member, json_view}
+use Rattle.hq_base.specs.Json.{JsonTree, null, bool, int, str, arr, obj, ElementTrees, no_element, element, MemberTrees, no_member, member}
 use Rattle.hq_base.specs.declared.body.JsonRefusal.{JsonRefusal}
 use Rattle.hq_base.specs.Path.{top_path}
 use Rattle.hq_base.specs.Look.{array_in, object_in, member_in, element_list, member_list}
 use Rattle.hq_filter_read.specs.Nesting.{nesting, nesting_of_elements, nesting_of_members}
-use Rattle.hq_terms.specs.Meta.{MetaTree}
 use Rattle.hq_meta_tables.specs.declared.field.Field.{Field}
 use Rattle.hq_meta_tables.specs.declared.field.Field.TheVariants as field
-use Rattle.hq_meta_tables.specs.declared.refusal.MetaRefusal.{MetaRefusal}
 use Rattle.hq_meta_tables.specs.declared.refusal.MetaRefusal.TheVariants as refusal
 use Rattle.hq_meta_tables.specs.Field.{field_name}
-use Rattle.hq_meta_tables.specs.Node.{at, value_of, checked, object_at, text_member, list_at, member_at, list_member, object_member, entries_in, entries_member}
+use Rattle.hq_meta_tables.specs.Node.{at, value_of, object_at, text_member, list_at, member_at, list_member, object_member, entries_in, entries_member}
 use Rattle.hq_meta_tables.specs.declared.version.MetaVersion.{MetaVersion}
 use Rattle.hq_meta_tables.specs.declared.version.MetaVersion.TheVariants.{Two, Three}
 use Rattle.hq_meta_read.specs.Reading.{json_in}
 use Rattle.hq_meta_read.specs.Sound.{Shallow}
 use Rattle.hq_meta_tables.specs.Top.{unwrapped_by, unwrapped, version_due, sole, roles_due, kind_due, plain_in, source_path, source_tables, own_entries, source_entries, top_entries, table_entries}
-use Rattle.hq_meta_read.proofs.Steps.{ok_weaker, ok_and_then, ok_next, ok_found, ok_tested}
+use Rattle.hq_meta_read.proofs.Steps.{ok_and_then, ok_next, ok_found, ok_tested}
 
 -- a member nests no deeper than its object
 found_in : (ms : MemberTrees) (name : List ℕ) → IfSome (lookup (λ n. bytes_eq n name) (member_list ms)) (λ v. nesting v ≤ nesting_of_members ms)

@@ -1,18 +1,16 @@
 -- What permissions say but for their filters.
-use Rattle.std.proofs.Common.{◌≡◌, ◌∙◌, ℕ, ℤ, pos, negsuc, ◌^◌, List, [], ◌∷◌, ◌++◌, map, filter, Bool, true, false, cond, not, Option, Some, None, slice_get, codes, Result, Ok, Err, refl, sym, ap}
+use Rattle.std.proofs.Common.{◌≡◌, ◌∙◌, ℕ, ℤ, pos, negsuc, ◌^◌, List, [], ◌∷◌, ◌++◌, filter, Bool, true, false, cond, not, Option, Some, None, slice_get, codes, Ok, Err, refl, ap}
 use Rattle.std.specs.Prelude.{IfOk, ⊤, is_some, nat_lt, bytes_eq}
 use Rattle.std.specs.List.{AllByRecursion, list_all, list_any}
-use Rattle.hq_base.specs.Due.{and_then, mapped}
+use Rattle.hq_base.specs.Due.{and_then}
 use Rattle.hq_base.specs.Json.{JsonTree, null, bool, int, str, arr, obj}
 use Rattle.hq_base.specs.Lists.{all_differ}
 use Rattle.hq_base.specs.Look.{str_in, array_in}
 use Rattle.hq_filter_read.specs.Filter.{filter_due}
 use Rattle.hq_terms.specs.Bexp.{BexpTree}
-use Rattle.hq_terms.specs.Catalog.{type_of}
 use Rattle.hq_terms.specs.Fits.{limit_fits}
 use Rattle.hq_terms.specs.Meta.{PermTree, MetaTree}
 use Rattle.hq_terms.specs.Names.{is_admin_name}
-use Rattle.hq_terms.specs.Schema.{schema_of}
 use Rattle.hq_terms.specs.declared.table.Column.{Column}
 use Rattle.hq_terms.specs.declared.table.Table.{Table}
 use Rattle.hq_meta_tables.specs.declared.field.Field.TheVariants as field

@@ -1,16 +1,12 @@
 -- Sound filters of permissions, one by one.
-use Rattle.std.proofs.Common.{◌≡◌, ◌∙◌, ℕ, ◌*◌, ◌<◌, ◌≤◌, List, [], ◌∷◌, ◌++◌, length, map, Bool, true, Result, Ok, Err, refl, sym, ap, subst, arith}
-use Rattle.std.specs.Prelude.{IfOk, ◌⊎◌}
-use Rattle.std.specs.List.{AllByRecursion, AllZip, list_any, zip}
+use Rattle.std.proofs.Common.{◌≡◌, ℕ, ◌*◌, ◌≤◌, List, [], ◌∷◌, ◌++◌, map, Bool, Result, Ok, Err, refl, subst, arith}
+use Rattle.std.specs.Prelude.{IfOk}
+use Rattle.std.specs.List.{list_any}
 use Rattle.hq_base.specs.Due.{Gives}
-use Rattle.hq_base.specs.Json.{JsonTree}
-use Rattle.hq_filter_read.specs.Nesting.{nesting}
-use Rattle.hq_terms.specs.Bexp.{depth}
-use Rattle.hq_terms.specs.Filters.{is_filter}
-use Rattle.hq_terms.specs.Meta.{PermTree, TrackedTree, MetaTree, perm_view}
+use Rattle.hq_terms.specs.Meta.{MetaTree, perm_view}
 use Rattle.hq_terms.specs.declared.table.Table.{Table}
 use Rattle.hq_terms.specs.declared.meta.Perm.{Perm}
-use Rattle.hq_meta_read.specs.Sound.{Shallow, Sound, AllSound, TablesSound}
+use Rattle.hq_meta_read.specs.Sound.{Sound, AllSound}
 
 -- the item of a list that the view shows
 pub any_seen : {A B : Type 0} (p : B → Bool) (f : A → B) (xs : List A) → list_any p (map f xs) ≡ list_any (λ x. p (f x)) xs

@@ -1,6 +1,6 @@
 -- What holds of the value of a step, where there is one, and of what the elements of a list give.
 use Rattle.std.proofs.Common.{◌≡◌, ◌∙◌, ℕ, ◌+◌, ◌<◌, List, [], ◌∷◌, ◌++◌, length, map, drop, get_or, Bool, true, false, cond, Option, Some, None, Result, Ok, Err, refl, sym, ap, append_assoc, append-nil}
-use Rattle.std.specs.Prelude.{IfOk, IfSome, ok_or, ⊤}
+use Rattle.std.specs.Prelude.{IfOk, ok_or, ⊤}
 use Rattle.std.specs.List.{AllZip}
 use Rattle.std.proofs.lemmas.List.{drop_more}
 use Rattle.hq_base.specs.Due.{and_then, mapped}

@@ -1,11 +1,10 @@
 -- The remote table of a relationship, and the pairs of columns that join it (Hasura v2, metadata format: ObjRelUsing,
 -- ArrRelUsing).
-use Rattle.std.specs.Prelude.{ℕ, List, [], ◌∷◌, map, zip, find, Bool, true, false, not, ◌&&◌, ◌==◌, is_some, Option, Some, None, slice_get, ok_or, Result, Ok, Err, if◌then◌else◌}
+use Rattle.std.specs.Prelude.{ℕ, List, [], ◌∷◌, map, zip, find, Bool, true, false, ◌&&◌, ◌==◌, Option, Some, None, slice_get, ok_or, Result, Ok, Err, if◌then◌else◌}
 use Rattle.std.specs.List.{list_all, list_any}
 use Rattle.hq_base.specs.Due.{◌>>=◌, mapped}
 use Rattle.hq_base.specs.Json.{JsonTree}
 use Rattle.hq_base.specs.Look.{str_in, array_in, object_in}
-use Rattle.hq_base.specs.Path.{member_path}
 use Rattle.hq_filter_read.specs.Each.{each_member}
 use Rattle.hq_terms.specs.Catalog.{can_pair, type_of}
 use Rattle.hq_terms.specs.Meta.{MetaTree}
@@ -19,7 +18,7 @@ use Rattle.hq_meta_tables.specs.declared.refusal.MetaRefusal.{MetaRefusal}
 use Rattle.hq_meta_tables.specs.declared.refusal.MetaRefusal.TheVariants.{Shape, NoForeignKey, BadMapping}
 use Rattle.hq_meta_tables.specs.Each.{each}
 use Rattle.hq_meta_tables.specs.Found.{columns_of, column_named, column_at, remote_at, tracked_due}
-use Rattle.hq_meta_tables.specs.Node.{required, checked, at, value_of, object_at, text_at, list_at, member_at, object_member}
+use Rattle.hq_meta_tables.specs.Node.{required, checked, at, value_of, object_at, text_at, list_at, member_at}
 
 -- two lists have the same columns, in any order
 abbrev pub is_among : (c : ℕ) → List ℕ → Bool

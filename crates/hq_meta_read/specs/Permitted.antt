@@ -16,7 +16,7 @@ use Rattle.hq_meta_tables.specs.declared.refusal.MetaRefusal.{MetaRefusal}
 use Rattle.hq_meta_tables.specs.declared.refusal.MetaRefusal.TheVariants as refusal
 use Rattle.hq_meta_tables.specs.Each.{each, each_after}
 use Rattle.hq_meta_tables.specs.Found.{columns_of, column_at}
-use Rattle.hq_meta_tables.specs.Node.{required, checked, at, value_of, object_at, text_at, member_at, text_member, object_member, entries_member}
+use Rattle.hq_meta_tables.specs.Node.{required, checked, at, value_of, object_at, member_at, text_member, object_member, entries_member}
 use Rattle.hq_meta_read.specs.Linked.{is_among}
 use Rattle.hq_meta_tables.specs.Refused.{refused}
 use Rattle.hq_meta_tables.specs.Tracked.{tables_of}

@@ -1,5 +1,5 @@
 -- The relationships of the tracked tables (Hasura v2, metadata format: ObjectRelationship, ArrayRelationship).
-use Rattle.std.specs.Prelude.{ℕ, List, [], ◌∷◌, map, zip, Bool, true, false, not, ◌&&◌, bytes_eq, codes, Result, Ok}
+use Rattle.std.specs.Prelude.{ℕ, List, [], ◌∷◌, zip, Bool, true, false, not, ◌&&◌, bytes_eq, codes, Result, Ok}
 use Rattle.hq_base.specs.Due.{◌>>=◌}
 use Rattle.hq_base.specs.Json.{JsonTree}
 use Rattle.hq_terms.specs.Meta.{TrackedTree, MetaTree}

@@ -1,6 +1,5 @@
-use Rattle.std.proofs.Common.{◌∙◌, ℕ, List, map, sym, ap, subst}
+use Rattle.std.proofs.Common.{◌∙◌, ℕ, List, map, sym, subst}
 use Rattle.std.specs.List.{AllZip, zip}
-use Rattle.std.proofs.lemmas.Result.{IfOk-weaker}
 use Rattle.hq_base.specs.Json.{json_view}
 use Rattle.hq_terms.specs.Meta.{MetaTree, meta_view, perm_view}
 use Rattle.hq_meta_read.specs.Sound.{AllSound, TablesSound}

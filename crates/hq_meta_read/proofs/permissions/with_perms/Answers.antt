@@ -1,4 +1,4 @@
-use Rattle.std.proofs.Common.{◌≡◌, ◌∙◌, ◌++◌, List, map, [], length, sym, ap, inl, inr, arith, append-nil}
+use Rattle.std.proofs.Common.{◌≡◌, ◌∙◌, ◌++◌, List, map, [], sym, ap, inl, inr, arith, append-nil}
 use Rattle.std.proofs.lemmas.Bool.Decides.{Decides-eqb}
 use Rattle.std.proofs.lemmas.List.{length-map}
 use Rattle.hq_terms.specs.Meta.{MetaTree, TrackedTree, meta_view, tracked_view, perm_view}

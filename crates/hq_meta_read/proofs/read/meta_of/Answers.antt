@@ -1,4 +1,4 @@
-use Rattle.std.proofs.Common.{◌≡◌, ◌∙◌, sym, ap}
+use Rattle.std.proofs.Common.{◌∙◌, sym, ap}
 use Rattle.hq_base.specs.Json.{json_view}
 use Rattle.hq_meta_read.specs.Sound.{Shallow}
 use Rattle.hq_meta_tables.specs.Top.{table_entries}
