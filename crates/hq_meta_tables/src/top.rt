@@ -95,8 +95,11 @@ fn check_roles(alloc: Global, object: &Json) -> Result<(), MetaRefusal>
 pub fn role_entries(json: &Json) -> &[Json]
     ensures { map json_view result.now ≡ role_entries (json_view json.now) }
 {
-    match json.member(Field::InheritedRoles.name()) {
-        Some(list) => list.as_array().unwrap_or(&[]),
+    let Some(list) = json.member(Field::InheritedRoles.name()) else {
+        return &[];
+    };
+    match list.as_array() {
+        Some(entries) => entries,
         None => &[],
     }
 }
