@@ -20,7 +20,8 @@ use crate::refusal::bad_operand;
 use crate::variable::variable_named;
 use hq_base::{Json, List, Member, Memory, Txt, Ty, item_path, member_path};
 use hq_terms::{
-    Arity, Bexp, BexpList, ColId, Op, Operand, OperandList, Operands, Operator, Scope, TableId, Test,
+    Arity, Bexp, BexpList, ColId, Op, Operand, OperandList, Operands, Operator, Scope, TableId,
+    Test,
 };
 use std::alloc::Global;
 
