@@ -21,15 +21,15 @@ among_all [] s a h = absurd (no_member a h)
 among_all (x ∷ sets) zero a h = Contains-append_left x.fields (flat_map (λ x. x.fields) sets) a h
 among_all (x ∷ sets) (suc s) a h = Contains-append_right x.fields (flat_map (λ x. x.fields) sets) a (among_all sets s a h)
 
-at_most_left : (o : Option ℕ) (a b : ℕ) → AtMost o a → AtMost o (max a b)
+pub at_most_left : (o : Option ℕ) (a b : ℕ) → AtMost o a → AtMost o (max a b)
 at_most_left None a b h = absurd h
 at_most_left (Some p) a b h = let k : p ≤ a = h in omega arith
 
-at_most_right : (o : Option ℕ) (a b : ℕ) → AtMost o b → AtMost o (max a b)
+pub at_most_right : (o : Option ℕ) (a b : ℕ) → AtMost o b → AtMost o (max a b)
 at_most_right None a b h = absurd h
 at_most_right (Some p) a b h = let k : p ≤ b = h in omega arith
 
-label_joined : (l m n : LabelTree) → SameLabel l m → SameLabel m n → SameLabel l n
+pub label_joined : (l m n : LabelTree) → SameLabel l m → SameLabel m n → SameLabel l n
 label_joined l m n h k = (h.0 ∙ k.0, λ q. h.1 q ∙ k.1 q)
 
 -- two fields that are alike to the same one are not in conflict

@@ -12,3 +12,4 @@ mod Closed
 mod Floors
 mod ArenaLemmas
 mod Together
+mod Sifting

@@ -45,7 +45,7 @@ set_of_field [] s a c = absurd (no_member a c)
 set_of_field (x ∷ sets) zero a c = omega arith
 set_of_field (x ∷ sets) (suc s) a c = let r = set_of_field sets s a c in omega (arith, r)
 
-set_of_spread : (sets : List SetTree) (s u : ℕ) → Contains (spreads_at sets s) u → s < length sets
+pub set_of_spread : (sets : List SetTree) (s u : ℕ) → Contains (spreads_at sets s) u → s < length sets
 set_of_spread [] s u c = absurd (no_member u c)
 set_of_spread (x ∷ sets) zero u c = omega arith
 set_of_spread (x ∷ sets) (suc s) u c = let r = set_of_spread sets s u c in omega (arith, r)

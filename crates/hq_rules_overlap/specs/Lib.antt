@@ -5,3 +5,4 @@ pub mod Pairs
 pub mod Places
 pub mod Floor
 pub mod Walk
+pub mod Disputes

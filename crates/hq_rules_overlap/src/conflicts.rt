@@ -19,8 +19,8 @@ use hq_schema::Schema;
 use std::alloc::Global;
 use std::collections::HashMap;
 
-// Whether two fields share name and arguments.
-fn same_label(alloc: Global, left: &Field, right: &Field) -> Result<bool, Memory>
+/// Whether two fields share name and arguments.
+pub fn same_label(alloc: Global, left: &Field, right: &Field) -> Result<bool, Memory>
     ensures { IfOk result (λ same. same ≡ same_label (label_of (field_view left.now).0) (label_of (field_view right.now).0)) }
 {
     if left.name != right.name {
@@ -70,8 +70,8 @@ fn has_few(entry: &Entry<'_>) -> bool {
     entry.field.args.len() <= FEW_ARGUMENTS
 }
 
-// Where each key stands first among some fields.
-fn first_places<'a>(alloc: Global, entries: &[Entry<'a>]) -> Result<NamePlaces<'a>, Memory> {
+/// Where each key stands first among some fields.
+pub fn first_places<'a>(alloc: Global, entries: &[Entry<'a>]) -> Result<NamePlaces<'a>, Memory> {
     let mut places = HashMap::new(alloc);
     for (at, entry) in entries.iter().enumerate() {
         note_first(&mut places, entry.key(), at)?;
@@ -116,8 +116,8 @@ fn least_unlike(
     Ok(least)
 }
 
-// The place of a key, one beyond each list where it has none.
-fn place_of(places: &NamePlaces<'_>, key: &str) -> usize
+/// The place of a key, one beyond each list where it has none.
+pub fn place_of(places: &NamePlaces<'_>, key: &str) -> usize
     ensures { result ≡ place_in places.now key.now }
 {
     match places.get(key).copied() {
@@ -126,8 +126,8 @@ fn place_of(places: &NamePlaces<'_>, key: &str) -> usize
     }
 }
 
-// The fields of all sets.
-fn all_entries<'a>(alloc: Global, arena: &Arena<'a>) -> Result<Vec<Entry<'a>>, Memory>
+/// The fields of all sets.
+pub fn all_entries<'a>(alloc: Global, arena: &Arena<'a>) -> Result<Vec<Entry<'a>>, Memory>
     ensures { IfOk result (λ entries. map (entry_view (schema_view arena.now.schema.now)) entries.items ≡ flat_map (λ x. x.fields) (arena_view arena.now)) }
 {
     let mut entries = Vec::new(alloc);

@@ -1,7 +1,7 @@
 -- The conflict within a set is the first.
 use Rattle.hq_rules_overlap.specs.Sets.{arena_view}
 use Rattle.hq_rules_overlap.proofs.Floors.{floor_is_first}
-use Rattle.hq_rules_overlap.proofs.first.first_in.Goals as goal
+use Rattle.hq_rules_overlap.proofs.first.first_among.Goals as goal
 
 pub returns-then-is_same : goal.returns-then-is_same
 returns-then-is_same c =
