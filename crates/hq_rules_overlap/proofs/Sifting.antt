@@ -7,7 +7,7 @@ use Rattle.hq_schema.specs.Schema.{SchemaTree}
 use Rattle.hq_rules_overlap.specs.declared.disputes.Disputes.{Disputes}
 use Rattle.hq_rules_overlap.specs.declared.sets.Entry.{Entry}
 use Rattle.hq_rules_overlap.specs.declared.sets.Set.{Set}
-use Rattle.std.proofs.lemmas.Bool.{both_ways, cases_lt, and_from, or_left, or_right}
+use Rattle.std.proofs.lemmas.Bool.{both_ways, cases_lt, and_from, ltb-false, or_left, or_right}
 use Rattle.hq_rules_overlap.specs.Disputes.{Noted, is_before, IsSettled, IsTrueOf, IsTrueAt, IsTrueOfAll, keeps, kept_set, IsKeptBelow, AreKept, class_of, first_of, is_concerned, is_disputed, key_number, keeps_entry, noted_in}
 use Rattle.hq_rules_overlap.specs.Pairs.{fields_in, spreads_in, fields_at, spreads_at, here, Reached, SameLabel, Violates, later, AtMost, IsFirst}
 use Rattle.hq_rules_overlap.specs.Sets.{FieldTree, SetTree, entry_view, set_view}
@@ -123,7 +123,7 @@ module _ (n : Noted) (sets : List SetTree) (known : IsTrueOfAll n sets) where
 -- a place that is not before the one that is known
 not_before : (own : Option ℕ) (at : ℕ) → is_before own at ≡ false → AtMost own at
 not_before None at e = absurd (cc)
-not_before (Some p) at e = let h : p ≤ at = omega (arith, e) in h
+not_before (Some p) at e = ltb-false at p e
 
 module _ (n : Noted) (own : Option ℕ) (sets kept : List SetTree) (are_kept : AreKept n own sets kept) where
   kept_by : (s : ℕ) → ((s < length sets) ⊎ (length sets ≤ s)) → slice_get kept s ≡ option_map (kept_set n own s) (slice_get sets s)

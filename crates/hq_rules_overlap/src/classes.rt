@@ -5,11 +5,11 @@ ghost use Rattle.hq_rules_overlap.specs.Disputes.{class_of, first_of};
 ghost use Rattle.hq_rules_overlap.specs.Sets.{response_key, place_in};
 
 use crate::conflicts::{all_entries, first_places, place_of};
+use crate::partition::Partition;
 use crate::sets::{Arena, Entry};
 use crate::walk::Pair;
 use hq_base::Memory;
 use hq_gql_nodes::NamePlaces;
-use crate::partition::Partition;
 use std::alloc::Global;
 use std::collections::HashMap;
 

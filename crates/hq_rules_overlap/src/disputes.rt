@@ -30,7 +30,12 @@ const MORE_ARGUMENTS: usize = 64;
 
 // Whether the comparison costs no more than the other field is long.
 fn is_cheap(first: &Entry<'_>, entry: &Entry<'_>) -> bool {
-    let most = entry.field.args.len().saturating_mul(2).saturating_add(MORE_ARGUMENTS);
+    let most = entry
+        .field
+        .args
+        .len()
+        .saturating_mul(2)
+        .saturating_add(MORE_ARGUMENTS);
     first.field.args.len() <= most
 }
 

@@ -23,7 +23,7 @@ fn is_alike(
     entry: &Entry<'_>,
 ) -> Result<bool, Memory>
     ensures { IfOk result (λ alike. alike ≡ true → ((entry_view (schema_view schema.now) first.now).shape ≡ (entry_view (schema_view schema.now) entry.now).shape) × SameLabel (entry_view (schema_view schema.now) label.now).label (entry_view (schema_view schema.now) entry.now).label) }
-    {
+{
     if !same_shape(schema, &first.def.ty, &entry.def.ty) {
         return Ok(false);
     }
@@ -74,7 +74,9 @@ impl<'a> Disputes<'a> {
     fn is_told(&self, class: usize, key: usize, entry: &Entry<'_>) -> bool
         ensures { result ≡ (is_concerned self.now class || not (is_disputed self.now class key || is_concerned self.now (class_of self.now.classes.sets entry.now.below))) }
     {
-        self.is_concerned(class) || !(self.is_disputed(class, key) || self.is_concerned(self.classes.class_of(entry.below)))
+        self.is_concerned(class)
+            || !(self.is_disputed(class, key)
+                || self.is_concerned(self.classes.class_of(entry.below)))
     }
 
     // Whether what is noted is true of a field of a class and a key, of which the first one is given.
@@ -219,7 +221,13 @@ impl<'a> Disputes<'a> {
     }
 
     // What is kept of a set.
-    fn kept_set(&self, alloc: Global, own: Option<u64>, number: usize, set: &Set<'a>) -> Result<Set<'a>, Memory>
+    fn kept_set(
+        &self,
+        alloc: Global,
+        own: Option<u64>,
+        number: usize,
+        set: &Set<'a>,
+    ) -> Result<Set<'a>, Memory>
         ensures entries { IfOk result (λ kept. kept.entries.items ≡ if is_concerned self.now (class_of self.now.classes.sets number) then filter (keeps_entry self.now own (class_of self.now.classes.sets number)) set.now.entries.items else []) }
         ensures spreads { IfOk result (λ kept. kept.spreads.items ≡ if is_concerned self.now (class_of self.now.classes.sets number) then set.now.spreads.items else []) }
     {
@@ -234,7 +242,13 @@ impl<'a> Disputes<'a> {
     }
 
     // What is kept of the set of a number.
-    fn kept_at(&self, alloc: Global, arena: &Arena<'a>, own: Option<u64>, number: usize) -> Result<Set<'a>, Memory>
+    fn kept_at(
+        &self,
+        alloc: Global,
+        arena: &Arena<'a>,
+        own: Option<u64>,
+        number: usize,
+    ) -> Result<Set<'a>, Memory>
         requires { number < length (arena_view arena.now) }
         ensures { IfOk result (λ kept. option_map (kept_set (noted_in (schema_view arena.now.schema.now) self.now) own number) (slice_get (arena_view arena.now) number) ≡ Some (set_in arena.now kept)) }
     {
@@ -245,7 +259,12 @@ impl<'a> Disputes<'a> {
     }
 
     /// What is kept of a document's sets.
-    pub fn kept_sets(&self, alloc: Global, arena: &Arena<'a>, own: Option<u64>) -> Result<Vec<Set<'a>>, Memory>
+    pub fn kept_sets(
+        &self,
+        alloc: Global,
+        arena: &Arena<'a>,
+        own: Option<u64>,
+    ) -> Result<Vec<Set<'a>>, Memory>
         ensures { IfOk result (λ kept. AreKept (noted_in (schema_view arena.now.schema.now) self.now) own (arena_view arena.now) (map (set_in arena.now) kept.items)) }
     {
         let mut sets = Vec::with_capacity(alloc, arena.sets.len())?;
