@@ -4,6 +4,8 @@ pub mod Asked
 pub mod Looked
 pub mod Knowing
 pub mod Blocks
+pub mod Links
+pub mod KeySets
 pub mod InOrder
 pub mod Enough
 pub mod Tops

@@ -35,7 +35,8 @@ length_positions n = sym (length-counted 0 n)
 pub position_all : (n at : ℕ) → at < length (counted 0 n) → at ≡ get_or (counted 0 n) at 0
 position_all n at lt = let long = length-counted 0 n in let e : 0 + at ≡ at = omega arith in sym (counted_at 0 n at 0 (omega (arith, long)) ∙ e)
 
-counted_all : {A : Type 0} (xs : List A) (f : ℕ → A) (from : ℕ) (d : A) → ((i : ℕ) → i < length xs → f (from + i) ≡ get_or xs i d) → map f (counted from (length xs)) ≡ xs
+-- numbers in a row stand for the items at their places
+pub counted_all : {A : Type 0} (xs : List A) (f : ℕ → A) (from : ℕ) (d : A) → ((i : ℕ) → i < length xs → f (from + i) ≡ get_or xs i d) → map f (counted from (length xs)) ≡ xs
 counted_all [] f from d h = refl
 counted_all (x ∷ xs) f from d h =
     let first : from + 0 ≡ from = omega arith in
@@ -110,7 +111,7 @@ stored_rows columns rows =
     let f : ℕ → NamedRow = λ q. get_or (map (named_row columns) rows) q [] in
     ap (λ k. map f (counted 0 k)) (sym (length-map rows (named_row columns))) ∙ counted_all (map (named_row columns) rows) f 0 [] (λ i lt. let e : 0 + i ≡ i = omega arith in ap f e)
 
-is_yes : (t : Truth) → is_true t ≡ true → t ≡ Yes
+pub is_yes : (t : Truth) → is_true t ≡ true → t ≡ Yes
 is_yes Yes e = refl
 is_yes No e = cc
 is_yes Unknown e = cc
