@@ -16,13 +16,14 @@ use Rattle.hq_sql_tree.specs.declared.select.Pred.{Pred}
 use Rattle.hq_sql_tree.specs.Meaning.{NamedRow, Scope, World, has_rows, joined, kept, named_row, nothing, rows_of, with_alias}
 use Rattle.hq_sql_tree.specs.Tree as tree
 use Rattle.hq_sql_tree.specs.Tree.{ExprTree, FromTree, JoinTrees, OrderTree, OutTree, PredTree, SelectTree, no_join}
-use Rattle.hq_sql_rows.specs.KeySets.{KeepsKeys, chosen, link_keys}
+use Rattle.hq_sql_rows.specs.KeySets.{IsKeySet, KeepsKeys, chosen, keeps_key, link_keys}
 use Rattle.hq_sql_rows.specs.Links.{AreLinks}
 use Rattle.hq_sql_rows.specs.Sources.{alias_in, has_items, rows_given}
+use Rattle.hq_sql_rows.specs.declared.pinned.KeySet.{KeySet}
 use Rattle.hq_sql_rows.proofs.KeySets.{items_filter}
 use Rattle.hq_sql_eval.specs.Filtered.{Filters}
-use Rattle.hq_sql_eval.specs.Narrowed.{keeps_one}
-use Rattle.hq_sql_eval.proofs.Learned.{table_has}
+use Rattle.hq_sql_eval.specs.Narrowed.{keeps_one, narrowed}
+use Rattle.hq_sql_eval.proofs.Learned.{map_same, table_has}
 
 -- without joins the rows stay
 flat_alone : (w : World) (ms : List Scope) → flat_map (joined no_join w) ms ≡ ms
@@ -44,6 +45,12 @@ filters_is D O F J p K w select schema name alias columns rows sel at alone give
     ∙ items_filter (kept C w) (map f (map g rows))
     ∙ any_map_of (kept C w) f (map g rows)
     ∙ any_map_of (λ row. kept C w (f row)) g rows
+
+-- truths by the keys that are known of a select are those of the select
+pub keyed_rows : (w : World) (select : SelectTree) (s : KeySet) (before truths : List Bool) (alias : List ℕ) (rows : List NamedRow) → IsKeySet w select s → truths ≡ narrowed before (map (λ row. keeps_key s (with_alias nothing alias row)) rows)
+    → truths ≡ narrowed before (map (λ row. has_rows (rows_of select w (with_alias nothing alias row))) rows)
+keyed_rows w select s before truths alias rows is e =
+    e ∙ ap (narrowed before) (map_same (λ row. keeps_key s (with_alias nothing alias row)) (λ row. has_rows (rows_of select w (with_alias nothing alias row))) rows (λ row. sym (is.has (with_alias nothing alias row))))
 
 any_same : {A : Type 0} (p q : A → Bool) (xs : List A) → ((x : A) → p x ≡ q x) → list_any p xs ≡ list_any q xs
 any_same p q [] h = refl

@@ -1,12 +1,14 @@
 //! What is learned of conditions before a statement is walked.
 ghost use Rattle.std.specs.Prelude.{◌≡◌, ◌+◌, ◌≤◌, ◌&&◌, [], true, map, length, IfOk, IfSome};
+ghost use Rattle.hq_index.specs.Grids.{rows_in};
+ghost use Rattle.hq_index.specs.Indexes.{IsOver};
 ghost use Rattle.hq_sql_closed.specs.Conjuncts.{all_kept, lent_views, lent_weight};
 ghost use Rattle.hq_sql_closed.specs.Split.{kept_one};
 ghost use Rattle.hq_sql_closed.specs.Weight.{filter_weight};
 ghost use Rattle.hq_sql_tree.specs.Meaning.{has_rows, nothing, rows_of, with_alias};
 ghost use Rattle.hq_sql_tree.specs.Tree.{joins_of};
 ghost use Rattle.hq_sql_tree.specs.View.{filter_view, from_view, join_view, pred_view, select_view};
-ghost use Rattle.hq_sql_rows.specs.KeySets.{IsKeySet};
+ghost use Rattle.hq_sql_rows.specs.KeySets.{IsKeySet, keeps_key};
 ghost use Rattle.hq_sql_rows.specs.Known.{IsKnown, IsRight};
 ghost use Rattle.hq_sql_rows.specs.Lent.{rows_lent};
 ghost use Rattle.hq_sql_eval.specs.Filtered.{Filters};
@@ -16,7 +18,7 @@ ghost use Rattle.hq_sql_rows.specs.View.{names_of, source_view, world_of};
 
 use hq_base::{Memory, Txt};
 use hq_sql_closed::{Names, split};
-use hq_sql_rows::key_set::key_set;
+use hq_sql_rows::key_set::{has_row, key_set, key_set_of};
 use hq_sql_rows::known::known_of;
 use hq_sql_rows::links::links_of;
 use hq_sql_rows::pinned::{KeySet, Known, Pinned};
@@ -169,6 +171,69 @@ fn narrowed_by<'s, 'd>(
     Ok(Some(truths))
 }
 
+// Whether one of the keys that are known of an EXISTS is that of a scope too; None where that is not known without evaluating a join.
+fn keyed<'d>(
+    alloc: Global,
+    before: bool,
+    set: &KeySet<'d>,
+    world: &Pinned<'d>,
+    scope: &Scope<'_, 'd>,
+) -> Result<Option<bool>, Memory>
+    requires { IsOver (rows_in set.now.grid) set.now.index }
+    ensures { IfOk result (λ found. IfSome found (λ b. b ≡ (before && keeps_key set.now (names_of scope.now world.now)))) }
+{
+    if !before {
+        return Ok(Some(false));
+    }
+    has_row(alloc, set, &world.work.looked, scope)
+}
+
+// The same of an EXISTS of which keys are known.
+fn narrowed_keyed<'s, 'd>(
+    alloc: Global,
+    before: &[bool],
+    source: Source<'s, 'd>,
+    alias: &'d Txt,
+    set: &KeySet<'d>,
+    world: &Pinned<'d>,
+) -> Result<Option<Vec<bool>>, Memory>
+    requires long { length before.now ≡ length (source_view source) }
+    requires over { IsOver (rows_in set.now.grid) set.now.index }
+    ensures { IfOk result (λ found. IfSome found (λ truths. truths.items ≡ narrowed before.now (map (λ row. keeps_key set.now (with_alias nothing alias.now row)) (source_view source.entry)))) }
+{
+    let mut truths = Vec::with_capacity(alloc, before.len())?;
+    for position in 0..before.len() {
+        let at = Scope::Bound {
+            alias,
+            row: row_at(source, position),
+            outer: &Scope::Nothing,
+        };
+        match keyed(alloc, before[position], set, world, &at)? {
+            Some(truth) => truths.push(truth)?,
+            None => return Ok(None),
+        }
+    }
+    Ok(Some(truths))
+}
+
+// The same of an EXISTS of which keys are known, or that stands over a table without pages; None of any other one.
+fn narrowed_exists<'s, 'd>(
+    alloc: Global,
+    before: &[bool],
+    source: Source<'s, 'd>,
+    alias: &'d Txt,
+    select: &'d Select,
+    world: &Pinned<'d>,
+) -> Result<Option<Vec<bool>>, Memory>
+    requires { length before.now ≡ length (source_view source) }
+    ensures { IfOk result (λ found. IfSome found (λ truths. truths.items ≡ narrowed before.now (map (λ row. has_rows (rows_of (select_view select.now) (world_of world.now) (with_alias nothing alias.now row))) (source_view source.entry)))) }
+{
+    match key_set_of(world, select) {
+        Some(set) => narrowed_keyed(alloc, before, source, alias, set, world),
+        None => narrowed_by(alloc, before, source, alias, select, world),
+    }
+}
+
 // The same of any condition.
 fn narrowed<'s, 'd>(
     alloc: Global,
@@ -182,7 +247,7 @@ fn narrowed<'s, 'd>(
     ensures { IfOk result (λ truths. truths.items ≡ narrowed before.now (map (λ row. kept_one (pred_view pred.now) (world_of world.now) (with_alias nothing alias.now row)) (source_view source.entry))) }
 {
     if let Pred::Exists(select) = pred {
-        if let Some(truths) = narrowed_by(alloc, before, source, alias, select, world)? {
+        if let Some(truths) = narrowed_exists(alloc, before, source, alias, select, world)? {
             return Ok(truths);
         }
     }

@@ -4,7 +4,7 @@ pub mod Asked
 pub mod Looked
 pub mod Knowing
 pub mod Blocks
-pub mod Links
+pub mod Linked
 pub mod KeySets
 pub mod InOrder
 pub mod Enough

@@ -13,7 +13,7 @@ use Rattle.hq_sql_tree.specs.declared.expr.Expr.{Expr}
 use Rattle.hq_sql_tree.specs.Meaning.{Scope as Names, World, has_rows, rows_of, value}
 use Rattle.hq_sql_tree.specs.Tree.{SelectTree}
 use Rattle.hq_sql_tree.specs.View.{expr_view}
-use Rattle.hq_sql_rows.specs.Equations.{key_cell}
+use Rattle.hq_sql_rows.specs.KeyCells.{key_cell}
 use Rattle.hq_sql_rows.specs.Sources.{has_items}
 use Rattle.hq_sql_rows.specs.declared.pinned.KeySet.{KeySet}
 
@@ -21,10 +21,14 @@ use Rattle.hq_sql_rows.specs.declared.pinned.KeySet.{KeySet}
 abbrev pub link_keys : List (Bor Expr) → Names → List CellTree
 link_keys es names = map (λ e. key_cell (value (expr_view e.now) [] names)) es
 
+-- whether one of the keys is that of a scope
+abbrev pub keeps_key : KeySet → Names → Bool
+keeps_key s names = has_items (rows_with (columns_of s.index) (link_keys s.links.items names) (rows_in s.grid))
+
 -- a select has a row exactly where one of the keys is that of the scope
 pub record IsKeySet (w : World) (select : SelectTree) (s : KeySet) : Type 0 where
   pub over : IsOver (rows_in s.grid) s.index
-  pub has : (names : Names) → has_rows (rows_of select w names) ≡ has_items (rows_with (columns_of s.index) (link_keys s.links.items names) (rows_in s.grid))
+  pub has : (names : Names) → has_rows (rows_of select w names) ≡ keeps_key s names
 
 -- the cells of a row in columns
 abbrev pub picked : (columns : List ℕ) → Row → List Val

@@ -9,6 +9,7 @@ pub mod Weight
 pub mod Resolved
 pub mod Equations
 pub mod Positions
+pub mod KeyCells
 pub mod KeySets
 pub mod Links
 pub mod Ordered

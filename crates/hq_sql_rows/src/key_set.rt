@@ -1,13 +1,12 @@
 //! EXISTS by the keys of the rows that its WHERE keeps.
-ghost use Rattle.std.specs.Prelude.{◌≡◌, ◌++◌, ◌+◌, ◌<◌, ◌^◌, [], map, flat_map, length, IfOk, IfSome, OnOk, slice_index_or};
+ghost use Rattle.std.specs.Prelude.{◌≡◌, ◌++◌, map, flat_map, length, IfOk, IfSome, OnOk, slice_index_or};
 ghost use Rattle.hq_base.specs.declared.value.Val.TheVariants as val;
 ghost use Rattle.hq_index.specs.Grids.{rows_in};
-ghost use Rattle.hq_index.specs.Indexes.{IsOver, columns_of, counted, rows_with};
+ghost use Rattle.hq_index.specs.Indexes.{IsOver, counted};
 ghost use Rattle.hq_index.specs.Keys.{cell_view as key_view};
 ghost use Rattle.hq_sql_tree.specs.Meaning.{World, has_rows, rows_of};
 ghost use Rattle.hq_sql_tree.specs.View.{select_view};
-ghost use Rattle.hq_sql_rows.specs.KeySets.{IsKeySet, KeepsKeys, chosen, link_keys, picked};
-ghost use Rattle.hq_sql_rows.specs.Sources.{has_items};
+ghost use Rattle.hq_sql_rows.specs.KeySets.{IsKeySet, KeepsKeys, chosen, keeps_key, link_keys, picked};
 ghost use Rattle.hq_sql_rows.specs.View.{names_of, scope_of, world_of};
 
 use crate::equations::outer_cell;
@@ -62,7 +61,7 @@ pub fn has_row<'d>(
     scope: &Scope<'_, 'd>,
 ) -> Result<Option<bool>, Memory>
     requires { IsOver (rows_in set.now.grid) set.now.index }
-    ensures { IfOk result (λ found. IfSome found (λ b. (w : World) → b ≡ has_items (rows_with (columns_of set.now.index) (link_keys set.now.links.items (scope_of scope.now w)) (rows_in set.now.grid)))) }
+    ensures { IfOk result (λ found. IfSome found (λ b. (w : World) → b ≡ keeps_key set.now (scope_of scope.now w))) }
 {
     let Some(key) = key_at(alloc, &set.links, scope)? else {
         return Ok(None);

@@ -26,7 +26,7 @@ pub struct LinkList<'d> {
 }
 
 // The name of the column of an alias.
-#[tactic(auto, using(crate::proofs::Links::own_column))]
+#[tactic(auto, using(crate::proofs::Linked::own_column))]
 fn own_name<'d>(expr: &'d Expr, alias: &Txt) -> Option<&'d Txt>
     ensures { IfSome result (λ name. is_column alias.now name.now (expr_view expr.now) ≡ true) }
 {
@@ -44,7 +44,7 @@ fn own_name<'d>(expr: &'d Expr, alias: &Txt) -> Option<&'d Txt>
 }
 
 // The link of an expression that is a column of the alias to one around it.
-#[tactic(auto, using(crate::proofs::Links::side_is))]
+#[tactic(auto, using(crate::proofs::Linked::side_is))]
 fn side<'d>(own: &Expr, other: &'d Expr, columns: &[Column], alias: &Txt) -> Option<Link<'d>>
     ensures { IfSome result (IsSide columns.now alias.now (expr_view own.now)) }
 {
@@ -60,7 +60,7 @@ fn side<'d>(own: &Expr, other: &'d Expr, columns: &[Column], alias: &Txt) -> Opt
 }
 
 // The link that a condition is.
-#[tactic(auto, using(crate::proofs::Links::link_left, crate::proofs::Links::link_right))]
+#[tactic(auto, using(crate::proofs::Linked::link_left, crate::proofs::Linked::link_right))]
 fn link_of<'d>(pred: &'d Pred, columns: &[Column], alias: &Txt) -> Option<Link<'d>>
     ensures { IfSome result (IsLink columns.now alias.now (pred_view pred.now)) }
 {
@@ -80,7 +80,7 @@ fn link_of<'d>(pred: &'d Pred, columns: &[Column], alias: &Txt) -> Option<Link<'
 }
 
 /// The links that conditions are; None where one is none.
-#[tactic(auto, using(crate::proofs::Links::no_links, crate::proofs::Links::more_links))]
+#[tactic(auto, using(crate::proofs::Linked::no_links, crate::proofs::Linked::more_links))]
 pub fn links_of<'d>(
     alloc: Global,
     preds: &[&'d Pred],
