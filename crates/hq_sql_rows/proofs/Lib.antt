@@ -3,6 +3,7 @@ pub mod RowsIn
 pub mod Asked
 pub mod Looked
 pub mod Knowing
+pub mod Backward
 pub mod Blocks
 pub mod Linked
 pub mod KeySets
