@@ -328,6 +328,9 @@ fn keys_over<'d>(
         return Ok(None);
     };
     let truths = truths_over(alloc, Source::Stored(stored), alias, &closed, world)?;
+    if truths.len() != rows.len() {
+        return Ok(None);
+    }
     let set = key_set(
         alloc,
         select,

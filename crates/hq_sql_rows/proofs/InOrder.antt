@@ -49,9 +49,9 @@ key_cells desc nulls_first a b e f =
     ap₂ (λ m n. ordering_then (nat_cmp m n) d) (null_rank_of nulls_first a e) (null_rank_of nulls_first b f) ∙ same nulls_first
 
 -- the first cells, and then the others
-towards_more : (desc : Bool) (a b : CellTree) (as bs : List CellTree) → ordering_then (cond desc (flip_args cell_cmp) cell_cmp a b) (towards desc as bs) ≡ towards desc (a ∷ as) (b ∷ bs)
-towards_more true a b as bs = refl
-towards_more false a b as bs = refl
+towards_more : (desc : Bool) (a b : CellTree) (xs ys : List CellTree) → ordering_then (cond desc (flip_args cell_cmp) cell_cmp a b) (towards desc xs ys) ≡ towards desc (a ∷ xs) (b ∷ ys)
+towards_more true a b xs ys = refl
+towards_more false a b xs ys = refl
 
 -- the first column of a name is a sort key
 pub key_is : (desc : Bool) (columns : List Column) (at : ℕ) (alias name : List ℕ) (o : OrderTree) → o.desc ≡ desc → position (λ c. bytes_eq c.name name) columns ≡ Some at → is_column alias name o.value ≡ true → IsKey desc columns alias at o

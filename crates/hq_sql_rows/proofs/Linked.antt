@@ -11,7 +11,7 @@ use Rattle.hq_base.specs.Cells.{CellTree, null, int, text, bool, json, cell_of, 
 use Rattle.hq_base.specs.declared.value.Val.{Val}
 use Rattle.hq_base.specs.declared.value.Val.TheVariants as val
 use Rattle.hq_terms.specs.Database.{Row}
-use Rattle.hq_terms.specs.Logic.{Truth, Yes, No, Unknown, is_true, truth_of, equal, null_test}
+use Rattle.hq_terms.specs.Logic.{is_true, truth_of, equal, null_test}
 use Rattle.hq_terms.specs.declared.test.Test.{Test}
 use Rattle.hq_terms.specs.declared.table.Column.{Column}
 use Rattle.hq_terms.proofs.CellOrders.{then_equal}
@@ -27,7 +27,7 @@ use Rattle.hq_sql_tree.specs.declared.select.Pred.{Pred}
 use Rattle.hq_sql_tree.specs.Meaning.{Scope as Names, World, cell_named, named_row, value, truth_at, with_alias}
 use Rattle.hq_sql_rows.specs.Equations.{is_column, is_outer, key_cell, IsEquation}
 use Rattle.hq_sql_rows.specs.KeySets.{link_keys}
-use Rattle.hq_sql_rows.specs.Links.{has_cell, IsSide, IsLink, AreLinks}
+use Rattle.hq_sql_rows.specs.Links.{has_cell, IsOwn, IsSide, IsLink, AreLinks}
 use Rattle.hq_sql_rows.specs.declared.links.Link.{Link}
 use Rattle.hq_sql_rows.proofs.Asked.{column_value, equal_turn, named_first, outer_value}
 use Rattle.hq_sql_rows.proofs.Looked.{is_yes, same_bytes}
@@ -80,16 +80,12 @@ equal_swapped a b =
 pub own_column : (alias a n : List ℕ) (collate : Bool) → bytes_eq alias a ≡ true → is_column alias n (tree.column a n collate) ≡ true
 own_column alias a n collate e = rw (e, same_bytes n) refl
 
-pub side_is : (columns : List Column) (at : ℕ) (alias name : List ℕ) (own : ExprTree) (l : Link) → l.column ≡ at → position (λ c. bytes_eq c.name name) columns ≡ Some at → is_column alias name own ≡ true → is_outer alias no_join (expr_view l.expr.now) ≡ true → IsSide columns alias own l
-side_is columns at alias name own l e first is outer =
-    record {
-      cell = λ row m here. column_value alias name own m is ∙ ap (λ r. cell_named r name) here ∙ named_first columns row name at first ∙ ap (cell_in row) (sym e);
-      outer = outer;
-    }
+pub own_is : (columns : List Column) (at : ℕ) (alias name : List ℕ) (own : ExprTree) → position (λ c. bytes_eq c.name name) columns ≡ Some at → is_column alias name own ≡ true → IsOwn columns alias own at
+own_is columns at alias name own first is = record { cell = λ row m here. column_value alias name own m is ∙ ap (λ r. cell_named r name) here ∙ named_first columns row name at first }
 
 -- the sides of an equation at a row of the alias
 own_at : (columns : List Column) (alias : List ℕ) (own : ExprTree) (l : Link) (row : Row) (n : Names) → IsSide columns alias own l → value own [] (with_alias n alias (named_row columns row)) ≡ cell_in row l.column
-own_at columns alias own l row n side = side.cell row (with_alias n alias (named_row columns row)) (ap (λ b. cond b (named_row columns row) (n alias)) (same_bytes alias))
+own_at columns alias own l row n side = side.side.cell row (with_alias n alias (named_row columns row)) (ap (λ b. cond b (named_row columns row) (n alias)) (same_bytes alias))
 
 other_at : (columns : List Column) (alias : List ℕ) (own : ExprTree) (l : Link) (row : Row) (n : Names) → IsSide columns alias own l → value (expr_view l.expr.now) [] (with_alias n alias (named_row columns row)) ≡ value (expr_view l.expr.now) [] n
 other_at columns alias own l row n side =
@@ -123,7 +119,7 @@ link_right columns alias own t es l equates side =
 
 -- ---- keys, cell by cell
 
-keys_like : (columns : List ℕ) → List CellTree → Row → Bool
+abbrev keys_like : (columns : List ℕ) → List CellTree → Row → Bool
 keys_like (c ∷ cs) (k ∷ ks) row = has_cell (cell_in row c) k && keys_like cs ks row
 keys_like [] [] row = true
 keys_like [] (k ∷ ks) row = false

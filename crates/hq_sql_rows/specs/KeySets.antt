@@ -1,5 +1,5 @@
 -- Of an EXISTS over a table: the keys of the rows that its WHERE keeps, of which one is asked for (PostgreSQL, hashed sub-plans).
-use Rattle.std.specs.Prelude.{◌≡◌, ℕ, List, [], ◌∷◌, map, cond, length, Bool, slice_index_or}
+use Rattle.std.specs.Prelude.{◌≡◌, ◌≤◌, ℕ, List, [], ◌∷◌, map, flat_map, take, cond, length, Bool, slice_index_or}
 use Rattle.std.specs.Borrow.{Bor}
 use Rattle.std.specs.List.{list_any}
 use Rattle.hq_base.specs.Cells.{CellTree}
@@ -39,6 +39,12 @@ abbrev pub chosen : List Bool → List Row → List Row
 chosen (b ∷ bs) (row ∷ rows) = cond b (row ∷ chosen bs rows) (chosen bs rows)
 chosen (b ∷ bs) [] = []
 chosen [] rows = []
+
+-- of so many rows those that are chosen were gathered: their cells in columns, and how many they are
+pub record Gathers (columns : List ℕ) (truths : List Bool) (rows : List Row) (so_far : ℕ) (values : List Val) (count : ℕ) : Type 0 where
+  pub cells : values ≡ flat_map (λ row. row) (map (picked columns) (chosen (take so_far truths) (take so_far rows)))
+  pub number : count ≡ length (chosen (take so_far truths) (take so_far rows))
+  pub few : count ≤ so_far
 
 -- a select has a row exactly where one of these rows that is chosen has the key of the scope in these columns
 pub record KeepsKeys (w : World) (select : SelectTree) (rows : List Row) (truths : List Bool) (columns : List ℕ) (links : List (Bor Expr)) : Type 0 where

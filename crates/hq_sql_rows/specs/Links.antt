@@ -21,9 +21,13 @@ use Rattle.hq_sql_rows.specs.declared.links.Link.{Link}
 abbrev pub has_cell : (cell key : CellTree) → Bool
 has_cell cell key = not (null_test key) && is_eq (cell_cmp cell key)
 
+-- an expression is this column of the alias
+pub record IsOwn (columns : List Column) (alias : List ℕ) (own : ExprTree) (at : ℕ) : Type 0 where
+  pub cell : (row : Row) (m : Names) → m alias ≡ named_row columns row → value own [] m ≡ cell_in row at
+
 -- an expression is this column of the alias, and the other one stands around it
 pub record IsSide (columns : List Column) (alias : List ℕ) (own : ExprTree) (l : Link) : Type 0 where
-  pub cell : (row : Row) (m : Names) → m alias ≡ named_row columns row → value own [] m ≡ cell_in row l.column
+  pub side : IsOwn columns alias own l.column
   pub outer : is_outer alias no_join (expr_view l.expr.now) ≡ true
 
 -- a condition keeps a row exactly where its cell in this column is that of the expression

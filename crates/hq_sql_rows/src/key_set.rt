@@ -1,12 +1,12 @@
 //! EXISTS by the keys of the rows that its WHERE keeps.
-ghost use Rattle.std.specs.Prelude.{◌≡◌, ◌++◌, map, flat_map, length, IfOk, IfSome, OnOk, slice_index_or};
+ghost use Rattle.std.specs.Prelude.{◌≡◌, ◌++◌, ◌+◌, ◌<◌, ◌^◌, map, length, false, IfOk, IfSome, OnOk, slice_index_or};
 ghost use Rattle.hq_base.specs.declared.value.Val.TheVariants as val;
 ghost use Rattle.hq_index.specs.Grids.{rows_in};
 ghost use Rattle.hq_index.specs.Indexes.{IsOver, counted};
 ghost use Rattle.hq_index.specs.Keys.{cell_view as key_view};
 ghost use Rattle.hq_sql_tree.specs.Meaning.{World, has_rows, rows_of};
 ghost use Rattle.hq_sql_tree.specs.View.{select_view};
-ghost use Rattle.hq_sql_rows.specs.KeySets.{IsKeySet, KeepsKeys, chosen, keeps_key, link_keys, picked};
+ghost use Rattle.hq_sql_rows.specs.KeySets.{Gathers, IsKeySet, KeepsKeys, chosen, keeps_key, link_keys, picked};
 ghost use Rattle.hq_sql_rows.specs.View.{names_of, scope_of, world_of};
 
 use crate::equations::outer_cell;
@@ -119,7 +119,35 @@ struct Values {
     count: usize,
 }
 
+// Gathers the row of this number too, where it is chosen.
+fn gather_row(
+    alloc: Global,
+    rows: &Rows,
+    truths: &[bool],
+    at: usize,
+    truth: bool,
+    columns: &[ColId],
+    all: Values,
+) -> Result<Values, Memory>
+    requires within { at < length truths.now }
+    requires whole { length truths.now ≡ length rows.now }
+    requires truth { slice_index_or truths.now at false ≡ truth }
+    requires so_far { Gathers columns.now truths.now rows.now at all.values.items all.count }
+    ensures { IfOk result (λ more. Gathers columns.now truths.now rows.now (at + 1) more.values.items more.count) }
+{
+    if !truth {
+        return Ok(all);
+    }
+    let mut values = all.values;
+    push_cells(alloc, rows.row(at), columns, &mut values)?;
+    Ok(Values {
+        values,
+        count: all.count + 1,
+    })
+}
+
 // The cells in columns of the rows that are chosen.
+#[tactic(auto, using(crate::proofs::KeySets::gathers_none))]
 fn chosen_values(
     alloc: Global,
     rows: &Rows,
@@ -127,18 +155,30 @@ fn chosen_values(
     columns: &[ColId],
 ) -> Result<Values, Memory>
     requires { length truths.now ≡ length rows.now }
-    ensures values { IfOk result (λ all. all.values.items ≡ flat_map (λ row. row) (map (picked columns.now) (chosen truths.now rows.now))) }
-    ensures count { IfOk result (λ all. all.count ≡ length (chosen truths.now rows.now)) }
+    ensures { IfOk result (λ all. Gathers columns.now truths.now rows.now (length truths.now) all.values.items all.count) }
 {
-    let mut values = Vec::new(alloc);
-    let mut count = 0usize;
+    let mut all = Values {
+        values: Vec::new(alloc),
+        count: 0,
+    };
     for at in 0..truths.len() {
-        if truths[at] {
-            push_cells(alloc, rows.row(at), columns, &mut values)?;
-            count += 1;
-        }
+        all = gather_row(alloc, rows, truths, at, truths[at], columns, all)?;
     }
-    Ok(Values { values, count })
+    Ok(all)
+}
+
+// The keys in columns of the rows that are chosen.
+#[tactic(auto, using(crate::proofs::KeySets::grid_whole, crate::proofs::KeySets::grid_rows, crate::proofs::KeySets::grid_few))]
+fn key_grid(alloc: Global, rows: &Rows, truths: &[bool], columns: &[ColId]) -> Result<Grid, Memory>
+    requires whole { length truths.now ≡ length rows.now }
+    requires few { length truths.now < 2 ^ 31 }
+    ensures rows { IfOk result (λ grid. rows_in grid ≡ map (picked columns.now) (chosen truths.now rows.now)) }
+    ensures few { IfOk result (λ grid. length (rows_in grid) < 2 ^ 32) }
+{
+    let width = columns.len();
+    let all = chosen_values(alloc, rows, truths, columns)?;
+    let Values { values, count } = all;
+    Ok(Grid::of(width, count, values))
 }
 
 // The numbers of so many columns.
@@ -163,13 +203,13 @@ pub fn key_set<'d>(
     links: Vec<&'d Expr>,
     world: &Pinned<'d>,
 ) -> Result<KeySet<'d>, Memory>
-    requires { KeepsKeys (world_of world.now) (select_view select.now) rows.now truths.now columns.now links.items }
+    requires keeps { KeepsKeys (world_of world.now) (select_view select.now) rows.now truths.now columns.now links.items }
+    requires few { length truths.now < 2 ^ 31 }
     ensures { IfOk result (λ s. IsKeySet (world_of world.now) (select_view s.select.now) s) }
 {
-    let width = columns.len();
-    let all = chosen_values(alloc, rows, truths, columns)?;
-    let grid = Grid::of(width, all.count, all.values);
-    let index = Index::build(alloc, &grid, first_columns(alloc, width)?)?;
+    let grid = key_grid(alloc, rows, truths, columns)?;
+    let own = first_columns(alloc, columns.len())?;
+    let index = Index::build(alloc, &grid, own)?;
     Ok(KeySet {
         select,
         links,

@@ -3,7 +3,7 @@ ghost use Rattle.std.specs.Prelude.{◌≡◌, true, map, IfOk, IfSome};
 ghost use Rattle.hq_sql_closed.specs.Conjuncts.{lent_views};
 ghost use Rattle.hq_sql_tree.specs.View.{expr_view, pred_view};
 ghost use Rattle.hq_sql_rows.specs.Equations.{is_column};
-ghost use Rattle.hq_sql_rows.specs.Links.{IsSide, IsLink, AreLinks};
+ghost use Rattle.hq_sql_rows.specs.Links.{IsOwn, IsSide, IsLink, AreLinks};
 
 use crate::equations::{equal_to, first_named, is_outer};
 use hq_base::{Memory, Txt};
@@ -32,7 +32,9 @@ fn own_name<'d>(expr: &'d Expr, alias: &Txt) -> Option<&'d Txt>
 {
     match expr {
         Expr::Column {
-            alias: named, name, ..
+            alias: named,
+            name,
+            ..
         } => {
             if *alias == *named {
                 return Some(name);
@@ -43,20 +45,41 @@ fn own_name<'d>(expr: &'d Expr, alias: &Txt) -> Option<&'d Txt>
     }
 }
 
+// The first column of this name, which an expression is.
+fn column_named(own: &Expr, columns: &[Column], alias: &Txt, name: &Txt) -> Option<ColId>
+    requires { is_column alias.now name.now (expr_view own.now) ≡ true }
+    ensures { IfSome result (IsOwn columns.now alias.now (expr_view own.now)) }
+{
+    match first_named(columns, name) {
+        Some(at) => Some(ColId::new(at)),
+        None => None,
+    }
+}
+
+// The column of the alias that an expression is.
+fn own_column(own: &Expr, columns: &[Column], alias: &Txt) -> Option<ColId>
+    ensures { IfSome result (IsOwn columns.now alias.now (expr_view own.now)) }
+{
+    match own_name(own, alias) {
+        Some(name) => column_named(own, columns, alias, name),
+        None => None,
+    }
+}
+
 // The link of an expression that is a column of the alias to one around it.
-#[tactic(auto, using(crate::proofs::Linked::side_is))]
 fn side<'d>(own: &Expr, other: &'d Expr, columns: &[Column], alias: &Txt) -> Option<Link<'d>>
     ensures { IfSome result (IsSide columns.now alias.now (expr_view own.now)) }
 {
-    let name = own_name(own, alias)?;
-    let at = first_named(columns, name)?;
     if !is_outer(other, alias, &[]) {
         return None;
     }
-    Some(Link {
-        column: ColId::new(at),
-        expr: other,
-    })
+    match own_column(own, columns, alias) {
+        Some(column) => Some(Link {
+            column,
+            expr: other,
+        }),
+        None => None,
+    }
 }
 
 // The link that a condition is.

@@ -58,7 +58,8 @@ fn are_keys(table: &Table, columns: &[ColId], alias: &Txt, order: &[Order], desc
         Some((column, columns)) => match order.split_first() {
             None => false,
             Some((key, order)) => {
-                is_key(table, *column, alias, key, desc) && are_keys(table, columns, alias, order, desc)
+                is_key(table, *column, alias, key, desc)
+                    && are_keys(table, columns, alias, order, desc)
             }
         },
     }

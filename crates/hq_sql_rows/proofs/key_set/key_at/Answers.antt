@@ -14,6 +14,6 @@ loop-link-preserved c w =
     let scope = c.args.scope.now in
     let i = c.loop-link.link-index in
     let lt : i < length links = omega (arith, c.loop-link-test.true) in
-    let known : (v : World) → key_view c.in-Some.cell ≡ key_cell (value (expr_view c.link-item.result.now) [] (scope_of scope v)) = rw c.in-Some.is at c.in_ok-outer_cell.ensures in
+    let known : (v : World) → key_view c.in-Some.cell ≡ key_cell (value (expr_view c.link-item.result.now) [] (scope_of scope v)) = rw c.in-Some.is at c.in_ok-cell.ensures in
     ap (map key_view) c.in_ok-push-in-Some.ensures.items ∙ map-append key_view c.loop-link.key.items (c.in-Some.cell ∷ [])
     ∙ more_key links i c.link-item.result scope w (map key_view c.loop-link.key.items) (key_view c.in-Some.cell) lt c.link-item.is (c.loop-link.invariant w) (known w)
