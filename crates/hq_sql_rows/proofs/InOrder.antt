@@ -1,5 +1,5 @@
 -- Rows in the order of an index, and what WHERE keeps of them, in the order of ORDER BY.
-use Rattle.std.proofs.Common.{◌≡◌, ◌∙◌, ◌==◌, ◌≤◌, refl, sym, ap, ap₂, ℕ, suc, List, [], ◌∷◌, ◌++◌, map, filter, flat_map, length, reverse, get_or, Bool, true, false, cond, not, Some, bytes_eq, arith}
+use Rattle.std.proofs.Common.{◌≡◌, ◌∙◌, ◌==◌, ◌≤◌, refl, sym, ap, ap₂, ℕ, suc, List, [], ◌∷◌, ◌++◌, map, filter, flat_map, length, reverse, get_or, Bool, true, false, cond, not, Some, Ordering, bytes_eq, arith}
 use Rattle.std.specs.List.{position}
 use Rattle.std.specs.Borrow.{Bor}
 use Rattle.std.specs.Cmp.{IsTotalOrder}
@@ -145,7 +145,7 @@ module _ (columns : List Column) (rows : List Row) (js : JoinTrees) (w : World) 
         | false ↦ λ h. ap (λ ps. kept_of js w n a keeps (map f ps)) entries
             ∙ blocks_sorted os R Whole (by_key_total cs rows) alone whole (λ p r x y pp pr px py. h.orders.orders (get_or rows p []) (get_or rows r []) x y px py pp pr)
         | true ↦ λ h.
-            (let apart = apart_counted R 0 (length rows) (h.unique refl) in
+            (let apart = apart_counted R 0 (length rows) (λ i j less lt. h.unique refl i j less (omega (arith, lt))) in
             ap (λ ps. kept_of js w n a keeps (map f (reverse ps))) entries ∙ ap (λ ps. kept_of js w n a keeps (map f ps)) (sym (sort_turned (by_key_total cs rows) all apart))
             ∙ blocks_sorted os (flip_args R) Whole (back_total (by_key_total cs rows)) alone whole (λ p r x y pp pr px py. h.orders.orders (get_or rows p []) (get_or rows r []) x y px py pp pr))
       ] in

@@ -27,7 +27,7 @@ use Rattle.hq_sql_tree.specs.declared.select.Pred.{Pred}
 use Rattle.hq_sql_tree.specs.Meaning.{Scope as Names, World, cell_named, named_row, value, truth_at, with_alias}
 use Rattle.hq_sql_rows.specs.Equations.{is_column, is_outer, key_cell, IsEquation}
 use Rattle.hq_sql_rows.specs.KeySets.{link_keys}
-use Rattle.hq_sql_rows.specs.Links.{has_cell, IsOwn, IsSide, IsLink, AreLinks}
+use Rattle.hq_sql_rows.specs.Links.{has_cell, IsOwn, IsLink, AreLinks}
 use Rattle.hq_sql_rows.specs.declared.links.Link.{Link}
 use Rattle.hq_sql_rows.proofs.Asked.{column_value, equal_turn, named_first, outer_value}
 use Rattle.hq_sql_rows.proofs.Looked.{is_yes, same_bytes}
@@ -84,37 +84,33 @@ pub own_is : (columns : List Column) (at : ℕ) (alias name : List ℕ) (own : E
 own_is columns at alias name own first is = record { cell = λ row m here. column_value alias name own m is ∙ ap (λ r. cell_named r name) here ∙ named_first columns row name at first }
 
 -- the sides of an equation at a row of the alias
-own_at : (columns : List Column) (alias : List ℕ) (own : ExprTree) (l : Link) (row : Row) (n : Names) → IsSide columns alias own l → value own [] (with_alias n alias (named_row columns row)) ≡ cell_in row l.column
-own_at columns alias own l row n side = side.side.cell row (with_alias n alias (named_row columns row)) (ap (λ b. cond b (named_row columns row) (n alias)) (same_bytes alias))
+own_at : (columns : List Column) (alias : List ℕ) (own : ExprTree) (at : ℕ) (row : Row) (n : Names) → IsOwn columns alias own at → value own [] (with_alias n alias (named_row columns row)) ≡ cell_in row at
+own_at columns alias own at row n is = is.cell row (with_alias n alias (named_row columns row)) (ap (λ b. cond b (named_row columns row) (n alias)) (same_bytes alias))
 
-other_at : (columns : List Column) (alias : List ℕ) (own : ExprTree) (l : Link) (row : Row) (n : Names) → IsSide columns alias own l → value (expr_view l.expr.now) [] (with_alias n alias (named_row columns row)) ≡ value (expr_view l.expr.now) [] n
-other_at columns alias own l row n side =
-    outer_value alias no_join (expr_view l.expr.now) (with_alias n alias (named_row columns row)) n side.outer (λ b apart alone. ap (λ c. cond c (named_row columns row) (n b)) apart)
+other_at : (columns : List Column) (alias : List ℕ) (e : ExprTree) (row : Row) (n : Names) → is_outer alias no_join e ≡ true → value e [] (with_alias n alias (named_row columns row)) ≡ value e [] n
+other_at columns alias e row n outer =
+    outer_value alias no_join e (with_alias n alias (named_row columns row)) n outer (λ b apart alone. ap (λ c. cond c (named_row columns row) (n b)) apart)
 
 -- an equation is true where its sides are equal
 equation_is : (l r : ExprTree) (t : Test) (es : List ExprTree) (w : World) (m : Names) → IsEquation t es r → kept_one (tree.test l t es) w m ≡ is_true (equal (value l [] m) (value r [] m))
 equation_is l r t es w m equates = ap₂ (λ u operands. kept_one (tree.test l u operands) w m) equates.test equates.operand
 
-pub link_left : (columns : List Column) (alias : List ℕ) (own : ExprTree) (t : Test) (es : List ExprTree) (l : Link) → IsEquation t es (expr_view l.expr.now) → IsSide columns alias own l → IsLink columns alias (tree.test own t es) l
-link_left columns alias own t es l equates side =
+pub link_left : (columns : List Column) (alias : List ℕ) (own e : ExprTree) (t : Test) (es : List ExprTree) (at : ℕ) → IsEquation t es e → IsOwn columns alias own at → is_outer alias no_join e ≡ true → IsLink columns alias (tree.test own t es) at e
+link_left columns alias own e t es at equates is outer =
     record {
       keeps = λ w row n.
-          let m = with_alias n alias (named_row columns row) in
-          let x = value (expr_view l.expr.now) [] n in
-          equation_is own (expr_view l.expr.now) t es w m equates
-          ∙ ap₂ (λ a b. is_true (equal a b)) (own_at columns alias own l row n side) (other_at columns alias own l row n side)
-          ∙ equal_cell (get_or row l.column val.Null) x;
+          equation_is own e t es w (with_alias n alias (named_row columns row)) equates
+          ∙ ap₂ (λ a b. is_true (equal a b)) (own_at columns alias own at row n is) (other_at columns alias e row n outer)
+          ∙ equal_cell (get_or row at val.Null) (value e [] n);
     }
 
-pub link_right : (columns : List Column) (alias : List ℕ) (own : ExprTree) (t : Test) (es : List ExprTree) (l : Link) → IsEquation t es own → IsSide columns alias own l → IsLink columns alias (tree.test (expr_view l.expr.now) t es) l
-link_right columns alias own t es l equates side =
+pub link_right : (columns : List Column) (alias : List ℕ) (own e : ExprTree) (t : Test) (es : List ExprTree) (at : ℕ) → IsEquation t es own → IsOwn columns alias own at → is_outer alias no_join e ≡ true → IsLink columns alias (tree.test e t es) at e
+link_right columns alias own e t es at equates is outer =
     record {
       keeps = λ w row n.
-          let m = with_alias n alias (named_row columns row) in
-          let x = value (expr_view l.expr.now) [] n in
-          equation_is (expr_view l.expr.now) own t es w m equates
-          ∙ ap₂ (λ a b. is_true (equal a b)) (other_at columns alias own l row n side) (own_at columns alias own l row n side)
-          ∙ equal_swapped x (cell_in row l.column) ∙ equal_cell (get_or row l.column val.Null) x;
+          equation_is e own t es w (with_alias n alias (named_row columns row)) equates
+          ∙ ap₂ (λ a b. is_true (equal a b)) (other_at columns alias e row n outer) (own_at columns alias own at row n is)
+          ∙ equal_swapped (value e [] n) (cell_in row at) ∙ equal_cell (get_or row at val.Null) (value e [] n);
     }
 
 -- ---- keys, cell by cell
@@ -178,7 +174,7 @@ length_map f (x ∷ xs) = ap suc (length_map f xs)
 
 -- one more
 pub more_links : (columns : List Column) (alias : List ℕ) (ps : List (Bor Pred)) (i : ℕ) (p : Bor Pred) (own : List ℕ) (links : List (Bor Expr)) (l : Link) → i < length ps → p ≡ get_or ps i p
-    → AreLinks columns alias (lent_views (take i ps)) own links → IsLink columns alias (pred_view p.now) l → AreLinks columns alias (lent_views (take (i + 1) ps)) (own ++ l.column ∷ []) (links ++ l.expr ∷ [])
+    → AreLinks columns alias (lent_views (take i ps)) own links → IsLink columns alias (pred_view p.now) l.column (expr_view l.expr.now) → AreLinks columns alias (lent_views (take (i + 1) ps)) (own ++ l.column ∷ []) (links ++ l.expr ∷ [])
 more_links columns alias ps i p own links l lt is so_far link =
     let longer : take (i + 1) ps ≡ take i ps ++ p ∷ [] = ap (λ n. take n ps) (add-one i) ∙ take-suc ps i p lt ∙ ap (λ d. take i ps ++ d ∷ []) (sym is) in
     let short = so_far.long in

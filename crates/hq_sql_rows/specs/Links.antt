@@ -11,11 +11,9 @@ use Rattle.hq_sql_closed.specs.Conjuncts.{all_kept}
 use Rattle.hq_sql_closed.specs.Split.{kept_one}
 use Rattle.hq_sql_tree.specs.declared.expr.Expr.{Expr}
 use Rattle.hq_sql_tree.specs.Meaning.{Scope as Names, World, named_row, value, with_alias}
-use Rattle.hq_sql_tree.specs.Tree.{ExprTree, PredTree, no_join}
-use Rattle.hq_sql_tree.specs.View.{expr_view}
-use Rattle.hq_sql_rows.specs.Equations.{is_outer, key_cell}
+use Rattle.hq_sql_tree.specs.Tree.{ExprTree, PredTree}
+use Rattle.hq_sql_rows.specs.KeyCells.{key_cell}
 use Rattle.hq_sql_rows.specs.KeySets.{link_keys}
-use Rattle.hq_sql_rows.specs.declared.links.Link.{Link}
 
 -- a cell is that of a key
 abbrev pub has_cell : (cell key : CellTree) → Bool
@@ -25,14 +23,9 @@ has_cell cell key = not (null_test key) && is_eq (cell_cmp cell key)
 pub record IsOwn (columns : List Column) (alias : List ℕ) (own : ExprTree) (at : ℕ) : Type 0 where
   pub cell : (row : Row) (m : Names) → m alias ≡ named_row columns row → value own [] m ≡ cell_in row at
 
--- an expression is this column of the alias, and the other one stands around it
-pub record IsSide (columns : List Column) (alias : List ℕ) (own : ExprTree) (l : Link) : Type 0 where
-  pub side : IsOwn columns alias own l.column
-  pub outer : is_outer alias no_join (expr_view l.expr.now) ≡ true
-
 -- a condition keeps a row exactly where its cell in this column is that of the expression
-pub record IsLink (columns : List Column) (alias : List ℕ) (p : PredTree) (l : Link) : Type 0 where
-  pub keeps : (w : World) (row : Row) (names : Names) → kept_one p w (with_alias names alias (named_row columns row)) ≡ has_cell (cell_in row l.column) (key_cell (value (expr_view l.expr.now) [] names))
+pub record IsLink (columns : List Column) (alias : List ℕ) (p : PredTree) (at : ℕ) (e : ExprTree) : Type 0 where
+  pub keeps : (w : World) (row : Row) (names : Names) → kept_one p w (with_alias names alias (named_row columns row)) ≡ has_cell (cell_in row at) (key_cell (value e [] names))
 
 -- conditions keep a row exactly where it has the key of these expressions in these columns
 pub record AreLinks (columns : List Column) (alias : List ℕ) (ps : List PredTree) (own : List ℕ) (links : List (Bor Expr)) : Type 0 where

@@ -177,8 +177,7 @@ fn key_grid(alloc: Global, rows: &Rows, truths: &[bool], columns: &[ColId]) -> R
 {
     let width = columns.len();
     let all = chosen_values(alloc, rows, truths, columns)?;
-    let Values { values, count } = all;
-    Ok(Grid::of(width, count, values))
+    Ok(Grid::of(width, all.count, all.values))
 }
 
 // The numbers of so many columns.
@@ -208,7 +207,8 @@ pub fn key_set<'d>(
     ensures { IfOk result (λ s. IsKeySet (world_of world.now) (select_view s.select.now) s) }
 {
     let grid = key_grid(alloc, rows, truths, columns)?;
-    let own = first_columns(alloc, columns.len())?;
+    let width = columns.len();
+    let own = first_columns(alloc, width)?;
     let index = Index::build(alloc, &grid, own)?;
     Ok(KeySet {
         select,

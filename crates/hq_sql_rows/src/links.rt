@@ -1,14 +1,15 @@
 //! What conditions ask the columns of an alias to equal, where they ask nothing else.
 ghost use Rattle.std.specs.Prelude.{◌≡◌, true, map, IfOk, IfSome};
 ghost use Rattle.hq_sql_closed.specs.Conjuncts.{lent_views};
+ghost use Rattle.hq_sql_tree.specs.Tree.{no_join, test as tested};
 ghost use Rattle.hq_sql_tree.specs.View.{expr_view, pred_view};
-ghost use Rattle.hq_sql_rows.specs.Equations.{is_column};
-ghost use Rattle.hq_sql_rows.specs.Links.{IsOwn, IsSide, IsLink, AreLinks};
+ghost use Rattle.hq_sql_rows.specs.Equations.{is_column, is_outer};
+ghost use Rattle.hq_sql_rows.specs.Links.{IsOwn, IsLink, AreLinks};
 
 use crate::equations::{equal_to, first_named, is_outer};
 use hq_base::{Memory, Txt};
-use hq_sql_tree::{Expr, Pred};
-use hq_terms::{ColId, Column};
+use hq_sql_tree::{Expr, ExprList, Pred};
+use hq_terms::{ColId, Column, Test};
 use std::alloc::Global;
 
 /// A column, and the expression that it is asked to equal.
@@ -66,40 +67,54 @@ fn own_column(own: &Expr, columns: &[Column], alias: &Txt) -> Option<ColId>
     }
 }
 
-// The link of an expression that is a column of the alias to one around it.
-fn side<'d>(own: &Expr, other: &'d Expr, columns: &[Column], alias: &Txt) -> Option<Link<'d>>
-    ensures { IfSome result (IsSide columns.now alias.now (expr_view own.now)) }
+// The column of the alias that an expression is, where the other one stands around it.
+fn side(own: &Expr, other: &Expr, columns: &[Column], alias: &Txt) -> Option<ColId>
+    ensures own { IfSome result (IsOwn columns.now alias.now (expr_view own.now)) }
+    ensures outer { IfSome result (λ at. is_outer alias.now no_join (expr_view other.now) ≡ true) }
 {
     if !is_outer(other, alias, &[]) {
         return None;
     }
-    match own_column(own, columns, alias) {
-        Some(column) => Some(Link {
+    own_column(own, columns, alias)
+}
+
+// The link that an equation is.
+#[tactic(auto, using(crate::proofs::Linked::link_left, crate::proofs::Linked::link_right))]
+fn equation_link<'d>(
+    left: &'d Expr,
+    test: Test,
+    operands: &'d ExprList,
+    columns: &[Column],
+    alias: &Txt,
+) -> Option<Link<'d>>
+    ensures { IfSome result (λ l. IsLink columns.now alias.now (tested (expr_view left.now) test (map expr_view operands.now.items)) l.column (expr_view l.expr.now)) }
+{
+    let right = equal_to(test, operands)?;
+    if let Some(column) = side(left, right, columns, alias) {
+        return Some(Link {
             column,
-            expr: other,
-        }),
+            expr: right,
+        });
+    }
+    match side(right, left, columns, alias) {
+        Some(column) => Some(Link { column, expr: left }),
         None => None,
     }
 }
 
 // The link that a condition is.
-#[tactic(auto, using(crate::proofs::Linked::link_left, crate::proofs::Linked::link_right))]
 fn link_of<'d>(pred: &'d Pred, columns: &[Column], alias: &Txt) -> Option<Link<'d>>
-    ensures { IfSome result (IsLink columns.now alias.now (pred_view pred.now)) }
+    ensures { IfSome result (λ l. IsLink columns.now alias.now (pred_view pred.now) l.column (expr_view l.expr.now)) }
 {
-    let Pred::Test {
-        value,
-        test,
-        operands,
-    } = pred
-    else {
-        return None;
-    };
-    let right = equal_to(*test, operands)?;
-    if let Some(link) = side(value, right, columns, alias) {
-        return Some(link);
+    match pred {
+        Pred::Test {
+            value,
+            test,
+            operands,
+        } => equation_link(value, *test, operands, columns, alias),
+        Pred::True | Pred::False | Pred::Not(_) | Pred::And(_) | Pred::Or(_) | Pred::Exists(_) =>
+            None,
     }
-    side(right, value, columns, alias)
 }
 
 /// The links that conditions are; None where one is none.

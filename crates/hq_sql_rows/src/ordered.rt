@@ -32,11 +32,17 @@ pub enum Looked<'d> {
     Unsorted(Positions<'d>),
 }
 
+fn are_alike(own: bool, asked: bool) -> bool
+    ensures { result ≡ true → own ≡ asked }
+{
+    own == asked
+}
+
 // Whether a sort key is a column of the alias, and has this direction.
 fn is_key(table: &Table, column: ColId, alias: &Txt, key: &Order, desc: bool) -> bool
     ensures { result ≡ true → IsKey desc table.now.columns alias.now column (order_view key.now) }
 {
-    if key.desc != desc {
+    if !are_alike(key.desc, desc) {
         return false;
     }
     let Some(named) = table.column(column) else {

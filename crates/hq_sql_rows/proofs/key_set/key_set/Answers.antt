@@ -10,5 +10,5 @@ pub returns : goal.returns
 returns c =
     let columns = c.args.columns.now in
     let s : KeySet = record { select = c.args.select; links = c.args.links; grid = c.in_ok-grid.grid; index = c.in_ok-index.index } in
-    let own : columns_of c.in_ok-index.index ≡ counted 0 (length columns) = c.in_ok-index.ensures.columns ∙ c.in_ok-own.ensures ∙ ap (counted 0) c.len.ensures in
+    let own : columns_of c.in_ok-index.index ≡ counted 0 (length columns) = c.in_ok-index.ensures.columns ∙ c.in_ok-own.ensures in
     set_is (world_of c.args.world.now) (select_view c.args.select.now) c.args.rows.now c.args.truths.now columns c.args.links.items s c.requires.keeps refl c.in_ok-index.ensures.over own c.in_ok-grid.ensures.rows
