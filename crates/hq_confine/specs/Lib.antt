@@ -1,0 +1,2 @@
+pub mod Exempt
+pub mod Verdicts

@@ -1,0 +1,5 @@
+pub mod Worst
+mod Pairwise
+pub mod Stacked
+pub mod Bare
+mod Places

@@ -1,0 +1,42 @@
+use Rattle.std.proofs.Common.{◌≡◌, ◌∙◌, refl, sym, ap, ◌<◌, List, map, length, get_or, arith}
+use Rattle.hq_sql_tree.specs.declared.expr.Expr.{Expr}
+use Rattle.hq_sql_tree.specs.View.{expr_view}
+use Rattle.hq_confined.specs.Renamed.{is_alike_expr, are_alike_exprs}
+use Rattle.hq_confine_uses.specs.Views.{renaming_view}
+use Rattle.hq_confine_uses.proofs.Pairwise.{Pairwise, passes, fails}
+use Rattle.hq_confine_uses.proofs.alike.are_alike_exprs.Goals as goal
+
+pub loop-at-preserved : goal.loop-at-preserved
+loop-at-preserved c =
+    let r = renaming_view c.args.renaming.now in
+    let xs = c.args.a.now.items in
+    let ys = c.args.b.now.items in
+    let i = c.loop-at.at in
+    let item = c.expr-item.result in
+    let lent = c.deref-expr-items.ensures.value in
+    let in_xs : i < length xs = omega (arith, ap length lent) in
+    let in_ys : i < length ys = omega (arith, ap length lent) in
+    let is : item ≡ get_or xs i item = c.expr-item.is ∙ ap (λ l. get_or l i item) lent in
+    let f = λ (x y : Expr). is_alike_expr r (expr_view x) (expr_view y) in
+    let F = λ (as' bs : List Expr). are_alike_exprs r (map expr_view as') (map expr_view bs) in
+    let p : Pairwise f F = record { none = refl; fewer = λ y l. refl; more = λ x l. refl; step = λ x l y m. refl } in
+    record {
+      as_long = c.loop-at.invariant.as_long;
+      left = passes f F p xs ys i item c.index.result.now (F xs ys) in_xs in_ys is c.index.ensures c.loop-at.invariant.left (sym c.is_alike_expr.ensures ∙ c.if-not-is_alike_expr.false);
+    }
+
+pub returns-then-not-is_alike_expr : goal.returns-then-not-is_alike_expr
+returns-then-not-is_alike_expr c =
+    let r = renaming_view c.args.renaming.now in
+    let xs = c.args.a.now.items in
+    let ys = c.args.b.now.items in
+    let i = c.loop-at.at in
+    let item = c.expr-item.result in
+    let lent = c.deref-expr-items.ensures.value in
+    let in_xs : i < length xs = omega (arith, ap length lent) in
+    let in_ys : i < length ys = omega (arith, ap length lent) in
+    let is : item ≡ get_or xs i item = c.expr-item.is ∙ ap (λ l. get_or l i item) lent in
+    let f = λ (x y : Expr). is_alike_expr r (expr_view x) (expr_view y) in
+    let F = λ (as' bs : List Expr). are_alike_exprs r (map expr_view as') (map expr_view bs) in
+    let p : Pairwise f F = record { none = refl; fewer = λ y l. refl; more = λ x l. refl; step = λ x l y m. refl } in
+    fails f F p xs ys i item c.index.result.now (F xs ys) in_xs in_ys is c.index.ensures c.loop-at.invariant.left (sym c.is_alike_expr.ensures ∙ c.if-not-is_alike_expr.true)
