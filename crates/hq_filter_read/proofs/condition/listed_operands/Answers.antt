@@ -1,7 +1,7 @@
 use Rattle.hq_base.specs.Json.{json_view}
 use Rattle.hq_filter_read.specs.Operand.{operand_at}
 use Rattle.hq_filter_read.proofs.Elements.{each_element-more}
-use Rattle.hq_filter_read.proofs.condition.operands.Goals as goal
+use Rattle.hq_filter_read.proofs.condition.listed_operands.Goals as goal
 
 pub loop-place-preserved : goal.loop-place-preserved
 loop-place-preserved c =

@@ -3,7 +3,7 @@ use Rattle.hq_base.specs.Due.{mapped}
 use Rattle.hq_base.specs.Json.{json_view}
 use Rattle.hq_filter_read.specs.Each.{each_element}
 use Rattle.hq_filter_read.specs.Operand.{operand_at}
-use Rattle.hq_filter_read.proofs.condition.operands.Given as goal
+use Rattle.hq_filter_read.proofs.condition.listed_operands.Given as goal
 
 -- the operands so far, and then those of the rest
 abbrev pub invariant-loop-place : goal.invariant-loop-place
