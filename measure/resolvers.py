@@ -6,6 +6,7 @@ such a database as one session sees it, and says what a list, an object or an ag
 import csv
 import functools
 import json
+import re
 
 
 class Table:
@@ -37,6 +38,12 @@ def table_key(table):
     return ("public", table) if isinstance(table, str) else (table.get("schema", "public"), table["name"])
 
 
+def entries_of(metadata):
+    """The tables of an export: at the top in version 2, and in the one source in version 3."""
+    metadata = metadata.get("metadata", metadata)
+    return (metadata if metadata["version"] == 2 else metadata["sources"][0])["tables"]
+
+
 def pairs_of(t, by_key, using):
     """The remote table of a relationship and the pairs of columns that link."""
     if "manual_configuration" in using:
@@ -53,8 +60,7 @@ def pairs_of(t, by_key, using):
 def read_model(directory):
     """The tracked tables of a directory, whose metadata has the forms that the examples have."""
     catalog = {table_key(t): t for t in json.load(open(f"{directory}/catalog.json", encoding="utf-8"))["tables"]}
-    metadata = json.load(open(f"{directory}/metadata.json", encoding="utf-8"))
-    entries = metadata.get("metadata", metadata)["sources"][0]["tables"]
+    entries = entries_of(json.load(open(f"{directory}/metadata.json", encoding="utf-8")))
     model = [Table(at, catalog[table_key(e["table"])]) for at, e in enumerate(entries)]
     by_key = {table_key(t.catalog): t for t in model}
     for t, entry in zip(model, entries):
@@ -83,6 +89,26 @@ def read_rows(directory, model):
 
 
 # ---- what is true, seen and selected
+
+ELEMENT = r' *(?:"((?:[^"\\]|\\.)*)"|([^{},"\\ ](?:[^{},"\\]*[^{},"\\ ])?)) *'
+LIST = re.compile(rf"\{{\}}|\{{{ELEMENT}(?:,{ELEMENT})*\}}", re.DOTALL)
+
+
+def listed(text):
+    """The elements of a session list, as PostgreSQL writes an array of one dimension without NULL; None where this is no such list."""
+    if not LIST.fullmatch(text):
+        return None
+    elements = [] if text == "{}" else [(m[1], m[2]) for m in re.finditer(rf"{ELEMENT}(?:,|\}}$)", text[1:], re.DOTALL)]
+    if any(plain is not None and plain.lower() == "null" for _, plain in elements):
+        return None
+    return [plain if quoted is None else re.sub(r"\\(.)", r"\1", quoted, flags=re.DOTALL) for quoted, plain in elements]
+
+
+COLUMN_OPERATORS = {"_ceq": "_eq", "_cne": "_neq", "_clt": "_lt", "_clte": "_lte", "_cgt": "_gt", "_cgte": "_gte"}
+
+
+def compares(op, c):
+    return {"_eq": c == 0, "_neq": c != 0, "_lt": c < 0, "_lte": c <= 0, "_gt": c > 0, "_gte": c >= 0}[op]
 
 def order_of(value):
     return value.encode() if isinstance(value, str) else value
@@ -163,19 +189,25 @@ class World:
             return value in ("t", "true")
         return int(value) if kind in ("integer", "bigint") else value
 
-    def test(self, kind, cell, op, value, in_filter):
+    def operands(self, value, in_filter):
+        """A list, or in a permission's filter what the value of a session variable lists."""
+        return listed(self.variables[value.lower()]) if in_filter and isinstance(value, str) else value
+
+    def test(self, t, row, column, op, value, in_filter):
+        kind, cell = t.kinds[column], row[column]
+        if in_filter and op in COLUMN_OPERATORS:
+            return None if None in (cell, row[value]) else compares(COLUMN_OPERATORS[op], compare(cell, row[value]))
         if op == "_is_null":
             return (cell is None) == value
         if op in ("_in", "_nin"):
-            found = any_of(None if cell is None else compare(cell, self.operand(kind, v, in_filter)) == 0 for v in value)
+            found = any_of(None if cell is None else compare(cell, self.operand(kind, v, in_filter)) == 0 for v in self.operands(value, in_filter))
             return found if op == "_in" else no(found)
         if cell is None:
             return None
         if op in ("_like", "_nlike", "_ilike", "_nilike"):
             found = matches(self.operand(kind, value, in_filter), cell, op in ("_ilike", "_nilike"))
             return found if op in ("_like", "_ilike") else not found
-        c = compare(cell, self.operand(kind, value, in_filter))
-        return {"_eq": c == 0, "_neq": c != 0, "_lt": c < 0, "_lte": c <= 0, "_gt": c > 0, "_gte": c >= 0}[op]
+        return compares(op, compare(cell, self.operand(kind, value, in_filter)))
 
     def holds(self, t, row, expression, in_filter):
         found = []
@@ -186,13 +218,16 @@ class World:
                 found.append(all_of(self.holds(t, row, x, in_filter) for x in value))
             elif name == "_or":
                 found.append(any_of(self.holds(t, row, x, in_filter) for x in value))
+            elif name == "_exists" and in_filter:
+                other = next(u for u in self.model if table_key(u.catalog) == table_key(value["_table"]))
+                found.append(any(self.holds(other, r, value["_where"], True) is True for r in self.rows[other.at]))
             elif name in t.rels:
                 other = t.rels[name][1]
                 found.append(any(self.holds(other, r, value, in_filter) is True for r in self.related(t.rels[name], row, in_filter)))
             else:
                 column = name if in_filter else next(n for n, g in t.names.items() if g == name)
                 operators = value if isinstance(value, dict) else {"_eq": value}
-                found.append(all_of(self.test(t.kinds[column], row[column], op, x, in_filter) for op, x in operators.items()))
+                found.append(all_of(self.test(t, row, column, op, x, in_filter) for op, x in operators.items()))
         return all_of(found)
 
     def sort_cell(self, t, row, path, column):

@@ -8,6 +8,8 @@ import json
 
 from graphql import build_schema
 
+from resolvers import entries_of
+
 SCALARS = {"integer": "Int", "bigint": "bigint", "text": "String", "boolean": "Boolean"}
 ANY_OPERATORS = ["_eq", "_gt", "_gte", "_in", "_is_null", "_lt", "_lte", "_neq", "_nin"]
 TEXT_OPERATORS = ["_ilike", "_like", "_nilike", "_nlike"]
@@ -153,10 +155,9 @@ def root_fields(table):
 def due_schema(directory, role):
     """The schema of a role, written in GraphQL's own language."""
     catalog = json.loads((directory / "catalog.json").read_text())
-    metadata = json.loads((directory / "metadata.json").read_text())
-    metadata = metadata["metadata"] if "version" not in metadata else metadata
+    entries = entries_of(json.loads((directory / "metadata.json").read_text()))
     by_key = {(t["schema"], t["name"]): t for t in catalog["tables"]}
-    tables = [Table(e, by_key, role) for e in metadata["sources"][0]["tables"]]
+    tables = [Table(e, by_key, role) for e in entries]
     seen = {t.key: t for t in tables if t.seen}
     roots = [f for t in seen.values() for f in root_fields(t)] or ["no_queries_available: String!"]
     parts = ["schema { query: query_root }", "scalar bigint", block("enum", "order_by", DIRECTIONS)]

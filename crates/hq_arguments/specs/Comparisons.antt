@@ -10,6 +10,7 @@ use Rattle.hq_schema.specs.declared.origin.ArgOrigin.{ArgOrigin}
 use Rattle.hq_schema.specs.declared.origin.ArgOrigin.TheVariants as stands
 use Rattle.hq_terms.specs.Bexp.{BexpTree, test, conjunction}
 use Rattle.hq_terms.specs.Tests.{arity, applies}
+use Rattle.hq_terms.specs.declared.bexp.Operands.TheVariants as operands
 use Rattle.hq_terms.specs.declared.operator.Operator.{Operator}
 use Rattle.hq_terms.specs.declared.test.Arity.{Arity}
 use Rattle.hq_terms.specs.declared.test.Arity.TheVariants.{Nothing, One, Many}
@@ -21,9 +22,9 @@ use Rattle.hq_arguments.specs.declared.refusal.ArgRefusal.TheVariants.{Rule}
 -- the test of an operator on column c of a type, by how many operands it takes: without any, its value tells whether it is to
 -- hold, or its opposite
 abbrev pub tested_due : (column : ℕ) → Ty → Operator → JsonTree → Arity → Read BexpTree
-tested_due c ty o j Nothing = mapped (λ holds. test c o.test [] (cond holds o.negated (not o.negated))) (truth_due j)
-tested_due c ty o j One = mapped (λ v. test c o.test (v ∷ []) o.negated) (operand_due o.test ty j)
-tested_due c ty o j Many = mapped (λ vs. test c o.test vs o.negated) (each (operand_due o.test ty) (items_in j))
+tested_due c ty o j Nothing = mapped (λ holds. test c o.test (operands.List []) (cond holds o.negated (not o.negated))) (truth_due j)
+tested_due c ty o j One = mapped (λ v. test c o.test (operands.List (v ∷ [])) o.negated) (operand_due o.test ty j)
+tested_due c ty o j Many = mapped (λ vs. test c o.test (operands.List vs) o.negated) (each (operand_due o.test ty) (items_in j))
 
 -- the condition of an operator, which must be one of the type
 abbrev pub operator_due : (column : ℕ) → Ty → Operator → JsonTree → Read BexpTree

@@ -16,11 +16,11 @@ use crate::{ArgRefusal, Context};
 use hq_base::{Json, List, Member, Txt, Ty};
 use hq_gql_tree::RuleId;
 use hq_schema::{ArgOrigin, TypeId};
-use hq_terms::{Arity, Bexp, BexpList, ColId, Operands, Operator, Test};
+use hq_terms::{Arity, Bexp, BexpList, ColId, OperandList, Operands, Operator, Test};
 use std::alloc::Global;
 
 // The operands of a list, for a test of a column of a type.
-fn operands(alloc: Global, test: Test, ty: Ty, items: &[Json]) -> Result<Operands, ArgRefusal>
+fn operands(alloc: Global, test: Test, ty: Ty, items: &[Json]) -> Result<OperandList, ArgRefusal>
     ensures { Gives (λ os. os) refusal.Memory (each (operand_due test ty) (map json_view items.now)) result }
 {
     let mut operands = List::new(alloc);
@@ -47,7 +47,7 @@ fn tested(
             Ok(Bexp::Test {
                 col,
                 test,
-                operands: List::new(alloc),
+                operands: Operands::List(List::new(alloc)),
                 negated: if holds {
                     operator.negated
                 } else {
@@ -60,7 +60,7 @@ fn tested(
             Ok(Bexp::Test {
                 col,
                 test,
-                operands: one(alloc, operand)?,
+                operands: Operands::List(one(alloc, operand)?),
                 negated: operator.negated,
             })
         }
@@ -69,7 +69,7 @@ fn tested(
             Ok(Bexp::Test {
                 col,
                 test,
-                operands,
+                operands: Operands::List(operands),
                 negated: operator.negated,
             })
         }

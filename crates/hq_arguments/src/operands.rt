@@ -12,7 +12,7 @@ use crate::ArgRefusal;
 use crate::reading::misfit;
 use hq_base::{Json, List, Memory, Ty, Val, is_pattern};
 use hq_gql_tree::RuleId;
-use hq_terms::{Operand, Operands, Test, constant_in};
+use hq_terms::{Operand, OperandList, Test, constant_in};
 use std::alloc::Global;
 
 // A constant of a column's type.
@@ -50,7 +50,7 @@ pub fn operand(alloc: Global, test: Test, ty: Ty, json: &Json) -> Result<Operand
 }
 
 /// A list of one operand.
-pub fn one(alloc: Global, operand: Operand) -> Result<Operands, Memory>
+pub fn one(alloc: Global, operand: Operand) -> Result<OperandList, Memory>
     ensures { IfOk result (λ os. os ≡ operand ∷ []) }
 {
     let mut operands = List::new(alloc);

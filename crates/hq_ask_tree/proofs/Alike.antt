@@ -10,8 +10,8 @@ use Rattle.hq_base.specs.Lists.{Zip}
 use Rattle.hq_base.specs.declared.aggregate.Aggregate.{Aggregate}
 use Rattle.hq_base.specs.declared.value.Val.{Val}
 use Rattle.hq_base.proofs.Zips.{zip_filter, zip_sort, zip_firsts, zip_take, zip_drop, zip_any, zip_length, zip_map}
-use Rattle.hq_terms.specs.Bexp.{BexpTree, always, and_of, or_of, not_of, test, through, BexpTrees, no_bexp, bexp}
-use Rattle.hq_terms.specs.Logic.{is_true, truth_of, not3, and3, or3, negated_if, equal}
+use Rattle.hq_terms.specs.Bexp.{BexpTree, always, and_of, or_of, not_of, test, through, exists_in, two_columns, BexpTrees, no_bexp, bexp, operands_of}
+use Rattle.hq_terms.specs.Logic.{is_true, truth_of, not3, and3, or3, negated_if, compared, equal}
 use Rattle.hq_terms.specs.Related.{related}
 use Rattle.hq_terms.specs.Schema.{Schema, table, rel}
 use Rattle.hq_terms.specs.Seen.{Sees}
@@ -65,11 +65,15 @@ module _ {R S : Type 0} {s : Schema} {A : Sees R} {B : Sees S} {ok : Allowed} {Q
     truth_alike (and_of es) t x y u q = all_true_alike es t x y u q
     truth_alike (or_of es) t x y u q = any_true_alike es t x y u q
     truth_alike (not_of e) t x y u q = ap not3 (truth_alike e t x y u q)
-    truth_alike (test c tested vs negated) t x y u q = ap (λ d. negated_if negated (test_truth tested d (map operand_cell vs))) (a.cells t c x y u q)
+    truth_alike (test c tested vs negated) t x y u q = ap (λ d. negated_if negated (test_truth tested d (map operand_cell (operands_of vs)))) (a.cells t c x y u q)
     truth_alike (through r e) t x y u q =
         ap truth_of (zip_any (Q (rel s t r).remote) (λ far. A.linked t r x far && is_true (truth e s A (rel s t r).remote far)) (λ far. B.linked t r y far && is_true (truth e s B (rel s t r).remote far))
         (λ far near h. ap₂ (λ b c. b && c) (a.links t r x y far near u.0 q h) (ap is_true (truth_alike e (rel s t r).remote far near u.1 h)))
         (A.rows (rel s t r).remote) (B.rows (rel s t r).remote) (a.rows (rel s t r).remote (a.remotes t r u.0)))
+    truth_alike (exists_in v e) t x y u q =
+        ap truth_of (zip_any (Q v) (λ other. is_true (truth e s A v other)) (λ other. is_true (truth e s B v other))
+        (λ other near h. ap is_true (truth_alike e v other near u.1 h)) (A.rows v) (B.rows v) (a.rows v u.0))
+    truth_alike (two_columns l op r) t x y u q = ap₂ (compared op) (a.cells t l x y u.0 q) (a.cells t r x y u.1 q)
 
     all_true_alike : (es : BexpTrees) (t : ℕ) (x : R) (y : S) → UsesConditions es s ok t → Q t x y → truth_of_all es s A t x ≡ truth_of_all es s B t y
     all_true_alike no_bexp t x y u q = refl

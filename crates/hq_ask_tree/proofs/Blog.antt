@@ -8,9 +8,11 @@ use Rattle.hq_terms.specs.Bexp.{BexpTree, always, or_of, test, no_bexp, bexp}
 use Rattle.hq_terms.specs.Database.{Row}
 use Rattle.hq_terms.specs.Grants.{Grants, grants_of}
 use Rattle.hq_terms.specs.Meta.{MetaTree, PermTree}
+use Rattle.hq_terms.specs.declared.meta.Inherited.{Inherited}
 use Rattle.hq_terms.specs.Schema.{Schema, schema_of}
 use Rattle.hq_terms.specs.Selected.{ListArguments}
 use Rattle.hq_terms.specs.declared.bexp.Operand.TheVariants as operand
+use Rattle.hq_terms.specs.declared.bexp.Operands.TheVariants as operands
 use Rattle.hq_terms.specs.declared.meta.RootNames.{RootNames}
 use Rattle.hq_terms.specs.declared.op.Op.TheVariants.{Eq}
 use Rattle.hq_terms.specs.declared.test.Test.TheVariants.{Compare}
@@ -77,16 +79,16 @@ database = authors ∷ articles_rated (number 5) (number 5) (number 7) ∷ []
 -- the articles that are published or the user's own
 abbrev own_or_published : BexpTree
 own_or_published =
-    or_of (bexp (test 3 (Compare Eq) (operand.Const (val.Bool true) ∷ []) false)
-    (bexp (test 1 (Compare Eq) (operand.Session (codes "x-hasura-user-id") ∷ []) false) no_bexp))
+    or_of (bexp (test 3 (Compare Eq) (operands.List (operand.Const (val.Bool true) ∷ [])) false)
+    (bexp (test 1 (Compare Eq) (operands.List (operand.Session (codes "x-hasura-user-id") ∷ [])) false) no_bexp))
 
 -- the names of root fields
 abbrev roots_with : (select select_aggregate select_by_pk : List ℕ) → RootNames
 roots_with a b c = record { select = a; select_aggregate = b; select_by_pk = c }
 
 -- the two tables with their relationships, and what roles may see of them
-abbrev metadata : (of_authors of_articles : List PermTree) → MetaTree
-metadata of_authors of_articles = record {
+abbrev pub inheriting : List Inherited → (of_authors of_articles : List PermTree) → MetaTree
+inheriting is of_authors of_articles = record {
   tracked =
       record {
         table = 0;
@@ -105,7 +107,11 @@ metadata of_authors of_articles = record {
         perms = of_articles;
       }
       ∷ [];
+  inherited = is;
 }
+
+abbrev metadata : (of_authors of_articles : List PermTree) → MetaTree
+metadata = inheriting []
 
 -- The role user sees all authors, and the articles that are published or the user's own. The role reader sees author 1 and
 -- all articles, at most two of a list.
@@ -116,7 +122,7 @@ meta =
     ∷ record {
       role = codes "reader";
       cols = 0 ∷ 1 ∷ [];
-      filter = test 0 (Compare Eq) (operand.Const (number 1) ∷ []) false;
+      filter = test 0 (Compare Eq) (operands.List (operand.Const (number 1) ∷ [])) false;
       limit = None;
       aggregations = false;
     } ∷ [])

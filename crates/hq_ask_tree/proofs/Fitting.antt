@@ -11,8 +11,9 @@ use Rattle.hq_terms.specs.Filters.{column_ty}
 use Rattle.hq_terms.specs.Fits.{fits, fits_rel, fits_tracked}
 use Rattle.hq_terms.specs.Meta.{MetaTree, TrackedTree, PermTree, tracked_table}
 use Rattle.hq_terms.specs.Names.{is_free_name}
-use Rattle.hq_terms.specs.Permission.{Permission, permission_in, with_columns, told_permission, named_from, named_columns}
+use Rattle.hq_terms.specs.Permission.{Permission, permission_in, with_columns, told_permission, own_permission, permissions_of, either, permits, filters_of, limit_of, some_aggregate, masks_for, columns_of_any, combined, set_of, or_inherited, named_from, named_columns}
 use Rattle.hq_terms.specs.Schema.{Schema, schema_of, table, rel, no_rel, no_column}
+use Rattle.hq_terms.specs.declared.meta.Inherited.{Inherited}
 use Rattle.hq_terms.specs.declared.meta.Rel.{Rel}
 use Rattle.hq_terms.specs.declared.role.Role.{Role}
 use Rattle.hq_terms.specs.declared.role.Role.TheVariants.{Admin, Named}
@@ -73,9 +74,23 @@ told_within : (k : TrackedTree) (o : Option PermTree) → Each (Within k) (permi
 told_within k None = tt
 told_within k (Some p) = with_within k (record { columns = []; filter = p.filter; limit = p.limit; aggregations = p.aggregations; masks = [] }) _ (each_filter (Within k) (λ c. list_any (λ d. d == c) p.cols) (named_columns k) (all_within k))
 
-permitted_within : (role : Role) (k : TrackedTree) → Each (Within k) (permitted_columns (permission_in role k))
-permitted_within Admin k = with_within k (record { columns = []; filter = always; limit = None; aggregations = true; masks = [] }) _ (all_within k)
-permitted_within (Named name) k = told_within k (find (λ p. bytes_eq p.role name) k.perms)
+combined_within : (k : TrackedTree) (ps : List Permission) → Each (Within k) (permitted_columns (combined k ps))
+combined_within k ps =
+    with_within k (record {
+      columns = [];
+      filter = either (filters_of ps);
+      limit = limit_of ps;
+      aggregations = some_aggregate ps;
+      masks = masks_for ps (columns_of_any k ps);
+    }) _ (each_filter (Within k) (λ c. list_any (permits c) ps) (named_columns k) (all_within k))
+
+inherited_within : (o : Option Permission) (k : TrackedTree) (rs : List (List ℕ)) → Each (Within k) (permitted_columns o) → Each (Within k) (permitted_columns (or_inherited o k rs))
+inherited_within None k rs h = combined_within k (permissions_of k rs)
+inherited_within (Some p) k rs h = h
+
+permitted_within : (role : Role) (is : List Inherited) (k : TrackedTree) → Each (Within k) (permitted_columns (permission_in role is k))
+permitted_within Admin is k = with_within k (record { columns = []; filter = always; limit = None; aggregations = true; masks = [] }) _ (all_within k)
+permitted_within (Named name) is k = inherited_within (own_permission k name) k (set_of is name) (told_within k (find (λ p. bytes_eq p.role name) k.perms))
 
 -- ---- what fits
 
@@ -85,7 +100,7 @@ module _ (tables : List Table) (m : MetaTree) (fit : fits tables m ≡ true) whe
 
   entry : (t : ℕ) (k : TrackedTree) → tracked_table m t ≡ Some k → (k.table ≡ t) × (fits_tracked s m k ≡ true)
   entry t k is =
-      let all = (and_parts _ _ (and_parts _ _ fit).0).1 in
+      let all = (and_parts _ _ (and_parts _ _ (and_parts _ _ fit).0).0).1 in
       let both = found (λ j. j.table == t) (fits_tracked s m) m.tracked k all is in
       (eqb-true k.table t both.0, both.1)
 
@@ -98,14 +113,14 @@ module _ (tables : List Table) (m : MetaTree) (fit : fits tables m ≡ true) whe
 
   column_there : (role : Role) (t c : ℕ) → (allowed_to role m s).column t c ≡ true → (existing m s).column t c ≡ true
   column_there role t c h =
-      let columns : Option TrackedTree → List ℕ = λ o. permitted_columns (option_and_then (permission_in role) o) in
+      let columns : Option TrackedTree → List ℕ = λ o. permitted_columns (option_and_then (permission_in role m.inherited) o) in
       let by : (o : Option TrackedTree) → tracked_table m t ≡ o → list_any (λ d. d == c) (columns o) ≡ true → is_some (column_ty s t c) ≡ true =
       elim [
         | None ↦ λ is g. absurd (false≢true g)
         | Some k ↦ λ is g.
             let e = entry t k is in
             let p = parts k e.1 in
-            let short : c < length k.column_names = holds_among (Within k) (permitted_columns (permission_in role k)) c (permitted_within role k) g in
+            let short : c < length k.column_names = holds_among (Within k) (permitted_columns (permission_in role m.inherited k)) c (permitted_within role m.inherited k) g in
             let long : length k.column_names ≡ length (table s k.table).columns = eqb-true _ _ p.1 in
             let within : c < length (table s k.table).columns = omega arith in
             subst (λ u. is_some (column_ty s u c) ≡ true) e.0 (ap (λ o. is_some (option_map (λ d. d.ty) o)) (slice_get-get_or (table s k.table).columns c no_column within))
@@ -116,7 +131,7 @@ module _ (tables : List Table) (m : MetaTree) (fit : fits tables m ≡ true) whe
 
   rows_there : (role : Role) (t : ℕ) → (allowed_to role m s).rows t ≡ true → (existing m s).rows t ≡ true
   rows_there role t h =
-      let by : (o : Option TrackedTree) → tracked_table m t ≡ o → is_some (option_and_then (permission_in role) o) ≡ true → nat_lt t (length s) ≡ true =
+      let by : (o : Option TrackedTree) → tracked_table m t ≡ o → is_some (option_and_then (permission_in role m.inherited) o) ≡ true → nat_lt t (length s) ≡ true =
       elim [ None ↦ λ is g. absurd (false≢true g) | Some k ↦ λ is g. let e = entry t k is in subst (λ u. nat_lt u (length s) ≡ true) e.0 (parts k e.1).0 ] in
       by (tracked_table m t) refl h
 

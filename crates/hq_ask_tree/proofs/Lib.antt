@@ -7,3 +7,5 @@ mod Granting
 mod WellFormed
 pub mod Blog
 pub mod Worked
+mod Inherited
+mod Reaching

@@ -6,7 +6,7 @@ use Rattle.hq_base.specs.Json.{obj}
 use Rattle.hq_base.specs.Lists.{Each, Zip}
 use Rattle.hq_base.proofs.Lists.{each_all}
 use Rattle.hq_base.proofs.Zips.{zip_same}
-use Rattle.hq_terms.specs.Bexp.{BexpTree, always, and_of, or_of, not_of, test, through, BexpTrees, no_bexp, bexp}
+use Rattle.hq_terms.specs.Bexp.{BexpTree, always, and_of, or_of, not_of, test, through, exists_in, two_columns, BexpTrees, no_bexp, bexp}
 use Rattle.hq_terms.specs.Database.{Row}
 use Rattle.hq_terms.specs.Grants.{Grants, grant, limits}
 use Rattle.hq_terms.specs.Permission.{Permission}
@@ -64,6 +64,8 @@ module _ (s : Schema) (is : ℕ → Bool) where
     condition_used (not_of b) t h = condition_used b t h
     condition_used (test c tested vs negated) t h = refl
     condition_used (through r b) t h = (h.0, condition_used b (rel s t r).remote h.1)
+    condition_used (exists_in u b) t h = (h.0, condition_used b u h.1)
+    condition_used (two_columns l op r) t h = (refl, refl)
 
     conditions_used : (bs : BexpTrees) (t : ℕ) → Are (conditions_tables bs s t) → UsesConditions bs s ok t
     conditions_used no_bexp t h = tt

@@ -1,6 +1,6 @@
 -- What uses what is allowed uses what is allowed more widely.
 use Rattle.std.proofs.Common.{◌≡◌, ℕ, List, [], ◌∷◌, true, Option, Some, None}
-use Rattle.hq_terms.specs.Bexp.{BexpTree, always, and_of, or_of, not_of, test, through, BexpTrees, no_bexp, bexp}
+use Rattle.hq_terms.specs.Bexp.{BexpTree, always, and_of, or_of, not_of, test, through, exists_in, two_columns, BexpTrees, no_bexp, bexp}
 use Rattle.hq_terms.specs.Schema.{Schema, table, rel}
 use Rattle.hq_terms.specs.Selected.{SortKey, ListArguments}
 use Rattle.hq_ask_tree.specs.Allowed.{Allowed}
@@ -61,6 +61,8 @@ module _ (s : Schema) (ok more : Allowed) (wider : Wider ok more) where
     condition_weaken (not_of b) t u = condition_weaken b t u
     condition_weaken (test c tested vs negated) t u = wider.column t c u
     condition_weaken (through r b) t u = (wider.relationship t r u.0, condition_weaken b (rel s t r).remote u.1)
+    condition_weaken (exists_in v b) t u = (wider.rows v u.0, condition_weaken b v u.1)
+    condition_weaken (two_columns l op r) t u = (wider.column t l u.0, wider.column t r u.1)
 
     conditions_weaken : (bs : BexpTrees) (t : ℕ) → UsesConditions bs s ok t → UsesConditions bs s more t
     conditions_weaken no_bexp t u = tt

@@ -5,6 +5,7 @@ use Rattle.std.proofs.lemmas.Bool.{false≢true}
 use Rattle.hq_base.specs.declared.value.Val.TheVariants as val
 use Rattle.hq_terms.specs.Bexp.{BexpTree, always, or_of, test, no_bexp, bexp}
 use Rattle.hq_terms.specs.declared.bexp.Operand.TheVariants.{Const}
+use Rattle.hq_terms.specs.declared.bexp.Operands.TheVariants as operands
 use Rattle.hq_terms.specs.declared.op.Op.TheVariants.{Eq}
 use Rattle.hq_terms.specs.declared.test.Test.TheVariants.{Compare}
 use Rattle.hq_terms.specs.declared.role.Role.TheVariants.{Named}
@@ -17,7 +18,7 @@ use Rattle.hq_ask_tree.proofs.Worked.{by, home}
 
 -- the articles that are published or of user 1
 abbrev for_1 : BexpTree
-for_1 = or_of (bexp (test 3 (Compare Eq) (Const (val.Bool true) ∷ []) false) (bexp (test 1 (Compare Eq) (Const (number 1) ∷ []) false) no_bexp))
+for_1 = or_of (bexp (test 3 (Compare Eq) (operands.List (Const (val.Bool true) ∷ [])) false) (bexp (test 1 (Compare Eq) (operands.List (Const (number 1) ∷ [])) false) no_bexp))
 
 -- a request of the role user for user 1, which touches authors first and then articles
 abbrev asked_home : AskTree

@@ -10,6 +10,7 @@ use Rattle.hq_terms.specs.Grants.{Grants}
 use Rattle.hq_terms.specs.Schema.{Schema}
 use Rattle.hq_terms.specs.Selected.{SortKey, ListArguments}
 use Rattle.hq_terms.specs.declared.bexp.Operand.TheVariants.{Const}
+use Rattle.hq_terms.specs.declared.bexp.Operands.TheVariants as operands
 use Rattle.hq_terms.specs.declared.op.Op.TheVariants.{Eq, Ne}
 use Rattle.hq_terms.specs.declared.test.Test.TheVariants.{Compare, Among}
 use Rattle.hq_ask_tree.specs.Fields.{from_table, along, FieldTrees, field, column, typename, object, list, by_key, aggregate, PartTrees, no_part, part, summary, nodes}
@@ -102,7 +103,7 @@ distinct_sorted = refl
 
 -- where: { rating: { _neq: 5 } }
 abbrev not_5 : ListArguments
-not_5 = record plain { wanted = test 4 (Compare Ne) (Const (number 5) ∷ []) false }
+not_5 = record plain { wanted = test 4 (Compare Ne) (operands.List (Const (number 5) ∷ [])) false }
 
 not_5_for_1 : given user_1 (listed not_5) ≡ codes "{\"article\":[{\"id\":13}]}"
 unfolding digits escaped
@@ -118,7 +119,7 @@ not_5_for_admin = refl
 
 -- where: { _not: { rating: { _eq: 5 } } }
 abbrev unequal_5 : ListArguments
-unequal_5 = record plain { wanted = not_of (test 4 (Compare Eq) (Const (number 5) ∷ []) false) }
+unequal_5 = record plain { wanted = not_of (test 4 (Compare Eq) (operands.List (Const (number 5) ∷ [])) false) }
 
 unequal_5_for_1 : given user_1 (listed unequal_5) ≡ codes "{\"article\":[{\"id\":13}]}"
 unfolding digits escaped
@@ -161,7 +162,7 @@ abbrev pub by_ann : FieldTrees
 by_ann =
     only (codes "article")
     (list (from_table 1) (record plain {
-      wanted = through 0 (test 1 (Compare Eq) (Const (val.Text (codes "Ann")) ∷ []) false);
+      wanted = through 0 (test 1 (Compare Eq) (operands.List (Const (val.Text (codes "Ann")) ∷ [])) false);
       sorts = record { through = 0 ∷ []; column = 1; desc = false; nulls_first = false } ∷ [];
     }) (field (codes "id") (column 0) (only (codes "author") (object 0 (only (codes "name") (column 1))))))
 
@@ -281,7 +282,7 @@ four_for_admin = refl
 -- over no row: where: { id: { _in: [] } }
 abbrev over_none : FieldTrees
 over_none =
-    taken (record plain { wanted = test 0 Among [] false })
+    taken (record plain { wanted = test 0 Among (operands.List []) false })
     (part (codes "aggregate") (summary (count ∷ sum ∷ [])) (part (codes "nodes") (nodes ids) no_part))
 
 none_for_1 : given user_1 over_none
@@ -297,7 +298,7 @@ none_for_admin : given admin over_none ≡ codes "{\"article_aggregate\":{\"aggr
 unfolding digits escaped
 none_for_admin = refl
 
-four_over_none : given user_1 (taken (record plain { wanted = test 0 Among [] false }) all_four)
+four_over_none : given user_1 (taken (record plain { wanted = test 0 Among (operands.List []) false }) all_four)
     ≡ codes "{\"article_aggregate\":{\"aggregate\":{\"count\":0,\"sum\":{\"rating\":null},\"min\":{\"rating\":null},\"max\":{\"rating\":null}}}}"
 unfolding digits escaped
 four_over_none = refl
@@ -384,8 +385,8 @@ masked =
       limit = None;
       aggregations = true;
       masks =
-          record { column = 0; shown = test 0 (Compare Ne) (Const (number 12) ∷ []) false }
-          ∷ record { column = 4; shown = test 1 (Compare Eq) (Const (number 1) ∷ []) false } ∷ [];
+          record { column = 0; shown = test 0 (Compare Ne) (operands.List (Const (number 12) ∷ [])) false }
+          ∷ record { column = 4; shown = test 1 (Compare Eq) (operands.List (Const (number 1) ∷ [])) false } ∷ [];
     }) ∷ []
 
 -- columns, sums and conditions read what is shown

@@ -6,7 +6,7 @@ use Rattle.hq_base.specs.Aggregates.{is_aggregate_of}
 use Rattle.hq_base.specs.Lists.{firsts}
 use Rattle.hq_base.specs.declared.aggregate.Aggregate.{Aggregate}
 use Rattle.hq_base.specs.declared.value.Val.{Val}
-use Rattle.hq_terms.specs.Bexp.{BexpTree, always, and_of, or_of, not_of, test, through, BexpTrees, no_bexp, bexp, depth}
+use Rattle.hq_terms.specs.Bexp.{BexpTree, always, and_of, or_of, not_of, test, through, exists_in, two_columns, BexpTrees, no_bexp, bexp, operands_of, depth}
 use Rattle.hq_terms.specs.Filters.{column_ty, constant_fits, is_filter, of_type}
 use Rattle.hq_terms.specs.Schema.{Schema, table}
 use Rattle.hq_terms.specs.Selected.{SortKey, ListArguments}
@@ -32,8 +32,10 @@ abbrev mutual
   is_bound (and_of bs) = are_bound bs
   is_bound (or_of bs) = are_bound bs
   is_bound (not_of b) = is_bound b
-  is_bound (test c tested vs negated) = list_all is_constant vs
+  is_bound (test c tested vs negated) = list_all is_constant (operands_of vs)
   is_bound (through r b) = is_bound b
+  is_bound (exists_in u b) = is_bound b
+  is_bound (two_columns l op r) = true
 
   pub are_bound : BexpTrees → Bool
   are_bound no_bexp = true

@@ -2,13 +2,13 @@
 -- `order_by` reaches, then those of the fields below it.
 use Rattle.std.specs.Prelude.{ℕ, List, [], ◌∷◌, ◌++◌, flat_map, ◌==◌}
 use Rattle.hq_base.specs.Lists.{firsts}
-use Rattle.hq_terms.specs.Bexp.{BexpTree, always, and_of, or_of, not_of, test, through, BexpTrees, no_bexp, bexp}
+use Rattle.hq_terms.specs.Bexp.{BexpTree, always, and_of, or_of, not_of, test, through, exists_in, two_columns, BexpTrees, no_bexp, bexp}
 use Rattle.hq_terms.specs.Schema.{Schema, rel}
 use Rattle.hq_terms.specs.Selected.{ListArguments}
 use Rattle.hq_ask_tree.specs.Fields.{FieldTrees, no_field, field, FieldTree, column, typename, no_queries, object, list, by_key, aggregate, introspect, PartTrees, no_part, part, PartTree, summary, nodes, part_typename}
 use Rattle.hq_ask_tree.specs.Resolve.{origin_table}
 
--- the remote tables of a condition over table t
+-- the remote tables of a condition over table t, and those whose rows it asks for by themselves
 abbrev mutual
   pub condition_tables : BexpTree → Schema → ℕ → List ℕ
   condition_tables always s t = []
@@ -17,6 +17,8 @@ abbrev mutual
   condition_tables (not_of b) s t = condition_tables b s t
   condition_tables (test c tested vs negated) s t = []
   condition_tables (through r b) s t = (rel s t r).remote ∷ condition_tables b s (rel s t r).remote
+  condition_tables (exists_in u b) s t = u ∷ condition_tables b s u
+  condition_tables (two_columns l op r) s t = []
 
   pub conditions_tables : BexpTrees → Schema → ℕ → List ℕ
   conditions_tables no_bexp s t = []

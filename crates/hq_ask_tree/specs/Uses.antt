@@ -1,7 +1,7 @@
 -- A request uses what is allowed, and no more: each column, relationship, table and aggregate of its fields, conditions,
 -- sorts and keys (Hasura, Authorization: select permissions).
 use Rattle.std.specs.Prelude.{◌≡◌, ℕ, List, [], ◌∷◌, true, Option, Some, None}
-use Rattle.hq_terms.specs.Bexp.{BexpTree, always, and_of, or_of, not_of, test, through, BexpTrees, no_bexp, bexp}
+use Rattle.hq_terms.specs.Bexp.{BexpTree, always, and_of, or_of, not_of, test, through, exists_in, two_columns, BexpTrees, no_bexp, bexp}
 use Rattle.hq_terms.specs.Schema.{Schema, table, rel}
 use Rattle.hq_terms.specs.Selected.{SortKey, ListArguments}
 use Rattle.hq_ask_tree.specs.Allowed.{Allowed}
@@ -29,6 +29,8 @@ abbrev mutual
   UsesCondition (not_of b) s ok t = UsesCondition b s ok t
   UsesCondition (test c tested vs negated) s ok t = ok.column t c ≡ true
   UsesCondition (through r b) s ok t = (ok.relationship t r ≡ true) × UsesCondition b s ok (rel s t r).remote
+  UsesCondition (exists_in u b) s ok t = (ok.rows u ≡ true) × UsesCondition b s ok u
+  UsesCondition (two_columns l op r) s ok t = (ok.column t l ≡ true) × (ok.column t r ≡ true)
 
   pub UsesConditions : BexpTrees → Schema → Allowed → ℕ → Type 0
   UsesConditions no_bexp s ok t = Unit {0}

@@ -1,7 +1,9 @@
 -- A well-formed typed request over a catalog and a metadata that fits it.
-use Rattle.std.specs.Prelude.{◌≡◌, ◌≤◌, List, map, length, Bool, true, ◌&&◌}
+use Rattle.std.specs.Prelude.{◌≡◌, ◌≤◌, ℕ, List, map, length, Bool, true, ◌&&◌, is_some}
 use Rattle.std.specs.List.{list_all}
+use Rattle.hq_terms.specs.Filters.{column_ty}
 use Rattle.hq_terms.specs.Meta.{MetaTree}
+use Rattle.hq_terms.specs.Permission.{Mask}
 use Rattle.hq_terms.specs.Schema.{Schema, schema_of}
 use Rattle.hq_terms.specs.declared.table.Table.{Table}
 use Rattle.hq_ask_tree.specs.Allowed.{allowed_to}
@@ -15,9 +17,13 @@ use Rattle.hq_ask_tree.specs.Touched.{touched}
 use Rattle.hq_ask_tree.specs.TypeNames.{AllNamed}
 use Rattle.hq_ask_tree.specs.Uses.{UsesAll}
 
+-- a bound mask of table t: a column of it, and a condition over it
+abbrev pub is_bound_mask : Schema → ℕ → Mask → Bool
+is_bound_mask s t m = is_some (column_ty s t m.column) && is_condition 301 m.shown s t
+
 -- a bound filter, and each bound mask, is a condition over its table
 abbrev pub is_bound_table : Schema → BoundTree → Bool
-is_bound_table s b = is_condition 300 b.filter s b.table && list_all (λ m. is_condition 300 m.shown s b.table) b.masks
+is_bound_table s b = is_condition 301 b.filter s b.table && list_all (is_bound_mask s b.table) b.masks
 
 -- The root fields stand at no table: at the place behind the last one.
 pub record IsRequest (tables : List Table) (m : MetaTree) (a : AskTree) : Type 0 where

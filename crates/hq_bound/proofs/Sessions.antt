@@ -18,6 +18,7 @@ use Rattle.hq_terms.specs.declared.role.Role.TheVariants.{Admin, Named}
 use Rattle.hq_terms.specs.declared.session.Session.{Session}
 use Rattle.hq_terms.specs.declared.session.Var.{Var}
 use Rattle.hq_terms.specs.declared.table.Table.{Table}
+use Rattle.hq_terms.proofs.Together.{own_alone}
 use Rattle.hq_ask_tree.specs.Sessions.{session_grant}
 use Rattle.hq_ask_tree.specs.Touched.{touched}
 use Rattle.hq_ask_tree.specs.Fields.{FieldTrees}
@@ -36,18 +37,18 @@ told_masks k (Some p) q is =
     columns_masks (record { columns = []; filter = p.filter; limit = p.limit; aggregations = p.aggregations; masks = [] }) q
     (filter (λ c. list_any (λ d. d == c) p.cols) (named_columns k)) refl is
 
-role_masks : (role : Role) (k : TrackedTree) (q : Permission) → permission_in role k ≡ Some q → q.masks ≡ []
+role_masks : (role : Role) (k : TrackedTree) (q : Permission) → permission_in role [] k ≡ Some q → q.masks ≡ []
 role_masks Admin k q is = columns_masks (record { columns = []; filter = always; limit = None; aggregations = true; masks = [] }) q (named_columns k) refl is
-role_masks (Named name) k q is = told_masks k (find (λ p. bytes_eq p.role name) k.perms) q is
+role_masks (Named name) k q is = told_masks k (find (λ p. bytes_eq p.role name) k.perms) q (sym (own_alone name k) ∙ is)
 
-permission_masks : (role : Role) (m : MetaTree) (t : ℕ) (q : Permission) → permission role m t ≡ Some q → q.masks ≡ []
-permission_masks role m t q is = by (tracked_table m t) is
+permission_masks : (role : Role) (m : MetaTree) (t : ℕ) (q : Permission) → m.inherited ≡ [] → permission role m t ≡ Some q → q.masks ≡ []
+permission_masks role m t q none is = by (tracked_table m t) is
   where
-    by : (o : Option TrackedTree) → option_and_then (permission_in role) o ≡ Some q → q.masks ≡ []
+    by : (o : Option TrackedTree) → option_and_then (permission_in role m.inherited) o ≡ Some q → q.masks ≡ []
     by None h = cc
-    by (Some k) h = role_masks role k q h
+    by (Some k) h = role_masks role k q (ap (λ roles. permission_in role roles k) (sym none) ∙ h)
 
-module _ (role : Role) (m : MetaTree) (s : Schema) (vars : List Var) where
+module _ (role : Role) (m : MetaTree) (s : Schema) (vars : List Var) (alone : m.inherited ≡ []) where
   -- an entry is what is due for its table
   abbrev Due : BoundTree → Type 0
   Due b = (filter_due role m s vars b.table ≡ Ok b.filter) × (b.masks ≡ [])
@@ -88,7 +89,7 @@ module _ (role : Role) (m : MetaTree) (s : Schema) (vars : List Var) where
     where
       some : (p : Permission) → permission role m t ≡ Some p → option_map (with_bound p) (find (λ c. c.table == t) all) ≡ result_ok (bound_permission p s vars t)
       some p is =
-          let masks : p.masks ≡ [] = permission_masks role m t p is in
+          let masks : p.masks ≡ [] = permission_masks role m t p alone is in
           let filter : bound p.filter s vars t ≡ Ok (h.0).filter = sym (ap (λ o. filter_of o s vars t) is) ∙ h.1.1.0 in
           let right : bound_permission p s vars t ≡ Ok (record p { filter = (h.0).filter; masks = [] }) =
           ap (and_then (λ f. mapped (λ ms. record p { filter = f; masks = ms }) (bound_masks p.masks s vars t))) filter
@@ -111,15 +112,15 @@ among_all (b ∷ bs) =
     )
 
 pub bound_for_session : (tables : List Table) (m : MetaTree) (session : Session) (fs : FieldTrees) → BoundForSession tables m session fs
-bound_for_session tables m session fs bs is =
+bound_for_session tables m session fs alone bs is =
     let s : Schema = schema_of tables m in
     let role : Role = role_of session.role in
-    let all = entries role m s session.vars (touched fs s (length tables)) bs is in
+    let all = entries role m s session.vars alone (touched fs s (length tables)) bs is in
     record {
       touches = all.0;
       is_for = record {
         role = refl;
         bound = each_weaken (λ b. list_any (λ c. c.table == b.table) bs ≡ true) (λ b. grant_in (request_of session fs bs) m b.table ≡ session_grant session m s b.table)
-            (λ b h. granted role m s session.vars fs bs b.table (found role m s session.vars b.table bs all.1 h)) bs (among_all bs);
+            (λ b h. granted role m s session.vars alone fs bs b.table (found role m s session.vars alone b.table bs all.1 h)) bs (among_all bs);
       };
     }

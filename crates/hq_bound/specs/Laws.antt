@@ -1,5 +1,5 @@
 -- A law of the touched tables that are bound for a session.
-use Rattle.std.specs.Prelude.{◌≡◌, List, map, length, Ok}
+use Rattle.std.specs.Prelude.{◌≡◌, List, [], map, length, Ok}
 use Rattle.hq_terms.specs.Meta.{MetaTree}
 use Rattle.hq_terms.specs.Permission.{role_of}
 use Rattle.hq_terms.specs.Schema.{schema_of}
@@ -20,7 +20,8 @@ pub record IsBound (tables : List Table) (m : MetaTree) (session : Session) (fs 
   pub touches : map (λ b. b.table) bs ≡ touched fs (schema_of tables m) (length tables)
   pub is_for : IsFor (schema_of tables m) m session (request_of session fs bs)
 
+-- where there are no inherited roles, and so no masks
 abbrev pub BoundForSession : List Table → MetaTree → Session → FieldTrees → Type 0
 BoundForSession tables m session fs =
-    (bs : List BoundTree) → bounds_due (role_of session.role) m (schema_of tables m) session.vars (touched fs (schema_of tables m) (length tables)) ≡ Ok bs
+    m.inherited ≡ [] → (bs : List BoundTree) → bounds_due (role_of session.role) m (schema_of tables m) session.vars (touched fs (schema_of tables m) (length tables)) ≡ Ok bs
     → IsBound tables m session fs bs

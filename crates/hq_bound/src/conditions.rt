@@ -24,7 +24,7 @@ pub fn note(touched: &mut Touched, t: TableId) -> Result<(), Memory>
     Ok(())
 }
 
-// Notes the remote tables of a condition over a table.
+// Notes the remote tables of a condition over a table, and those whose rows it asks for by themselves.
 #[cycle(conditions)]
 fn touch_condition(
     touched: &mut Touched,
@@ -35,7 +35,7 @@ fn touch_condition(
     ensures { OnOk result (touched.new.keys ≡ joined touched.old.keys (condition_tables (bexp_view bexp.now) (scope_schema scope.now) t)) }
 {
     match bexp {
-        Bexp::True | Bexp::Test { .. } => Ok(()),
+        Bexp::True | Bexp::Test { .. } | Bexp::Columns { .. } => Ok(()),
         Bexp::And(bexps) => touch_conditions(touched, scope, t, bexps),
         Bexp::Or(bexps) => touch_conditions(touched, scope, t, bexps),
         Bexp::Not(inner) => touch_condition(touched, scope, t, inner),
@@ -43,6 +43,10 @@ fn touch_condition(
             let remote = scope.remote(t, *rel);
             note(touched, remote)?;
             touch_condition(touched, scope, remote, inner)
+        }
+        Bexp::Exists { table, inner } => {
+            note(touched, *table)?;
+            touch_condition(touched, scope, *table, inner)
         }
     }
 }

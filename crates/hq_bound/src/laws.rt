@@ -6,7 +6,8 @@ ghost use Rattle.hq_terms.specs.declared.table.Table.{Table as CatalogTable};
 ghost use Rattle.hq_ask_tree.specs.Fields.{FieldTrees};
 ghost use Rattle.hq_bound.specs.Laws.{BoundForSession};
 
-/// With the tables that its fields touch, bound for a session, a typed request is one of that session.
+/// With the tables that its fields touch, bound for a session, a typed request is one of that session, where the metadata
+/// has no inherited roles.
 pub fn bound_for_sessions()
     ensures { (tables : Items CatalogTable) (m : MetaTree) (session : Caller) (fs : FieldTrees) → BoundForSession tables m session fs }
 {}

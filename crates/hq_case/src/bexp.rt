@@ -1,8 +1,8 @@
-//! Boolean expressions in words: columns are `c` with their place, relationships `r` with theirs, session variables `$`
-//! with their name.
+//! Boolean expressions in words: columns are `c` with their place, relationships `r` and tables `t` with theirs, session
+//! variables `$` with their name.
 
 use crate::{Words, push_value};
-use hq_terms::{Arity, Bexp, BexpList, Op, Operand, Test};
+use hq_terms::{Arity, Bexp, BexpList, Op, Operand, Operands, Test};
 
 fn push_operand(operand: &Operand, words: &mut Words) {
     match operand {
@@ -49,7 +49,7 @@ fn push_column(col: usize, said: &str, words: &mut Words) {
     words.push(said);
 }
 
-fn push_operands(operands: &[Operand], words: &mut Words) {
+fn push_list(operands: &[Operand], words: &mut Words) {
     words.push("[");
     for (at, operand) in operands.iter().enumerate() {
         words.push(before(at));
@@ -58,16 +58,32 @@ fn push_operands(operands: &[Operand], words: &mut Words) {
     words.push("]");
 }
 
-// A column, what is said of it, and the operands, in brackets where they are a list.
-fn push_test(col: usize, test: Test, operands: &[Operand], negated: bool, words: &mut Words) {
-    push_column(col, test_word(test, negated), words);
-    if test.arity() == Arity::Many {
-        push_operands(operands, words);
-    } else {
-        for operand in operands {
-            push_operand(operand, words);
+// Operands, in brackets where they are a list.
+fn push_operands(test: Test, operands: &Operands, words: &mut Words) {
+    match operands {
+        Operands::Session(name) => words.push_pair("$", name.as_str()),
+        Operands::List(operands) if test.arity() == Arity::Many => {
+            push_list(operands.as_slice(), words);
+        }
+        Operands::List(operands) => {
+            for operand in operands.as_slice() {
+                push_operand(operand, words);
+            }
         }
     }
+}
+
+// A column, what is said of it, and the operands.
+fn push_test(col: usize, test: Test, operands: &Operands, negated: bool, words: &mut Words) {
+    push_column(col, test_word(test, negated), words);
+    push_operands(test, operands, words);
+}
+
+// How a column stands to another one.
+fn push_columns(left: usize, op: Op, right: usize, words: &mut Words) {
+    push_column(left, sign(op), words);
+    words.push("c");
+    words.push_place(right);
 }
 
 #[cycle(bexp)]
@@ -80,10 +96,11 @@ fn push_members(word: &str, bexps: &BexpList, words: &mut Words) {
     words.push(")");
 }
 
+// An expression at rows behind a relationship, or of a table.
 #[cycle(bexp)]
-fn push_through(rel: usize, inner: &Bexp, words: &mut Words) {
-    words.push("r");
-    words.push_place(rel);
+fn push_behind(mark: &str, place: usize, inner: &Bexp, words: &mut Words) {
+    words.push(mark);
+    words.push_place(place);
     words.push(": ");
     push_bexp(inner, words);
 }
@@ -104,7 +121,9 @@ pub fn push_bexp(bexp: &Bexp, words: &mut Words) {
             test,
             operands,
             negated,
-        } => push_test(col.at(), *test, operands.as_slice(), *negated, words),
-        Bexp::Through { rel, inner } => push_through(rel.at(), inner, words),
+        } => push_test(col.at(), *test, operands, *negated, words),
+        Bexp::Through { rel, inner } => push_behind("r", rel.at(), inner, words),
+        Bexp::Exists { table, inner } => push_behind("t", table.at(), inner, words),
+        Bexp::Columns { left, op, right } => push_columns(left.at(), *op, right.at(), words),
     }
 }

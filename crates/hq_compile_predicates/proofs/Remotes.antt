@@ -6,8 +6,8 @@ use Rattle.hq_sql_tree.specs.Tree.{PredTree}
 use Rattle.hq_compiled.specs.Conditions.{with_member, where_of}
 use Rattle.hq_compiled.specs.Predicates.{link}
 use Rattle.hq_compile_tables.specs.Selects.{exists_where}
-use Rattle.hq_compile_tables.proofs.Members.{three_members}
-use Rattle.hq_compile_predicates.specs.Unmasked.{unmasked, own_predicate}
+use Rattle.hq_compile_tables.proofs.Members.{two_members, three_members}
+use Rattle.hq_compile_predicates.specs.Unmasked.{unmasked, own_predicate, row_of}
 
 module _ (more : ℕ → ℕ) (guard : ℕ → ℕ → ℕ → PredTree) (s : Schema) (t p r next : ℕ) (b : BexpTree) where
   -- the condition with its numbers counted from these on
@@ -33,3 +33,24 @@ module _ (more : ℕ → ℕ) (guard : ℕ → ℕ → ℕ → PredTree) (s : Sc
       let all = three_members (ms ++ with_member inner []) ms (link s t (rel s t r) p n) (guard (rel s t r).remote n k)
       (own_predicate b s (unmasked more guard s) u n m) inner refl ms-is inner-is in
       rw (is, all, m-is, k-is, u-is, n-is) remote_whole
+
+-- the same of rows of a table by themselves
+module _ (more : ℕ → ℕ) (guard : ℕ → ℕ → ℕ → PredTree) (s : Schema) (table next : ℕ) (b : BexpTree) where
+  -- the condition with its numbers counted from these on
+  abbrev rows_from : (k m : ℕ) → PredTree
+  rows_from k m = exists_where s table next (where_of (with_member (guard table next k) (with_member (own_predicate b s (unmasked more guard s) table next m) [])))
+
+  rows_whole : rows_from (next + 1) (next + 1 + more table) ≡ row_of s (unmasked more guard s) table b next
+  rows_whole =
+      let first : next + 1 ≡ next + 1 + 0 = omega arith in
+      let second : next + 1 + more table ≡ next + 1 + 0 + more table = omega arith in
+      ap (λ (k : ℕ). rows_from k (next + 1 + more table)) first ∙ ap (λ (m : ℕ). rows_from (next + 1 + 0) m) second
+
+  -- the parts by the names that they have in the code
+  pub row_made : (n k m : ℕ) (ms : List PredTree) (inner tie pred : PredTree)
+      → pred ≡ exists_where s table n (where_of (ms ++ with_member inner [])) → n ≡ next → k ≡ next + 1 → m ≡ k + more table
+      → ms ≡ with_member tie [] → tie ≡ guard table n k → inner ≡ own_predicate b s (unmasked more guard s) table n m
+      → pred ≡ row_of s (unmasked more guard s) table b next
+  row_made n k m ms inner tie pred is n-is k-is m-is ms-is tie-is inner-is =
+      let all = two_members (ms ++ with_member inner []) ms (guard table n k) (own_predicate b s (unmasked more guard s) table n m) inner refl (ms-is ∙ ap (λ x. with_member x []) tie-is) inner-is in
+      rw (is, all, m-is, k-is, n-is) rows_whole

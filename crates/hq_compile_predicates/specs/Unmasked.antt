@@ -1,6 +1,6 @@
 -- The compiled tree where no column has a mask.
 use Rattle.std.specs.Prelude.{ℕ, List, []}
-use Rattle.hq_terms.specs.Bexp.{BexpTree, BexpTrees}
+use Rattle.hq_terms.specs.Bexp.{BexpTree, BexpTrees, exists_in}
 use Rattle.hq_terms.specs.Schema.{Schema, table}
 use Rattle.hq_sql_tree.specs.Tree.{PredTree}
 use Rattle.hq_compiled.specs.Looks.{own_look}
@@ -22,3 +22,7 @@ own_predicate b s m t p n = predicate b s m (own_look (table s t).columns p) t p
 
 abbrev pub own_predicates : BexpTrees → Schema → Mode → (t p n : ℕ) → List PredTree
 own_predicates bs s m t p n = predicates bs s m (own_look (table s t).columns p) t p n
+
+-- some row of table u meets an expression, whatever stands around it
+abbrev pub row_of : Schema → Mode → (u : ℕ) → BexpTree → (n : ℕ) → PredTree
+row_of s m u b n = own_predicate (exists_in u b) s m 0 0 n

@@ -1,7 +1,7 @@
 //! Boolean expressions as conditions.
 ghost use Rattle.std.specs.Prelude.{◌≡◌, ◌+◌, ◌++◌, [], IfOk, OnOk, map};
 ghost use Rattle.hq_terms.specs.Schema.{rel};
-ghost use Rattle.hq_terms.specs.Bexp.{bexp_view, bexps_of, through};
+ghost use Rattle.hq_terms.specs.Bexp.{bexp_view, bexps_of, exists_in, through};
 ghost use Rattle.hq_sql_tree.specs.Tree as tree;
 ghost use Rattle.hq_sql_tree.specs.View.{pred_view};
 ghost use Rattle.hq_compiled.specs.Conditions.{with_member, where_of};
@@ -9,13 +9,13 @@ ghost use Rattle.hq_compiled.specs.Predicates.{link, numbers, numbers_all};
 ghost use Rattle.hq_compiled.specs.Masks.{filter_numbers, filter_predicate, where_mode};
 ghost use Rattle.hq_compile_context.specs.Contexts.{context_schema, context_rights};
 ghost use Rattle.hq_compile_tables.specs.Selects.{exists_where};
-ghost use Rattle.hq_compile_predicates.specs.Unmasked.{unmasked, own_predicate, own_predicates};
+ghost use Rattle.hq_compile_predicates.specs.Unmasked.{unmasked, own_predicate, own_predicates, row_of};
 
 use hq_base::Memory;
 use hq_compile_context::{Context, take_number};
 use hq_compile_tables::{
-    column_test, exists_where, first_member, joined_by_and, joined_by_or, link, negation,
-    with_member,
+    column_test, columns_test, exists_where, first_member, joined_by_and, joined_by_or, link,
+    negation, with_member,
 };
 use hq_sql_tree::{Pred, PredList};
 use hq_terms::{Bexp, BexpList, RelId, TableId};
@@ -132,11 +132,15 @@ fn predicate<C: Counted>(
             p,
             *col,
             *test,
-            operands.as_slice(),
+            operands,
             *negated,
         ),
         Bexp::Through { rel, inner } => {
             remote_row(alloc, context, counted, t, p, *rel, inner, next)
+        }
+        Bexp::Exists { table, inner } => some_row(alloc, context, counted, *table, inner, next),
+        Bexp::Columns { left, op, right } => {
+            columns_test(alloc, context.columns(t), p, *left, *op, *right)
         }
     }
 }
@@ -163,6 +167,28 @@ fn remote_row<C: Counted>(
     let members = remote_members(alloc, context, counted, t, p, r, n, next)?;
     let inner = predicate(alloc, context, counted, remote, n, inner, next)?;
     remote_exists(alloc, context, remote, n, members, inner)
+}
+
+// Some row of table u counts and meets the inner expression.
+#[cycle(predicate)]
+fn some_row<C: Counted>(
+    alloc: Global,
+    context: &Context,
+    counted: &C,
+    u: TableId,
+    inner: &Bexp,
+    next: &mut u64,
+) -> Result<Pred, Memory>
+    ensures predicate { let s = context_schema context.now in let g = context_rights context.now in
+        IfOk result (λ pred. pred_view pred ≡ row_of s (unmasked (C.more s g) (C.guard s g) s) u (bexp_view inner.now) next.old) }
+    ensures numbers { let s = context_schema context.now in let g = context_rights context.now in
+        OnOk result (next.new ≡ next.old + numbers (exists_in u (bexp_view inner.now)) s (unmasked (C.more s g) (C.guard s g) s) 0) }
+{
+    let n = take_number(next)?;
+    let guard = counted.condition(alloc, context, u, n, next)?;
+    let members = first_member(alloc, guard)?;
+    let inner = predicate(alloc, context, counted, u, n, inner, next)?;
+    remote_exists(alloc, context, u, n, members, inner)
 }
 
 // What a remote row at the alias of number n meets beside the inner expression: the link, and that it counts.

@@ -1,16 +1,17 @@
 //! Conditions: literals, lists of conditions in one, WHERE, and a test of one column.
-ghost use Rattle.std.specs.Prelude.{◌≡◌, ◌++◌, ◌∷◌, [], IfOk, map, cond};
+ghost use Rattle.std.specs.Prelude.{◌≡◌, ◌++◌, ◌∷◌, [], ℕ, IfOk, map, cond};
+ghost use Rattle.hq_terms.specs.Bexp.{operands_of};
 ghost use Rattle.hq_terms.specs.Tests.{is_of_nothing};
 ghost use Rattle.hq_terms.specs.declared.test.Test.TheVariants.{Compare};
 ghost use Rattle.hq_sql_tree.specs.Tree as tree;
 ghost use Rattle.hq_sql_tree.specs.View.{expr_view, pred_view, filter_view};
 ghost use Rattle.hq_compiled.specs.Conditions.{literal, operand_literal, joined_by_and, joined_by_or, with_member, where_of, negation_if, first_literal, literals_for, test_of};
-ghost use Rattle.hq_compiled.specs.Looks.{own_look, tested_at};
+ghost use Rattle.hq_compiled.specs.Looks.{compared_at, own_look, tested_at};
 
-use crate::columns::tested_column;
+use crate::columns::{compared_column, tested_column};
 use hq_base::{Memory, Val};
 use hq_sql_tree::{Expr, ExprList, Pred, PredList};
-use hq_terms::{Arity, ColId, Column, Op, Operand, Test};
+use hq_terms::{Arity, ColId, Column, Op, Operand, Operands, Test};
 use std::alloc::Global;
 
 /// The literal of a value.
@@ -178,8 +179,8 @@ fn one_of_nothing(negated: bool) -> Pred
     if negated { Pred::True } else { Pred::False }
 }
 
-/// A test of a column at the alias of this number, or its opposite where negated.
-pub fn column_test(
+// A test of a column at the alias of this number against these operands, or its opposite where negated.
+fn listed_test(
     alloc: Global,
     columns: &[Column],
     number: u64,
@@ -201,4 +202,50 @@ pub fn column_test(
         operands,
     };
     negation_if(alloc, negated, pred)
+}
+
+/// A test of a column at the alias of this number, or its opposite where negated.
+pub fn column_test(
+    alloc: Global,
+    columns: &[Column],
+    number: u64,
+    column: ColId,
+    test: Test,
+    operands: &Operands,
+    negated: bool,
+) -> Result<Pred, Memory>
+    ensures { IfOk result (λ p. pred_view p ≡ test_of (tested_at columns.now (own_look columns.now number column) column test) test (operands_of operands.now) negated) }
+{
+    match operands {
+        Operands::List(operands) => listed_test(
+            alloc,
+            columns,
+            number,
+            column,
+            test,
+            operands.as_slice(),
+            negated,
+        ),
+        Operands::Session(name) => {
+            let unlisted = [Operand::Session(name.copy(alloc)?)];
+            listed_test(alloc, columns, number, column, test, &unlisted, negated)
+        }
+    }
+}
+
+/// A comparison of two columns of a row at the alias of this number.
+pub fn columns_test(
+    alloc: Global,
+    columns: &[Column],
+    number: u64,
+    left: ColId,
+    op: Op,
+    right: ColId,
+) -> Result<Pred, Memory>
+    ensures { let at = λ (c : ℕ). compared_at columns.now (own_look columns.now number c) c in
+        IfOk result (λ p. pred_view p ≡ tree.test (at left) (Compare op) (at right ∷ [])) }
+{
+    let left = compared_column(alloc, columns, number, left)?;
+    let right = compared_column(alloc, columns, number, right)?;
+    comparison(alloc, left, op, right)
 }

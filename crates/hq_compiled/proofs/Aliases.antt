@@ -3,7 +3,7 @@ use Rattle.std.proofs.Common.{◌≡◌, ℕ, ◌<◌, ◌≤◌, ◌^◌, List,
 use Rattle.std.specs.List.{list_any}
 use Rattle.hq_base.specs.Lists.{all_differ}
 use Rattle.hq_base.specs.declared.value.Val.{Val}
-use Rattle.hq_terms.specs.Bexp.{BexpTree, always, and_of, or_of, not_of, test, through, BexpTrees, no_bexp, bexp}
+use Rattle.hq_terms.specs.Bexp.{BexpTree, always, and_of, or_of, not_of, test, through, exists_in, two_columns, BexpTrees, no_bexp, bexp, operands_of}
 use Rattle.hq_terms.specs.Permission.{Mask}
 use Rattle.hq_terms.specs.Tests.{arity, is_of_nothing}
 use Rattle.hq_terms.specs.declared.test.Test.{Test}
@@ -266,7 +266,7 @@ module _ (s : Schema) (m : Mode) (ok : ModeBinds m) where
     predicate_binds (or_of bs) look t p n bound =
         binds_as n (n + numbers_all bs s m t) (lists_in (predicates bs s m look t p n)) _ (of_or (predicates bs s m look t p n)) (predicates_bind bs look t p n bound)
     predicate_binds (not_of b) look t p n bound = predicate_binds b look t p n bound
-    predicate_binds (test c tested vs negated) look t p n bound = binds_as n (n + 0) (λ l. l) _ (test_none _ tested vs negated) (binds_none n (n + 0))
+    predicate_binds (test c tested vs negated) look t p n bound = binds_as n (n + 0) (λ l. l) _ (test_none _ tested (operands_of vs) negated) (binds_none n (n + 0))
     predicate_binds (through r b) look t p n bound =
         let u : ℕ = (rel s t r).remote in
         let cs : List ℕ = columns_in b in
@@ -284,6 +284,22 @@ module _ (s : Schema) (m : Mode) (ok : ModeBinds m) where
         (λ l. ap (λ k. table_alias n ∷ k) (joins_last (n + 1) from (m.joins u cs n) M (aliases_in_filter (where_of (with_member L (with_member (m.guard u n from) (with_member inner [])))) l)
         ∙ ap M.front (of_three L (m.guard u n from) inner l (link_none s t (rel s t r) p n))))
         (binds_then n (n + 1) hi (λ l. table_alias n ∷ l) (λ l. M.front (G (X l))) (omega arith) (omega arith) (binds_table n (omega arith)) rest)
+    predicate_binds (exists_in u b) look t p n bound =
+        let cs : List ℕ = columns_in b in
+        let from : ℕ = guard_from m u cs n in
+        let mid : ℕ = inner_from m u cs n in
+        let hi : ℕ = n + numbers (exists_in u b) s m t in
+        let inner : PredTree = predicate b s m (m.look u cs n) u n mid in
+        let M = ok.masked u n cs (omega arith) in
+        let G : Texts → Texts = aliases_in_pred (m.guard u n from) in
+        let X : Texts → Texts = aliases_in_pred inner in
+        let kept = binds_then from mid hi G X (omega arith) (omega arith) (ok.guarded u n from (omega arith)) (binds_wider mid (mid + numbers b s m u) hi X (omega arith) (predicate_binds b (m.look u cs n) u n mid (omega arith))) in
+        let rest = binds_then (n + 1) from hi M.front (λ l. G (X l)) (omega arith) (omega arith) M.binds kept in
+        binds_as n hi (λ l. table_alias n ∷ M.front (G (X l))) (aliases_in_pred (predicate (exists_in u b) s m look t p n))
+        (λ l. ap (λ k. table_alias n ∷ k) (joins_last (n + 1) from (m.joins u cs n) M (aliases_in_filter (where_of (with_member tree.always (with_member (m.guard u n from) (with_member inner [])))) l)
+        ∙ ap M.front (of_three tree.always (m.guard u n from) inner l (λ k. refl))))
+        (binds_then n (n + 1) hi (λ l. table_alias n ∷ l) (λ l. M.front (G (X l))) (omega arith) (omega arith) (binds_table n (omega arith)) rest)
+    predicate_binds (two_columns i op j) look t p n bound = binds_as n (n + 0) (λ l. l) _ (λ l. refl) (binds_none n (n + 0))
 
     predicates_bind : (bs : BexpTrees) (look : Look) (t p n : ℕ) → n + numbers_all bs s m t ≤ 2 ^ 64 → Binds n (n + numbers_all bs s m t) (lists_in (predicates bs s m look t p n))
     predicates_bind no_bexp look t p n bound = binds_none n (n + 0)

@@ -1,10 +1,7 @@
 -- The statement of a typed request is well-formed for the catalog, and means what nested resolvers give.
 use Rattle.std.proofs.Common.{◌≡◌, ℕ, ◌+◌, ◌*◌, ◌≤◌, List, [], ◌∷◌, length, refl, sym, ap, subst, ◌∙◌, suc, arith}
-use Rattle.hq_base.specs.Lists.{Each}
-use Rattle.hq_terms.specs.Bexp.{depth}
 use Rattle.hq_terms.specs.Database.{Row}
 use Rattle.hq_terms.specs.Meta.{MetaTree}
-use Rattle.hq_terms.specs.Permission.{Mask}
 use Rattle.hq_terms.specs.Schema.{Schema, schema_of, schema_table, numbered}
 use Rattle.hq_terms.specs.declared.session.Session.{Session}
 use Rattle.hq_terms.specs.declared.table.Table.{Table}
@@ -18,7 +15,7 @@ use Rattle.hq_ask_tree.specs.WellFormed.{IsRequest}
 use Rattle.hq_ask_tree.specs.Fields.{FieldTrees}
 use Rattle.hq_ask_tree.specs.Request.{AskTree, grants_in}
 use Rattle.hq_ask_tree.specs.Root.{table_fields}
-use Rattle.hq_compiled.specs.Fine.{Known, FineMask, FineRights}
+use Rattle.hq_compiled.specs.Fine.{Known, FineRights}
 use Rattle.hq_compiled.specs.Rights.{Rights}
 use Rattle.hq_compiled.specs.Shallow.{LowRights, fields_height}
 use Rattle.hq_compiled.proofs.Meaning.{means_resolved}
@@ -34,27 +31,24 @@ pub numbered_long : {A B : Type 0} (f : ℕ → A → B) (k : ℕ) (xs : List A)
 numbered_long f k [] = refl
 numbered_long f k (x ∷ xs) = ap suc (numbered_long f (suc k) xs)
 
-no_mask_fine : (s : Schema) (t : ℕ) (ms : List Mask) → ms ≡ [] → Each (FineMask s t) ms
-no_mask_fine s t ms e = subst (Each (FineMask s t)) (sym e) tt
-
 pub well_asked : (tables : List Table) (m : MetaTree) (a : AskTree) → UsesExisting tables m (table_request a) → IsAsked tables m a
-well_asked tables m a there catalog fitting request bare held fits =
+well_asked tables m a there catalog fitting request held fits =
     let s : Schema = schema_of tables m in
     let g : Rights = asked_rights tables m a in
     let fs : FieldTrees = table_fields a.fields in
     let r : IsRequest tables m (table_request a) = tables_asked tables m a request in
     let long : length tables ≡ length s = sym (numbered_long (schema_table m) 0 tables) in
-    let granted = grant_fine s (rel_fine tables m fitting) m a request.bound bare in
+    let granted = grant_fine s (rel_fine tables m fitting) m a request.bound in
     let used : Everywhere (UsesHere s (existing m s)) (UsesPart (existing m s)) fs s (length tables) = there fitting r in
     let fine = fields_fine tables m fitting fs (length s)
     (subst (Everywhere (UsesHere s (existing m s)) (UsesPart (existing m s)) fs s) long used)
     (subst (Everywhere (FieldFits s) (PartFits s) fs s) long r.fit)
     (subst (Everywhere FieldKeys PartKeys fs s) long r.keys.1) held.1 in
-    let rights : (t : ℕ) → Known s t → FineRights s g t = λ t known. record { filter = (granted t).filter; masks = no_mask_fine s t (g.masks t) (granted t).unmasked } in
-    let low : LowRights g 300 = (λ t. (granted t).low, λ t. subst (Each (λ x. depth x.shown ≤ 300)) (sym (granted t).unmasked) tt) in
+    let rights : (t : ℕ) → Known s t → FineRights s g t = λ t known. record { filter = (granted t).filter; masks = (granted t).masks } in
+    let low : LowRights g 301 = (λ t. (granted t).low, λ t. (granted t).low_masks) in
     let high = height_levels fs in
-    let few : 2 * fields_height fs + (2 * 400 + 2 * 300 + 200 + 6) ≤ 2000 = let l = r.shallow in omega (arith, high, l) in
-    is_well_formed fs tables m g 300 400 200 catalog rights fine (keys_differ (keys_of fs) r.keys.0) held.0 low (fields_low s fs (length tables) r.fit) few fits
+    let few : 2 * fields_height fs + (2 * 400 + 2 * 301 + 200 + 6) ≤ 2000 = let l = r.shallow in omega (arith, high, l) in
+    is_well_formed fs tables m g 301 400 200 catalog rights fine (keys_differ (keys_of fs) r.keys.0) held.0 low (fields_low s fs (length tables) r.fit) few fits
 
 pub means_asked : (tables : List Table) (m : MetaTree) (session : Session) (a : AskTree) (d : List (List Row)) → GrantsDecide tables m session (table_request a) d → MeansAsked tables m session a d
 means_asked tables m session a d decide catalog database request is held =

@@ -3,17 +3,21 @@ use Rattle.std.proofs.Common.{◌≡◌, ℕ, List, [], ◌∷◌, length, map, 
 use Rattle.std.specs.Prelude.{slice_get, nat_le, codes}
 use Rattle.std.specs.List.{list_all}
 use Rattle.std.proofs.lemmas.Bool.{and_parts, leb-true, false≢true}
+use borrow.Author.Tests.{ltb-true}
 use Rattle.hq_base.specs.declared.value.Ty.{Ty}
 use Rattle.hq_base.specs.declared.value.Ty.TheVariants.{Integer, Bigint, Text, Boolean}
 use Rattle.hq_base.specs.declared.value.Val.{Val}
 use Rattle.hq_base.specs.declared.value.Val.TheVariants as val
-use Rattle.hq_terms.specs.Bexp.{BexpTree, always, and_of, or_of, not_of, test, through, BexpTrees, no_bexp, bexp, depth}
+use Rattle.hq_terms.specs.Bexp.{BexpTree, always, and_of, or_of, not_of, test, through, exists_in, two_columns, BexpTrees, no_bexp, bexp, operands_of, depth}
+use Rattle.hq_terms.specs.Catalog.{can_pair, comparable}
 use Rattle.hq_terms.specs.Filters.{column_ty, constant_fits, is_pattern, test_fits, operand_fits, is_test, of_type, is_filter, are_filters}
 use Rattle.hq_terms.specs.Database.{is_text}
 use Rattle.hq_terms.specs.Schema.{Schema, table, rel}
 use Rattle.hq_terms.specs.Tests.{arity, has_arity, takes, applies}
 use Rattle.hq_terms.specs.declared.bexp.Operand.{Operand}
 use Rattle.hq_terms.specs.declared.bexp.Operand.TheVariants.{Const, Session}
+use Rattle.hq_terms.specs.declared.bexp.Operands.{Operands}
+use Rattle.hq_terms.specs.declared.bexp.Operands.TheVariants as operands
 use Rattle.hq_terms.specs.declared.test.Arity.{Arity}
 use Rattle.hq_terms.specs.declared.test.Arity.TheVariants.{Nothing, One, Many}
 use Rattle.hq_terms.specs.declared.test.Test.{Test}
@@ -22,10 +26,10 @@ use Rattle.hq_ask_tree.specs.Conditions.{is_constant, is_bound, are_bound, is_co
 use Rattle.hq_sql_tree.specs.Tree as tree
 use Rattle.hq_sql_tree.specs.Tree.{ExprTree}
 use Rattle.hq_sql_tree.specs.WellFormed as well
-use Rattle.hq_sql_tree.specs.WellFormed.{Aliases, kind_of_type, kind, is_item, is_tested, is_operand}
+use Rattle.hq_sql_tree.specs.WellFormed.{Aliases, kind_of_type, kind, compare_kinds, is_item, is_tested, is_operand}
 use Rattle.hq_compiled.specs.Looks.{compares}
 use Rattle.hq_compiled.specs.Conditions.{literal, operand_literal, literals_for}
-use Rattle.hq_compiled.specs.Fine.{column_alone, TestFits, FineRel, FineBexp, FineBexps}
+use Rattle.hq_compiled.specs.Fine.{Has, kind_of, column_alone, TestFits, FineRel, FineBexp, FineBexps}
 use Rattle.hq_compiled.proofs.Relationships.{column_is}
 use Rattle.hq_compiled.proofs.Scopes.{compared_of}
 use Rattle.hq_compiled.proofs.TypedConditions.{two}
@@ -93,12 +97,13 @@ value_alone ty IsNull f = refl
 value_alone ty _ f = compared_of (column_alone ty) (codes "t") (codes "c") ty refl
 
 -- a test of a column of a type, of constants
-pub test_fine : (ty : Ty) (t : Test) (vs : List Operand) → is_test t vs ty ≡ true → list_all is_constant vs ≡ true → TestFits t ty vs
-test_fine ty t vs f g =
+pub test_fine : (ty : Ty) (t : Test) (vs : Operands) → is_test t vs ty ≡ true → list_all is_constant (operands_of vs) ≡ true → TestFits t ty (operands_of vs)
+test_fine ty t (operands.List vs) f g =
     let e : ExprTree = tree.column (codes "t") (codes "c") (compares t && is_text ty) in
     let parts = and_parts (takes t (length vs) && applies t ty) (list_all (operand_fits t ty) vs) f in
     let of = and_parts (takes t (length vs)) (applies t ty) parts.0 in
     two (is_tested (column_alone ty) t e) (list_all (is_operand (column_alone ty) t e) (literals_for (arity t) vs)) (value_alone ty t of.1) (literals_typed (column_alone ty) e ty t refl (arity t) vs of.0 parts.1 g)
+test_fine ty t (operands.Session name) f g = cc
 
 -- ---- columns whose type passes a test
 
@@ -107,6 +112,38 @@ of_column P passes s t c step h =
     let by : (o : Option Ty) → column_ty s t c ≡ o → of_type passes o ≡ true → (ty : Ty) × (column_ty s t c ≡ Some ty) × P ty =
     elim [ None ↦ λ is g. absurd (false≢true g) | Some ty ↦ λ is g. (ty, is, step ty g) ] in
     by (column_ty s t c) refl h
+
+-- ---- two columns of a row
+
+kinds_compare : (a b : Ty) → comparable a b ≡ true → compare_kinds (Some (kind_of_type a)) (Some (kind_of_type b)) ≡ true
+kinds_compare Integer Integer h = refl
+kinds_compare Integer Bigint h = refl
+kinds_compare Integer Text h = absurd (false≢true h)
+kinds_compare Integer Boolean h = absurd (false≢true h)
+kinds_compare Bigint Integer h = refl
+kinds_compare Bigint Bigint h = refl
+kinds_compare Bigint Text h = absurd (false≢true h)
+kinds_compare Bigint Boolean h = absurd (false≢true h)
+kinds_compare Text Integer h = absurd (false≢true h)
+kinds_compare Text Bigint h = absurd (false≢true h)
+kinds_compare Text Text h = refl
+kinds_compare Text Boolean h = absurd (false≢true h)
+kinds_compare Boolean Integer h = absurd (false≢true h)
+kinds_compare Boolean Bigint h = absurd (false≢true h)
+kinds_compare Boolean Text h = absurd (false≢true h)
+kinds_compare Boolean Boolean h = refl
+
+-- columns whose values can be compared
+columns_fine : (s : Schema) (t i j : ℕ) → can_pair (column_ty s t i) (column_ty s t j) ≡ true → Has s t i × Has s t j × (compare_kinds (Some (kind_of s t i)) (Some (kind_of s t j)) ≡ true)
+columns_fine s t i j h = by (column_ty s t i) (column_ty s t j) refl refl h
+  where
+    by : (a b : Option Ty) → column_ty s t i ≡ a → column_ty s t j ≡ b → can_pair a b ≡ true → Has s t i × Has s t j × (compare_kinds (Some (kind_of s t i)) (Some (kind_of s t j)) ≡ true)
+    by None b e f g = absurd (false≢true g)
+    by (Some a) None e f g = absurd (false≢true g)
+    by (Some a) (Some b) e f g =
+        let one = column_is s t i a e in
+        let other = column_is s t j b f in
+        (one.0, other.0, rw (one.1, other.1) (kinds_compare a b g))
 
 -- ---- conditions
 
@@ -118,12 +155,16 @@ module _ (s : Schema) (rels : (t r : ℕ) → is_some (slice_get (table s t).rel
     filter_fine (or_of bs) t h g = filters_fine bs t h g
     filter_fine (not_of b) t h g = filter_fine b t h g
     filter_fine (test c tested vs negated) t h g =
-        let at = of_column (λ ty. TestFits tested ty vs) (is_test tested vs) s t c (λ ty f. test_fine ty tested vs f g) h in
+        let at = of_column (λ ty. TestFits tested ty (operands_of vs)) (is_test tested vs) s t c (λ ty f. test_fine ty tested vs f g) h in
         let is = column_is s t c at.0 at.1 in
-        (is.0, subst (λ (ty : Ty). TestFits tested ty vs) (sym is.1) at.2)
+        (is.0, subst (λ (ty : Ty). TestFits tested ty (operands_of vs)) (sym is.1) at.2)
     filter_fine (through r b) t h g =
         let parts = and_parts _ _ h in
         (rels t r parts.0, filter_fine b (rel s t r).remote parts.1 g)
+    filter_fine (exists_in u b) t h g =
+        let parts = and_parts _ _ h in
+        (ltb-true u (length s) parts.0, filter_fine b u parts.1 g)
+    filter_fine (two_columns i op j) t h g = columns_fine s t i j h
 
     filters_fine : (bs : BexpTrees) (t : ℕ) → are_filters bs s t ≡ true → are_bound bs ≡ true → FineBexps bs s t
     filters_fine no_bexp t h g = tt

@@ -14,6 +14,7 @@ use Rattle.hq_terms.specs.Meta.{MetaTree}
 use Rattle.hq_terms.specs.Schema.{Schema, schema_of, table, rel}
 use Rattle.hq_terms.specs.Selected.{SortKey, ListArguments}
 use Rattle.hq_terms.specs.declared.bexp.Operand.TheVariants.{Const}
+use Rattle.hq_terms.specs.declared.bexp.Operands.TheVariants as operands
 use Rattle.hq_terms.specs.declared.op.Op.TheVariants.{Eq}
 use Rattle.hq_terms.specs.declared.table.Table.{Table}
 use Rattle.hq_terms.specs.declared.test.Test.TheVariants.{Compare}
@@ -91,7 +92,7 @@ module _ (tables : List Table) (m : MetaTree) (fitting : fits tables m ≡ true)
   key_fine t (c ∷ cs) [] h = tt
   key_fine t (c ∷ cs) (v ∷ vs) h =
       let parts = and_parts _ _ h in
-      let at = of_column (λ ty. TestFits (Compare Eq) ty (Const v ∷ [])) (λ ty. constant_fits ty v) s t c (λ ty f. test_fine ty (Compare Eq) (Const v ∷ []) (two (constant_fits ty v) true f refl) refl) parts.0 in
+      let at = of_column (λ ty. TestFits (Compare Eq) ty (Const v ∷ [])) (λ ty. constant_fits ty v) s t c (λ ty f. test_fine ty (Compare Eq) (operands.List (Const v ∷ [])) (two (constant_fits ty v) true f refl) refl) parts.0 in
       let is = column_is s t c at.0 at.1 in
       (subst (λ (ty : Ty). TestFits (Compare Eq) ty (Const v ∷ [])) (sym is.1) at.2, key_fine t cs vs parts.1)
 

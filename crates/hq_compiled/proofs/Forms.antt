@@ -6,7 +6,7 @@ use Rattle.std.proofs.lemmas.Bool.{le-leb}
 use Rattle.hq_base.specs.declared.aggregate.Aggregate.{Aggregate}
 use Rattle.hq_base.specs.declared.value.Val.{Val}
 use Rattle.hq_base.specs.declared.value.Val.TheVariants as val
-use Rattle.hq_terms.specs.Bexp.{BexpTree, always, and_of, or_of, not_of, test, through, BexpTrees, no_bexp, bexp}
+use Rattle.hq_terms.specs.Bexp.{BexpTree, always, and_of, or_of, not_of, test, through, exists_in, two_columns, BexpTrees, no_bexp, bexp, operands_of}
 use Rattle.hq_terms.specs.Permission.{Mask}
 use Rattle.hq_terms.specs.Schema.{Schema, table, rel}
 use Rattle.hq_terms.specs.Tests.{arity, has_arity, is_of_nothing}
@@ -198,7 +198,7 @@ module _ (s : Schema) (m : Mode) (h : ModeForms m) where
     predicate_form (and_of bs) look t p n = and_form (predicates bs s m look t p n) (predicates_form bs look t p n)
     predicate_form (or_of bs) look t p n = or_form (predicates bs s m look t p n) (predicates_form bs look t p n)
     predicate_form (not_of b) look t p n = predicate_form b look t p n
-    predicate_form (test c tested vs negated) look t p n = test_form _ _ _ tested vs negated
+    predicate_form (test c tested vs negated) look t p n = test_form _ _ _ tested (operands_of vs) negated
     predicate_form (through r b) look t p n =
         let u : ℕ = (rel s t r).remote in
         let cs : List ℕ = columns_in b in
@@ -208,6 +208,14 @@ module _ (s : Schema) (m : Mode) (h : ModeForms m) where
         let B : PredTree = predicate b s m (m.look u cs n) u n (inner_from m u cs n) in
         rows_form [] (record { value = tree.bool true; name = unit_name } ∷ []) (table s u).schema (table s u).name (table_alias n) (joins_of js) (where_of (with_member L (with_member A (with_member B [])))) [] None None refl refl refl
         (joins_form js (h.joins u cs n)) (three_form L A B (linked_form s t (rel s t r) p n) (h.guard u n (guard_from m u cs n)) (predicate_form b (m.look u cs n) u n (inner_from m u cs n))) refl
+    predicate_form (exists_in u b) look t p n =
+        let cs : List ℕ = columns_in b in
+        let js : List JoinTree = m.joins u cs n in
+        let A : PredTree = m.guard u n (guard_from m u cs n) in
+        let B : PredTree = predicate b s m (m.look u cs n) u n (inner_from m u cs n) in
+        rows_form [] (record { value = tree.bool true; name = unit_name } ∷ []) (table s u).schema (table s u).name (table_alias n) (joins_of js) (where_of (with_member tree.always (with_member A (with_member B [])))) [] None None refl refl refl
+        (joins_form js (h.joins u cs n)) (three_form tree.always A B refl (h.guard u n (guard_from m u cs n)) (predicate_form b (m.look u cs n) u n (inner_from m u cs n))) refl
+    predicate_form (two_columns i op j) look t p n = refl
 
     predicates_form : (bs : BexpTrees) (look : Look) (t p n : ℕ) → Forms (predicates bs s m look t p n)
     predicates_form no_bexp look t p n = tt

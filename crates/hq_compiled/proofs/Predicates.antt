@@ -2,9 +2,9 @@
 use Rattle.std.proofs.Common.{◌≡◌, ℕ, ◌+◌, ◌<◌, ◌≤◌, ◌^◌, List, [], ◌∷◌, map, filter, Bool, true, false, cond, ◌&&◌, ◌||◌, None, refl, sym, ap, ap₂, ◌∙◌, arith, Ordering, Equal, is_gt}
 use Rattle.std.specs.List.{list_any}
 use Rattle.hq_base.specs.Lists.{put, sort}
-use Rattle.hq_terms.specs.Bexp.{BexpTree, always, and_of, or_of, not_of, test, through, BexpTrees, no_bexp, bexp}
+use Rattle.hq_terms.specs.Bexp.{BexpTree, always, and_of, or_of, not_of, test, through, exists_in, two_columns, BexpTrees, no_bexp, bexp, operands_of}
 use Rattle.hq_terms.specs.Database.{Row}
-use Rattle.hq_terms.specs.Logic.{is_true, truth_of, not3, and3, or3}
+use Rattle.hq_terms.specs.Logic.{is_true, truth_of, not3, and3, or3, compared}
 use Rattle.hq_terms.specs.Schema.{Schema, table, rel}
 use Rattle.hq_terms.specs.Seen.{Sees, linked_by, table_rows, all_of}
 use Rattle.hq_terms.specs.Tests.{is_of_nothing}
@@ -18,7 +18,7 @@ use Rattle.hq_sql_tree.specs.Meaning.{NamedRow, Scope, World, has_rows, outputs,
 use Rattle.hq_compiled.specs.Names.{table_alias, unit_name}
 use Rattle.hq_compiled.specs.Looks.{Look, own_look, tested_at}
 use Rattle.hq_compiled.specs.Conditions.{with_member, where_of}
-use Rattle.hq_compiled.specs.Predicates.{link_members, link, Mode, columns_in, columns_in_all, guard_from, inner_from, numbers, numbers_all, predicate, predicates, filter_mode, own_numbers, own_predicate}
+use Rattle.hq_compiled.specs.Predicates.{link_members, link, Mode, columns_in, columns_in_all, guard_from, inner_from, numbers, numbers_all, counted_rows, predicate, predicates, filter_mode, own_numbers, own_predicate}
 use Rattle.hq_compiled.proofs.Names.{Shows, Narrow, at_row, shows_row, shows_behind, table_aliases_differ, used_else, Looks, looks_left, looks_right}
 use Rattle.hq_compiled.proofs.Sound.{Sound}
 use Rattle.hq_compiled.proofs.Conditions.{all_kept, truths_all, truths_any, truth_joined, truth_alternatives, true_joined, kept_three, test_means}
@@ -82,14 +82,14 @@ module _ (s : Schema) (tables : List Table) (d : List (List Row)) (sound : Sound
   abbrev w : World
   w = record { tables = tables; database = d }
 
-  -- some remote row that counts is linked and meets the inner expression
-  through_means : (r : ℕ) (b : BexpTree) (t p n : ℕ) (scope : Scope) (row : Row) → p < n → n + numbers (through r b) s m t ≤ 2 ^ 64 → Shows s scope t p row
-      → ((scope : Scope) (far : Row) → Shows s scope (rel s t r).remote n far → Looks (m.look (rel s t r).remote (columns_in b) n) (columns_in b) scope (S.cell (rel s t r).remote far)
-      → truth_at (predicate b s m (m.look (rel s t r).remote (columns_in b) n) (rel s t r).remote n (inner_from m (rel s t r).remote (columns_in b) n)) w scope ≡ truth b s S (rel s t r).remote far)
-      → (look : Look) → truth_at (predicate (through r b) s m look t p n) w scope ≡ truth (through r b) s S t row
-  through_means r b t p n scope row lt bound shows inner_means look =
-      let relation : Rel = rel s t r in
-      let u : ℕ = (rel s t r).remote in
+  -- some row that counts is tied and meets the inner expression
+  counted_means : (u : ℕ) (b : BexpTree) (n : ℕ) (scope : Scope) (tie : PredTree) (tied : Row → Bool) → n + (1 + m.extra u (columns_in b) + m.more u + numbers b s m u) ≤ 2 ^ 64
+      → ((far : Row) → Narrow s u far → is_true (truth_at tie w (g.after u (columns_in b) n far (at_row s u n scope far))) ≡ tied far)
+      → ((scope : Scope) (far : Row) → Shows s scope u n far → Looks (m.look u (columns_in b) n) (columns_in b) scope (S.cell u far)
+      → truth_at (predicate b s m (m.look u (columns_in b) n) u n (inner_from m u (columns_in b) n)) w scope ≡ truth b s S u far)
+      → truth_at (tree.exists (counted_rows s m u n (columns_in b) tie (predicate b s m (m.look u (columns_in b) n) u n (inner_from m u (columns_in b) n)))) w scope
+      ≡ truth_of (list_any (λ far. tied far && is_true (truth b s S u far)) (S.rows u))
+  counted_means u b n scope tie tied bound tie_means inner_means =
       let cs : List ℕ = columns_in b in
       let joins : List JoinTree = m.joins u cs n in
       let x = g.extends u n cs (omega arith) in
@@ -97,20 +97,17 @@ module _ (s : Schema) (tables : List Table) (d : List (List Row)) (sound : Sound
       let X : Row → Scope = λ far. g.after u cs n far (E far) in
       let here : (far : Row) → Narrow s u far → Shows s (E far) u n far = λ far narrow. shows_row s scope u n far (sound.differ u) narrow in
       let far_shows : (far : Row) → Narrow s u far → Shows s (X far) u n far = λ far narrow. shows_kept s w x (E far) far u n far (here far narrow) in
-      let own_shows : (far : Row) → Shows s (X far) t p row =
-      λ far. shows_kept s w x (E far) far t p row (shows_behind s scope t p (table_alias n) row _ (table_aliases_differ p n lt (omega arith)) shows) in
-      let tie : PredTree = link s t relation p n in
       let guard : PredTree = m.guard u n (guard_from m u cs n) in
       let inner : PredTree = predicate b s m (m.look u cs n) u n (inner_from m u cs n) in
       let condition : FilterTree = where_of (with_member tie (with_member guard (with_member inner []))) in
-      let test : Row → Bool = λ far. g.within u far && (linked_by relation.pairs row far && is_true (truth b s S u far)) in
+      let test : Row → Bool = λ far. g.within u far && (tied far && is_true (truth b s S u far)) in
       let keeps_row : (far : Row) → Narrow s u far → kept condition w (X far) ≡ test far =
       λ far narrow.
       kept_three w (X far) tie guard inner
-      ∙ ap₂ (λ a c. a && c) (link_means s w t relation p n (X far) row far (own_shows far) (far_shows far narrow))
+      ∙ ap₂ (λ a c. a && c) (tie_means far narrow)
       (ap₂ (λ a c. a && (c && true)) (g.means u n (guard_from m u cs n) (X far) far (omega arith) (omega arith) (far_shows far narrow))
       (ap is_true (inner_means (X far) far (far_shows far narrow) (g.looks u n cs (E far) far (omega arith) (here far narrow)))))
-      ∙ reordered (linked_by relation.pairs row far) (g.within u far) (is_true (truth b s S u far)) in
+      ∙ reordered (tied far) (g.within u far) (is_true (truth b s S u far)) in
       let R : Row → Row → Ordering = λ a c. Equal in
       let rowwise : Rowwise s w u n scope joins condition [] X test R = record {
         joins = λ far narrow. goes_last s w x (E far) far (here far narrow);
@@ -122,8 +119,26 @@ module _ (s : Schema) (tables : List Table) (d : List (List Row)) (sound : Sound
       ∙ ap truth_of
       (rows_map (λ far. outputs outs [] (X far)) (sorted_rows d u R test)
       ∙ any_sorted R (filter test (table_rows d u)) ∙ any_filtered test (table_rows d u)
-      ∙ sym (g.counted u (λ far. linked_by relation.pairs row far && is_true (truth b s S u far)))
-      ∙ any_same _ _ (λ far. ap (λ c. c && is_true (truth b s S u far)) (sym (g.links t r row far))) (S.rows u))
+      ∙ sym (g.counted u (λ far. tied far && is_true (truth b s S u far))))
+
+  -- some remote row that counts is linked and meets the inner expression
+  through_means : (r : ℕ) (b : BexpTree) (t p n : ℕ) (scope : Scope) (row : Row) → p < n → n + numbers (through r b) s m t ≤ 2 ^ 64 → Shows s scope t p row
+      → ((scope : Scope) (far : Row) → Shows s scope (rel s t r).remote n far → Looks (m.look (rel s t r).remote (columns_in b) n) (columns_in b) scope (S.cell (rel s t r).remote far)
+      → truth_at (predicate b s m (m.look (rel s t r).remote (columns_in b) n) (rel s t r).remote n (inner_from m (rel s t r).remote (columns_in b) n)) w scope ≡ truth b s S (rel s t r).remote far)
+      → (look : Look) → truth_at (predicate (through r b) s m look t p n) w scope ≡ truth (through r b) s S t row
+  through_means r b t p n scope row lt bound shows inner_means look =
+      let relation : Rel = rel s t r in
+      let u : ℕ = (rel s t r).remote in
+      let cs : List ℕ = columns_in b in
+      let x = g.extends u n cs (omega arith) in
+      let E : Row → Scope = at_row s u n scope in
+      let X : Row → Scope = λ far. g.after u cs n far (E far) in
+      let far_shows : (far : Row) → Narrow s u far → Shows s (X far) u n far = λ far narrow. shows_kept s w x (E far) far u n far (shows_row s scope u n far (sound.differ u) narrow) in
+      let own_shows : (far : Row) → Shows s (X far) t p row =
+      λ far. shows_kept s w x (E far) far t p row (shows_behind s scope t p (table_alias n) row _ (table_aliases_differ p n lt (omega arith)) shows) in
+      counted_means u b n scope (link s t relation p n) (linked_by relation.pairs row) bound
+      (λ far narrow. link_means s w t relation p n (X far) row far (own_shows far) (far_shows far narrow)) inner_means
+      ∙ ap truth_of (any_same _ _ (λ far. ap (λ c. c && is_true (truth b s S u far)) (sym (g.links t r row far))) (S.rows u))
 
   mutual
     pub predicate_means : (b : BexpTree) (look : Look) (t p n : ℕ) (scope : Scope) (row : Row) → p < n → n + numbers b s m t ≤ 2 ^ 64 → Shows s scope t p row → Looks look (columns_in b) scope (S.cell t row)
@@ -133,12 +148,18 @@ module _ (s : Schema) (tables : List Table) (d : List (List Row)) (sound : Sound
     predicate_means (or_of bs) look t p n scope row lt bound shows l = truth_alternatives w scope (predicates bs s m look t p n) ∙ any_means bs look t p n scope row lt bound shows l
     predicate_means (not_of b) look t p n scope row lt bound shows l = ap not3 (predicate_means b look t p n scope row lt bound shows l)
     predicate_means (test c tested vs negated) look t p n scope row lt bound shows l =
-        test_means w scope (tested_at (table s t).columns (look c) c tested) (S.cell t row c) tested vs negated (λ some. l c (used_else c (is_of_nothing tested vs) some))
+        test_means w scope (tested_at (table s t).columns (look c) c tested) (S.cell t row c) tested (operands_of vs) negated (λ some. l c (used_else c (is_of_nothing tested (operands_of vs)) some))
     predicate_means (through r b) look t p n scope row lt bound shows l =
         through_means r b t p n scope row lt bound shows
         (λ inner far far_shows far_looks.
         predicate_means b (m.look (rel s t r).remote (columns_in b) n) (rel s t r).remote n (inner_from m (rel s t r).remote (columns_in b) n) inner far (omega arith) (omega arith) far_shows far_looks)
         look
+    predicate_means (exists_in u b) look t p n scope row lt bound shows l =
+        counted_means u b n scope tree.always (λ far. true) bound (λ far narrow. refl)
+        (λ inner far far_shows far_looks. predicate_means b (m.look u (columns_in b) n) u n (inner_from m u (columns_in b) n) inner far (omega arith) (omega arith) far_shows far_looks)
+    predicate_means (two_columns i op j) look t p n scope row lt bound shows l =
+        ap₂ (compared op) (looks_left look (i ∷ []) (j ∷ []) scope (S.cell t row) l i (used_else i false refl))
+        (looks_right look (i ∷ []) (j ∷ []) scope (S.cell t row) l j (used_else j false refl))
 
     all_means : (bs : BexpTrees) (look : Look) (t p n : ℕ) (scope : Scope) (row : Row) → p < n → n + numbers_all bs s m t ≤ 2 ^ 64 → Shows s scope t p row → Looks look (columns_in_all bs) scope (S.cell t row)
         → truths_all w scope (predicates bs s m look t p n) ≡ truth_of_all bs s S t row

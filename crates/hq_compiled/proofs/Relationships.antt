@@ -105,7 +105,7 @@ module _ (tables : List Table) (m : MetaTree) (fit : fits tables m ≡ true) whe
 
   entry : (t : ℕ) (k : TrackedTree) → tracked_table m t ≡ Some k → (k.table ≡ t) × (fits_tracked s m k ≡ true)
   entry t k is =
-      let all = (and_parts _ _ (and_parts _ _ fit).0).1 in
+      let all = (and_parts _ _ (and_parts _ _ (and_parts _ _ fit).0).0).1 in
       let both = found (λ j. j.table == t) (fits_tracked s m) m.tracked k all is in
       (eqb-true k.table t both.0, both.1)
 

@@ -6,7 +6,7 @@ use Rattle.hq_base.specs.Lists.{Each}
 use Rattle.hq_base.specs.declared.aggregate.Aggregate.{Aggregate}
 use Rattle.hq_base.specs.declared.value.Val.{Val}
 use Rattle.hq_base.specs.declared.value.Val.TheVariants as val
-use Rattle.hq_terms.specs.Bexp.{BexpTree, always, and_of, or_of, not_of, test, through, BexpTrees, no_bexp, bexp, depth, depth_of_all}
+use Rattle.hq_terms.specs.Bexp.{BexpTree, always, and_of, or_of, not_of, test, through, exists_in, two_columns, BexpTrees, no_bexp, bexp, depth, depth_of_all, operands_of}
 use Rattle.hq_terms.specs.Permission.{Mask}
 use Rattle.hq_terms.specs.Schema.{Schema, table, rel}
 use Rattle.hq_terms.specs.Tests.{arity, is_of_nothing}
@@ -185,7 +185,7 @@ module _ (s : Schema) (m : Mode) (G : ℕ) (h : LowMode m G) where
         omega (arith, all)
     predicate_low (not_of b) look t p n = let one = predicate_low b look t p n in omega (arith, one)
     predicate_low (test c tested vs negated) look t p n =
-        let w = test_low (look c).alias (look c).name (compares tested && is_text_column (table s t).columns c) tested vs negated in omega (arith, w)
+        let w = test_low (look c).alias (look c).name (compares tested && is_text_column (table s t).columns c) tested (operands_of vs) negated in omega (arith, w)
     predicate_low (through r b) look t p n =
         let u : ℕ = (rel s t r).remote in
         let k : ℕ = 2 * depth b + G + 2 in
@@ -201,6 +201,20 @@ module _ (s : Schema) (m : Mode) (G : ℕ) (h : LowMode m G) where
         let rows = rows_low (1 + k) [] (record { value = tree.bool true; name = unit_name } ∷ []) (tree.table (table s u).schema (table s u).name (table_alias n)) (joins_of (m.joins u (columns_in b) n))
         (where_of (with_member L (with_member A (with_member B [])))) [] None None z z z j f z in
         omega (arith, rows)
+    predicate_low (exists_in u b) look t p n =
+        let k : ℕ = 2 * depth b + G + 2 in
+        let A : PredTree = m.guard u n (guard_from m u (columns_in b) n) in
+        let B : PredTree = predicate b s m (m.look u (columns_in b) n) u n (inner_from m u (columns_in b) n) in
+        let y : pred_depth tree.always ≤ k = omega arith in
+        let a : pred_depth A ≤ k = let q = h.guard u n (guard_from m u (columns_in b) n) in omega (arith, q) in
+        let i : pred_depth B ≤ k = predicate_low b (m.look u (columns_in b) n) u n (inner_from m u (columns_in b) n) in
+        let f : filter_depth (where_of (with_member tree.always (with_member A (with_member B [])))) ≤ 1 + k = three_low k tree.always A B y a i in
+        let j : joins_depth (joins_of (m.joins u (columns_in b) n)) ≤ 1 + k = let q = joins_low (G + 1) (m.joins u (columns_in b) n) (h.joins u (columns_in b) n) in omega (arith, q) in
+        let z : 0 ≤ 1 + k = omega arith in
+        let rows = rows_low (1 + k) [] (record { value = tree.bool true; name = unit_name } ∷ []) (tree.table (table s u).schema (table s u).name (table_alias n)) (joins_of (m.joins u (columns_in b) n))
+        (where_of (with_member tree.always (with_member A (with_member B [])))) [] None None z z z j f z in
+        omega (arith, rows)
+    predicate_low (two_columns i op j) look t p n = omega arith
 
     predicates_low : (bs : BexpTrees) (look : Look) (t p n k : ℕ) → 2 * depth_of_all bs + G + 2 ≤ k → Low k (predicates bs s m look t p n)
     predicates_low no_bexp look t p n k le = tt

@@ -6,7 +6,7 @@ use Rattle.hq_base.specs.Lists.{all_differ, Each}
 use Rattle.hq_base.specs.declared.value.Ty.{Ty}
 use Rattle.hq_base.specs.declared.value.Ty.TheVariants.{Text}
 use Rattle.hq_base.specs.declared.value.Val.TheVariants as val
-use Rattle.hq_terms.specs.Bexp.{BexpTree, always, and_of, or_of, not_of, test, through, BexpTrees, no_bexp, bexp}
+use Rattle.hq_terms.specs.Bexp.{BexpTree, always, and_of, or_of, not_of, test, through, exists_in, two_columns, BexpTrees, no_bexp, bexp, operands_of}
 use Rattle.hq_terms.specs.Database.{is_text}
 use Rattle.hq_terms.specs.Schema.{Schema, table, rel, no_column}
 use Rattle.hq_terms.specs.Tests.{arity, is_of_nothing}
@@ -260,8 +260,8 @@ module _ (s : Schema) (g : Rights) (tables : List Table) (ok : FineTables s g ta
       predicate_typed (or_of bs) look t p n scope f own lt k u bound = or_typed tables scope (predicates bs s m look t p n) (predicates_typed bs look t p n scope f own lt k u bound)
       predicate_typed (not_of b) look t p n scope f own lt k u bound = predicate_typed b look t p n scope f own lt k u bound
       predicate_typed (test c tested vs negated) look t p n scope f own lt k u bound =
-          test_of_typed tables scope (tested_at (table s t).columns (look c) c tested) tested vs negated
-          (λ some. test_typed scope (look c).alias (look c).name (type_of s t c) tested vs (k c f.0 (used_else c (is_of_nothing tested vs) some)) f.1)
+          test_of_typed tables scope (tested_at (table s t).columns (look c) c tested) tested (operands_of vs) negated
+          (λ some. test_typed scope (look c).alias (look c).name (type_of s t c) tested (operands_of vs) (k c f.0 (used_else c (is_of_nothing tested (operands_of vs)) some)) f.1)
       predicate_typed (through r b) look t p n scope f own lt k u bound =
           let far : ℕ = (rel s t r).remote in
           let cs : List ℕ = columns_in b in
@@ -283,6 +283,28 @@ module _ (s : Schema) (g : Rights) (tables : List Table) (ok : FineTables s g ta
           let inner = predicate_typed b (m.look far cs n) far n (inner_from m far cs n) final f.1 here (omega arith) shown (looks_under_later (n + 1 + m.extra far cs) (inner_from m far cs n) (m.look far cs n) (omega arith) (h.under far n cs (omega arith))) (omega arith) in
           table_typed scope final far n [] (record { value = tree.bool true; name = unit_name } ∷ []) (joins_of (m.joins far cs n)) (where_of (with_member L (with_member A (with_member B [])))) [] None None f.0.0
           (typed_last tables in_scope (n + 1) (n + 1 + m.extra far cs) (m.joins far cs n) _ j) (joined_last tables in_scope (n + 1) (n + 1 + m.extra far cs) (m.joins far cs n) _ j) (three_typed tables final L A B linked kept inner) refl
+      predicate_typed (exists_in far b) look t p n scope f own lt k u bound =
+          let cs : List ℕ = columns_in b in
+          let in_scope : Aliases = with_table s tables far n scope in
+          let near : KnowsAll s in_scope far (own_look (table s far).columns n) = knows_here s g tables far n scope (ok far f.0) in
+          let j = h.joins far n cs in_scope f.0 near (omega arith) in
+          let final : Aliases = j.after in
+          let here : KnowsAll s final far (own_look (table s far).columns n) = all_behind s in_scope final far (n + 1) (own_look (table s far).columns n) j.grows (own_under (table s far).columns n) near in
+          let A : PredTree = m.guard far n (guard_from m far cs n) in
+          let B : PredTree = predicate b s m (m.look far cs n) far n (inner_from m far cs n) in
+          let shown = j.seen final (λ x name v. refl) in
+          let kept = h.guard far n (guard_from m far cs n) final f.0 here (omega arith) (omega arith) in
+          let inner = predicate_typed b (m.look far cs n) far n (inner_from m far cs n) final f.1 here (omega arith) shown (looks_under_later (n + 1 + m.extra far cs) (inner_from m far cs n) (m.look far cs n) (omega arith) (h.under far n cs (omega arith))) (omega arith) in
+          table_typed scope final far n [] (record { value = tree.bool true; name = unit_name } ∷ []) (joins_of (m.joins far cs n)) (where_of (with_member A (with_member B []))) [] None None f.0
+          (typed_last tables in_scope (n + 1) (n + 1 + m.extra far cs) (m.joins far cs n) _ j) (joined_last tables in_scope (n + 1) (n + 1 + m.extra far cs) (m.joins far cs n) _ j) (two_typed tables final A B kept inner) refl
+      predicate_typed (two_columns i op j) look t p n scope f own lt k u bound =
+          let left : ExprTree = compared_at (table s t).columns (look i) i in
+          let right : ExprTree = compared_at (table s t).columns (look j) j in
+          let one = knows_left s scope t look (i ∷ []) (j ∷ []) k i f.0 (used_else i false refl) in
+          let other = knows_right s scope t look (i ∷ []) (j ∷ []) k j f.1 (used_else j false refl) in
+          let kinds : compare_kinds (kind scope left) (kind scope right) ≡ true = rw (one, other) f.2 in
+          two (is_compared scope left) (is_item scope left right && true) (compared_typed scope t (look i) i one)
+          (two (is_item scope left right) true (two (is_compared scope right) (compare_kinds (kind scope left) (kind scope right)) (compared_typed scope t (look j) j other) kinds) refl)
 
       pub predicates_typed : (bs : BexpTrees) (look : Look) (t p n : ℕ) (scope : Aliases) → FineBexps bs s t → KnowsAll s scope t (own_look (table s t).columns p) → p < n → Knows s scope t look (columns_in_all bs) → LooksUnder n look
           → n + numbers_all bs s m t ≤ 2 ^ 64 → Preds tables scope (predicates bs s m look t p n)

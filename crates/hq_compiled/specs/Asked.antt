@@ -1,6 +1,5 @@
 -- The statement that is asked for a typed request: that of the root fields that start at a table, by what the request grants.
-use Rattle.std.specs.Prelude.{◌≡◌, ℕ, ◌+◌, ◌≤◌, ◌^◌, List, [], length, true}
-use Rattle.hq_base.specs.Lists.{Each}
+use Rattle.std.specs.Prelude.{◌≡◌, ℕ, ◌+◌, ◌≤◌, ◌^◌, List, length, true}
 use Rattle.hq_terms.specs.Catalog.{is_catalog}
 use Rattle.hq_terms.specs.Database.{Row, is_database}
 use Rattle.hq_terms.specs.Fits.{fits}
@@ -45,14 +44,10 @@ TablesAsked tables m a = IsRequest tables m a → IsRequest tables m (table_requ
 abbrev pub IsHeld : List Table → MetaTree → AskTree → Type 0
 IsHeld tables m a = (asked_numbers tables m a ≤ 2 ^ 64) × AreFew (table_fields a.fields) (schema_of tables m) (length (schema_of tables m))
 
--- no column of a touched table has a mask
-abbrev pub IsBare : AskTree → Type 0
-IsBare a = Each (λ b. b.masks ≡ []) a.bound
-
 -- The statement of a typed request is well-formed for the catalog, where a tree can hold its texts and numbers.
 abbrev pub IsAsked : List Table → MetaTree → AskTree → Type 0
 IsAsked tables m a =
-    is_catalog tables ≡ true → fits tables m ≡ true → IsRequest tables m a → IsBare a → IsHeld tables m a → select_fits (asked_statement tables m a) ≡ true →
+    is_catalog tables ≡ true → fits tables m ≡ true → IsRequest tables m a → IsHeld tables m a → select_fits (asked_statement tables m a) ≡ true →
     is_statement (asked_statement tables m a) tables ≡ true
 
 -- It means what nested resolvers give over the rows that the session may see.

@@ -6,7 +6,7 @@ use Rattle.hq_base.specs.Lists.{all_differ, Each}
 use Rattle.hq_base.specs.declared.aggregate.Aggregate.{Aggregate}
 use Rattle.hq_base.specs.declared.value.Ty.{Ty}
 use Rattle.hq_base.specs.declared.value.Val.{Val}
-use Rattle.hq_terms.specs.Bexp.{BexpTree, always, and_of, or_of, not_of, test, through, BexpTrees, no_bexp, bexp}
+use Rattle.hq_terms.specs.Bexp.{BexpTree, always, and_of, or_of, not_of, test, through, exists_in, two_columns, BexpTrees, no_bexp, bexp, operands_of}
 use Rattle.hq_terms.specs.Catalog.{is_catalog}
 use Rattle.hq_terms.specs.Database.{is_text}
 use Rattle.hq_terms.specs.Meta.{MetaTree}
@@ -82,8 +82,10 @@ abbrev mutual
   FineBexp (and_of bs) s t = FineBexps bs s t
   FineBexp (or_of bs) s t = FineBexps bs s t
   FineBexp (not_of b) s t = FineBexp b s t
-  FineBexp (test c tested vs negated) s t = Has s t c × TestFits tested (type_of s t c) vs
+  FineBexp (test c tested vs negated) s t = Has s t c × TestFits tested (type_of s t c) (operands_of vs)
   FineBexp (through r b) s t = FineRel s t r × FineBexp b s (rel s t r).remote
+  FineBexp (exists_in u b) s t = Known s u × FineBexp b s u
+  FineBexp (two_columns l op r) s t = Has s t l × Has s t r × (compare_kinds (Some (kind_of s t l)) (Some (kind_of s t r)) ≡ true)
 
   pub FineBexps : BexpTrees → Schema → (t : ℕ) → Type 0
   FineBexps no_bexp s t = Unit {0}

@@ -1,7 +1,7 @@
 -- Boolean expressions as conditions: one definition for the filters of permissions and for the `where` of requests, which
 -- differ in what a remote alias has beside its link.
 use Rattle.std.specs.Prelude.{ℕ, ◌+◌, List, [], ◌∷◌, ◌++◌, true, cond, None}
-use Rattle.hq_terms.specs.Bexp.{BexpTree, always, and_of, or_of, not_of, test, through, BexpTrees, no_bexp, bexp}
+use Rattle.hq_terms.specs.Bexp.{BexpTree, always, and_of, or_of, not_of, test, through, exists_in, two_columns, BexpTrees, no_bexp, bexp, operands_of}
 use Rattle.hq_terms.specs.Schema.{Schema, table, rel}
 use Rattle.hq_terms.specs.Tests.{is_of_nothing}
 use Rattle.hq_terms.specs.declared.test.Test.TheVariants.{Compare}
@@ -10,7 +10,7 @@ use Rattle.hq_terms.specs.declared.meta.Rel.{Rel}
 use Rattle.hq_terms.specs.declared.op.Op.TheVariants.{Eq}
 use Rattle.hq_terms.specs.declared.table.Column.{Column}
 use Rattle.hq_sql_tree.specs.Tree as tree
-use Rattle.hq_sql_tree.specs.Tree.{OutTree, SelectTree, JoinTree, joins_of, PredTree}
+use Rattle.hq_sql_tree.specs.Tree.{ExprTree, OutTree, SelectTree, JoinTree, joins_of, PredTree}
 use Rattle.hq_compiled.specs.Names.{table_alias, unit_name}
 use Rattle.hq_compiled.specs.Looks.{Look, own_look, compared_at, tested_at}
 use Rattle.hq_compiled.specs.Conditions.{joined_by_and, joined_by_or, with_member, where_of, test_of}
@@ -42,8 +42,10 @@ abbrev mutual
   columns_in (and_of bs) = columns_in_all bs
   columns_in (or_of bs) = columns_in_all bs
   columns_in (not_of b) = columns_in b
-  columns_in (test c tested vs negated) = cond (is_of_nothing tested vs) [] (c ∷ [])
+  columns_in (test c tested vs negated) = cond (is_of_nothing tested (operands_of vs)) [] (c ∷ [])
   columns_in (through r b) = []
+  columns_in (exists_in u b) = []
+  columns_in (two_columns l op r) = l ∷ r ∷ []
 
   pub columns_in_all : BexpTrees → List ℕ
   columns_in_all no_bexp = []
@@ -65,17 +67,27 @@ abbrev mutual
   numbers (not_of b) s m t = numbers b s m t
   numbers (test c tested vs negated) s m t = 0
   numbers (through r b) s m t = 1 + m.extra (rel s t r).remote (columns_in b) + m.more (rel s t r).remote + numbers b s m (rel s t r).remote
+  numbers (exists_in u b) s m t = 1 + m.extra u (columns_in b) + m.more u + numbers b s m u
+  numbers (two_columns l op r) s m t = 0
 
   pub numbers_all : BexpTrees → Schema → Mode → (t : ℕ) → ℕ
   numbers_all no_bexp s m t = 0
   numbers_all (bexp b bs) s m t = numbers b s m t + numbers_all bs s m t
 
+-- the rows of table u that meet a tie, the further and the inner condition
+abbrev pub counted_rows : Schema → Mode → (u n : ℕ) → (used : List ℕ) → (tie inner : PredTree) → SelectTree
+counted_rows s m u n cs tie inner =
+    tree.rows [] (record { value = tree.bool true; name = unit_name } ∷ [])
+    (tree.table (table s u).schema (table s u).name (table_alias n)) (joins_of (m.joins u cs n))
+    (where_of (with_member tie (with_member (m.guard u n (guard_from m u cs n)) (with_member inner [])))) [] None None
+
 -- the rows of a remote table that are linked to the row at the alias of number p, and meet the further and the inner condition
 abbrev pub remote_rows : Schema → Mode → (t p n : ℕ) → Rel → (used : List ℕ) → (inner : PredTree) → SelectTree
-remote_rows s m t p n r cs inner =
-    tree.rows [] (record { value = tree.bool true; name = unit_name } ∷ [])
-    (tree.table (table s r.remote).schema (table s r.remote).name (table_alias n)) (joins_of (m.joins r.remote cs n))
-    (where_of (with_member (link s t r p n) (with_member (m.guard r.remote n (guard_from m r.remote cs n)) (with_member inner [])))) [] None None
+remote_rows s m t p n r cs inner = counted_rows s m r.remote n cs (link s t r p n) inner
+
+-- a column of a row as a comparison looks at it
+abbrev pub compared_column : Schema → Look → (t c : ℕ) → ExprTree
+compared_column s look t c = compared_at (table s t).columns (look c) c
 
 -- an expression over table t at the alias of number p, whose columns are looked at so; its numbers begin at n
 abbrev mutual
@@ -84,10 +96,13 @@ abbrev mutual
   predicate (and_of bs) s m look t p n = joined_by_and (predicates bs s m look t p n)
   predicate (or_of bs) s m look t p n = joined_by_or (predicates bs s m look t p n)
   predicate (not_of b) s m look t p n = tree.negation (predicate b s m look t p n)
-  predicate (test c tested vs negated) s m look t p n = test_of (tested_at (table s t).columns (look c) c tested) tested vs negated
+  predicate (test c tested vs negated) s m look t p n = test_of (tested_at (table s t).columns (look c) c tested) tested (operands_of vs) negated
   predicate (through r b) s m look t p n =
       tree.exists (remote_rows s m t p n (rel s t r) (columns_in b)
       (predicate b s m (m.look (rel s t r).remote (columns_in b) n) (rel s t r).remote n (inner_from m (rel s t r).remote (columns_in b) n)))
+  predicate (exists_in u b) s m look t p n =
+      tree.exists (counted_rows s m u n (columns_in b) tree.always (predicate b s m (m.look u (columns_in b) n) u n (inner_from m u (columns_in b) n)))
+  predicate (two_columns l op r) s m look t p n = tree.test (compared_column s look t l) (Compare op) (compared_column s look t r ∷ [])
 
   pub predicates : BexpTrees → Schema → Mode → Look → (t p n : ℕ) → List PredTree
   predicates no_bexp s m look t p n = []

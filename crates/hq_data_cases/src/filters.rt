@@ -10,6 +10,7 @@ use std::alloc::Global;
 fn push_refusal(refusal: &FilterRefusal, words: &mut Words) {
     match refusal {
         FilterRefusal::Shape { path } => words.push_pair("Shape ", path.as_str()),
+        FilterRefusal::UnknownTable { path } => words.push_pair("UnknownTable ", path.as_str()),
         FilterRefusal::UnknownColumn { path } => words.push_pair("UnknownColumn ", path.as_str()),
         FilterRefusal::BadOperand { path } => words.push_pair("BadOperand ", path.as_str()),
         FilterRefusal::Memory => words.push("Memory"),

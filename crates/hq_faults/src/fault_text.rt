@@ -63,6 +63,10 @@ fn want_text(want: Option<Want>) -> &'static str
         Some(Want::Bigint) => "bigint",
         Some(Want::Boolean) => "boolean",
         Some(Want::Pattern) => "pattern",
+        Some(Want::IntegerList) => "list of integer",
+        Some(Want::BigintList) => "list of bigint",
+        Some(Want::TextList) => "list of text",
+        Some(Want::BooleanList) => "list of boolean",
     }
 }
 

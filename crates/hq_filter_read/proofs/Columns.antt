@@ -6,24 +6,24 @@ use Rattle.hq_base.specs.Look.{object_in}
 use Rattle.hq_base.specs.declared.value.Ty.{Ty}
 use Rattle.hq_terms.specs.Bexp.{conjunction}
 use Rattle.hq_terms.specs.Operators.{operator}
+use Rattle.hq_terms.specs.Schema.{SchemaTable}
 use Rattle.hq_terms.specs.declared.op.Op.TheVariants.{Eq}
 use Rattle.hq_terms.specs.declared.test.Test.TheVariants.{Compare}
-use Rattle.hq_filter_read.specs.Condition.{single_due, condition_due, column_due}
+use Rattle.hq_filter_read.specs.Condition.{single_due, written_on, column_due}
 use Rattle.hq_filter_read.specs.Each.{each_member}
-use Rattle.hq_filter_read.specs.Operator.{operator_named}
 
-pub of_object : (c : ℕ) (ty : Ty) (path : List ℕ) (j : JsonTree) (ms : List (List ℕ × JsonTree)) → object_in j ≡ Some ms → column_due c ty path j ≡ mapped conjunction (each_member (λ name p. condition_due c ty p (operator_named name)) path ms)
-of_object c ty path null ms e = cc
-of_object c ty path (bool b) ms e = cc
-of_object c ty path (int n) ms e = cc
-of_object c ty path (str s) ms e = cc
-of_object c ty path (arr js) ms e = cc
-of_object c ty path (obj js) ms e = cc
+pub of_object : (x : SchemaTable) (c : ℕ) (ty : Ty) (path : List ℕ) (j : JsonTree) (ms : List (List ℕ × JsonTree)) → object_in j ≡ Some ms → column_due x c ty path j ≡ mapped conjunction (each_member (written_on x c ty) path ms)
+of_object x c ty path null ms e = cc
+of_object x c ty path (bool b) ms e = cc
+of_object x c ty path (int n) ms e = cc
+of_object x c ty path (str s) ms e = cc
+of_object x c ty path (arr js) ms e = cc
+of_object x c ty path (obj js) ms e = cc
 
-pub of_other : (c : ℕ) (ty : Ty) (path : List ℕ) (j : JsonTree) → object_in j ≡ None → column_due c ty path j ≡ single_due c ty (operator (Compare Eq) false) path j
-of_other c ty path null e = refl
-of_other c ty path (bool b) e = refl
-of_other c ty path (int n) e = refl
-of_other c ty path (str s) e = refl
-of_other c ty path (arr js) e = refl
-of_other c ty path (obj js) e = cc
+pub of_other : (x : SchemaTable) (c : ℕ) (ty : Ty) (path : List ℕ) (j : JsonTree) → object_in j ≡ None → column_due x c ty path j ≡ single_due c ty (operator (Compare Eq) false) path j
+of_other x c ty path null e = refl
+of_other x c ty path (bool b) e = refl
+of_other x c ty path (int n) e = refl
+of_other x c ty path (str s) e = refl
+of_other x c ty path (arr js) e = refl
+of_other x c ty path (obj js) e = cc

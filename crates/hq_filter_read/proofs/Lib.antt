@@ -7,3 +7,4 @@ mod NamedParts
 mod Operands
 mod Sound
 mod Elements
+mod Known

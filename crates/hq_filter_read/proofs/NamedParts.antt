@@ -6,7 +6,7 @@ use Rattle.std.proofs.lemmas.List.Quantifiers.{position-Some}
 use Rattle.std.proofs.lemmas.Option.{slice_get-get_or}
 use Rattle.hq_terms.specs.Schema.{SchemaTable}
 use Rattle.hq_filter_read.specs.declared.named.Named.{Named}
-use Rattle.hq_filter_read.specs.declared.named.Named.TheVariants.{And, Or, Not, Column, Relationship}
+use Rattle.hq_filter_read.specs.declared.named.Named.TheVariants.{And, Or, Not, Exists, Column, Relationship}
 use Rattle.hq_filter_read.specs.Named.{connective_named, column_named, rel_named, named}
 
 -- a column or relationship that is named stands in the table
@@ -15,6 +15,7 @@ IsThere t None = ⊤
 IsThere t (Some And) = ⊤
 IsThere t (Some Or) = ⊤
 IsThere t (Some Not) = ⊤
+IsThere t (Some Exists) = ⊤
 IsThere t (Some (Column c)) = is_some (slice_get t.columns c) ≡ true
 IsThere t (Some (Relationship r)) = is_some (slice_get t.rels r) ≡ true
 
@@ -28,11 +29,12 @@ either_there : (t : SchemaTable) (a b : Option Named) → IsThere t a → IsTher
 either_there t None b h k = k
 either_there t (Some n) b h k = h
 
-connective_there : (t : SchemaTable) (a b c : Bool) → IsThere t (cond a (Some And) (cond b (Some Or) (cond c (Some Not) None)))
-connective_there t true b c = tt
-connective_there t false true c = tt
-connective_there t false false true = tt
-connective_there t false false false = tt
+connective_there : (t : SchemaTable) (a b c d : Bool) → IsThere t (cond a (Some And) (cond b (Some Or) (cond c (Some Not) (cond d (Some Exists) None))))
+connective_there t true b c d = tt
+connective_there t false true c d = tt
+connective_there t false false true d = tt
+connective_there t false false false true = tt
+connective_there t false false false false = tt
 
 column_there : (t : SchemaTable) (o : Option ℕ) → ((c : ℕ) → o ≡ Some c → is_some (slice_get t.columns c) ≡ true) → IsThere t (option_map Column o)
 column_there t None h = tt
@@ -46,7 +48,7 @@ rel_there t (Some r) h = h r refl
 pub named_there : (t : SchemaTable) (name : List ℕ) → IsThere t (named t name)
 unfolding named connective_named column_named rel_named
 named_there t name =
-    either_there t (connective_named name) _ (connective_there t (bytes_eq name (codes "_and")) (bytes_eq name (codes "_or")) (bytes_eq name (codes "_not")))
+    either_there t (connective_named name) _ (connective_there t (bytes_eq name (codes "_and")) (bytes_eq name (codes "_or")) (bytes_eq name (codes "_not")) (bytes_eq name (codes "_exists")))
     (either_there t (option_map Column (column_named t name)) (option_map Relationship (rel_named t name))
     (column_there t (column_named t name) (found (λ c. bytes_eq c.name name) t.columns))
     (rel_there t (rel_named t name) (found (λ r. bytes_eq r.name name) t.rels)))

@@ -1,6 +1,6 @@
 -- An operand that is read is one for the test and the column's type.
 use Rattle.std.proofs.Common.{◌≡◌, refl, ℕ, ◌+◌, true, List, [], ◌∷◌, Option, Some, None, Result, Ok, Err}
-use Rattle.std.specs.Prelude.{IfOk, IfSome, option_map}
+use Rattle.std.specs.Prelude.{⊤, IfOk, IfSome, option_map}
 use Rattle.std.specs.List.{list_all}
 use Rattle.std.specs.Option.{option_or}
 use Rattle.std.specs.Result.{result_ok}
@@ -12,16 +12,19 @@ use Rattle.hq_base.specs.declared.value.Val.{Val}
 use Rattle.hq_terms.specs.Constants.{constant_in}
 use Rattle.hq_terms.specs.Filters.{operand_fits}
 use Rattle.hq_terms.specs.Tests.{applies, reads}
+use Rattle.hq_terms.specs.Bexp.{operands_of}
 use Rattle.hq_terms.specs.declared.bexp.Operand.{Operand}
+use Rattle.hq_terms.specs.declared.bexp.Operands.TheVariants as operands
 use Rattle.hq_terms.specs.declared.bexp.Operand.TheVariants.{Const, Session}
 use Rattle.hq_terms.specs.declared.test.Test.{Test}
 use Rattle.hq_terms.specs.declared.want.Want.{Want}
 use Rattle.hq_terms.proofs.Fitting.{reads_fit, other_fits}
 use Rattle.hq_filter_read.specs.declared.refusal.FilterRefusal.TheVariants.{BadOperand}
+use Rattle.hq_filter_read.specs.Condition.{operands_by}
 use Rattle.hq_filter_read.specs.Each.{each_element}
-use Rattle.hq_filter_read.specs.Operand.{text_operand, operand_of, operand_at}
+use Rattle.hq_filter_read.specs.Operand.{text_operand, operand_of, operand_at, operand_read}
 use Rattle.hq_filter_read.specs.Variable.{variable_named}
-use Rattle.hq_filter_read.proofs.Results.{ok_mapped, ok_and_then, ok_given}
+use Rattle.hq_filter_read.proofs.Results.{ok_always, ok_mapped, ok_and_then, ok_given}
 
 -- a session variable, or else a constant that passes a test
 either_fits : (Fits : Operand → Type 0) (variable : Option (List ℕ)) (value : Option Val) → ((name : List ℕ) → Fits (Session name)) → IfSome value (λ v. Fits (Const v)) → IfSome (option_or (option_map Session variable) (option_map Const value)) Fits
@@ -63,3 +66,12 @@ module _ (t : Test) (ty : Ty) (is : applies t ty ≡ true) where
       ok_and_then (λ o. mapped (λ os. o ∷ os) (each_element (operand_at t ty) path (place + 1) js)) _ Fits
       (λ o h. ok_mapped (λ os. o ∷ os) _ (λ os. list_all (operand_fits t ty) os ≡ true) (λ os k. rw (h, k) refl) (each_element (operand_at t ty) path (place + 1) js) (operands_fit path (place + 1) js))
       (operand_at t ty (item_path path place) j) (operand_at_fits (item_path path place) j)
+
+  -- and of what stands in place of a list
+  pub operands_by_fit : (path : List ℕ) (text : Option (List ℕ)) (list : Option (List JsonTree)) → IfOk (operands_by t ty path text list) (λ vs. list_all (operand_fits t ty) (operands_of vs) ≡ true)
+  operands_by_fit path (Some s) list =
+      ok_mapped operands.Session (λ vs. list_all (operand_fits t ty) (operands_of vs) ≡ true) (λ _. ⊤) (λ name _. refl) (operand_read path (variable_named s)) (ok_always (operand_read path (variable_named s)))
+  operands_by_fit path None list =
+      ok_and_then (λ js. mapped operands.List (each_element (operand_at t ty) path 0 js)) (λ vs. list_all (operand_fits t ty) (operands_of vs) ≡ true) (λ _. ⊤)
+      (λ js _. ok_mapped operands.List (λ vs. list_all (operand_fits t ty) (operands_of vs) ≡ true) (λ os. list_all (operand_fits t ty) os ≡ true) (λ os h. h) (each_element (operand_at t ty) path 0 js) (operands_fit path 0 js))
+      (operand_read path list) (ok_always (operand_read path list))

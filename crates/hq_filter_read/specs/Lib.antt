@@ -3,6 +3,8 @@ pub mod Each
 pub mod Variable
 pub mod Operand
 pub mod Operator
-pub mod Condition
 pub mod Named
+pub mod Condition
+pub mod Tables
+pub mod Asked
 pub mod Filter

@@ -3,14 +3,15 @@ use Rattle.std.specs.Prelude.{ℕ, List, Option, Some, None, option_map, positio
 use Rattle.std.specs.Option.{option_or}
 use Rattle.hq_terms.specs.Schema.{SchemaTable}
 use Rattle.hq_filter_read.specs.declared.named.Named.{Named}
-use Rattle.hq_filter_read.specs.declared.named.Named.TheVariants.{And, Or, Not, Column, Relationship}
+use Rattle.hq_filter_read.specs.declared.named.Named.TheVariants.{And, Or, Not, Exists, Column, Relationship}
 
 -- a connective
 unfoldable pub connective_named : (name : List ℕ) → Option Named
 connective_named name =
     if bytes_eq name (codes "_and") then Some And
     else (if bytes_eq name (codes "_or") then Some Or
-    else (if bytes_eq name (codes "_not") then Some Not else None))
+    else (if bytes_eq name (codes "_not") then Some Not
+    else (if bytes_eq name (codes "_exists") then Some Exists else None)))
 
 -- a column by its name in the database
 unfoldable pub column_named : SchemaTable → (name : List ℕ) → Option ℕ

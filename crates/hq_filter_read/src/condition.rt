@@ -2,16 +2,27 @@ ghost use Rattle.std.specs.Prelude.{◌≡◌, ◌∷◌, [], map, IfOk};
 ghost use Rattle.hq_base.specs.Due.{Gives};
 ghost use Rattle.hq_base.specs.Json.{json_view, member_view};
 ghost use Rattle.hq_terms.specs.Bexp.{bexp_view};
-ghost use Rattle.hq_filter_read.specs.Condition.{told_due, single_due, listed_due, condition_due, column_due};
+ghost use Rattle.hq_base.specs.Look.{str_in, array_in};
+ghost use Rattle.hq_terms.specs.Operators.{column_operator_named};
+ghost use Rattle.hq_terms.specs.Schema.{table, column};
+ghost use Rattle.hq_terms.specs.Scope.{scope_schema};
+ghost use Rattle.hq_terms.specs.declared.bexp.Operands.TheVariants as operands;
+ghost use Rattle.hq_filter_read.specs.Condition.{told_due, single_due, operands_by, listed_due, condition_due, named_due, written_on, column_due};
 ghost use Rattle.hq_filter_read.specs.Each.{each_element, each_member};
-ghost use Rattle.hq_filter_read.specs.Operand.{operand_at};
-ghost use Rattle.hq_filter_read.specs.Operator.{operator_named};
+ghost use Rattle.hq_filter_read.specs.Operand.{operand_at, operand_read};
+ghost use Rattle.hq_filter_read.specs.Variable.{variable_named};
 
 use crate::FilterRefusal;
-use crate::operand::{bad_operand, operand_at, truth_at};
+use crate::compared::compared;
+use crate::operand::{operand_at, truth_at};
 use crate::operator::operator_named;
+use crate::refusal::bad_operand;
+use crate::variable::variable_named;
 use hq_base::{Json, List, Member, Memory, Txt, Ty, item_path, member_path};
-use hq_terms::{Arity, Bexp, BexpList, ColId, Op, Operand, Operands, Operator, Test};
+use hq_terms::{
+    Arity, Bexp, BexpList, ColId, Op, Operand, OperandList, Operands, Operator, Scope, TableId,
+    Test,
+};
 use std::alloc::Global;
 
 // A test that takes no operand, which is to hold or not by a truth value at a path.
@@ -29,7 +40,7 @@ fn told(
     Ok(Bexp::Test {
         col,
         test: operator.test,
-        operands: List::new(alloc),
+        operands: Operands::List(List::new(alloc)),
         negated: if holds {
             operator.negated
         } else {
@@ -40,11 +51,11 @@ fn told(
 
 // A list of one operand.
 fn one(alloc: Global, operand: Operand) -> Result<Operands, Memory>
-    ensures { IfOk result (λ os. os ≡ operand ∷ []) }
+    ensures { IfOk result (λ vs. vs ≡ operands.List (operand ∷ [])) }
 {
     let mut operands = List::new(alloc);
     operands.push(operand)?;
-    Ok(operands)
+    Ok(Operands::List(operands))
 }
 
 // A test of the operand at a path.
@@ -69,13 +80,13 @@ fn single(
 }
 
 // The operands of the list at a path.
-fn operands(
+fn listed_operands(
     alloc: Global,
     test: Test,
     ty: Ty,
     path: &Txt,
     list: &[Json],
-) -> Result<Operands, FilterRefusal>
+) -> Result<OperandList, FilterRefusal>
     ensures { Gives (λ os. os) FilterRefusal.Memory (each_element (operand_at test ty) path.now 0 (map json_view list.now)) result }
 {
     let mut operands = List::new(alloc);
@@ -86,7 +97,36 @@ fn operands(
     Ok(operands)
 }
 
-// A test of the operands of the list at a path.
+// The name of the session variable that a text at a path is to name.
+fn variable_at(alloc: Global, path: &Txt, text: &Txt) -> Result<Txt, FilterRefusal>
+    ensures { Gives (λ name. name) FilterRefusal.Memory (operand_read path.now (variable_named text.now)) result }
+{
+    match variable_named(alloc, text)? {
+        Some(name) => Ok(name),
+        None => Err(bad_operand(alloc, path)),
+    }
+}
+
+// The operands at a path: a list of them, or the session variable that lists them.
+fn operands(
+    alloc: Global,
+    test: Test,
+    ty: Ty,
+    path: &Txt,
+    json: &Json,
+) -> Result<Operands, FilterRefusal>
+    ensures { Gives (λ os. os) FilterRefusal.Memory (operands_by test ty path.now (str_in (json_view json.now)) (array_in (json_view json.now))) result }
+{
+    if let Some(text) = json.as_txt() {
+        return Ok(Operands::Session(variable_at(alloc, path, text)?));
+    }
+    let Some(list) = json.as_array() else {
+        return Err(bad_operand(alloc, path));
+    };
+    Ok(Operands::List(listed_operands(alloc, test, ty, path, list)?))
+}
+
+// A test of the operands at a path.
 #[tactic(auto, unfolding(crate::specs::Condition::listed_due))]
 fn listed(
     alloc: Global,
@@ -98,10 +138,7 @@ fn listed(
 ) -> Result<Bexp, FilterRefusal>
     ensures { Gives bexp_view FilterRefusal.Memory (listed_due col ty operator path.now (json_view json.now)) result }
 {
-    let Some(list) = json.as_array() else {
-        return Err(bad_operand(alloc, path));
-    };
-    let operands = operands(alloc, operator.test, ty, path, list)?;
+    let operands = operands(alloc, operator.test, ty, path, json)?;
     Ok(Bexp::Test {
         col,
         test: operator.test,
@@ -134,23 +171,49 @@ fn condition(
     }
 }
 
+// The condition of the operator of this name, whose operand stands at a path.
+fn named_condition(
+    alloc: Global,
+    scope: &Scope,
+    t: TableId,
+    col: ColId,
+    path: &Txt,
+    name: &str,
+    json: &Json,
+) -> Result<Bexp, FilterRefusal>
+    ensures { let s = scope_schema scope.now in Gives bexp_view FilterRefusal.Memory (named_due (table s t) col (column s t col).ty name.now path.now (json_view json.now) (column_operator_named name.now)) result }
+{
+    match Op::of_columns(name) {
+        Some(op) => compared(alloc, scope, t, col, op, path, json),
+        None => condition(
+            alloc,
+            col,
+            scope.column_type(t, col),
+            path,
+            operator_named(name),
+            json,
+        ),
+    }
+}
+
 // The conditions of the operators of the object at a path.
 fn conditions(
     alloc: Global,
+    scope: &Scope,
+    t: TableId,
     col: ColId,
-    ty: Ty,
     path: &Txt,
     members: &[Member],
 ) -> Result<BexpList, FilterRefusal>
-    ensures { Gives (λ v. map bexp_view v.items) FilterRefusal.Memory (each_member (λ name p. condition_due col ty p (operator_named name)) path.now (map member_view members.now)) result }
+    ensures { Gives (λ v. map bexp_view v.items) FilterRefusal.Memory (each_member (written_on (table (scope_schema scope.now) t) col (column (scope_schema scope.now) t col).ty) path.now (map member_view members.now)) result }
 {
     let mut conditions = Vec::new(alloc);
     for member in members {
         member.name.is_text();
         let name = member.name.as_str();
         let path = member_path(alloc, path, name)?;
-        let operator = operator_named(name);
-        conditions.push(condition(alloc, col, ty, &path, operator, &member.value)?)?;
+        let condition = named_condition(alloc, scope, t, col, &path, name, &member.value)?;
+        conditions.push(condition)?;
     }
     Ok(conditions)
 }
@@ -158,22 +221,24 @@ fn conditions(
 /// The conditions on a column that its member of a filter writes: an object of operators, or a value that it is to
 /// equal.
 #[tactic(auto, using(crate::proofs::Columns::of_object, crate::proofs::Columns::of_other))]
-pub fn column(
+pub fn conditions_on(
     alloc: Global,
+    scope: &Scope,
+    t: TableId,
     col: ColId,
-    ty: Ty,
     path: &Txt,
     json: &Json,
 ) -> Result<Bexp, FilterRefusal>
-    ensures { Gives bexp_view FilterRefusal.Memory (column_due col ty path.now (json_view json.now)) result }
+    ensures { let s = scope_schema scope.now in Gives bexp_view FilterRefusal.Memory (column_due (table s t) col (column s t col).ty path.now (json_view json.now)) result }
 {
     match json.as_object() {
-        Some(members) => Ok(Bexp::all_of(conditions(alloc, col, ty, path, members)?)),
+        Some(members) => Ok(Bexp::all_of(conditions(alloc, scope, t, col, path, members)?)),
         None => {
             let equals = Operator {
                 test: Test::Compare(Op::Eq),
                 negated: false,
             };
+            let ty = scope.column_type(t, col);
             single(alloc, col, ty, equals, path, json)
         }
     }

@@ -14,6 +14,7 @@ pub enum Named {
     And,
     Or,
     Not,
+    Exists,
     Column(ColId),
     Relationship(RelId),
 }
@@ -26,6 +27,7 @@ fn connective_named(name: &str) -> Option<Named>
         "_and" => Some(Named::And),
         "_or" => Some(Named::Or),
         "_not" => Some(Named::Not),
+        "_exists" => Some(Named::Exists),
         _ => None,
     }
 }
@@ -51,8 +53,8 @@ fn column_in(table: &Table, name: &Txt) -> Option<ColId>
     column_place(table.columns.as_slice(), name).map(ColId::new)
 }
 
-// The column of this name.
-fn column_named(scope: &Scope, t: TableId, name: &Txt) -> Option<ColId>
+/// The column of this name.
+pub fn column_named(scope: &Scope, t: TableId, name: &Txt) -> Option<ColId>
     ensures { result ≡ column_named (table (scope_schema scope.now) t) name.now }
 {
     match scope.catalog.table(t) {

@@ -1,24 +1,15 @@
-ghost use Rattle.std.specs.Prelude.{◌≡◌, ◌⊎◌, IfOk};
+ghost use Rattle.std.specs.Prelude.{◌≡◌, IfOk};
 ghost use Rattle.hq_base.specs.Due.{Gives};
 ghost use Rattle.hq_base.specs.Json.{json_view};
 ghost use Rattle.hq_terms.specs.Tests.{reads};
 ghost use Rattle.hq_filter_read.specs.Operand.{text_operand, operand_of, truth_in, operand_at, operand_read};
 
 use crate::FilterRefusal;
+use crate::refusal::bad_operand;
 use crate::variable::variable_named;
 use hq_base::{Json, Memory, Txt, Ty};
 use hq_terms::{Operand, Test, constant_in, read_operand, truth_value};
 use std::alloc::Global;
-
-/// The refusal of the operand or operator at this path.
-pub fn bad_operand(alloc: Global, path: &Txt) -> FilterRefusal
-    ensures { (result ≡ FilterRefusal.Memory) ⊎ (result ≡ FilterRefusal.BadOperand path.now) }
-{
-    match path.copy(alloc) {
-        Ok(path) => FilterRefusal::BadOperand { path },
-        Err(_) => FilterRefusal::Memory,
-    }
-}
 
 // The operand that a text is, for a test of a column of a type.
 #[tactic(auto, unfolding(crate::specs::Operand::text_operand))]

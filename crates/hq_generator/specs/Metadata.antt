@@ -6,6 +6,7 @@ use Rattle.hq_terms.specs.Bexp.{BexpTree, always, or_of, test, bexp, no_bexp}
 use Rattle.hq_terms.specs.Meta.{PermTree, TrackedTree, MetaTree}
 use Rattle.hq_terms.specs.declared.bexp.Operand.{Operand}
 use Rattle.hq_terms.specs.declared.bexp.Operand.TheVariants.{Const, Session}
+use Rattle.hq_terms.specs.declared.bexp.Operands.TheVariants as operands
 use Rattle.hq_terms.specs.declared.meta.Pair.{Pair}
 use Rattle.hq_terms.specs.declared.meta.Rel.{Rel}
 use Rattle.hq_terms.specs.declared.meta.RootNames.{RootNames}
@@ -39,7 +40,7 @@ author_perm = record { role = codes "user"; cols = 0 ∷ 1 ∷ []; filter = alwa
 
 -- a column is equal to an operand
 abbrev pub equals : (column : ℕ) → Operand → BexpTree
-equals c v = test c (Compare Eq) (v ∷ []) false
+equals c v = test c (Compare Eq) (operands.List (v ∷ [])) false
 
 -- the articles that are published, or whose author asks
 abbrev pub article_filter : BexpTree
@@ -73,4 +74,4 @@ article_tracked = record {
 }
 
 abbrev pub metadata : MetaTree
-metadata = record { tracked = author_tracked ∷ article_tracked ∷ [] }
+metadata = record { tracked = author_tracked ∷ article_tracked ∷ []; inherited = [] }

@@ -10,7 +10,8 @@ ghost use Rattle.hq_generator.specs.Words.{is_clean, word_text};
 use crate::text::{text, texts};
 use hq_base::{List, Memory, Txt, Val};
 use hq_terms::{
-    Bexp, ColId, Meta, Op, Operand, Pair, Perm, Rel, RelList, RootNames, TableId, Test, Tracked,
+    Bexp, ColId, Meta, Op, Operand, Operands, Pair, Perm, Rel, RelList, RootNames, TableId, Test,
+    Tracked,
 };
 use std::alloc::Global;
 
@@ -84,7 +85,7 @@ fn equals(alloc: Global, col: ColId, operand: Operand) -> Result<Bexp, Memory>
     Ok(Bexp::Test {
         col,
         test: Test::Compare(Op::Eq),
-        operands,
+        operands: Operands::List(operands),
         negated: false,
     })
 }
@@ -195,5 +196,8 @@ pub fn metadata(alloc: Global) -> Result<Meta, Memory>
     let mut tracked = List::new(alloc);
     tracked.push(author_tracked(alloc)?)?;
     tracked.push(article_tracked(alloc)?)?;
-    Ok(Meta { tracked })
+    Ok(Meta {
+        tracked,
+        inherited: List::new(alloc),
+    })
 }

@@ -10,9 +10,10 @@ mod parts;
 mod phrase;
 mod refusal;
 
+pub use directory::{load_file, table_file_name};
 pub use file_fault::FileFault;
 pub use loaded::{Description, Loaded};
-pub use loading::{load, load_description};
+pub use loading::{load, load_catalog, load_description, load_tables};
 pub use parts::{Field, Fields, Part, write_both, write_parts};
 pub use phrase::Phrase;
 pub use refusal::LoadingRefusal;

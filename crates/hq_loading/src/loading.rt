@@ -36,8 +36,8 @@ fn meta_file_name(alloc: Global) -> Result<Txt, Memory>
     Ok(name)
 }
 
-// The catalog of a directory.
-fn load_catalog<F: Files>(
+/// Loads the catalog of a directory.
+pub fn load_catalog<F: Files>(
     alloc: Global,
     files: &mut F,
     dir: &Txt,
@@ -107,8 +107,8 @@ fn load_rows<F: Files>(
     }
 }
 
-// The rows of these tables of a directory.
-fn load_tables<F: Files>(
+/// Loads the rows of these tables of a directory, in their order. The first refusal in this order is the answer.
+pub fn load_tables<F: Files>(
     alloc: Global,
     files: &mut F,
     dir: &Txt,

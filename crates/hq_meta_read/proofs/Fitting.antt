@@ -11,14 +11,15 @@ use Rattle.hq_base.specs.Due.{and_then}
 use Rattle.hq_base.specs.Json.{JsonTree}
 use Rattle.hq_base.specs.Lists.{all_differ}
 use Rattle.hq_meta_names.specs.Repeats.{names_due}
-use Rattle.hq_terms.specs.Bexp.{depth}
+use Rattle.hq_terms.specs.Bexp.{BexpTree, always, and_of, or_of, not_of, test, through, exists_in, two_columns, BexpTrees, no_bexp, bexp, depth}
 use Rattle.hq_terms.specs.Catalog.{is_catalog, can_pair, type_of}
 use Rattle.hq_terms.specs.Filters.{column_ty, is_filter}
-use Rattle.hq_terms.specs.Fits.{fits, fits_tracked, fits_rel, fits_perm, are_free_roots, objects_first, limit_fits}
+use Rattle.hq_terms.specs.Fits.{fits, fits_tracked, fits_rel, fits_perm, asks_tracked, all_ask_tracked, are_inherited, are_free_roots, objects_first, limit_fits}
 use Rattle.hq_terms.specs.Meta.{PermTree, TrackedTree, MetaTree, tracked_table}
 use Rattle.hq_terms.specs.Names.{is_free_name, is_admin_name}
-use Rattle.hq_terms.specs.Schema.{SchemaTable, schema_of, schema_table, numbered, table, no_table}
+use Rattle.hq_terms.specs.Schema.{Schema, SchemaTable, schema_of, schema_table, numbered, table, no_table}
 use Rattle.hq_terms.specs.SchemaNames.{names_differ}
+use Rattle.hq_terms.specs.declared.meta.Inherited.{Inherited}
 use Rattle.hq_terms.specs.declared.meta.Rel.{Rel}
 use Rattle.hq_terms.specs.declared.table.Column.{Column}
 use Rattle.hq_terms.specs.declared.table.Table.{Table}
@@ -81,8 +82,8 @@ schema_type tables m t c =
 four : (a b c d : Bool) → a ≡ true → b ≡ true → c ≡ true → d ≡ true → (a && b && c && d) ≡ true
 four a b c d p q r s = cc
 
-five : (a b c d e : Bool) → a ≡ true → b ≡ true → c ≡ true → d ≡ true → e ≡ true → (a && b && c && d && e) ≡ true
-five a b c d e p q r s t = cc
+six : (a b c d e f : Bool) → a ≡ true → b ≡ true → c ≡ true → d ≡ true → e ≡ true → f ≡ true → (a && b && c && d && e && f) ≡ true
+six a b c d e f p q r s t u = cc
 
 eight : (a b c d e f g h : Bool) → a ≡ true → b ≡ true → c ≡ true → d ≡ true → e ≡ true → f ≡ true → g ≡ true → h ≡ true → (a && b && c && d && e && f && g && h) ≡ true
 eight a b c d e f g h p q r s t u v w = cc
@@ -103,19 +104,19 @@ is_there : (o : Option Column) → is_some (type_of o) ≡ is_some o
 is_there None = refl
 is_there (Some c) = refl
 
-perm_fits : (tables : List Table) (n : MetaTree) (t : ℕ) (p : PermTree) → Permits tables t p → Sound (schema_of tables n) t p → fits_perm (schema_of tables n) t p ≡ true
+perm_fits : (tables : List Table) (n : MetaTree) (t : ℕ) (p : PermTree) → Permits tables t p → Sound tables n t p → fits_perm (schema_of tables n) n t p ≡ true
 perm_fits tables n t p h sound =
-    five (not (is_admin_name p.role)) (list_all (λ c. is_some (column_ty (schema_of tables n) t c)) p.cols) (is_filter p.filter (schema_of tables n) t) (nat_le (depth p.filter) 300) (limit_fits p.limit)
+    six (not (is_admin_name p.role)) (list_all (λ c. is_some (column_ty (schema_of tables n) t c)) p.cols) (is_filter p.filter (schema_of tables n) t) (nat_le (depth p.filter) 300) (limit_fits p.limit) (asks_tracked n p.filter)
     h.role
     (list_all-same (λ c. is_some (column_ty (schema_of tables n) t c)) (λ c. is_some (slice_get (columns_of tables t) c)) (λ c. ap is_some (schema_type tables n t c) ∙ is_there (slice_get (columns_of tables t) c)) p.cols ∙ h.cols)
-    sound.is (le-leb (depth p.filter) 300 sound.shallow) h.limit
+    sound.is (le-leb (depth p.filter) 300 sound.shallow) h.limit sound.tracked
 
 -- all that is known of a tracked table
 record All (tables : List Table) (m n : MetaTree) (k : TrackedTree) : Type 0 where
   head : Head tables k
   rels : Rels tables m k.table k.rels
   perms : Perms tables k.table k.perms
-  sound : AllSound (schema_of tables n) k.table k.perms
+  sound : AllSound tables n k.table k.perms
 
 tracked_fits : (tables : List Table) (m n : MetaTree) (k : TrackedTree) → map (λ k. k.table) n.tracked ≡ map (λ k. k.table) m.tracked → All tables m n k → fits_tracked (schema_of tables n) n k ≡ true
 tracked_fits tables m n k same h =
@@ -124,11 +125,11 @@ tracked_fits tables m n k same h =
     let long : length k.column_names ≡ length (table s k.table).columns = h.head.columns ∙ ap length (sym (schema_columns tables n k.table ∙ found)) in
     let below : k.table < length s = subst (λ size. k.table < size) (sym (numbered-long (schema_table n) 0 tables)) (slice_get_within tables k.table h.head.table h.head.there) in
     eight (nat_lt k.table (length s)) (is_free_name k.name) (length k.column_names == length (table s k.table).columns) (are_free_roots k.roots)
-    (list_all (fits_rel s n k.table) k.rels) (objects_first k.rels) (all_differ (λ p q. bytes_eq p.role q.role) k.perms) (list_all (fits_perm s k.table) k.perms)
+    (list_all (fits_rel s n k.table) k.rels) (objects_first k.rels) (all_differ (λ p q. bytes_eq p.role q.role) k.perms) (list_all (fits_perm s n k.table) k.perms)
     (lt-ltb k.table (length s) below) h.head.named (eq-eqb (length k.column_names) (length (table s k.table).columns) long) h.head.roots
     (list_all-from (Related tables m k.table) (fits_rel s n k.table) (λ r g. rel_fits tables m n k.table r same g) k.rels h.rels.each)
     h.rels.first h.perms.differ
-    (list_all-from (λ p. Permits tables k.table p × Sound s k.table p) (fits_perm s k.table) (λ p g. perm_fits tables n k.table p g.0 g.1) k.perms (all_both (Permits tables k.table) (Sound s k.table) k.perms h.perms.each h.sound))
+    (list_all-from (λ p. Permits tables k.table p × Sound tables n k.table p) (fits_perm s n k.table) (λ p g. perm_fits tables n k.table p g.0 g.1) k.perms (all_both (Permits tables k.table) (Sound tables n k.table) k.perms h.perms.each h.sound))
   where
     columns_there : Option Table → List Column
     columns_there None = []
@@ -139,7 +140,7 @@ tracked_fits tables m n k same h =
 named-is : (tables : List Table) (path : List ℕ) (js : List JsonTree) → IfOk (named tables path js) (λ m. Tracked tables m.tracked × (length js ≡ length m.tracked))
 unfolding named
 named-is tables path js =
-    let made = λ (ks : List TrackedTree). let m : MetaTree = record { tracked = ks } in m in
+    let made = λ (ks : List TrackedTree). let m : MetaTree = record { tracked = ks; inherited = [] } in m in
     let read = each_after (tracked_at tables) path 0 [] js in
     ok_and_then (λ ks. Ok (made ks)) (λ ks. Tracked tables ks × Behind (λ j k. ⊤) [] js ks) (λ m. Tracked tables m.tracked × (length js ≡ length m.tracked))
     (λ ks h. (h.0, sym (AllZip-long (λ j k. ⊤) js h.1.new h.1.beside) ∙ ap length (sym h.1.are)))
@@ -194,23 +195,48 @@ all_differ-places (k ∷ ks) = Prim.cc (any_place k.table ks, all_differ-places 
     any_place t [] = refl
     any_place t (k ∷ ks) = ap (λ b. (t == k.table) || b) (any_place t ks)
 
-all_known : (tables : List Table) (m n : MetaTree) (ks : List TrackedTree) → AllByRecursion (λ k. Joined tables m k × Perms tables k.table k.perms) ks → TablesSound (schema_of tables n) ks → AllByRecursion (All tables m n) ks
+all_known : (tables : List Table) (m n : MetaTree) (ks : List TrackedTree) → AllByRecursion (λ k. Joined tables m k × Perms tables k.table k.perms) ks → TablesSound tables n ks → AllByRecursion (All tables m n) ks
 all_known tables m n [] each sound = tt
 all_known tables m n (k ∷ ks) each sound =
     (record { head = each.0.0.0; rels = each.0.0.1; perms = each.0.1; sound = sound.0 }, all_known tables m n ks each.1 sound.1)
 
+-- ---- no inherited role is read
+
+abbrev NoneInherited : MetaTree → Type 0
+NoneInherited m = m.inherited ≡ []
+
+named-none : (tables : List Table) (path : List ℕ) (js : List JsonTree) → IfOk (named tables path js) NoneInherited
+unfolding named
+named-none tables path js =
+    let made = λ (ks : List TrackedTree). let m : MetaTree = record { tracked = ks; inherited = [] } in m in
+    ok_next (λ ks. Ok (made ks)) NoneInherited (λ ks. refl) (each_after (tracked_at tables) path 0 [] js)
+
+related-none : (tables : List Table) (path : List ℕ) (js : List JsonTree) (m : MetaTree) → NoneInherited m → IfOk (related tables path js m) NoneInherited
+unfolding related
+related-none tables path js m none = ok_next (λ rels. Ok (with_rels m rels)) NoneInherited (λ rels. none) (each (rels_at tables m) path (zip (tables_of m) js))
+
+permitted-none : (tables : List Table) (path : List ℕ) (js : List JsonTree) (m : MetaTree) → NoneInherited m → IfOk (permitted tables path js m) NoneInherited
+unfolding permitted
+permitted-none tables path js m none = ok_next (λ perms. Ok (with_perms m perms)) NoneInherited (λ perms. none) (each (perms_at tables m) path (zip (tables_of m) js))
+
+none_fits : (is : List Inherited) → is ≡ [] → (are_inherited is && (length is == 0)) ≡ true
+none_fits is none = rw none refl
+
 -- sound filters and names that differ are all that is left
 abbrev pub FitsIf : List Table → MetaTree → Type 0
-FitsIf tables m = TablesSound (schema_of tables m) m.tracked → names_differ (schema_of tables m) m ≡ true → fits tables m ≡ true
+FitsIf tables m = TablesSound tables m m.tracked → names_differ (schema_of tables m) m ≡ true → fits tables m ≡ true
 
-whole_fits : (tables : List Table) (m n q : MetaTree) → Tracked tables m.tracked → WithRels (Head tables) (Rels tables m) m.tracked n.tracked → WithPerms (Joined tables m) (Perms tables) n.tracked q.tracked → FitsIf tables q
-whole_fits tables m n q h f g sound names =
+whole_fits : (tables : List Table) (m n q : MetaTree) → NoneInherited q → Tracked tables m.tracked → WithRels (Head tables) (Rels tables m) m.tracked n.tracked → WithPerms (Joined tables m) (Perms tables) n.tracked q.tracked → FitsIf tables q
+whole_fits tables m n q none h f g sound names =
     let same : map (λ k. k.table) q.tracked ≡ map (λ k. k.table) m.tracked = g.same ∙ f.same in
     let once : all_differ (λ j k. j.table == k.table) q.tracked ≡ true = all_differ-places q.tracked ∙ ap (all_differ (λ a b. a == b)) same ∙ sym (all_differ-places m.tracked) ∙ h.once in
     let each : list_all (fits_tracked (schema_of tables q) q) q.tracked ≡ true =
     list_all-from (All tables m q) (fits_tracked (schema_of tables q) q) (λ k a. tracked_fits tables m q k same a) q.tracked (all_known tables m q q.tracked g.each sound) in
-    and_from (all_differ (λ j k. j.table == k.table) q.tracked && list_all (fits_tracked (schema_of tables q) q) q.tracked) (names_differ (schema_of tables q) q)
-    (and_from (all_differ (λ j k. j.table == k.table) q.tracked) (list_all (fits_tracked (schema_of tables q) q) q.tracked) once each) names
+    let tracked = all_differ (λ j k. j.table == k.table) q.tracked && list_all (fits_tracked (schema_of tables q) q) q.tracked in
+    and_from (tracked && names_differ (schema_of tables q) q) (are_inherited q.inherited && (length q.inherited == 0))
+    (and_from tracked (names_differ (schema_of tables q) q)
+    (and_from (all_differ (λ j k. j.table == k.table) q.tracked) (list_all (fits_tracked (schema_of tables q) q) q.tracked) once each) names)
+    (none_fits q.inherited none)
 
 long_as : (ks ls : List TrackedTree) → map (λ k. k.table) ks ≡ map (λ k. k.table) ls → length ls ≡ length ks
 long_as ks ls same = sym (length-map ls (λ (k : TrackedTree). k.table)) ∙ ap length (sym same) ∙ length-map ks (λ (k : TrackedTree). k.table)
@@ -219,22 +245,74 @@ pub tracked_of-FitsIf : (tables : List Table) (path : List ℕ) (js : List JsonT
 unfolding tracked_of
 tracked_of-FitsIf tables path js catalog =
     let end = λ (q : MetaTree). and_then (λ u. Ok q) (names_in (names_due (schema_of tables q) q path)) in
-    ok_and_then (λ m. and_then (λ n. and_then end (permitted tables path js n)) (related tables path js m)) (λ m. Tracked tables m.tracked × (length js ≡ length m.tracked)) (FitsIf tables)
-    (λ m h. ok_and_then (λ n. and_then end (permitted tables path js n)) (λ n. WithRels (Head tables) (Rels tables m) m.tracked n.tracked) (FitsIf tables)
-    (λ n f. ok_and_then end (λ q. WithPerms (Joined tables m) (Perms tables) n.tracked q.tracked) (FitsIf tables)
-    (λ q g. ok_next (λ u. Ok q) (FitsIf tables) (λ u. whole_fits tables m n q h.0 f g) (names_in (names_due (schema_of tables q) q path)))
-    (permitted tables path js n) (permitted-is tables path js m n f.each (h.1 ∙ long_as n.tracked m.tracked f.same)))
-    (related tables path js m) (related-is tables path js m catalog h.0.heads h.1))
-    (named tables path js) (named-is tables path js)
+    let Names = λ (m : MetaTree). Tracked tables m.tracked × (length js ≡ length m.tracked) in
+    let Linked = λ (m n : MetaTree). WithRels (Head tables) (Rels tables m) m.tracked n.tracked in
+    let Granted = λ (m n q : MetaTree). WithPerms (Joined tables m) (Perms tables) n.tracked q.tracked in
+    ok_and_then (λ m. and_then (λ n. and_then end (permitted tables path js n)) (related tables path js m)) (λ m. Names m × NoneInherited m) (FitsIf tables)
+    (λ m h. ok_and_then (λ n. and_then end (permitted tables path js n)) (λ n. Linked m n × NoneInherited n) (FitsIf tables)
+    (λ n f. ok_and_then end (λ q. Granted m n q × NoneInherited q) (FitsIf tables)
+    (λ q g. ok_next (λ u. Ok q) (FitsIf tables) (λ u. whole_fits tables m n q g.1 h.0.0 f.0 g.0) (names_in (names_due (schema_of tables q) q path)))
+    (permitted tables path js n)
+    (ok_both (permitted tables path js n) (Granted m n) NoneInherited (permitted-is tables path js m n f.0.each (h.0.1 ∙ long_as n.tracked m.tracked f.0.same)) (permitted-none tables path js n f.1)))
+    (related tables path js m)
+    (ok_both (related tables path js m) (Linked m) NoneInherited (related-is tables path js m catalog h.0.0.heads h.0.1) (related-none tables path js m h.1)))
+    (named tables path js)
+    (ok_both (named tables path js) Names NoneInherited (named-is tables path js) (named-none tables path js))
 
 pub meta_of-FitsIf : (tables : List Table) (j : JsonTree) → is_catalog tables ≡ true → IfOk (meta_of tables j) (FitsIf tables)
 unfolding meta_of
 meta_of-FitsIf tables j catalog =
     ok_next (λ entries. tracked_of tables (tables_path entries.0) entries.1) (FitsIf tables) (λ entries. tracked_of-FitsIf tables (tables_path entries.0) entries.1 catalog) (table_entries (unwrapped j))
 
--- the schema of what the passes gave is that before permissions
-pub tracked_of-schema : (tables : List Table) (path : List ℕ) (js : List JsonTree) (m n q : MetaTree) → is_catalog tables ≡ true → named tables path js ≡ Ok m → related tables path js m ≡ Ok n → permitted tables path js n ≡ Ok q → schema_of tables q ≡ schema_of tables n
-tracked_of-schema tables path js m n q catalog is_m is_n is_q =
+-- ---- filters that are sound before permissions are put into tables are so behind
+
+mutual
+  asks_same : (m n : MetaTree) → ((u : ℕ) → is_some (tracked_table m u) ≡ is_some (tracked_table n u)) → (b : BexpTree) → asks_tracked m b ≡ asks_tracked n b
+  asks_same m n same always = refl
+  asks_same m n same (and_of bs) = all_ask_same m n same bs
+  asks_same m n same (or_of bs) = all_ask_same m n same bs
+  asks_same m n same (not_of b) = asks_same m n same b
+  asks_same m n same (test c t vs negated) = refl
+  asks_same m n same (through r b) = asks_same m n same b
+  asks_same m n same (exists_in u b) = rw (same u, asks_same m n same b) refl
+  asks_same m n same (two_columns l op r) = refl
+
+  all_ask_same : (m n : MetaTree) → ((u : ℕ) → is_some (tracked_table m u) ≡ is_some (tracked_table n u)) → (bs : BexpTrees) → all_ask_tracked m bs ≡ all_ask_tracked n bs
+  all_ask_same m n same no_bexp = refl
+  all_ask_same m n same (bexp b bs) = rw (asks_same m n same b, all_ask_same m n same bs) refl
+
+-- metadata with the same schema that track the same tables
+record Same (tables : List Table) (m n : MetaTree) : Type 0 where
+  schema : schema_of tables m ≡ schema_of tables n
+  tracked : (u : ℕ) → is_some (tracked_table m u) ≡ is_some (tracked_table n u)
+
+sound_same : (tables : List Table) (m n : MetaTree) (t : ℕ) (p : PermTree) → Same tables m n → Sound tables n t p → Sound tables m t p
+sound_same tables m n t p same h =
+    record {
+      is = subst (λ (s : Schema). is_filter p.filter s t ≡ true) (sym same.schema) h.is;
+      tracked = asks_same m n same.tracked p.filter ∙ h.tracked;
+      shallow = h.shallow;
+    }
+
+all_sound_same : (tables : List Table) (m n : MetaTree) (t : ℕ) (ps : List PermTree) → Same tables m n → AllSound tables n t ps → AllSound tables m t ps
+all_sound_same tables m n t [] same h = tt
+all_sound_same tables m n t (p ∷ ps) same h = (sound_same tables m n t p same h.0, all_sound_same tables m n t ps same h.1)
+
+tables_sound_same : (tables : List Table) (m n : MetaTree) (ks : List TrackedTree) → Same tables m n → TablesSound tables n ks → TablesSound tables m ks
+tables_sound_same tables m n [] same h = tt
+tables_sound_same tables m n (k ∷ ks) same h = (all_sound_same tables m n k.table k.perms same h.0, tables_sound_same tables m n ks same h.1)
+
+-- what the passes gave has the schema and the tracked tables of what was before permissions
+passes_same : (tables : List Table) (path : List ℕ) (js : List JsonTree) (m n q : MetaTree) → is_catalog tables ≡ true → named tables path js ≡ Ok m → related tables path js m ≡ Ok n → permitted tables path js n ≡ Ok q → Same tables q n
+passes_same tables path js m n q catalog is_m is_n is_q =
     let h = IfOk-at_ok (λ m. Tracked tables m.tracked × (length js ≡ length m.tracked)) is_m (named-is tables path js) in
     let f = IfOk-at_ok (λ n. WithRels (Head tables) (Rels tables m) m.tracked n.tracked) is_n (related-is tables path js m catalog h.0.heads h.1) in
-    IfOk-at_ok (λ q. schema_of tables q ≡ schema_of tables n) is_q (permitted-schema tables path js n (h.1 ∙ long_as n.tracked m.tracked f.same))
+    let long : length js ≡ length n.tracked = h.1 ∙ long_as n.tracked m.tracked f.same in
+    let g = IfOk-at_ok (λ q. WithPerms (Joined tables m) (Perms tables) n.tracked q.tracked) is_q (permitted-is tables path js m n f.each long) in
+    record {
+      schema = IfOk-at_ok (λ q. schema_of tables q ≡ schema_of tables n) is_q (permitted-schema tables path js n long);
+      tracked = λ u. same_tracked q n u g.same;
+    }
+
+pub passes_sound : (tables : List Table) (path : List ℕ) (js : List JsonTree) (m n q : MetaTree) → is_catalog tables ≡ true → named tables path js ≡ Ok m → related tables path js m ≡ Ok n → permitted tables path js n ≡ Ok q → TablesSound tables n q.tracked → TablesSound tables q q.tracked
+passes_sound tables path js m n q catalog is_m is_n is_q sound = tables_sound_same tables q n q.tracked (passes_same tables path js m n q catalog is_m is_n is_q) sound

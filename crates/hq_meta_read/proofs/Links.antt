@@ -1,5 +1,5 @@
 -- Relationships go to tracked tables by pairs that can be compared.
-use Rattle.std.proofs.Common.{◌≡◌, ℕ, List, [], ◌∷◌, ◌++◌, length, Bool, true, false, not, Option, Some, None, Ok, refl, sym, ap, subst}
+use Rattle.std.proofs.Common.{◌≡◌, ℕ, List, [], ◌∷◌, ◌++◌, length, Bool, true, false, not, Option, Some, None, Result, Ok, Err, refl, sym, ap, subst}
 use Rattle.std.specs.Prelude.{IfOk, is_some, nat_lt, ◌&&◌, bytes_eq, codes}
 use Rattle.std.specs.List.{AllByRecursion, AllZip, list_all}
 use Rattle.hq_base.specs.Due.{and_then}
@@ -17,9 +17,13 @@ use Rattle.hq_terms.specs.declared.table.ForeignKey.{ForeignKey}
 use Rattle.hq_terms.specs.declared.table.Table.{Table}
 use Rattle.hq_meta_tables.specs.declared.field.Field.TheVariants as field
 use Rattle.hq_meta_read.specs.declared.link.Link.{Link}
-use Rattle.hq_meta_tables.specs.declared.refusal.MetaRefusal.TheVariants.{UnknownTable, BadMapping}
+use Rattle.hq_meta_tables.specs.declared.refusal.MetaRefusal.TheVariants.{BadMapping}
 use Rattle.hq_meta_tables.specs.Each.{each, each_after}
-use Rattle.hq_meta_tables.specs.Found.{columns_of, column_named, column_at, table_at, remote_at, tracked_due}
+use Rattle.hq_meta_tables.specs.Found.{columns_of, column_named, column_at, remote_at, tracked_due}
+use Rattle.hq_meta_tables.specs.Refused.{refused}
+use Rattle.hq_filter_read.specs.Tables.{table_at as table_in, tracked_due as tracked_in, remote_at as remote_in}
+use Rattle.hq_filter_read.specs.declared.refusal.FilterRefusal.{FilterRefusal}
+use Rattle.hq_filter_read.specs.declared.refusal.FilterRefusal.TheVariants.{UnknownTable}
 use Rattle.hq_meta_read.specs.Linked.{just_one, pairs_of, own_key, remote_key, by_own_key, key_columns, by_remote_key, by_key_of, by_key, pair_due, pair_at, some_pair, pairs_at, by_hand, link_by, link_at}
 use Rattle.hq_meta_tables.specs.Node.{required, checked, at, value_of, object_at, text_at, member_at, free_name_at, object_member, entries_member}
 use Rattle.hq_meta_read.specs.Related.{rel_name_at, rel_at, objects_at, rels_at}
@@ -33,16 +37,29 @@ record Joined (tables : List Table) (m : MetaTree) (t : ℕ) (l : Link) : Type 0
   remote : is_some (tracked_table m l.remote) ≡ true
   pairs : Pairs (columns_of tables t) (columns_of tables l.remote) l.pairs
 
+-- what the reader of filters reads
+refused-is : {A : Type 0} (r : Result A FilterRefusal) (P : A → Type 0) → IfOk r P → IfOk (refused r) P
+refused-is (Ok x) P h = h
+refused-is (Err e) P h = tt
+
+tracked_in-is : (m : MetaTree) (path : List ℕ) (t : ℕ) → IfOk (tracked_in m path t) (λ u. (u ≡ t) × (is_some (tracked_table m u) ≡ true))
+unfolding tracked_in
+tracked_in-is m path t = ok_tested (is_some (tracked_table m t)) t (UnknownTable path) (λ u. (u ≡ t) × (is_some (tracked_table m u) ≡ true)) (λ h. (refl, h))
+
 tracked_due-is : (m : MetaTree) (path : List ℕ) (t : ℕ) → IfOk (tracked_due m path t) (λ u. (u ≡ t) × (is_some (tracked_table m u) ≡ true))
 unfolding tracked_due
-tracked_due-is m path t = ok_tested (is_some (tracked_table m t)) t (UnknownTable path) (λ u. (u ≡ t) × (is_some (tracked_table m u) ≡ true)) (λ h. (refl, h))
+tracked_due-is m path t = refused-is (tracked_in m path t) (λ u. (u ≡ t) × (is_some (tracked_table m u) ≡ true)) (tracked_in-is m path t)
+
+remote_in-is : (tables : List Table) (m : MetaTree) (path : List ℕ) (j : JsonTree) → IfOk (remote_in tables m path j) (λ u. is_some (tracked_table m u) ≡ true)
+unfolding remote_in
+remote_in-is tables m path j =
+    ok_next (λ t. tracked_in m path t) (λ u. is_some (tracked_table m u) ≡ true)
+    (λ t. ok_weaker (tracked_in m path t) (λ u. (u ≡ t) × (is_some (tracked_table m u) ≡ true)) (λ u. is_some (tracked_table m u) ≡ true) (λ u h. h.1) (tracked_in-is m path t))
+    (table_in tables path j)
 
 remote_at-is : (tables : List Table) (m : MetaTree) (path : List ℕ) (j : JsonTree) → IfOk (remote_at tables m path j) (λ u. is_some (tracked_table m u) ≡ true)
 unfolding remote_at
-remote_at-is tables m path j =
-    ok_next (λ t. tracked_due m path t) (λ u. is_some (tracked_table m u) ≡ true)
-    (λ t. ok_weaker (tracked_due m path t) (λ u. (u ≡ t) × (is_some (tracked_table m u) ≡ true)) (λ u. is_some (tracked_table m u) ≡ true) (λ u h. h.1) (tracked_due-is m path t))
-    (table_at tables path j)
+remote_at-is tables m path j = refused-is (remote_in tables m path j) (λ u. is_some (tracked_table m u) ≡ true) (remote_in-is tables m path j)
 
 by_own_key-Joined : (tables : List Table) (m : MetaTree) (t : ℕ) (path columns : List ℕ) → is_catalog tables ≡ true → IfOk (by_own_key tables m t path columns) (Joined tables m t)
 unfolding by_own_key

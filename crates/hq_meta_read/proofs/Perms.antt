@@ -1,5 +1,5 @@
 -- What permissions say but for their filters.
-use Rattle.std.proofs.Common.{◌≡◌, ◌∙◌, ℕ, ℤ, pos, negsuc, ◌^◌, List, [], ◌∷◌, ◌++◌, Bool, true, false, cond, not, Option, Some, None, slice_get, codes, Ok, Err, refl, ap}
+use Rattle.std.proofs.Common.{◌≡◌, ◌∙◌, ℕ, ℤ, pos, negsuc, ◌^◌, List, [], ◌∷◌, ◌++◌, filter, Bool, true, false, cond, not, Option, Some, None, slice_get, codes, Ok, Err, refl, ap}
 use Rattle.std.specs.Prelude.{IfOk, ⊤, is_some, nat_lt, bytes_eq}
 use Rattle.std.specs.List.{AllByRecursion, list_all, list_any}
 use Rattle.hq_base.specs.Due.{and_then}
@@ -11,7 +11,6 @@ use Rattle.hq_terms.specs.Bexp.{BexpTree}
 use Rattle.hq_terms.specs.Fits.{limit_fits}
 use Rattle.hq_terms.specs.Meta.{PermTree, MetaTree}
 use Rattle.hq_terms.specs.Names.{is_admin_name}
-use Rattle.hq_terms.specs.Schema.{schema_of}
 use Rattle.hq_terms.specs.declared.table.Column.{Column}
 use Rattle.hq_terms.specs.declared.table.Table.{Table}
 use Rattle.hq_meta_tables.specs.declared.field.Field.TheVariants as field
@@ -20,7 +19,8 @@ use Rattle.hq_meta_tables.specs.Each.{each, each_after}
 use Rattle.hq_meta_tables.specs.Found.{columns_of, column_at}
 use Rattle.hq_meta_read.specs.Linked.{is_among}
 use Rattle.hq_meta_tables.specs.Node.{checked, at, value_of, object_at, member_at, text_member, object_member, entries_member}
-use Rattle.hq_meta_read.specs.Permitted.{role_due, all_columns, chosen, columns_by, columns_at, filter_in, whole_limit, limit_due, aggregations_due, absent, permission_at, perm_at, perms_at}
+use Rattle.hq_meta_tables.specs.Refused.{refused}
+use Rattle.hq_meta_read.specs.Permitted.{role_due, all_columns, chosen, columns_by, columns_at, whole_limit, limit_due, aggregations_due, absent, permission_at, perm_at, perms_at}
 use Rattle.hq_meta_read.proofs.Lists.{push_differ, push_all, all_filtered, places_within}
 use Rattle.hq_meta_read.proofs.Steps.{ok_always, ok_weaker, ok_mapped, ok_and_then, ok_next, ok_tested, ok_unless, ok_checked, each_after-keeps}
 
@@ -89,7 +89,7 @@ permission_at-Granted tables m t role path object =
     let ap_ = at path field.AllowAggregations in
     let limit = value_of object field.Limit in
     let allowed = value_of object field.AllowAggregations in
-    let read = λ (w : JsonTree). filter_in (filter_due w (schema_of tables m) t (at path field.Filter)) in
+    let read = λ (w : JsonTree). refused (filter_due w tables m t (at path field.Filter)) in
     ok_next (λ columns. and_then (λ cols. and_then (λ w. and_then (λ f. and_then (λ l. and_then (λ a. and_then (λ u. and_then (λ v. Ok (made cols f l a)) (absent path object field.SubscriptionRootFields)) (absent path object field.QueryRootFields)) (aggregations_due ap_ allowed)) (limit_due lp limit)) (read w)) (member_at path object field.Filter)) (columns_at (columns_of tables t) cp columns)) all
     (λ columns. ok_and_then (λ cols. and_then (λ w. and_then (λ f. and_then (λ l. and_then (λ a. and_then (λ u. and_then (λ v. Ok (made cols f l a)) (absent path object field.SubscriptionRootFields)) (absent path object field.QueryRootFields)) (aggregations_due ap_ allowed)) (limit_due lp limit)) (read w)) (member_at path object field.Filter)) (Within (columns_of tables t)) all
     (λ cols h. ok_next (λ w. and_then (λ f. and_then (λ l. and_then (λ a. and_then (λ u. and_then (λ v. Ok (made cols f l a)) (absent path object field.SubscriptionRootFields)) (absent path object field.QueryRootFields)) (aggregations_due ap_ allowed)) (limit_due lp limit)) (read w)) all

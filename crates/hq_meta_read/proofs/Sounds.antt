@@ -3,8 +3,8 @@ use Rattle.std.proofs.Common.{◌≡◌, ℕ, ◌*◌, ◌≤◌, List, [], ◌�
 use Rattle.std.specs.Prelude.{IfOk}
 use Rattle.std.specs.List.{list_any}
 use Rattle.hq_base.specs.Due.{Gives}
-use Rattle.hq_terms.specs.Meta.{perm_view}
-use Rattle.hq_terms.specs.Schema.{Schema}
+use Rattle.hq_terms.specs.Meta.{MetaTree, perm_view}
+use Rattle.hq_terms.specs.declared.table.Table.{Table}
 use Rattle.hq_terms.specs.declared.meta.Perm.{Perm}
 use Rattle.hq_meta_read.specs.Sound.{Sound, AllSound}
 
@@ -13,9 +13,9 @@ pub any_seen : {A B : Type 0} (p : B → Bool) (f : A → B) (xs : List A) → l
 any_seen p f [] = refl
 any_seen p f (x ∷ xs) = Prim.cc (any_seen p f xs)
 
-pub sound_more : (s : Schema) (t : ℕ) (ps : List Perm) (p : Perm) → AllSound s t (map perm_view ps) → Sound s t (perm_view p) → AllSound s t (map perm_view (ps ++ p ∷ []))
-sound_more s t [] p all h = (h, tt)
-sound_more s t (q ∷ ps) p all h = (all.0, sound_more s t ps p all.1 h)
+pub sound_more : (tables : List Table) (m : MetaTree) (t : ℕ) (ps : List Perm) (p : Perm) → AllSound tables m t (map perm_view ps) → Sound tables m t (perm_view p) → AllSound tables m t (map perm_view (ps ++ p ∷ []))
+sound_more tables m t [] p all h = (h, tt)
+sound_more tables m t (q ∷ ps) p all h = (all.0, sound_more tables m t ps p all.1 h)
 
 -- a filter of shallow JSON is shallow
 pub shallow_filter : (d n m : ℕ) → d ≤ 2 * n → n ≤ m → m ≤ 127 → d ≤ 300

@@ -5,11 +5,9 @@ use Rattle.hq_base.specs.Due.{◌>>=◌, mapped}
 use Rattle.hq_base.specs.Json.{JsonTree, null, int}
 use Rattle.hq_base.specs.Look.{bool_in, str_in, array_in}
 use Rattle.hq_filter_read.specs.Filter.{filter_due}
-use Rattle.hq_filter_read.specs.declared.refusal.FilterRefusal.{FilterRefusal}
-use Rattle.hq_terms.specs.Bexp.{BexpTree}
 use Rattle.hq_terms.specs.Meta.{PermTree, TrackedTree, MetaTree}
 use Rattle.hq_terms.specs.Names.{is_admin_name}
-use Rattle.hq_terms.specs.Schema.{schema_of, numbered}
+use Rattle.hq_terms.specs.Schema.{numbered}
 use Rattle.hq_terms.specs.declared.table.Column.{Column}
 use Rattle.hq_terms.specs.declared.table.Table.{Table}
 use Rattle.hq_meta_tables.specs.declared.field.Field.{Field}
@@ -20,7 +18,7 @@ use Rattle.hq_meta_tables.specs.Each.{each, each_after}
 use Rattle.hq_meta_tables.specs.Found.{columns_of, column_at}
 use Rattle.hq_meta_tables.specs.Node.{required, checked, at, value_of, object_at, member_at, text_member, object_member, entries_member}
 use Rattle.hq_meta_read.specs.Linked.{is_among}
-use Rattle.hq_meta_tables.specs.Refused.{filter_refusal}
+use Rattle.hq_meta_tables.specs.Refused.{refused}
 use Rattle.hq_meta_tables.specs.Tracked.{tables_of}
 
 -- the role of a permission is not admin's, and none before it has it
@@ -51,11 +49,6 @@ columns_by columns path None None = Err (refusal.Shape path)
 abbrev pub columns_at : List Column → (path : List ℕ) → JsonTree → Result (List ℕ) MetaRefusal
 columns_at columns path j = columns_by columns path (str_in j) (array_in j)
 
--- the filter at a path over table t, refused under the same names
-abbrev pub filter_in : Result BexpTree FilterRefusal → Result BexpTree MetaRefusal
-filter_in (Ok b) = Ok b
-filter_in (Err e) = Err (filter_refusal e)
-
 -- a limit is a whole number from 0 on, below 2 ^ 63; it may be absent or null
 abbrev pub whole_limit : (path : List ℕ) → ℤ → Result (Option ℕ) MetaRefusal
 whole_limit path (pos n) = if nat_lt n (2 ^ 63) then Ok (Some n) else Err (refusal.Shape path)
@@ -82,7 +75,7 @@ permission_at tables m t role path object = do
   columns ← member_at path object field.Columns
   cols ← columns_at (columns_of tables t) (at path field.Columns) columns
   written ← member_at path object field.Filter
-  filter ← filter_in (filter_due written (schema_of tables m) t (at path field.Filter))
+  filter ← refused (filter_due written tables m t (at path field.Filter))
   limit ← limit_due (at path field.Limit) (value_of object field.Limit)
   aggregations ← aggregations_due (at path field.AllowAggregations) (value_of object field.AllowAggregations)
   _ ← absent path object field.QueryRootFields
@@ -109,7 +102,7 @@ perms_beside (k ∷ ks) (perms ∷ more) = record k { perms = perms } ∷ perms_
 perms_beside _ _ = []
 
 abbrev pub with_perms : MetaTree → List (List PermTree) → MetaTree
-with_perms m perms = record { tracked = perms_beside m.tracked perms }
+with_perms m perms = record m { tracked = perms_beside m.tracked perms }
 
 -- the tables, whose entries stand in the list at a path, with their permissions
 unfoldable pub permitted : List Table → (path : List ℕ) → List JsonTree → MetaTree → Result MetaTree MetaRefusal

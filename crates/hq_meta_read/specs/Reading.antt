@@ -24,7 +24,7 @@ use Rattle.hq_meta_tables.specs.Tracked.{tracked_at}
 unfoldable pub named : List Table → (path : List ℕ) → List JsonTree → Result MetaTree MetaRefusal
 named tables path js = do
   tracked ← each_after (tracked_at tables) path 0 [] js
-  Ok (record { tracked = tracked })
+  Ok (record { tracked = tracked; inherited = [] })
 
 -- names that stand twice are refused
 abbrev pub names_in : Result (Unit {0}) NameRefusal → Result (Unit {0}) MetaRefusal

@@ -48,7 +48,7 @@ rels_beside (k ∷ ks) (rels ∷ more) = record k { rels = rels } ∷ rels_besid
 rels_beside _ _ = []
 
 abbrev pub with_rels : MetaTree → List (List Rel) → MetaTree
-with_rels m rels = record { tracked = rels_beside m.tracked rels }
+with_rels m rels = record m { tracked = rels_beside m.tracked rels }
 
 -- the tables, whose entries stand in the list at a path, with their relationships
 unfoldable pub related : List Table → (path : List ℕ) → List JsonTree → MetaTree → Result MetaTree MetaRefusal

@@ -6,13 +6,15 @@ ghost use Rattle.hq_filter_read.specs.Filter.{filter_due};
 ghost use Rattle.hq_filter_read.specs.Nesting.{nesting};
 ghost use Rattle.hq_terms.specs.Bexp.{bexp_view, depth};
 ghost use Rattle.hq_terms.specs.Filters.{is_filter};
+ghost use Rattle.hq_terms.specs.Fits.{asks_tracked};
 ghost use Rattle.hq_terms.specs.Meta.{meta_view, perm_view};
 ghost use Rattle.hq_terms.specs.Names.{is_admin_name};
 ghost use Rattle.hq_terms.specs.Schema.{schema_of};
 ghost use Rattle.hq_meta_tables.specs.Each.{each, each_after};
 ghost use Rattle.hq_meta_tables.specs.Node.{at};
+ghost use Rattle.hq_meta_tables.specs.Refused.{refused};
 ghost use Rattle.hq_meta_read.specs.Sound.{Shallow, Sound, AllSound, TablesSound};
-ghost use Rattle.hq_meta_read.specs.Permitted.{role_due, all_columns, chosen, star, columns_at, filter_in, whole_limit, limit_due, aggregations_due, absent, permission_at, perm_at, perms_at, with_perms, permitted};
+ghost use Rattle.hq_meta_read.specs.Permitted.{role_due, all_columns, chosen, star, columns_at, whole_limit, limit_due, aggregations_due, absent, permission_at, perm_at, perms_at, with_perms, permitted};
 ghost use Rattle.hq_meta_read.specs.Linked.{is_among};
 
 use hq_base::{Json, List, Memory, Txt, item_path};
@@ -147,8 +149,9 @@ fn filter_at(
     path: &Txt,
     json: &Json,
 ) -> Result<Box<Bexp>, MetaRefusal>
-    ensures due { Gives (λ b. bexp_view b.value) MetaRefusal.Memory (filter_in (filter_due (json_view json.now) (schema_of scope.now.catalog.now.tables (meta_view scope.now.meta.now)) table (at path.now Field.Filter))) result }
+    ensures due { Gives (λ b. bexp_view b.value) MetaRefusal.Memory (refused (filter_due (json_view json.now) scope.now.catalog.now.tables (meta_view scope.now.meta.now) table (at path.now Field.Filter))) result }
     ensures is { IfOk result (λ b. is_filter (bexp_view b.value) (schema_of scope.now.catalog.now.tables (meta_view scope.now.meta.now)) table ≡ true) }
+    ensures tracked { IfOk result (λ b. asks_tracked (meta_view scope.now.meta.now) (bexp_view b.value) ≡ true) }
     ensures shallow { IfOk result (λ b. depth (bexp_view b.value) ≤ 2 * nesting (json_view json.now)) }
 {
     let path = at(alloc, path, Field::Filter)?;
@@ -209,7 +212,7 @@ fn permission_at(
 ) -> Result<Perm, MetaRefusal>
     requires { Shallow (json_view object.now) }
     ensures due { Gives perm_view MetaRefusal.Memory (permission_at scope.now.catalog.now.tables (meta_view scope.now.meta.now) table role.now path.now (json_view object.now)) result }
-    ensures sound { IfOk result (λ p. Sound (schema_of scope.now.catalog.now.tables (meta_view scope.now.meta.now)) table (perm_view p)) }
+    ensures sound { IfOk result (λ p. Sound scope.now.catalog.now.tables (meta_view scope.now.meta.now) table (perm_view p)) }
 {
     let columns = member_at(alloc, path, object, Field::Columns)?;
     let cols = columns_at(alloc, columns_of(scope.catalog, table), path, columns)?;
@@ -241,7 +244,7 @@ fn perm_at(
 ) -> Result<Perm, MetaRefusal>
     requires { Shallow (json_view json.now) }
     ensures due { Gives perm_view MetaRefusal.Memory (perm_at scope.now.catalog.now.tables (meta_view scope.now.meta.now) table (map perm_view before.now) path.now (json_view json.now)) result }
-    ensures sound { IfOk result (λ p. Sound (schema_of scope.now.catalog.now.tables (meta_view scope.now.meta.now)) table (perm_view p)) }
+    ensures sound { IfOk result (λ p. Sound scope.now.catalog.now.tables (meta_view scope.now.meta.now) table (perm_view p)) }
 {
     let object = object_at(alloc, path, json)?;
     let role = role(alloc, before, path, object)?;
@@ -266,7 +269,7 @@ fn listed_perms(
 ) -> Result<PermList, MetaRefusal>
     requires { AllByRecursion (λ j. Shallow (json_view j)) list.now }
     ensures due { Gives (map perm_view) MetaRefusal.Memory (each_after (perm_at scope.now.catalog.now.tables (meta_view scope.now.meta.now) table) path.now 0 [] (map json_view list.now)) result }
-    ensures sound { IfOk result (λ perms. AllSound (schema_of scope.now.catalog.now.tables (meta_view scope.now.meta.now)) table (map perm_view perms)) }
+    ensures sound { IfOk result (λ perms. AllSound scope.now.catalog.now.tables (meta_view scope.now.meta.now) table (map perm_view perms)) }
 {
     let mut perms = List::new(alloc);
     for (place, json) in list.iter().enumerate() {
@@ -288,7 +291,7 @@ fn perms_at(
 ) -> Result<PermList, MetaRefusal>
     requires { Shallow (json_view entry.now) }
     ensures due { Gives (map perm_view) MetaRefusal.Memory (perms_at scope.now.catalog.now.tables (meta_view scope.now.meta.now) path.now (table, json_view entry.now)) result }
-    ensures sound { IfOk result (λ perms. AllSound (schema_of scope.now.catalog.now.tables (meta_view scope.now.meta.now)) table (map perm_view perms)) }
+    ensures sound { IfOk result (λ perms. AllSound scope.now.catalog.now.tables (meta_view scope.now.meta.now) table (map perm_view perms)) }
 {
     let list = entries_member(alloc, path, entry, Field::SelectPermissions)?;
     let path = at(alloc, path, Field::SelectPermissions)?;
@@ -305,7 +308,7 @@ fn all_perms(
 ) -> Result<List<PermList>, MetaRefusal>
     requires { AllByRecursion (λ j. Shallow (json_view j)) list.now }
     ensures due { Gives (map (map perm_view)) MetaRefusal.Memory (each (perms_at scope.now.catalog.now.tables (meta_view scope.now.meta.now)) path.now (zip tables.now (map json_view list.now))) result }
-    ensures sound { IfOk result (λ all. AllZip (λ e ps. AllSound (schema_of scope.now.catalog.now.tables (meta_view scope.now.meta.now)) e.0 ps) (zip tables.now (map json_view list.now)) (map (map perm_view) all)) }
+    ensures sound { IfOk result (λ all. AllZip (λ e ps. AllSound scope.now.catalog.now.tables (meta_view scope.now.meta.now) e.0 ps) (zip tables.now (map json_view list.now)) (map (map perm_view) all)) }
 {
     let mut all = List::new(alloc);
     for (place, table) in tables.iter().enumerate() {
@@ -322,7 +325,8 @@ fn all_perms(
 fn with_perms(alloc: Global, meta: Meta, perms: List<PermList>) -> Result<Meta, Memory>
     ensures { IfOk result (λ joined. meta_view joined ≡ with_perms (meta_view meta) (map (map perm_view) perms)) }
 {
-    let mut tables = meta.tracked.into_vec();
+    let Meta { tracked, inherited } = meta;
+    let mut tables = tracked.into_vec();
     let mut perms = perms.into_vec();
     let mut tracked = List::new(alloc);
     'tables: while !tables.is_empty() && !perms.is_empty() {
@@ -332,7 +336,7 @@ fn with_perms(alloc: Global, meta: Meta, perms: List<PermList>) -> Result<Meta, 
             ..table
         })?;
     }
-    Ok(Meta { tracked })
+    Ok(Meta { tracked, inherited })
 }
 
 /// The tables, whose entries stand in the list at a path, with their select permissions.
@@ -346,7 +350,7 @@ pub fn permitted(
 ) -> Result<Meta, MetaRefusal>
     requires { AllByRecursion (λ j. Shallow (json_view j)) list.now }
     ensures due { Gives meta_view MetaRefusal.Memory (permitted catalog.now.tables path.now (map json_view list.now) (meta_view meta)) result }
-    ensures sound { IfOk result (λ joined. TablesSound (schema_of catalog.now.tables (meta_view meta)) (meta_view joined).tracked) }
+    ensures sound { IfOk result (λ joined. TablesSound catalog.now.tables (meta_view meta) (meta_view joined).tracked) }
 {
     let scope = Scope {
         catalog,

@@ -13,7 +13,7 @@ ghost use Rattle.hq_meta_read.specs.Sound.{Shallow, TablesSound};
 
 use crate::permissions::permitted;
 use crate::relationships::related;
-use hq_base::{Json, JsonRefusal, Txt};
+use hq_base::{Json, JsonRefusal, List, Txt};
 use hq_filter_read::nesting_is_bounded;
 use hq_meta_names::check_names;
 use hq_meta_tables::MetaRefusal;
@@ -54,7 +54,7 @@ fn json_of(alloc: Global, bytes: &[u8]) -> Result<Json, MetaRefusal>
 fn meta_of(alloc: Global, catalog: &Catalog, json: &Json) -> Result<Meta, MetaRefusal>
     requires { Shallow (json_view json.now) }
     ensures due { Gives meta_view MetaRefusal.Memory (meta_of catalog.now.tables (json_view json.now)) result }
-    ensures sound { IfOk result (λ meta. TablesSound (schema_of catalog.now.tables (meta_view meta)) (meta_view meta).tracked) }
+    ensures sound { IfOk result (λ meta. TablesSound catalog.now.tables (meta_view meta) (meta_view meta).tracked) }
     ensures names { IfOk result (λ meta. names_differ (schema_of catalog.now.tables (meta_view meta)) (meta_view meta) ≡ true) }
 {
     let (version, entries) = table_entries(alloc, unwrapped(json))?;
@@ -72,7 +72,10 @@ fn named(
     ensures { Gives meta_view MetaRefusal.Memory (named catalog.now.tables path.now (map json_view entries.now)) result }
 {
     let tracked = all_tracked(alloc, catalog, path, entries)?;
-    Ok(Meta { tracked })
+    Ok(Meta {
+        tracked,
+        inherited: List::new(alloc),
+    })
 }
 
 // Names that stand twice are refused.
@@ -99,7 +102,7 @@ fn tracked_of(
 ) -> Result<Meta, MetaRefusal>
     requires { AllByRecursion (λ j. Shallow (json_view j)) list.now }
     ensures due { Gives meta_view MetaRefusal.Memory (tracked_of catalog.now.tables path.now (map json_view list.now)) result }
-    ensures sound { IfOk result (λ meta. TablesSound (schema_of catalog.now.tables (meta_view meta)) (meta_view meta).tracked) }
+    ensures sound { IfOk result (λ meta. TablesSound catalog.now.tables (meta_view meta) (meta_view meta).tracked) }
     ensures names { IfOk result (λ meta. names_differ (schema_of catalog.now.tables (meta_view meta)) (meta_view meta) ≡ true) }
 {
     let tables = named(alloc, catalog, path, list)?;

@@ -150,7 +150,8 @@ fn all_rels(
 fn with_rels(alloc: Global, meta: Meta, rels: List<RelList>) -> Result<Meta, Memory>
     ensures { IfOk result (λ joined. meta_view joined ≡ with_rels (meta_view meta) rels) }
 {
-    let mut tables = meta.tracked.into_vec();
+    let Meta { tracked, inherited } = meta;
+    let mut tables = tracked.into_vec();
     let mut rels = rels.into_vec();
     let mut tracked = List::new(alloc);
     'tables: while !tables.is_empty() && !rels.is_empty() {
@@ -160,7 +161,7 @@ fn with_rels(alloc: Global, meta: Meta, rels: List<RelList>) -> Result<Meta, Mem
             ..table
         })?;
     }
-    Ok(Meta { tracked })
+    Ok(Meta { tracked, inherited })
 }
 
 /// The tables, whose entries stand in the list at a path, with their relationships.

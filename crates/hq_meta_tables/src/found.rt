@@ -1,59 +1,16 @@
-ghost use Rattle.std.specs.Prelude.{◌≡◌, ◌&&◌, map, position, option_map, option_copied, bytes_eq};
+ghost use Rattle.std.specs.Prelude.{◌≡◌, map, position, bytes_eq};
 ghost use Rattle.hq_base.specs.Due.{Gives};
 ghost use Rattle.hq_base.specs.Json.{json_view};
 ghost use Rattle.hq_base.specs.Path.{item_path};
 ghost use Rattle.hq_terms.specs.Meta.{meta_view};
 ghost use Rattle.hq_meta_tables.specs.Each.{each};
-ghost use Rattle.hq_meta_tables.specs.Found.{table_named, qualified_table, table_at, tracked_due, remote_at, columns_of, column_named, column_at};
+ghost use Rattle.hq_meta_tables.specs.Found.{table_at, tracked_due, remote_at, columns_of, column_named, column_at};
 
 use crate::MetaRefusal;
-use crate::field::Field;
-use crate::node::{object_at, text_at, text_member};
+use crate::node::text_at;
 use hq_base::{Json, List, Txt, item_path};
 use hq_terms::{Catalog, ColId, ColList, Column, Meta, Scope, Table, TableId};
 use std::alloc::Global;
-
-// The place of the first table of this schema and name.
-fn table_place(tables: &[Table], schema: &str, name: &Txt) -> Option<usize>
-    ensures { result ≡ position (λ t. bytes_eq t.schema schema.now && bytes_eq t.name name.now) tables.now }
-{
-    tables.iter().position(|table| table.schema.as_str() == schema && table.name == *name)
-}
-
-// The table of this schema and name, which a node at a path tells.
-#[tactic(auto, unfolding(crate::specs::Found::table_named))]
-fn table_named(
-    alloc: Global,
-    tables: &[Table],
-    path: &Txt,
-    schema: &str,
-    name: &Txt,
-) -> Result<TableId, MetaRefusal>
-    ensures { Gives (λ table. table) MetaRefusal.Memory (table_named tables.now path.now schema.now name.now) result }
-{
-    match table_place(tables, schema, name) {
-        Some(place) => Ok(TableId::new(place)),
-        None => Err(MetaRefusal::UnknownTable {
-            path: path.copy(alloc)?,
-        }),
-    }
-}
-
-// The table that an object with a schema and a name tells.
-#[tactic(auto, unfolding(crate::specs::Found::qualified_table))]
-fn qualified_table(
-    alloc: Global,
-    tables: &[Table],
-    path: &Txt,
-    json: &Json,
-) -> Result<TableId, MetaRefusal>
-    ensures { Gives (λ table. table) MetaRefusal.Memory (qualified_table tables.now path.now (json_view json.now)) result }
-{
-    let object = object_at(alloc, path, json)?;
-    let schema = text_member(alloc, path, object, Field::Schema)?;
-    let name = text_member(alloc, path, object, Field::Name)?;
-    table_named(alloc, tables, path, schema.as_str(), name)
-}
 
 /// The table of the catalog that a node names: a text is the name of one of the schema `public`.
 #[tactic(auto, unfolding(crate::specs::Found::table_at))]
@@ -65,10 +22,7 @@ pub fn table_at(
 ) -> Result<TableId, MetaRefusal>
     ensures { Gives (λ table. table) MetaRefusal.Memory (table_at tables.now path.now (json_view json.now)) result }
 {
-    match json.as_txt() {
-        Some(name) => table_named(alloc, tables, path, "public", name),
-        None => qualified_table(alloc, tables, path, json),
-    }
+    Ok(hq_filter_read::table_at(alloc, tables, path, json)?)
 }
 
 /// A table that must be tracked.
@@ -81,12 +35,7 @@ pub fn tracked_table(
 ) -> Result<TableId, MetaRefusal>
     ensures { Gives (λ table. table) MetaRefusal.Memory (tracked_due (meta_view meta.now) path.now table) result }
 {
-    match meta.tracked_table(table) {
-        Some(_) => Ok(table),
-        None => Err(MetaRefusal::UnknownTable {
-            path: path.copy(alloc)?,
-        }),
-    }
+    Ok(hq_filter_read::tracked_table(alloc, meta, path, table)?)
 }
 
 /// The tracked table that a node names.
@@ -99,8 +48,7 @@ pub fn remote_at(
 ) -> Result<TableId, MetaRefusal>
     ensures { Gives (λ table. table) MetaRefusal.Memory (remote_at scope.now.catalog.now.tables (meta_view scope.now.meta.now) path.now (json_view json.now)) result }
 {
-    let table = table_at(alloc, scope.catalog.tables.as_slice(), path, json)?;
-    tracked_table(alloc, scope.meta, path, table)
+    Ok(hq_filter_read::remote_at(alloc, scope, path, json)?)
 }
 
 /// The columns of a table.

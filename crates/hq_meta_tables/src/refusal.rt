@@ -22,7 +22,7 @@ pub enum MetaRefusal {
     /// may give, or a member stands there that would change names or what a role may see.
     #[error("a part of the metadata has not its form")]
     Shape { path: Txt },
-    /// A table is not in the catalog, or a remote table is not tracked.
+    /// A table is not in the catalog, or a remote table, or one that a filter asks for, is not tracked.
     #[error("a table is unknown")]
     UnknownTable { path: Txt },
     /// A table has no such column.
@@ -31,7 +31,8 @@ pub enum MetaRefusal {
     /// No foreign key of the catalog has these columns.
     #[error("there is no such foreign key")]
     NoForeignKey { path: Txt },
-    /// An operator of a filter is unknown or not of the column's type, or its operand can't be read.
+    /// An operator of a filter is unknown or not of the column's type, its operand can't be read, or the values of two columns
+    /// that it compares can't be.
     #[error("an operand can't be read")]
     BadOperand { path: Txt },
     /// A mapping of columns is empty, or pairs columns whose values can't be compared.
@@ -64,6 +65,7 @@ impl From<FilterRefusal> for MetaRefusal {
     fn from(cause: FilterRefusal) -> Self {
         match cause {
             FilterRefusal::Shape { path } => MetaRefusal::Shape { path },
+            FilterRefusal::UnknownTable { path } => MetaRefusal::UnknownTable { path },
             FilterRefusal::UnknownColumn { path } => MetaRefusal::UnknownColumn { path },
             FilterRefusal::BadOperand { path } => MetaRefusal::BadOperand { path },
             FilterRefusal::Memory => MetaRefusal::Memory,

@@ -7,6 +7,7 @@ pub enum About {
     Worked,
     Blog,
     Shop,
+    ReachingFilters,
     Relationships,
     Aggregates,
     Introspection,
@@ -15,6 +16,7 @@ pub enum About {
     Skipped,
     Directories,
     Runs,
+    Explain,
     Serving,
     Statements,
     Pins,
@@ -22,10 +24,11 @@ pub enum About {
 
 impl About {
     /// Each subject, in the order of its line.
-    pub const ALL: [About; 14] = [
+    pub const ALL: [About; 15] = [
         About::Worked,
         About::Blog,
         About::Shop,
+        About::ReachingFilters,
         About::Relationships,
         About::Aggregates,
         About::Introspection,
@@ -34,6 +37,7 @@ impl About {
         About::Skipped,
         About::Directories,
         About::Runs,
+        About::Explain,
         About::Serving,
         About::Statements,
         About::Pins,
@@ -46,6 +50,7 @@ impl Subject for About {
             About::Worked => "worked",
             About::Blog => "blog",
             About::Shop => "shop",
+            About::ReachingFilters => "reaching_filters",
             About::Relationships => "relationships",
             About::Aggregates => "aggregates",
             About::Introspection => "introspection",
@@ -54,6 +59,7 @@ impl Subject for About {
             About::Skipped => "skipped",
             About::Directories => "directories",
             About::Runs => "runs",
+            About::Explain => "explain",
             About::Serving => "serving",
             About::Statements => "statements",
             About::Pins => "pins",

@@ -1,22 +1,30 @@
 -- Bound filters: they are conditions over their tables without session names, as high as what was bound.
-use Rattle.std.proofs.Common.{◌≡◌, ◌∙◌, refl, sym, ap, subst, ℕ, suc, max, List, [], ◌∷◌, length, filter, Bool, true, ◌&&◌, ◌==◌, nat_le, Option, Some, None, Result, Ok, Err, is_some, option_map, option_and_then, slice_get, find, bytes_eq}
+use Rattle.std.proofs.Common.{◌≡◌, ◌∙◌, refl, sym, ap, subst, ℕ, suc, max, List, [], ◌∷◌, length, map, filter, Bool, true, ◌&&◌, ◌==◌, ◌≤◌, arith, nat_lt, nat_le, Option, Some, None, Result, Ok, Err, is_some, option_map, option_and_then, slice_get, find, bytes_eq}
 use Rattle.std.specs.List.{list_all, list_any}
-use Rattle.std.proofs.lemmas.Bool.{and_parts, and_from}
+use Rattle.std.proofs.lemmas.Bool.{and_parts, and_from, leb-true, le-leb, false≢true}
 use Rattle.std.proofs.lemmas.Option.{get_or_from_slice_get}
+use Rattle.std.specs.Result.{result_ok}
 use Rattle.hq_base.specs.Due.{mapped}
+use Rattle.hq_base.specs.Refused.{text_of}
 use Rattle.hq_base.specs.Lists.{Each}
 use Rattle.hq_base.specs.declared.value.Ty.{Ty}
 use Rattle.hq_base.specs.declared.value.Val.{Val}
-use Rattle.hq_terms.specs.Bexp.{BexpTree, always, and_of, or_of, not_of, test, through, BexpTrees, no_bexp, bexp, bexps_of, depth, depth_of_all}
-use Rattle.hq_terms.specs.Binding.{variable, constant, constant_of, bound_operand, bound_operands, bound, bound_all}
-use Rattle.hq_terms.specs.Filters.{column_ty, operand_fits, is_test, of_type, is_filter, are_filters}
+use Rattle.hq_terms.specs.Bexp.{BexpTree, always, and_of, or_of, not_of, test, through, exists_in, two_columns, BexpTrees, no_bexp, bexp, operands_of, bexps_of, depth, depth_of_all}
+use Rattle.hq_terms.specs.Binding.{variable, constant, constant_of, bound_operand, bound_each, constants, constants_of, bound_operands, bound, bound_all}
+use Rattle.hq_terms.specs.Filters.{column_ty, test_fits, operand_fits, is_test, of_type, is_filter, are_filters}
 use Rattle.hq_terms.specs.Fits.{fits, fits_tracked, fits_perm}
 use Rattle.hq_terms.specs.Meta.{MetaTree, TrackedTree, PermTree, tracked_table}
 use Rattle.hq_terms.specs.Permission.{Permission, permission, permission_in, with_columns, told_permission, named_columns}
 use Rattle.hq_terms.specs.Schema.{Schema, schema_of, table, column, no_column, rel}
-use Rattle.hq_terms.specs.Tests.{takes, applies, reads}
+use Rattle.hq_terms.specs.SessionLists.{element_value, element_values, elements_of, list_want}
+use Rattle.hq_terms.specs.Tests.{arity, has_arity, takes, takes_many, applies, reads}
+use Rattle.hq_terms.specs.declared.test.Arity.{Arity}
+use Rattle.hq_terms.specs.declared.test.Arity.TheVariants.{Nothing, One, Many}
+use Rattle.hq_terms.specs.declared.test.Test.{Test}
 use Rattle.hq_terms.specs.declared.bexp.Operand.{Operand}
 use Rattle.hq_terms.specs.declared.bexp.Operand.TheVariants.{Const, Session}
+use Rattle.hq_terms.specs.declared.bexp.Operands.{Operands}
+use Rattle.hq_terms.specs.declared.bexp.Operands.TheVariants as operands
 use Rattle.hq_terms.specs.declared.role.Role.{Role}
 use Rattle.hq_terms.specs.declared.role.Role.TheVariants.{Admin, Named}
 use Rattle.hq_terms.specs.declared.session.Var.{Var}
@@ -29,7 +37,8 @@ use Rattle.hq_ask_tree.specs.WellFormed.{is_bound_table}
 use Rattle.hq_bound.specs.Bound.{filter_of, filter_due, with_filter, bound_due, bounds_due}
 use Rattle.hq_terms.proofs.Fitting.{reads_fit}
 use Rattle.hq_request_laws.proofs.Items.{each_of, found_each}
-use Rattle.hq_request_laws.proofs.Permitted.{entry}
+use Rattle.hq_request_laws.proofs.Permitted.{entry, none_inherited}
+use Rattle.hq_terms.proofs.Together.{own_alone}
 use Rattle.hq_request_laws.proofs.BuildingSteps.{mapped_ok, then_ok}
 
 -- ---- operands
@@ -50,23 +59,89 @@ module _ (read : List ℕ → Result Val Want) (holds : Operand → Bool) (given
       by None e = cc
       by (Some text) e = given text (read text) refl e
 
-  operands_bound : (os ps : List Operand) → list_all holds os ≡ true → bound_operands read vars os ≡ Ok ps → (list_all holds ps ≡ true) × (list_all is_constant ps ≡ true)
+  operands_bound : (os ps : List Operand) → list_all holds os ≡ true → bound_each read vars os ≡ Ok ps → (list_all holds ps ≡ true) × (list_all is_constant ps ≡ true)
   operands_bound [] ps h e = let same : [] ≡ ps = cc in subst (λ l. (list_all holds l ≡ true) × (list_all is_constant l ≡ true)) same (refl, refl)
   operands_bound (o ∷ os) ps h e =
       let parts = and_parts (holds o) (list_all holds os) h in
-      let one = then_ok (λ b. mapped (λ bs. b ∷ bs) (bound_operands read vars os)) (bound_operand read vars o) ps e in
-      let two = mapped_ok (λ bs. one.0 ∷ bs) (bound_operands read vars os) ps one.2 in
+      let one = then_ok (λ b. mapped (λ bs. b ∷ bs) (bound_each read vars os)) (bound_operand read vars o) ps e in
+      let two = mapped_ok (λ bs. one.0 ∷ bs) (bound_each read vars os) ps one.2 in
       let here = operand_bound o one.0 parts.0 one.1 in
       let later = operands_bound os two.0 parts.1 two.1 in
       subst (λ l. (list_all holds l ≡ true) × (list_all is_constant l ≡ true)) two.2 (and_from (holds one.0) (list_all holds two.0) here.0 later.0, and_from (is_constant one.0) (list_all is_constant two.0) here.1 later.1)
 
 -- what is bound of operands is as many
-bound_length : (read : List ℕ → Result Val Want) (vars : List Var) (os ps : List Operand) → bound_operands read vars os ≡ Ok ps → length ps ≡ length os
+bound_length : (read : List ℕ → Result Val Want) (vars : List Var) (os ps : List Operand) → bound_each read vars os ≡ Ok ps → length ps ≡ length os
 bound_length read vars [] ps e = let same : [] ≡ ps = cc in ap length (sym same)
 bound_length read vars (o ∷ os) ps e =
-    let one = then_ok (λ b. mapped (λ bs. b ∷ bs) (bound_operands read vars os)) (bound_operand read vars o) ps e in
-    let two = mapped_ok (λ bs. one.0 ∷ bs) (bound_operands read vars os) ps one.2 in
+    let one = then_ok (λ b. mapped (λ bs. b ∷ bs) (bound_each read vars os)) (bound_operand read vars o) ps e in
+    let two = mapped_ok (λ bs. one.0 ∷ bs) (bound_each read vars os) ps one.2 in
     ap length (sym two.2) ∙ ap suc (bound_length read vars os two.0 two.1)
+
+-- ---- the operands of a test
+
+-- what is bound of the operands of a test of a type's column are constants that fit it
+abbrev TestBound : Test → Ty → Operands → Type 0
+TestBound t ty vs = (is_test t vs ty ≡ true) × (list_all is_constant (operands_of vs) ≡ true)
+
+list_test : (t : Test) (ty : Ty) (vs : List Operand) → takes t (length vs) ≡ true → applies t ty ≡ true → (list_all (operand_fits t ty) vs ≡ true) × (list_all is_constant vs ≡ true) → TestBound t ty (operands.List vs)
+list_test t ty vs counted of_type_is f =
+    (and_from (takes t (length vs) && applies t ty) (list_all (operand_fits t ty) vs) (and_from (takes t (length vs)) (applies t ty) counted of_type_is) f.0, f.1)
+
+-- a test that takes a list takes any number
+list_taken : (a : Arity) (n : ℕ) → takes_many a ≡ true → has_arity a n ≡ true
+list_taken Nothing n h = absurd (false≢true h)
+list_taken One n h = absurd (false≢true h)
+list_taken Many n h = refl
+
+-- constants that are read of elements fit the test
+values_fit : (t : Test) (ty : Ty) (es : List (List ℕ)) (vs : List Val) → element_values t ty es ≡ Some vs → (list_all (operand_fits t ty) (map Const vs) ≡ true) × (list_all is_constant (map Const vs) ≡ true)
+values_fit t ty [] vs e = let same : [] ≡ vs = cc in subst (λ l. (list_all (operand_fits t ty) (map Const l) ≡ true) × (list_all is_constant (map Const l) ≡ true)) same (refl, refl)
+values_fit t ty (x ∷ es) vs e = by (element_value t ty x) (element_values t ty es) refl (λ more f. values_fit t ty es more f) e
+  where
+    one_fits : (o : Option (List ℕ)) (v : Val) → option_and_then (λ text. result_ok (reads t ty text)) o ≡ Some v → test_fits t ty v ≡ true
+    one_fits None v f = cc
+    one_fits (Some text) v f = read (reads t ty text) refl f
+      where
+        read : (r : Result Val Want) → reads t ty text ≡ r → result_ok r ≡ Some v → test_fits t ty v ≡ true
+        read (Ok w) is g = let same : w ≡ v = cc in subst (λ z. test_fits t ty z ≡ true) same (reads_fit t ty text w is)
+        read (Err w) is g = cc
+
+    by : (o : Option Val) (rest : Option (List Val)) → element_value t ty x ≡ o → ((more : List Val) → rest ≡ Some more → (list_all (operand_fits t ty) (map Const more) ≡ true) × (list_all is_constant (map Const more) ≡ true))
+        → option_and_then (λ v. option_map (λ ws. v ∷ ws) rest) o ≡ Some vs → (list_all (operand_fits t ty) (map Const vs) ≡ true) × (list_all is_constant (map Const vs) ≡ true)
+    by None rest is later f = cc
+    by (Some v) None is later f = cc
+    by (Some v) (Some more) is later f =
+        let same : v ∷ more ≡ vs = cc in
+        let tail = later more refl in
+        subst (λ l. (list_all (operand_fits t ty) (map Const l) ≡ true) × (list_all is_constant (map Const l) ≡ true)) same
+        (and_from (test_fits t ty v) (list_all (operand_fits t ty) (map Const more)) (one_fits (result_ok (text_of x)) v is) tail.0, tail.1)
+
+-- what a variable lists
+list_bound : (t : Test) (ty : Ty) (name : List ℕ) (o : Option (List ℕ)) (ps : List Operand) → constants_of t ty name o ≡ Ok ps → (list_all (operand_fits t ty) ps ≡ true) × (list_all is_constant ps ≡ true)
+list_bound t ty name None ps e = cc
+list_bound t ty name (Some text) ps e = by (elements_of text) refl e
+  where
+    with_values : (es : List (List ℕ)) (o : Option (List Val)) → element_values t ty es ≡ o → constants name (list_want ty) o ≡ Ok ps → (list_all (operand_fits t ty) ps ≡ true) × (list_all is_constant ps ≡ true)
+    with_values es None is f = cc
+    with_values es (Some vs) is f = let same : map Const vs ≡ ps = cc in subst (λ l. (list_all (operand_fits t ty) l ≡ true) × (list_all is_constant l ≡ true)) same (values_fit t ty es vs is)
+
+    by : (o : Option (List (List ℕ))) → elements_of text ≡ o → constants name (list_want ty) (option_and_then (element_values t ty) o) ≡ Ok ps → (list_all (operand_fits t ty) ps ≡ true) × (list_all is_constant ps ≡ true)
+    by None is f = cc
+    by (Some es) is f = with_values es (element_values t ty es) refl f
+
+test_bound : (t : Test) (ty : Ty) (vars : List Var) (os ps : Operands) → is_test t os ty ≡ true → bound_operands t ty vars os ≡ Ok ps → TestBound t ty ps
+test_bound t ty vars (operands.List vs) ps h e =
+    let parts = and_parts (takes t (length vs) && applies t ty) (list_all (operand_fits t ty) vs) h in
+    let taken = and_parts (takes t (length vs)) (applies t ty) parts.0 in
+    let one = mapped_ok operands.List (bound_each (reads t ty) vars vs) ps e in
+    let f = operands_bound (reads t ty) (operand_fits t ty) (reads_fit t ty) vars vs one.0 parts.1 one.1 in
+    let counted : takes t (length one.0) ≡ true = ap (takes t) (bound_length (reads t ty) vars vs one.0 one.1) ∙ taken.0 in
+    subst (TestBound t ty) one.2 (list_test t ty one.0 counted taken.1 f)
+test_bound t ty vars (operands.Session name) ps h e =
+    let parts = and_parts (takes_many (arity t) && applies t ty) (list_all (operand_fits t ty) (Session name ∷ [])) h in
+    let taken = and_parts (takes_many (arity t)) (applies t ty) parts.0 in
+    let one = mapped_ok operands.List (constants_of t ty name (variable vars name)) ps e in
+    subst (TestBound t ty) one.2 (list_test t ty one.0 (list_taken (arity t) (length one.0) taken.0) taken.1 (list_bound t ty name (variable vars name) one.0 one.1))
 
 -- ---- expressions
 
@@ -110,18 +185,9 @@ module _ (s : Schema) (vars : List Var) where
     filter_bound (test k tested vs negated) t h x e =
         let ty = (column s t k).ty in
         let is = column_is t k (is_test tested vs) h in
-        let parts = and_parts (takes tested (length vs) && applies tested ty) (list_all (operand_fits tested ty) vs) is.1 in
-        let taken = and_parts (takes tested (length vs)) (applies tested ty) parts.0 in
-        let one = mapped_ok (λ os. test k tested os negated) (bound_operands (reads tested ty) vars vs) x e in
-        let f = operands_bound (reads tested ty) (operand_fits tested ty) (reads_fit tested ty) vars vs one.0 parts.1 one.1 in
-        let counted : takes tested (length one.0) ≡ true = ap (takes tested) (bound_length (reads tested ty) vars vs one.0 one.1) ∙ taken.0 in
-        subst (Bound t (test k tested vs negated)) one.2 (record {
-          fit =
-              ap (of_type (is_test tested one.0)) is.0
-              ∙ and_from (takes tested (length one.0) && applies tested ty) (list_all (operand_fits tested ty) one.0) (and_from (takes tested (length one.0)) (applies tested ty) counted taken.1) f.0;
-          constant = f.1;
-          deep = refl;
-        })
+        let one = mapped_ok (λ os. test k tested os negated) (bound_operands tested ty vars vs) x e in
+        let f = test_bound tested ty vars vs one.0 is.1 one.1 in
+        subst (Bound t (test k tested vs negated)) one.2 (record { fit = ap (of_type (is_test tested one.0)) is.0 ∙ f.0; constant = f.1; deep = refl })
     filter_bound (through r b) t h x e =
         let parts = and_parts (is_some (slice_get (table s t).rels r)) (is_filter b s (rel s t r).remote) h in
         let one = mapped_ok (through r) (bound b s vars (rel s t r).remote) x e in
@@ -131,6 +197,12 @@ module _ (s : Schema) (vars : List Var) where
           constant = inner.constant;
           deep = ap suc inner.deep;
         })
+    filter_bound (exists_in u b) t h x e =
+        let parts = and_parts (nat_lt u (length s)) (is_filter b s u) h in
+        let one = mapped_ok (exists_in u) (bound b s vars u) x e in
+        let inner = filter_bound b u parts.1 one.0 one.1 in
+        subst (Bound t (exists_in u b)) one.2 (record { fit = and_from (nat_lt u (length s)) (is_filter one.0 s u) parts.0 inner.fit; constant = inner.constant; deep = ap suc inner.deep })
+    filter_bound (two_columns l op r) t h x e = let same : two_columns l op r ≡ x = cc in subst (Bound t (two_columns l op r)) same (record { fit = h; constant = refl; deep = refl })
 
     filters_bound : (bs : BexpTrees) (t : ℕ) → are_filters bs s t ≡ true → (xs : List BexpTree) → bound_all bs s vars t ≡ Ok xs → AllBound t bs xs
     filters_bound no_bexp t h xs e = let same : [] ≡ xs = cc in subst (AllBound t no_bexp) same (record { fit = refl; constant = refl; deep = refl })
@@ -152,6 +224,10 @@ module _ (tables : List Table) (m : MetaTree) (metadata_fits : fits tables m ≡
   abbrev s : Schema
   s = schema_of tables m
 
+  -- at most 300 is at most 301
+  one_more : (n : ℕ) → nat_le n 300 ≡ true → nat_le n 301 ≡ true
+  one_more n h = let low : n ≤ 300 = leb-true n 300 h in le-leb n 301 (omega arith)
+
   -- a filter over table t, at most 300 high
   abbrev IsLow : ℕ → BexpTree → Type 0
   IsLow t b = (is_filter b s t ≡ true) × (nat_le (depth b) 300 ≡ true)
@@ -160,33 +236,33 @@ module _ (tables : List Table) (m : MetaTree) (metadata_fits : fits tables m ≡
   columns_low t p q [] h e = cc
   columns_low t p q (k ∷ cs) h e = let same : record p { columns = k ∷ cs } ≡ q = cc in subst (λ (x : Permission). IsLow t x.filter) same h
 
-  perm_low : (t : ℕ) (p : PermTree) → fits_perm s t p ≡ true → IsLow t p.filter
+  perm_low : (t : ℕ) (p : PermTree) → fits_perm s m t p ≡ true → IsLow t p.filter
   perm_low t p h =
-      let deep = and_parts _ _ (and_parts _ _ h).0 in
+      let deep = and_parts _ _ (and_parts _ _ (and_parts _ _ h).0).0 in
       ((and_parts _ _ deep.0).1, deep.1)
 
-  perms_fit : (k : TrackedTree) → fits_tracked s m k ≡ true → list_all (fits_perm s k.table) k.perms ≡ true
+  perms_fit : (k : TrackedTree) → fits_tracked s m k ≡ true → list_all (fits_perm s m k.table) k.perms ≡ true
   perms_fit k h = (and_parts _ _ h).1
 
-  entry_low : (t : ℕ) (k : TrackedTree) → tracked_table m t ≡ Some k → (r : Role) (q : Permission) → permission_in r k ≡ Some q → IsLow t q.filter
+  entry_low : (t : ℕ) (k : TrackedTree) → tracked_table m t ≡ Some k → (r : Role) (q : Permission) → permission_in r [] k ≡ Some q → IsLow t q.filter
   entry_low t k is Admin q e = columns_low t (record { columns = []; filter = always; limit = None; aggregations = true; masks = [] }) q (named_columns k) (refl, refl) e
-  entry_low t k is (Named name) q e = by (find (λ (p : PermTree). bytes_eq p.role name) k.perms) refl e
+  entry_low t k is (Named name) q e = by (find (λ (p : PermTree). bytes_eq p.role name) k.perms) refl (sym (own_alone name k) ∙ e)
     where
-      all : Each (λ p. fits_perm s t p ≡ true) k.perms
-      all = let en = entry tables m metadata_fits t k is in each_of (fits_perm s t) k.perms (subst (λ u. list_all (fits_perm s u) k.perms ≡ true) en.0 (perms_fit k en.1))
+      all : Each (λ p. fits_perm s m t p ≡ true) k.perms
+      all = let en = entry tables m metadata_fits t k is in each_of (fits_perm s m t) k.perms (subst (λ u. list_all (fits_perm s m u) k.perms ≡ true) en.0 (perms_fit k en.1))
 
       by : (o : Option PermTree) → find (λ (p : PermTree). bytes_eq p.role name) k.perms ≡ o → option_and_then (told_permission k) o ≡ Some q → IsLow t q.filter
       by None at e = cc
       by (Some p) at e =
-          let low = perm_low t p (found_each (λ p. fits_perm s t p ≡ true) (λ (p : PermTree). bytes_eq p.role name) k.perms p at all).0 in
+          let low = perm_low t p (found_each (λ p. fits_perm s m t p ≡ true) (λ (p : PermTree). bytes_eq p.role name) k.perms p at all).0 in
           columns_low t (record { columns = []; filter = p.filter; limit = p.limit; aggregations = p.aggregations; masks = [] }) q (filter (λ c. list_any (λ d. d == c) p.cols) (named_columns k)) low e
 
   permission_low : (t : ℕ) (q : Permission) → permission role m t ≡ Some q → IsLow t q.filter
   permission_low t q e = by (tracked_table m t) refl e
     where
-      by : (o : Option TrackedTree) → tracked_table m t ≡ o → option_and_then (permission_in role) o ≡ Some q → IsLow t q.filter
+      by : (o : Option TrackedTree) → tracked_table m t ≡ o → option_and_then (permission_in role m.inherited) o ≡ Some q → IsLow t q.filter
       by None is e = cc
-      by (Some k) is e = entry_low t k is role q e
+      by (Some k) is e = entry_low t k is role q (ap (λ roles. permission_in role roles k) (sym (none_inherited tables m metadata_fits)) ∙ e)
 
   -- ---- tables with their bound filters
 
@@ -195,15 +271,15 @@ module _ (tables : List Table) (m : MetaTree) (metadata_fits : fits tables m ≡
     pub fit : is_bound_table s b ≡ true
     pub bare : b.masks ≡ []
 
-  filter_fits : (t : ℕ) (f : BexpTree) → filter_due role m s vars t ≡ Ok f → is_condition 300 f s t ≡ true
+  filter_fits : (t : ℕ) (f : BexpTree) → filter_due role m s vars t ≡ Ok f → is_condition 301 f s t ≡ true
   filter_fits t f e = by (permission role m t) refl e
     where
-      by : (o : Option Permission) → permission role m t ≡ o → filter_of o s vars t ≡ Ok f → is_condition 300 f s t ≡ true
-      by None is e = let same : or_of no_bexp ≡ f = cc in subst (λ g. is_condition 300 g s t ≡ true) same refl
+      by : (o : Option Permission) → permission role m t ≡ o → filter_of o s vars t ≡ Ok f → is_condition 301 f s t ≡ true
+      by None is e = let same : or_of no_bexp ≡ f = cc in subst (λ g. is_condition 301 g s t ≡ true) same refl
       by (Some p) is e =
           let low = permission_low t p is in
           let x = filter_bound s vars p.filter t low.0 f e in
-          and_from _ _ (and_from _ _ x.fit x.constant) (ap (λ n. nat_le n 300) x.deep ∙ low.1)
+          and_from _ _ (and_from _ _ x.fit x.constant) (ap (λ n. nat_le n 301) x.deep ∙ one_more (depth p.filter) low.1)
 
   pub entries_fit : (ts : List ℕ) (bs : List BoundTree) → bounds_due role m s vars ts ≡ Ok bs → Each IsEntry bs
   entries_fit [] bs e = let same : [] ≡ bs = cc in subst (Each IsEntry) same tt

@@ -49,6 +49,7 @@ use Rattle.hq_request_laws.specs.Built.{IsBuilt, AreShallow}
 use Rattle.hq_request_laws.proofs.Binding.{IsEntry, entries_fit, entries_bound}
 use Rattle.hq_request_laws.proofs.Collecting.{operation_low, heads_low, are_kept}
 use Rattle.hq_request_laws.proofs.Kept.{AreKept}
+use Rattle.hq_request_laws.proofs.Permitted.{none_inherited}
 use Rattle.hq_request_laws.proofs.Places.{Schemed}
 use Rattle.hq_request_laws.proofs.Roots.{RootFacts, AllRoots, roots_fit}
 use Rattle.hq_request_laws.proofs.Rows.{RowFacts, PartFacts}
@@ -105,7 +106,7 @@ module _ (tables : List Table) (m : MetaTree) (metadata_fits : fits tables m ≡
   c = record { vars = vars; schema = R; tables = s }
 
   schemed : Each (TypeFits R.types (access_of m role)) R.types → Schemed tables m role
-  schemed leads = record { fit = leads; stand = types_stand tables m role (and_parts _ _ (and_parts _ _ metadata_fits).0).0 }
+  schemed leads = record { fit = leads; stand = types_stand tables m role (and_parts _ _ (and_parts _ _ (and_parts _ _ metadata_fits).0).0).0 }
 
   module _ (leads : Each (TypeFits R.types (access_of m role)) R.types) (trees : CollectedTrees) (limited : Limited trees) (fs : FieldTrees) (asked : fields_due c R.query (length tables) trees ≡ Ok fs) (bs : List BoundTree)
       (due : bounds_due role m s session.vars (touched fs s (length tables)) ≡ Ok bs) (bound : IsBound tables m session fs bs) where
@@ -165,4 +166,4 @@ module _ (tables : List Table) (m : MetaTree) (metadata_fits : fits tables m ≡
       let limited = collected_ok d vars op o shallow (operation_ok (operation_at d op) o one.1) (collects (record { document = d; vars = vars }) (selections_in o.selections)) two.0 two.1 in
       let due : bounds_due role m s session.vars (touched fs s (length tables)) ≡ Ok bs = fault_ok (bounds_due role m s session.vars (touched fs s (length tables))) bs four.1 in
       let same : request_of session fs bs ≡ a = let is : _ = four.2 in cc in
-      subst (IsBuilt tables m session) same (built_is leads two.0 limited fs three.1 bs due (bounds fs bs due))
+      subst (IsBuilt tables m session) same (built_is leads two.0 limited fs three.1 bs due (bounds fs (none_inherited tables m metadata_fits) bs due))

@@ -21,6 +21,7 @@ use Rattle.hq_terms.specs.Schema.{Schema, schema_of, table, column, rel}
 use Rattle.hq_terms.specs.Tests.{arity, has_arity, takes, applies}
 use Rattle.hq_terms.specs.declared.bexp.Operand.{Operand}
 use Rattle.hq_terms.specs.declared.bexp.Operand.TheVariants.{Const}
+use Rattle.hq_terms.specs.declared.bexp.Operands.TheVariants as operands
 use Rattle.hq_terms.specs.declared.operator.Operator.{Operator}
 use Rattle.hq_terms.specs.declared.test.Arity.{Arity}
 use Rattle.hq_terms.specs.declared.test.Arity.TheVariants.{Nothing, One, Many}
@@ -165,25 +166,25 @@ module _ (tables : List Table) (m : MetaTree) (metadata_fits : fits tables m ≡
     allowed = column_allowed tables m metadata_fits role t k permitted
 
     -- a test of the column, of as many operands as it takes, which fit
-    test_writes : (o : Operator) → applies o.test ty ≡ true → (vs : List Operand) (negated : Bool) → takes o.test (length vs) ≡ true → Each (OperandFits o.test ty) vs → Writes t 1 (test k o.test vs negated)
+    test_writes : (o : Operator) → applies o.test ty ≡ true → (vs : List Operand) (negated : Bool) → takes o.test (length vs) ≡ true → Each (OperandFits o.test ty) vs → Writes t 1 (test k o.test (operands.List vs) negated)
     test_writes o of_type_is vs negated counted h =
         let f = operands_all o.test ty vs h in
         record {
           uses = allowed;
-          fit = ap (of_type (is_test o.test vs)) typed ∙ and_from (takes o.test (length vs) && applies o.test ty) (list_all (operand_fits o.test ty) vs) (and_from (takes o.test (length vs)) (applies o.test ty) counted of_type_is) f.0;
+          fit = ap (of_type (is_test o.test (operands.List vs))) typed ∙ and_from (takes o.test (length vs) && applies o.test ty) (list_all (operand_fits o.test ty) vs) (and_from (takes o.test (length vs)) (applies o.test ty) counted of_type_is) f.0;
           bound = f.1;
           deep = omega arith;
         }
 
     tested_writes : (o : Operator) → applies o.test ty ≡ true → (j : JsonTree) (n : Arity) → arity o.test ≡ n → (b : BexpTree) → tested_due k ty o j n ≡ Ok b → Writes t 1 b
     tested_writes o of_type_is j Nothing is b e =
-        let one = mapped_ok (λ holds. test k o.test [] (cond holds o.negated (not o.negated))) (truth_due j) b e in
+        let one = mapped_ok (λ holds. test k o.test (operands.List []) (cond holds o.negated (not o.negated))) (truth_due j) b e in
         subst (Writes t 1) one.2 (test_writes o of_type_is [] (cond one.0 o.negated (not o.negated)) (ap (λ n. has_arity n 0) is) tt)
     tested_writes o of_type_is j One is b e =
-        let one = mapped_ok (λ v. test k o.test (v ∷ []) o.negated) (operand_due o.test ty j) b e in
+        let one = mapped_ok (λ v. test k o.test (operands.List (v ∷ [])) o.negated) (operand_due o.test ty j) b e in
         subst (Writes t 1) one.2 (test_writes o of_type_is (one.0 ∷ []) o.negated (ap (λ n. has_arity n 1) is) (operand_read o.test ty j one.0 one.1, tt))
     tested_writes o of_type_is j Many is b e =
-        let one = mapped_ok (λ vs. test k o.test vs o.negated) (each (operand_due o.test ty) (items_in j)) b e in
+        let one = mapped_ok (λ vs. test k o.test (operands.List vs) o.negated) (each (operand_due o.test ty) (items_in j)) b e in
         subst (Writes t 1) one.2 (test_writes o of_type_is one.0 o.negated (ap (λ n. has_arity n (length one.0)) is) (each_ok (operand_due o.test ty) (OperandFits o.test ty) (operand_read o.test ty) (items_in j) one.0 one.1))
 
     operator_writes : (o : Operator) (j : JsonTree) (b : BexpTree) → operator_due k ty o j ≡ Ok b → Writes t 1 b

@@ -4,6 +4,7 @@ use Rattle.std.specs.Prelude.{unwrap_or}
 use Rattle.std.specs.List.{list_any}
 use Rattle.std.specs.Option.{option_map_or}
 use Rattle.std.proofs.lemmas.Bool.{and_parts, eqb-true, false≢true, ltb-true}
+use Rattle.std.proofs.lemmas.List.{nil_from_length}
 use Rattle.std.proofs.lemmas.Option.{slice_get-get_or, get_or_from_slice_get}
 use Rattle.hq_base.specs.Lists.{Each}
 use Rattle.hq_base.proofs.Lists.{each_weaken}
@@ -19,6 +20,7 @@ use Rattle.hq_terms.specs.declared.role.Role.{Role}
 use Rattle.hq_terms.specs.declared.role.Role.TheVariants.{Admin, Named}
 use Rattle.hq_terms.specs.declared.table.Column.{Column}
 use Rattle.hq_terms.specs.declared.table.Table.{Table}
+use Rattle.hq_terms.proofs.Together.{own_alone}
 use Rattle.hq_terms.proofs.Places.{table_present, at_0}
 use Rattle.hq_ask_tree.specs.Allowed.{Allowed, allowed_to, permitted_columns, has_aggregates}
 use Rattle.hq_roles.specs.Access.{Access, access_of}
@@ -58,9 +60,9 @@ told_within : (k : TrackedTree) (o : Option PermTree) → Each (Within k) (permi
 told_within k None = tt
 told_within k (Some p) = with_within k (record { columns = []; filter = p.filter; limit = p.limit; aggregations = p.aggregations; masks = [] }) _ (each_filter (Within k) (λ c. list_any (λ d. d == c) p.cols) (named_columns k) (all_within k))
 
-permitted_within : (role : Role) (k : TrackedTree) → Each (Within k) (permitted_columns (permission_in role k))
+permitted_within : (role : Role) (k : TrackedTree) → Each (Within k) (permitted_columns (permission_in role [] k))
 permitted_within Admin k = with_within k (record { columns = []; filter = always; limit = None; aggregations = true; masks = [] }) _ (all_within k)
-permitted_within (Named name) k = told_within k (find (λ p. bytes_eq p.role name) k.perms)
+permitted_within (Named name) k = subst (λ o. Each (Within k) (permitted_columns o)) (sym (own_alone name k)) (told_within k (find (λ p. bytes_eq p.role name) k.perms))
 
 -- ---- all that fits
 
@@ -68,10 +70,14 @@ module _ (tables : List Table) (m : MetaTree) (metadata_fits : fits tables m ≡
   abbrev s : Schema
   s = schema_of tables m
 
+  -- there are no inherited roles
+  pub none_inherited : m.inherited ≡ []
+  none_inherited = nil_from_length m.inherited (eqb-true _ _ (and_parts _ _ (and_parts _ _ metadata_fits).1).1)
+
   -- the entry of a table fits
   pub entry : (t : ℕ) (k : TrackedTree) → tracked_table m t ≡ Some k → (k.table ≡ t) × (fits_tracked s m k ≡ true)
   entry t k is =
-      let all = (and_parts _ _ (and_parts _ _ metadata_fits).0).1 in
+      let all = (and_parts _ _ (and_parts _ _ (and_parts _ _ metadata_fits).0).0).1 in
       let both = found_each (λ j. fits_tracked s m j ≡ true) (λ j. j.table == t) m.tracked k is (each_of (fits_tracked s m) m.tracked all) in
       (eqb-true k.table t both.1, both.0)
 
@@ -125,11 +131,11 @@ module _ (tables : List Table) (m : MetaTree) (metadata_fits : fits tables m ≡
     pub column_typed : (t c : ℕ) → a.column t c ≡ true → column_ty s t c ≡ Some (column s t c).ty
     column_typed t c h = by (tracked_table m t) refl (column_allowed t c h)
       where
-        by : (o : Option TrackedTree) → tracked_table m t ≡ o → list_any (λ d. d == c) (permitted_columns (option_and_then (permission_in role) o)) ≡ true → column_ty s t c ≡ Some (column s t c).ty
+        by : (o : Option TrackedTree) → tracked_table m t ≡ o → list_any (λ d. d == c) (permitted_columns (option_and_then (permission_in role m.inherited) o)) ≡ true → column_ty s t c ≡ Some (column s t c).ty
         by None is g = absurd (false≢true g)
         by (Some k) is g =
             let e = entry t k is in
-            let short : c < length k.column_names = among (Within k) (permitted_columns (permission_in role k)) c (permitted_within role k) g in
+            let short : c < length k.column_names = among (Within k) (permitted_columns (permission_in role m.inherited k)) c (subst (λ roles. Each (Within k) (permitted_columns (permission_in role roles k))) (sym none_inherited) (permitted_within role k)) g in
             let long : length k.column_names ≡ length (table s k.table).columns = eqb-true _ _ (entry_parts k e.1).1 in
             let within : c < length (table s k.table).columns = omega arith in
             subst (λ u. column_ty s u c ≡ Some (column s u c).ty) e.0 (ap (option_map (λ (d : Column). d.ty)) (slice_get-get_or (table s k.table).columns c no_column within))

@@ -70,6 +70,7 @@ meta = record {
         perms = record { role = codes "user"; cols = 0 ∷ 2 ∷ 4 ∷ []; filter = always; limit = None; aggregations = true } ∷ [];
       }
       ∷ [];
+  inherited = [];
 }
 
 -- the metadata fits the catalog

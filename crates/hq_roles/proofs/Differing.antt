@@ -339,10 +339,10 @@ module _ (tables : List Table) (m : MetaTree) (role : Role) (catalog : is_catalo
   OwnDiffer k = differ (admin.fields_of m k) && differ (admin.inputs_of m k)
 
   tracked_once : once ≡ true
-  tracked_once = (and_parts once entries (and_parts (once && entries) (admin.names_differ (schema_of tables m) m) fit).0).0
+  tracked_once = (and_parts once entries (and_parts (once && entries) (admin.names_differ (schema_of tables m) m) (and_parts _ _ fit).0).0).0
 
   names : (types_once && roots_once && list_all OwnDiffer m.tracked) ≡ true
-  names = (and_parts (once && entries) (admin.names_differ (schema_of tables m) m) fit).1
+  names = (and_parts (once && entries) (admin.names_differ (schema_of tables m) m) (and_parts _ _ fit).0).1
 
   abbrev First : TrackedTree → Type 0
   First k = tracked_table m k.table ≡ Some k

@@ -4,8 +4,9 @@ use Rattle.std.specs.Prelude.{find, option_map, option_and_then, slice_get, byte
 use Rattle.std.specs.List.{list_any}
 use Rattle.hq_terms.specs.Bexp.{always}
 use Rattle.hq_terms.specs.Meta.{PermTree, TrackedTree, MetaTree, tracked_table}
-use Rattle.hq_terms.specs.Permission.{Permission, named_columns, with_columns, told_permission, permission_in}
+use Rattle.hq_terms.specs.Permission.{Permission, named_columns, with_columns, told_permission, own_permission, permissions_of, either, filters_of, permits, limit_of, some_aggregate, masks_for, columns_of_any, combined, set_of, or_inherited, permission_in}
 use Rattle.hq_terms.specs.SchemaNames.{has_columns, is_in_schema, in_schema}
+use Rattle.hq_terms.specs.declared.meta.Inherited.{Inherited}
 use Rattle.hq_terms.specs.declared.role.Role.{Role}
 use Rattle.hq_terms.specs.declared.role.Role.TheVariants.{Admin, Named}
 use Rattle.hq_terms.specs.declared.table.Table.{Table}
@@ -30,14 +31,14 @@ with_is q (c ∷ cs) p e =
     (sym (ap (λ (r : Permission). r.columns) same), ap (λ (r : Permission). list_any (λ c. true) r.columns) (sym same))
 
 -- which are some of those that have names
-chosen : (role : Role) (k : TrackedTree) (p : Permission) → permission_in role k ≡ Some p → Sub p.columns (named_columns k) × (list_any (λ c. true) p.columns ≡ true)
-chosen Admin k p e =
-    let base : Permission = record { columns = []; filter = always; limit = None; aggregations = true; masks = [] } in
-    let is = with_is base (named_columns k) p e in
-    (subst (λ (cs : List ℕ). Sub cs (named_columns k)) (sym is.0) (sub_same (named_columns k)), is.1)
-chosen (Named name) k p e = by (find (λ (q : PermTree). bytes_eq q.role name) k.perms) e
+abbrev Chosen : TrackedTree → Permission → Type 0
+Chosen k p = Sub p.columns (named_columns k) × (list_any (λ c. true) p.columns ≡ true)
+
+-- so are those of an entry's own permission
+own_chosen : (name : List ℕ) (k : TrackedTree) (p : Permission) → own_permission k name ≡ Some p → Chosen k p
+own_chosen name k p e = by (find (λ (q : PermTree). bytes_eq q.role name) k.perms) e
   where
-    by : (o : Option PermTree) → option_and_then (told_permission k) o ≡ Some p → Sub p.columns (named_columns k) × (list_any (λ c. true) p.columns ≡ true)
+    by : (o : Option PermTree) → option_and_then (told_permission k) o ≡ Some p → Chosen k p
     by None e = cc
     by (Some q) e =
         let told : ℕ → Bool = λ (c : ℕ). list_any (λ d. d == c) q.cols in
@@ -45,18 +46,37 @@ chosen (Named name) k p e = by (find (λ (q : PermTree). bytes_eq q.role name) k
         let is = with_is base (filter told (named_columns k)) p e in
         (subst (λ (cs : List ℕ). Sub cs (named_columns k)) (sym is.0) (sub_filter told (named_columns k)), is.1)
 
-pub granted : (tables : List Table) (m : MetaTree) (role : Role) (k : TrackedTree) → tracked_table m k.table ≡ Some k → (t : ShownTable) → shown_entry tables m role k ≡ Some t → Granted tables k t
-granted tables m role k first t e = by (slice_get tables k.table) (permission_in role k) refl refl given
-  where
-    given : option_and_then (λ (u : Table). option_map (shown_table k u) (permission_in role k)) (slice_get tables k.table) ≡ Some t
-    given = ap (λ (o : Option TrackedTree). option_and_then (λ (u : Table). option_map (shown_table k u) (option_and_then (permission_in role) o)) (slice_get tables k.table)) (sym first) ∙ e
+-- and those that the roles of a set permit together
+set_chosen : (k : TrackedTree) (ps : List Permission) (p : Permission) → combined k ps ≡ Some p → Chosen k p
+set_chosen k ps p e =
+    let some : ℕ → Bool = λ (c : ℕ). list_any (permits c) ps in
+    let base : Permission = record { columns = []; filter = either (filters_of ps); limit = limit_of ps; aggregations = some_aggregate ps; masks = masks_for ps (columns_of_any k ps) } in
+    let is = with_is base (columns_of_any k ps) p e in
+    (subst (λ (cs : List ℕ). Sub cs (named_columns k)) (sym is.0) (sub_filter some (named_columns k)), is.1)
 
-    by : (u : Option Table) (p : Option Permission) → slice_get tables k.table ≡ u → permission_in role k ≡ p → option_and_then (λ (u : Table). option_map (shown_table k u) p) u ≡ Some t → Granted tables k t
+chosen : (role : Role) (is : List Inherited) (k : TrackedTree) (p : Permission) → permission_in role is k ≡ Some p → Chosen k p
+chosen Admin is k p e =
+    let base : Permission = record { columns = []; filter = always; limit = None; aggregations = true; masks = [] } in
+    let made = with_is base (named_columns k) p e in
+    (subst (λ (cs : List ℕ). Sub cs (named_columns k)) (sym made.0) (sub_same (named_columns k)), made.1)
+chosen (Named name) is k p e = by (own_permission k name) refl e
+  where
+    by : (o : Option Permission) → own_permission k name ≡ o → or_inherited o k (set_of is name) ≡ Some p → Chosen k p
+    by None at f = set_chosen k (permissions_of k (set_of is name)) p f
+    by (Some q) at f = own_chosen name k p (at ∙ f)
+
+pub granted : (tables : List Table) (m : MetaTree) (role : Role) (k : TrackedTree) → tracked_table m k.table ≡ Some k → (t : ShownTable) → shown_entry tables m role k ≡ Some t → Granted tables k t
+granted tables m role k first t e = by (slice_get tables k.table) (permission_in role m.inherited k) refl refl given
+  where
+    given : option_and_then (λ (u : Table). option_map (shown_table k u) (permission_in role m.inherited k)) (slice_get tables k.table) ≡ Some t
+    given = ap (λ (o : Option TrackedTree). option_and_then (λ (u : Table). option_map (shown_table k u) (option_and_then (permission_in role m.inherited) o)) (slice_get tables k.table)) (sym first) ∙ e
+
+    by : (u : Option Table) (p : Option Permission) → slice_get tables k.table ≡ u → permission_in role m.inherited k ≡ p → option_and_then (λ (u : Table). option_map (shown_table k u) p) u ≡ Some t → Granted tables k t
     by None p here allowed e = cc
     by (Some u) None here allowed e = cc
     by (Some u) (Some p) here allowed e =
         let same : shown_table k u p ≡ t = cc in
-        let columns = chosen role k p allowed in
+        let columns = chosen role m.inherited k p allowed in
         record { table = u; here = here; perm = p; columns = columns.0; some = columns.1; is = sym same }
 
 -- its table stands in the schema of admin

@@ -4,6 +4,8 @@ use Rattle.std.specs.Prelude.{◌||◌, ◌==◌, flat_map, slice_get}
 use Rattle.std.specs.HashMap.{HashMap}
 use Rattle.std.specs.List.{cons_option, filter_map, list_all, list_any}
 use Rattle.hq_base.specs.Lists.{Each}
+use Rattle.std.proofs.lemmas.Bool.{eqb-true}
+use Rattle.std.proofs.lemmas.List.{nil_from_length}
 use Rattle.std.proofs.lemmas.Slice.Eq.{bytes_eq-Decides}
 use Rattle.hq_role_schema.specs.Placed.{placed}
 use Rattle.hq_role_schema.specs.RoleSchema.{schema_over, role_schema}
@@ -15,6 +17,7 @@ use Rattle.hq_terms.specs.Names.{is_admin_name}
 use Rattle.hq_terms.specs.Permission.{told_permission, permission_in, permission}
 use Rattle.hq_terms.specs.Schema as schema
 use Rattle.hq_terms.specs.Schema.{schema_of}
+use Rattle.hq_terms.proofs.Together.{own_alone}
 use Rattle.hq_terms.specs.declared.role.Role.TheVariants.{Named}
 use Rattle.hq_terms.specs.declared.table.Table.{Table}
 use Rattle.hq_roles.specs.Roles.{new_names, roles_in, kept_for, keeps_each}
@@ -108,26 +111,30 @@ each_found P p (y ∷ ys) x all e =
 abbrev has_none : List ℕ → List TrackedTree → Type 0
 has_none name ks = Each (none_for name) ks
 
-none_permitted : (m : MetaTree) (name : List ℕ) (t : ℕ) → has_none name m.tracked → permission (Named name) m t ≡ None
-none_permitted m name t none =
-    let go : (o : Option TrackedTree) → find (λ k. k.table == t) m.tracked ≡ o → option_and_then (permission_in (Named name)) o ≡ None =
-    elim [ None ↦ λ is. refl | Some k ↦ λ is. ap (option_and_then (told_permission k)) (each_found (none_for name) (λ j. j.table == t) m.tracked k none is) ] in
+none_permitted : (m : MetaTree) (name : List ℕ) (t : ℕ) → m.inherited ≡ [] → has_none name m.tracked → permission (Named name) m t ≡ None
+none_permitted m name t alone none =
+    let go : (o : Option TrackedTree) → find (λ k. k.table == t) m.tracked ≡ o → option_and_then (permission_in (Named name) m.inherited) o ≡ None = elim [
+      | None ↦ λ is. refl
+      | Some k ↦ λ is.
+          ap (λ roles. permission_in (Named name) roles k) alone ∙ own_alone name k
+          ∙ ap (option_and_then (told_permission k)) (each_found (none_for name) (λ j. j.table == t) m.tracked k none is)
+    ] in
     go (find (λ k. k.table == t) m.tracked) refl
 
 nothing_then : {A B : Type 0} (o : Option A) (f : A → Option B) → ((x : A) → f x ≡ None) → option_and_then f o ≡ None
 nothing_then None f h = refl
 nothing_then (Some x) f h = h x
 
-none_shown : (tables : List Table) (m : MetaTree) (name : List ℕ) → has_none name m.tracked → (ks : List TrackedTree) → filter_map (shown_entry tables m (Named name)) ks ≡ []
-none_shown tables m name none [] = refl
-none_shown tables m name none (k ∷ ks) =
-    let hidden : shown_entry tables m (Named name) k ≡ None = nothing_then (slice_get tables k.table) _ (λ t. ap (option_map (shown_table k t)) (none_permitted m name k.table none)) in
-    ap (λ o. cons_option o (filter_map (shown_entry tables m (Named name)) ks)) hidden ∙ none_shown tables m name none ks
+none_shown : (tables : List Table) (m : MetaTree) (name : List ℕ) → m.inherited ≡ [] → has_none name m.tracked → (ks : List TrackedTree) → filter_map (shown_entry tables m (Named name)) ks ≡ []
+none_shown tables m name alone none [] = refl
+none_shown tables m name alone none (k ∷ ks) =
+    let hidden : shown_entry tables m (Named name) k ≡ None = nothing_then (slice_get tables k.table) _ (λ t. ap (option_map (shown_table k t)) (none_permitted m name k.table alone none)) in
+    ap (λ o. cons_option o (filter_map (shown_entry tables m (Named name)) ks)) hidden ∙ none_shown tables m name alone none ks
 
 -- two roles that have none have one schema
-alike : (tables : List Table) (m : MetaTree) (a b : List ℕ) → has_none a m.tracked → has_none b m.tracked → role_schema tables m (Named a) ≡ role_schema tables m (Named b)
+alike : (tables : List Table) (m : MetaTree) (a b : List ℕ) → m.inherited ≡ [] → has_none a m.tracked → has_none b m.tracked → role_schema tables m (Named a) ≡ role_schema tables m (Named b)
 unfolding role_schema
-alike tables m a b none_a none_b = ap (λ ts. schema_over (placed ts)) (none_shown tables m a none_a m.tracked ∙ sym (none_shown tables m b none_b m.tracked))
+alike tables m a b alone none_a none_b = ap (λ ts. schema_over (placed ts)) (none_shown tables m a alone none_a m.tracked ∙ sym (none_shown tables m b alone none_b m.tracked))
 
 -- ---- the two ways to know it
 
@@ -142,23 +149,25 @@ others_have_none : (m : MetaTree) (name : List ℕ) → is_among name (roles_in 
 others_have_none m name h = entries_have_none name m.tracked (not_named name (flat_map (λ k. map (λ p. p.role) k.perms) m.tracked) [] refl h)
 
 -- of the name `admin`, since the metadata fits the catalog
-none_admin : (s : schema.Schema) (t : ℕ) (perms : List PermTree) → list_all (fits_perm s t) perms ≡ true → find (λ p. bytes_eq p.role (codes "admin")) perms ≡ None
-none_admin s t [] fit = refl
-none_admin s t (p ∷ ps) fit =
-    let parts = both (fits_perm s t p) (list_all (fits_perm s t) ps) fit in
-    let other : not (is_admin_name p.role) ≡ true = (both _ _ (both _ _ (both _ _ (both _ _ parts.0).0).0).0).0 in
+none_admin : (s : schema.Schema) (m : MetaTree) (t : ℕ) (perms : List PermTree) → list_all (fits_perm s m t) perms ≡ true → find (λ p. bytes_eq p.role (codes "admin")) perms ≡ None
+none_admin s m t [] fit = refl
+none_admin s m t (p ∷ ps) fit =
+    let parts = both (fits_perm s m t p) (list_all (fits_perm s m t) ps) fit in
+    let other : not (is_admin_name p.role) ≡ true = (both _ _ (both _ _ (both _ _ (both _ _ (both _ _ parts.0).0).0).0).0).0 in
     let apart : is_admin_name p.role ≡ false = never (is_admin_name p.role) (λ e. not_true (not (is_admin_name p.role)) (ap not e) other) in
-    ap (λ b. cond b (Some p) (find (λ q. bytes_eq q.role (codes "admin")) ps)) apart ∙ none_admin s t ps parts.1
+    ap (λ b. cond b (Some p) (find (λ q. bytes_eq q.role (codes "admin")) ps)) apart ∙ none_admin s m t ps parts.1
 
 entries_have_no_admin : (s : schema.Schema) (m : MetaTree) (ks : List TrackedTree) → list_all (fits_tracked s m) ks ≡ true → has_none (codes "admin") ks
 entries_have_no_admin s m [] fit = tt
 entries_have_no_admin s m (k ∷ ks) fit =
     let parts = both (fits_tracked s m k) (list_all (fits_tracked s m) ks) fit in
-    (none_admin s k.table k.perms (both _ _ parts.0).1, entries_have_no_admin s m ks parts.1)
+    (none_admin s m k.table k.perms (both _ _ parts.0).1, entries_have_no_admin s m ks parts.1)
 
 admin_has_none : (tables : List Table) (m : MetaTree) → fits tables m ≡ true → has_none (codes "admin") m.tracked
-admin_has_none tables m fit = entries_have_no_admin (schema_of tables m) m m.tracked (both _ _ (both _ _ fit).0).1
+admin_has_none tables m fit = entries_have_no_admin (schema_of tables m) m m.tracked (both _ _ (both _ _ (both _ _ fit).0).0).1
 
 -- each role that is not among those with a permission has the schema of a role of the name `admin`
 pub other_role : (tables : List Table) (m : MetaTree) (name : List ℕ) → fits tables m ≡ true → is_among name (roles_in m) ≡ false → role_schema tables m (Named name) ≡ role_schema tables m (Named (codes "admin"))
-other_role tables m name fit h = alike tables m name (codes "admin") (others_have_none m name h) (admin_has_none tables m fit)
+other_role tables m name fit h =
+    let alone : m.inherited ≡ [] = nil_from_length m.inherited (eqb-true _ _ (both _ _ (both _ _ fit).1).1) in
+    alike tables m name (codes "admin") alone (others_have_none m name h) (admin_has_none tables m fit)

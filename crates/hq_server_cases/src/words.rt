@@ -23,7 +23,14 @@ fn push_asked(alloc: Global, words: &[Txt], out: &mut Words) {
 
 fn push_command(command: &Command, out: &mut Words) {
     match command {
-        Command::Query { dir, headers } => push_request("query ", dir, headers, out),
+        Command::Query {
+            dir,
+            headers,
+            paged,
+        } => {
+            push_request("query ", dir, headers, out);
+            push_paged(*paged, out);
+        }
         Command::Sql { dir, headers } => push_request("sql ", dir, headers, out),
         Command::Check { dir } => out.push_pair("check ", dir.as_str()),
         Command::Gen { n } => {
@@ -40,10 +47,12 @@ fn push_command(command: &Command, out: &mut Words) {
             connections,
             secret,
             unauthorized,
+            paged,
         } => {
             push_serve(dir, *port, *connections, out);
             push_text(", secret '", secret, out);
             push_text(", unauthorized '", unauthorized, out);
+            push_paged(*paged, out);
         }
     }
 }
@@ -62,6 +71,12 @@ fn push_serve(dir: &Txt, port: u16, connections: u32, out: &mut Words) {
     out.push_number(u64::from(port));
     out.push(" for ");
     out.push_number(u64::from(connections));
+}
+
+fn push_paged(paged: bool, out: &mut Words) {
+    if paged {
+        out.push(" in pages");
+    }
 }
 
 fn push_text(before: &str, text: &Option<Txt>, out: &mut Words) {

@@ -7,7 +7,7 @@ use Rattle.std.proofs.lemmas.Option.{unwrap_or-slice_get}
 use Rattle.hq_terms.specs.Bexp.{BexpTree, bexp_view, never}
 use Rattle.hq_terms.specs.Grants.{grant, no_grant}
 use Rattle.hq_terms.specs.Meta.{MetaTree}
-use Rattle.hq_terms.specs.Permission.{Mask, Permission, permission}
+use Rattle.hq_terms.specs.Permission.{Mask, Permission, option_list, permission}
 use Rattle.hq_terms.specs.Schema.{Schema, schema_of, schema_table}
 use Rattle.hq_terms.specs.declared.role.Role.{Role}
 use Rattle.hq_terms.specs.declared.table.Table.{Table}
@@ -17,7 +17,7 @@ use Rattle.hq_ask_tree.specs.Request.{BoundTree, AskTree, bound_table, with_boun
 use Rattle.hq_compiled.specs.Rights.{rights_of}
 use Rattle.hq_compile_context.specs.Contexts.{rights_in}
 use Rattle.hq_compile_context.specs.declared.context.Granted.{Granted}
-use Rattle.hq_sql_compile.specs.GrantedTrees.{GrantedTree, granted_view, granted_under, granted_for, granted_all, option_list}
+use Rattle.hq_sql_compile.specs.GrantedTrees.{GrantedTree, granted_view, granted_under, granted_for, granted_all}
 
 -- the first entry that passes a test of what it is seen as
 seen_first : (t : ℕ) (gs : List Granted) → find (λ v. v.table == t) (map granted_view gs) ≡ option_map granted_view (find (λ g. g.table == t) gs)

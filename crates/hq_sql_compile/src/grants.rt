@@ -2,10 +2,11 @@
 ghost use Rattle.std.specs.Prelude.{◌≡◌, ◌++◌, [], IfOk, OnOk, map, option_map};
 ghost use Rattle.hq_terms.specs.Meta.{meta_view};
 ghost use Rattle.hq_terms.specs.Schema.{schema_of};
+ghost use Rattle.hq_terms.specs.Permission.{option_list};
 ghost use Rattle.hq_ask_tree.specs.Request.{ask_view, bound_view, grants_in};
 ghost use Rattle.hq_compiled.specs.Rights.{rights_of};
 ghost use Rattle.hq_compile_context.specs.Contexts.{rights_in};
-ghost use Rattle.hq_sql_compile.specs.GrantedTrees.{granted_view, granted_under, granted_for, granted_all, option_list};
+ghost use Rattle.hq_sql_compile.specs.GrantedTrees.{granted_view, granted_under, granted_for, granted_all};
 ghost use Rattle.hq_terms.specs.PermView.{permission_view};
 
 use hq_ask_tree::{Ask, Bound};

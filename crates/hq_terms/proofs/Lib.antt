@@ -1,7 +1,11 @@
 pub mod Numbers
 pub mod CellOrders
 mod Lists
+pub mod Joining
+pub mod Names
+pub mod ListsRead
 pub mod Fitting
 pub mod Places
 pub mod Steps
 mod Worked
+pub mod Together

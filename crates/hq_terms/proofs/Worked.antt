@@ -8,6 +8,7 @@ use Rattle.hq_terms.specs.declared.table.Table.{Table}
 use Rattle.hq_terms.specs.declared.meta.RootNames.{RootNames}
 use Rattle.hq_terms.specs.declared.session.Session.{Session}
 use Rattle.hq_terms.specs.declared.bexp.Operand.TheVariants as operand
+use Rattle.hq_terms.specs.declared.bexp.Operands.TheVariants as operands
 use Rattle.hq_terms.specs.declared.bind.BindRefusal.TheVariants.{NoVariable, BadVariable}
 use Rattle.hq_terms.specs.declared.want.Want.TheVariants as want
 use Rattle.hq_terms.specs.Bexp.{BexpTree, always, or_of, not_of, test, through, no_bexp, bexp}
@@ -72,8 +73,8 @@ database =
 -- the metadata: the role user may see all authors, and the articles that are published or the user's own
 abbrev own_or_published : BexpTree
 own_or_published =
-    or_of (bexp (test 3 (Compare Eq) (operand.Const (val.Bool true) ∷ []) false)
-    (bexp (test 1 (Compare Eq) (operand.Session (codes "x-hasura-user-id") ∷ []) false) no_bexp))
+    or_of (bexp (test 3 (Compare Eq) (operands.List (operand.Const (val.Bool true) ∷ [])) false)
+    (bexp (test 1 (Compare Eq) (operands.List (operand.Session (codes "x-hasura-user-id") ∷ [])) false) no_bexp))
 
 -- the names of root fields
 abbrev roots_with : (select select_aggregate select_by_pk : List ℕ) → RootNames
@@ -99,6 +100,7 @@ meta = record {
         perms = record { role = codes "user"; cols = 0 ∷ 2 ∷ 4 ∷ []; filter = own_or_published; limit = None; aggregations = true } ∷ [];
       }
       ∷ [];
+  inherited = [];
 }
 
 -- the schema of the two
@@ -197,10 +199,10 @@ one_a_rating_to_2 = refl
 
 -- the rating is 5
 abbrev rating_is : BexpTree
-rating_is = test 4 (Compare Eq) (operand.Const (val.Int (pos 5)) ∷ []) false
+rating_is = test 4 (Compare Eq) (operands.List (operand.Const (val.Int (pos 5)) ∷ [])) false
 
 -- a rating that is NULL is not different from 5
-rating_differs : listed (codes "1") (record plain { wanted = test 4 (Compare Ne) (operand.Const (val.Int (pos 5)) ∷ []) false }) ≡ numbers (13 ∷ [])
+rating_differs : listed (codes "1") (record plain { wanted = test 4 (Compare Ne) (operands.List (operand.Const (val.Int (pos 5)) ∷ [])) false }) ≡ numbers (13 ∷ [])
 rating_differs = refl
 
 -- a rating that is NULL is not unequal to 5 either
@@ -209,7 +211,7 @@ rating_is_not = refl
 
 -- by the name of the author, who is to be Ann
 by_ann : listed (codes "1") (record plain {
-  wanted = through 0 (test 1 (Compare Eq) (operand.Const (val.Text (codes "Ann")) ∷ []) false);
+  wanted = through 0 (test 1 (Compare Eq) (operands.List (operand.Const (val.Text (codes "Ann")) ∷ [])) false);
   sorts = record { through = 0 ∷ []; column = 1; desc = false; nulls_first = false } ∷ [];
 }) ≡ numbers (10 ∷ 11 ∷ [])
 by_ann = refl
@@ -232,7 +234,7 @@ bad_variable = refl
 
 -- the first operand from the left decides
 first_fault :
-    bound (or_of (bexp (test 1 (Compare Eq) (operand.Session (codes "x-hasura-a") ∷ []) false) (bexp (test 1 (Compare Eq) (operand.Session (codes "x-hasura-b") ∷ []) false) no_bexp))) schema [] 1
+    bound (or_of (bexp (test 1 (Compare Eq) (operands.List (operand.Session (codes "x-hasura-a") ∷ [])) false) (bexp (test 1 (Compare Eq) (operands.List (operand.Session (codes "x-hasura-b") ∷ [])) false) no_bexp))) schema [] 1
     ≡ Err (NoVariable (codes "x-hasura-a"))
 first_fault = refl
 
@@ -275,7 +277,7 @@ masked =
       filter = always;
       limit = None;
       aggregations = true;
-      masks = record { column = 4; shown = test 1 (Compare Eq) (operand.Const (val.Int (pos 1)) ∷ []) false } ∷ [];
+      masks = record { column = 4; shown = test 1 (Compare Eq) (operands.List (operand.Const (val.Int (pos 1)) ∷ [])) false } ∷ [];
     }) ∷ []
 
 -- the ids of a list under that grant
@@ -305,8 +307,8 @@ more_of perms tracked = record tracked { perms = perms }
 abbrev author_perms : List PermTree
 author_perms =
     perm_of (codes "user") (0 ∷ 1 ∷ []) always
-    ∷ perm_of (codes "finder") (0 ∷ []) (through 0 (test 4 IsNull [] false))
-    ∷ perm_of (codes "others") (0 ∷ []) (test 0 (Compare Ne) (operand.Const (val.Int (pos 1)) ∷ []) false) ∷ []
+    ∷ perm_of (codes "finder") (0 ∷ []) (through 0 (test 4 IsNull (operands.List []) false))
+    ∷ perm_of (codes "others") (0 ∷ []) (test 0 (Compare Ne) (operands.List (operand.Const (val.Int (pos 1)) ∷ [])) false) ∷ []
 
 abbrev article_perms : List PermTree
 article_perms = perm_of (codes "user") (0 ∷ 2 ∷ 4 ∷ []) own_or_published ∷ perm_of (codes "others") (0 ∷ []) always ∷ []
@@ -316,7 +318,7 @@ with_perms (a ∷ b ∷ []) = more_of author_perms a ∷ more_of article_perms b
 with_perms others = others
 
 abbrev more : MetaTree
-more = record { tracked = with_perms meta.tracked }
+more = record { tracked = with_perms meta.tracked; inherited = [] }
 
 -- what a role is granted, without a variable and with a user id
 abbrev granted : List ℕ → Grants
@@ -371,7 +373,7 @@ authors_to_others = refl
 -- in where a relationship reaches permitted rows alone: of author 1's articles the one without a rating is hidden from user 2
 abbrev unrated_to : Grants → List CellTree
 unrated_to g =
-    ids (selected schema (seen_by schema g database) 0 (record plain { wanted = through 0 (test 4 IsNull [] false) }) None (permitted schema g database 0))
+    ids (selected schema (seen_by schema g database) 0 (record plain { wanted = through 0 (test 4 IsNull (operands.List []) false) }) None (permitted schema g database 0))
 
 unrated : map unrated_to (granted (codes "admin") ∷ grants (codes "1") ∷ grants (codes "2") ∷ granted (codes "finder") ∷ []) ≡ numbers (1 ∷ []) ∷ numbers (1 ∷ []) ∷ [] ∷ [] ∷ []
 unrated = refl
@@ -386,7 +388,7 @@ by_author_to_others = refl
 
 -- a session name that is not bound stands for NULL, and its negation is unknown too
 abbrev own_name : BexpTree
-own_name = test 0 (Compare Eq) (operand.Session (codes "x") ∷ []) false
+own_name = test 0 (Compare Eq) (operands.List (operand.Session (codes "x") ∷ [])) false
 
 unbound_name : map (λ b. listed (codes "1") (record plain { wanted = b })) (own_name ∷ not_of own_name ∷ []) ≡ [] ∷ [] ∷ []
 unbound_name = refl

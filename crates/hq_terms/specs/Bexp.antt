@@ -1,6 +1,10 @@
 -- Boolean expressions without where they lie in memory.
 use Rattle.std.specs.Prelude.{ℕ, suc, max, Bool, List, [], ◌∷◌}
 use Rattle.hq_terms.specs.declared.bexp.Operand.{Operand}
+use Rattle.hq_terms.specs.declared.bexp.Operand.TheVariants as operand
+use Rattle.hq_terms.specs.declared.bexp.Operands.{Operands}
+use Rattle.hq_terms.specs.declared.bexp.Operands.TheVariants as operands
+use Rattle.hq_terms.specs.declared.op.Op.{Op}
 use Rattle.hq_terms.specs.declared.bexp.Bexp.{Bexp, fold-Bexp}
 use Rattle.hq_terms.specs.declared.bexp.Bexp.TheOpen.{Bexp-F}
 use Rattle.hq_terms.specs.declared.test.Test.{Test}
@@ -12,8 +16,10 @@ mutual
     and_of : BexpTrees → BexpTree
     or_of : BexpTrees → BexpTree
     not_of : BexpTree → BexpTree
-    test : (column : ℕ) → Test → (operands : List Operand) → (negated : Bool) → BexpTree
+    test : (column : ℕ) → Test → Operands → (negated : Bool) → BexpTree
     through : (relationship : ℕ) → BexpTree → BexpTree
+    exists_in : (table : ℕ) → BexpTree → BexpTree
+    two_columns : (left : ℕ) → Op → (right : ℕ) → BexpTree
 
   pub data BexpTrees : Type 0 where
     no_bexp : BexpTrees
@@ -22,6 +28,11 @@ mutual
 -- the expression that is never true
 abbrev pub never : BexpTree
 never = not_of always
+
+-- the operands of a test, each by itself; a session name that is to list them stands for itself
+abbrev pub operands_of : Operands → List Operand
+operands_of (operands.List vs) = vs
+operands_of (operands.Session name) = operand.Session name ∷ []
 
 -- the expressions of a list
 abbrev pub bexps_of : List BexpTree → BexpTrees
@@ -40,8 +51,10 @@ bexp_step Bexp-F.True = always
 bexp_step (Bexp-F.And bs) = and_of (bexps_of bs.items)
 bexp_step (Bexp-F.Or bs) = or_of (bexps_of bs.items)
 bexp_step (Bexp-F.Not b) = not_of b.value
-bexp_step (Bexp-F.Test column t operands negated) = test column t operands negated
+bexp_step (Bexp-F.Test column t vs negated) = test column t vs negated
 bexp_step (Bexp-F.Through relationship inner) = through relationship inner.value
+bexp_step (Bexp-F.Exists table inner) = exists_in table inner.value
+bexp_step (Bexp-F.Columns left op right) = two_columns left op right
 
 -- what an expression is seen as
 abbrev pub bexp_view : Bexp → BexpTree
@@ -54,8 +67,10 @@ abbrev mutual
   depth (and_of bs) = suc (depth_of_all bs)
   depth (or_of bs) = suc (depth_of_all bs)
   depth (not_of b) = suc (depth b)
-  depth (test column t operands negated) = 1
+  depth (test column t vs negated) = 1
   depth (through relationship b) = suc (depth b)
+  depth (exists_in table b) = suc (depth b)
+  depth (two_columns left op right) = 1
 
   pub depth_of_all : BexpTrees → ℕ
   depth_of_all no_bexp = 0

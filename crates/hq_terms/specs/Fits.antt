@@ -1,14 +1,15 @@
 -- When a metadata fits a catalog (Hasura, Metadata API reference: tables, relationships, permissions).
 use Rattle.std.specs.Prelude.{ℕ, ◌^◌, List, [], ◌∷◌, length, Bool, true, not, cond, ◌&&◌, ◌==◌, nat_lt, nat_le, Option, Some, None, is_some, bytes_eq}
-use Rattle.std.specs.List.{list_all}
+use Rattle.std.specs.List.{list_all, list_any}
 use Rattle.hq_base.specs.Lists.{all_differ}
-use Rattle.hq_terms.specs.Bexp.{depth}
+use Rattle.hq_terms.specs.Bexp.{BexpTree, always, and_of, or_of, not_of, test, through, exists_in, two_columns, BexpTrees, no_bexp, bexp, depth}
 use Rattle.hq_terms.specs.Catalog.{can_pair}
 use Rattle.hq_terms.specs.Filters.{column_ty, is_filter}
 use Rattle.hq_terms.specs.Meta.{PermTree, TrackedTree, MetaTree, tracked_table}
 use Rattle.hq_terms.specs.Names.{is_admin_name, is_free_name}
 use Rattle.hq_terms.specs.Schema.{Schema, schema_of, table}
 use Rattle.hq_terms.specs.SchemaNames.{names_differ}
+use Rattle.hq_terms.specs.declared.meta.Inherited.{Inherited}
 use Rattle.hq_terms.specs.declared.meta.RootNames.{RootNames}
 use Rattle.hq_terms.specs.declared.meta.Rel.{Rel}
 use Rattle.hq_terms.specs.declared.table.Table.{Table}
@@ -31,15 +32,47 @@ abbrev pub limit_fits : Option ℕ → Bool
 limit_fits None = true
 limit_fits (Some n) = nat_lt n (2 ^ 63)
 
--- a permission of another role than admin, with columns of the table, a filter over it that is not nested too deep, and
--- a limit below 2 ^ 63
-abbrev pub fits_perm : Schema → ℕ → PermTree → Bool
-fits_perm s t p =
+-- each table whose rows an expression asks for by itself is tracked
+abbrev mutual
+  pub asks_tracked : MetaTree → BexpTree → Bool
+  asks_tracked m always = true
+  asks_tracked m (and_of bs) = all_ask_tracked m bs
+  asks_tracked m (or_of bs) = all_ask_tracked m bs
+  asks_tracked m (not_of b) = asks_tracked m b
+  asks_tracked m (test c tested vs negated) = true
+  asks_tracked m (through r b) = asks_tracked m b
+  asks_tracked m (exists_in u b) = is_some (tracked_table m u) && asks_tracked m b
+  asks_tracked m (two_columns l op r) = true
+
+  pub all_ask_tracked : MetaTree → BexpTrees → Bool
+  all_ask_tracked m no_bexp = true
+  all_ask_tracked m (bexp b bs) = asks_tracked m b && all_ask_tracked m bs
+
+-- a permission of another role than admin, with columns of the table, a filter over it that is not nested too deep and
+-- asks for tracked tables alone, and a limit below 2 ^ 63
+abbrev pub fits_perm : Schema → MetaTree → ℕ → PermTree → Bool
+fits_perm s m t p =
     not (is_admin_name p.role)
     && list_all (λ c. is_some (column_ty s t c)) p.cols
     && is_filter p.filter s t
     && nat_le (depth p.filter) 300
     && limit_fits p.limit
+    && asks_tracked m p.filter
+
+-- an inherited role of this name is there
+abbrev pub is_inherited : List Inherited → List ℕ → Bool
+is_inherited is name = list_any (λ i. bytes_eq i.role name) is
+
+-- an inherited role is not admin, and its set has roles that are neither admin nor inherited
+abbrev pub fits_inherited : List Inherited → Inherited → Bool
+fits_inherited is i =
+    not (is_admin_name i.role)
+    && nat_lt 0 (length i.set)
+    && list_all (λ r. not (is_admin_name r) && not (is_inherited is r)) i.set
+
+-- inherited roles of different names
+abbrev pub are_inherited : List Inherited → Bool
+are_inherited is = all_differ (λ i j. bytes_eq i.role j.role) is && list_all (fits_inherited is) is
 
 -- the names of root fields are free Names
 abbrev pub are_free_roots : RootNames → Bool
@@ -55,10 +88,12 @@ fits_tracked s m k =
     && list_all (fits_rel s m k.table) k.rels
     && objects_first k.rels
     && all_differ (λ p q. bytes_eq p.role q.role) k.perms
-    && list_all (fits_perm s k.table) k.perms
+    && list_all (fits_perm s m k.table) k.perms
 
--- a metadata fits a catalog: each table is tracked once, each entry fits, and the names in the schema of admin differ
+-- a metadata fits a catalog: each table is tracked once, each entry fits, the names in the schema of admin differ, and the
+-- inherited roles fit. No request is answered for them yet, so there are none
 abbrev pub fits : List Table → MetaTree → Bool
 fits tables m =
     let s = schema_of tables m in
     all_differ (λ j k. j.table == k.table) m.tracked && list_all (fits_tracked s m) m.tracked && names_differ s m
+    && (are_inherited m.inherited && (length m.inherited == 0))

@@ -14,6 +14,8 @@ pub mod Truth
 pub mod Permission
 pub mod PermView
 pub mod Reading
+pub mod SessionLists
+pub mod SessionReading
 pub mod Binding
 pub mod Grants
 pub mod Permitted
@@ -23,3 +25,4 @@ pub mod View
 pub mod Filters
 pub mod SchemaNames
 pub mod Fits
+pub mod Laws

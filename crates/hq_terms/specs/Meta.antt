@@ -5,6 +5,7 @@ use Rattle.hq_terms.specs.declared.meta.RootNames.{RootNames}
 use Rattle.hq_terms.specs.declared.meta.Rel.{Rel}
 use Rattle.hq_terms.specs.declared.meta.Perm.{Perm}
 use Rattle.hq_terms.specs.declared.meta.Tracked.{Tracked}
+use Rattle.hq_terms.specs.declared.meta.Inherited.{Inherited}
 use Rattle.hq_terms.specs.declared.meta.Meta.{Meta}
 
 -- a select permission of a role
@@ -27,6 +28,7 @@ pub record TrackedTree : Type 0 where
 -- the metadata
 pub record MetaTree : Type 0 where
   pub tracked : List TrackedTree
+  pub inherited : List Inherited
 
 -- what a permission is seen as
 abbrev pub perm_view : Perm → PermTree
@@ -51,7 +53,7 @@ tracked_view t = record {
 
 -- what a metadata is seen as
 abbrev pub meta_view : Meta → MetaTree
-meta_view m = record { tracked = map tracked_view m.tracked }
+meta_view m = record { tracked = map tracked_view m.tracked; inherited = m.inherited }
 
 -- the entry of a table, where it is tracked
 abbrev pub tracked_table : MetaTree → ℕ → Option TrackedTree

@@ -2,6 +2,7 @@
 -- operators; Authorization: operators in permission rules).
 use Rattle.std.specs.Prelude.{ℕ, List, [], ◌∷◌, find, Bool, true, false, Option, bytes_eq, codes}
 use Rattle.hq_terms.specs.Tests.{Test, Compare, Among, IsNull, Like}
+use Rattle.hq_terms.specs.declared.op.Op.{Op}
 use Rattle.hq_terms.specs.declared.op.Op.TheVariants.{Eq, Ne, Lt, Le, Gt, Ge}
 pub use Rattle.hq_terms.specs.declared.operator.Operator.{Operator}
 
@@ -35,6 +36,23 @@ test_name (Like true) true = codes "_nilike"
 
 abbrev pub operator_name : Operator → List ℕ
 operator_name o = test_name o.test o.negated
+
+-- the operators by which two columns of a row are compared, in ascending order of the bytes of their names
+abbrev pub column_operators : List Op
+column_operators = Eq ∷ Gt ∷ Ge ∷ Lt ∷ Le ∷ Ne ∷ []
+
+-- the name of each
+abbrev pub column_operator_name : Op → List ℕ
+column_operator_name Eq = codes "_ceq"
+column_operator_name Ne = codes "_cne"
+column_operator_name Lt = codes "_clt"
+column_operator_name Le = codes "_clte"
+column_operator_name Gt = codes "_cgt"
+column_operator_name Ge = codes "_cgte"
+
+-- the comparison of columns of this name, where there is one
+abbrev pub column_operator_named : List ℕ → Option Op
+column_operator_named name = find (λ op. bytes_eq (column_operator_name op) name) column_operators
 
 -- the operator of this name, where there is one
 abbrev pub operator_named : List ℕ → Option Operator

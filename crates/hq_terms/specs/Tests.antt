@@ -27,6 +27,12 @@ has_arity Nothing n = n == 0
 has_arity One n = n == 1
 has_arity Many n = true
 
+-- any number of operands may stand
+abbrev pub takes_many : Arity → Bool
+takes_many Nothing = false
+takes_many One = false
+takes_many Many = true
+
 -- a test takes so many operands
 abbrev pub takes : Test → (operands : ℕ) → Bool
 takes t n = has_arity (arity t) n

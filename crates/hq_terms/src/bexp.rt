@@ -1,7 +1,7 @@
 ghost use Rattle.std.specs.Prelude.{◌≡◌, map};
 ghost use Rattle.hq_terms.specs.Bexp.{bexp_view, conjunction};
 
-use crate::{ColId, RelId, Test};
+use crate::{ColId, Op, RelId, TableId, Test};
 use hq_base::{List, Txt, Val};
 
 /// What a column is compared with: a constant, which is never NULL, or the value of a session variable.
@@ -11,8 +11,15 @@ pub enum Operand {
     Session(Txt),
 }
 
-/// The operands of a test, in order.
-pub type Operands = List<Operand>;
+/// Operands, in order.
+pub type OperandList = List<Operand>;
+
+/// The operands of a test: those of a list, or what the value of a session variable lists.
+#[derive(Drop)]
+pub enum Operands {
+    List(OperandList),
+    Session(Txt),
+}
 
 /// Boolean expressions, in order.
 pub type BexpList = Vec<Bexp>;
@@ -37,6 +44,17 @@ pub enum Bexp {
     Through {
         rel: RelId,
         inner: Box<Bexp>,
+    },
+    /// Some row of the table meets the inner expression.
+    Exists {
+        table: TableId,
+        inner: Box<Bexp>,
+    },
+    /// How a column stands to another one of the same row.
+    Columns {
+        left: ColId,
+        op: Op,
+        right: ColId,
     },
 }
 

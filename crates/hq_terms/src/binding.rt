@@ -68,6 +68,18 @@ fn bind_bexp(
                 inner: Box::new(alloc, inner)?,
             })
         }
+        Bexp::Exists { table, inner } => {
+            let inner = bind_bexp(alloc, session, scope, *table, inner)?;
+            Ok(Bexp::Exists {
+                table: *table,
+                inner: Box::new(alloc, inner)?,
+            })
+        }
+        Bexp::Columns { left, op, right } => Ok(Bexp::Columns {
+            left: *left,
+            op: *op,
+            right: *right,
+        }),
     }
 }
 

@@ -8,6 +8,8 @@ mod catalog;
 mod constant;
 mod copy;
 mod ids;
+mod inherited;
+mod laws;
 mod meta;
 mod name;
 mod op;
@@ -19,24 +21,27 @@ mod reading;
 mod role;
 mod scope;
 mod session;
+mod session_list;
 mod table;
 mod test;
 mod truth;
 mod want;
 
-pub use bexp::{Bexp, BexpList, Operand, Operands};
+pub use bexp::{Bexp, BexpList, Operand, OperandList, Operands};
 pub use bind::BindRefusal;
 pub use catalog::Catalog;
 pub use constant::{constant_in, read_as, read_operand, read_pattern, whole_value};
 pub use copy::{TryCopy, copy_list};
 pub use ids::{ColId, ColList, RelId, TableId, has_column};
+pub use laws::masks_add_no_fault;
 pub use meta::{
-    Meta, Pair, PairList, Perm, PermList, Rel, RelList, RootNames, Tracked, TrackedList, TxtList,
+    Inherited, InheritedList, Meta, Pair, PairList, Perm, PermList, Rel, RelList, RootNames,
+    Tracked, TrackedList, TxtList,
 };
 pub use name::is_free_name;
 pub use op::Op;
 pub use operator::Operator;
-pub use perm::PermView;
+pub use perm::{Mask, MaskList, PermView};
 pub use reading::{truth_value, whole_number};
 pub use role::Role;
 pub use scope::Scope;

@@ -65,10 +65,21 @@ pub struct Tracked {
 /// The tracked tables, in the metadata's order.
 pub type TrackedList = List<Tracked>;
 
-/// What the metadata says: the tracked tables.
+/// A role that sees together what each role of its set sees.
+#[derive(Drop)]
+pub struct Inherited {
+    pub role: Txt,
+    pub set: TxtList,
+}
+
+/// Inherited roles, in the metadata's order.
+pub type InheritedList = List<Inherited>;
+
+/// What the metadata says: the tracked tables, and the inherited roles.
 #[derive(Drop)]
 pub struct Meta {
     pub tracked: TrackedList,
+    pub inherited: InheritedList,
 }
 
 impl Tracked {

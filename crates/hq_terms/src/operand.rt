@@ -1,12 +1,13 @@
 ghost use Rattle.std.specs.Prelude.{◌≡◌, ◌⊎◌};
 ghost use Rattle.hq_base.specs.Due.{Gives};
-ghost use Rattle.hq_terms.specs.Binding.{constant, bound_operand, bound_operands};
+ghost use Rattle.hq_terms.specs.Binding.{variable, constant, constants_of, bound_operand, bound_each, bound_operands};
 ghost use Rattle.hq_terms.specs.Tests.{reads};
 ghost use Rattle.hq_terms.specs.declared.bind.BindRefusal.TheVariants as refusal;
 
 use crate::constant::read_operand;
 use crate::copy::TryCopy;
-use crate::{BindRefusal, Operand, Operands, Session, Test, Want};
+use crate::session_list::{list_want, listed_values};
+use crate::{BindRefusal, Operand, OperandList, Operands, Session, Test, Want};
 use hq_base::{List, Txt, Ty};
 use std::alloc::Global;
 
@@ -64,6 +65,55 @@ fn bind_operand(
     }
 }
 
+// The operands of a list, bound.
+fn bind_each(
+    alloc: Global,
+    session: &Session,
+    test: Test,
+    ty: Ty,
+    operands: &OperandList,
+) -> Result<OperandList, BindRefusal>
+    ensures { Gives (λ os. os) refusal.Memory (bound_each (reads test ty) session.now.vars operands.now) result }
+{
+    let mut bound = List::new(alloc);
+    for operand in operands.as_slice() {
+        bound.push(bind_operand(alloc, session, test, ty, operand)?)?;
+    }
+    Ok(bound)
+}
+
+// The constants that a variable's text lists, for a test of a column of a type.
+fn constants(
+    alloc: Global,
+    test: Test,
+    ty: Ty,
+    name: &Txt,
+    text: &Txt,
+) -> Result<OperandList, BindRefusal>
+    ensures { Gives (λ os. os) refusal.Memory (constants_of test ty name.now (Some text.now)) result }
+{
+    match listed_values(alloc, test, ty, text)? {
+        Some(values) => Ok(values),
+        None => Err(bad_variable(alloc, name, list_want(ty))),
+    }
+}
+
+// The constants that a variable lists.
+fn bind_list(
+    alloc: Global,
+    session: &Session,
+    test: Test,
+    ty: Ty,
+    name: &Txt,
+) -> Result<OperandList, BindRefusal>
+    ensures { Gives (λ os. os) refusal.Memory (constants_of test ty name.now (variable session.now.vars name.now)) result }
+{
+    match session.var(name) {
+        Some(text) => constants(alloc, test, ty, name, text),
+        None => Err(no_variable(alloc, name)),
+    }
+}
+
 /// The operands of a test of a column of this type, bound.
 pub fn bind_operands(
     alloc: Global,
@@ -72,11 +122,14 @@ pub fn bind_operands(
     ty: Ty,
     operands: &Operands,
 ) -> Result<Operands, BindRefusal>
-    ensures { Gives (λ os. os) refusal.Memory (bound_operands (reads test ty) session.now.vars operands.now) result }
+    ensures { Gives (λ os. os) refusal.Memory (bound_operands test ty session.now.vars operands.now) result }
 {
-    let mut bound = List::new(alloc);
-    for operand in operands.as_slice() {
-        bound.push(bind_operand(alloc, session, test, ty, operand)?)?;
+    match operands {
+        Operands::List(operands) => Ok(Operands::List(bind_each(
+            alloc, session, test, ty, operands,
+        )?)),
+        Operands::Session(name) => {
+            Ok(Operands::List(bind_list(alloc, session, test, ty, name)?))
+        }
     }
-    Ok(bound)
 }

@@ -1,7 +1,17 @@
-use crate::{Bexp, ColList};
+use crate::{Bexp, ColId, ColList};
 
-/// What a role may see of a table: the columns in the catalog's order, the filter, the most rows of a list, and whether
-/// aggregates are allowed.
+/// A column whose cell shows only at some rows: those that meet the expression. At all others it shows as NULL.
+#[derive(Drop)]
+pub struct Mask {
+    pub col: ColId,
+    pub shown: Bexp,
+}
+
+/// Masks, in column order.
+pub type MaskList = Vec<Mask>;
+
+/// What a role may see of a table: the columns in the catalog's order, the filter, the most rows of a list, whether
+/// aggregates are allowed, and the masks.
 #[derive(Drop)]
 pub struct PermView {
     pub cols: ColList,
@@ -9,4 +19,5 @@ pub struct PermView {
     /// In rows.
     pub limit: Option<u64>,
     pub aggregations: bool,
+    pub masks: MaskList,
 }

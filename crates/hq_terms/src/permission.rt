@@ -1,18 +1,19 @@
 ghost use Rattle.std.specs.Prelude.{◌≡◌, filter, find, option_copied, option_map, bytes_eq, IfOk, ◌==◌};
 ghost use Rattle.std.specs.List.{list_any};
 ghost use Rattle.hq_terms.specs.Meta.{perm_view, tracked_view, meta_view, tracked_table};
-ghost use Rattle.hq_terms.specs.Permission.{named_columns, with_columns, admin_permission, told_permission, permission_in, permission};
+ghost use Rattle.hq_terms.specs.Permission.{named_columns, with_columns, admin_permission, told_permission, own_permission, or_inherited, set_of, permission_in, permission};
 ghost use Rattle.hq_terms.specs.PermView.{permission_view};
 
+use crate::inherited::inherited_view;
 use crate::{
-    Bexp, ColId, ColList, Meta, Perm, PermList, PermView, Role, TableId, Tracked, TrackedList,
-    has_column, is_free_name,
+    Bexp, ColId, ColList, InheritedList, Meta, Perm, PermList, PermView, Role, TableId, Tracked,
+    TrackedList, has_column, is_free_name,
 };
 use hq_base::{List, Memory, Txt};
 use std::alloc::Global;
 
-// The columns whose GraphQL name may stand in a schema.
-fn named_columns(alloc: Global, tracked: &Tracked) -> Result<ColList, Memory>
+/// The columns whose GraphQL name may stand in a schema.
+pub fn named_columns(alloc: Global, tracked: &Tracked) -> Result<ColList, Memory>
     ensures { IfOk result (λ cols. cols ≡ named_columns (tracked_view tracked.now)) }
 {
     let names = tracked.column_names.as_slice();
@@ -50,6 +51,7 @@ fn admin_view(alloc: Global, tracked: &Tracked) -> Result<Option<PermView>, Memo
         filter: Bexp::True,
         limit: None,
         aggregations: true,
+        masks: Vec::new(alloc),
     }))
 }
 
@@ -66,6 +68,7 @@ fn told_view(alloc: Global, tracked: &Tracked, perm: &Perm) -> Result<Option<Per
         filter: perm.filter.copy(alloc)?,
         limit: perm.limit,
         aggregations: perm.aggregations,
+        masks: Vec::new(alloc),
     }))
 }
 
@@ -82,15 +85,42 @@ fn perm_of<'a>(tracked: &'a Tracked, name: &Txt) -> Option<&'a Perm>
     perm_named(&tracked.perms, name)
 }
 
-fn view_in(alloc: Global, tracked: &Tracked, role: &Role) -> Result<Option<PermView>, Memory>
-    ensures { IfOk result (λ view. option_map permission_view view ≡ permission_in role.now (tracked_view tracked.now)) }
+/// What a role's own entry permits of a table.
+pub fn own_view(alloc: Global, tracked: &Tracked, name: &Txt) -> Result<Option<PermView>, Memory>
+    ensures { IfOk result (λ view. option_map permission_view view ≡ own_permission (tracked_view tracked.now) name.now) }
+{
+    match perm_of(tracked, name) {
+        Some(perm) => told_view(alloc, tracked, perm),
+        None => Ok(None),
+    }
+}
+
+// What a role of this name may see: what its own entry permits, and else what the roles of its set permit together.
+fn named_view(
+    alloc: Global,
+    tracked: &Tracked,
+    inherited: &InheritedList,
+    name: &Txt,
+) -> Result<Option<PermView>, Memory>
+    ensures { IfOk result (λ view. option_map permission_view view ≡ or_inherited (own_permission (tracked_view tracked.now) name.now) (tracked_view tracked.now) (set_of inherited.now name.now)) }
+{
+    match own_view(alloc, tracked, name)? {
+        Some(view) => Ok(Some(view)),
+        None => inherited_view(alloc, tracked, inherited, name),
+    }
+}
+
+fn view_in(
+    alloc: Global,
+    tracked: &Tracked,
+    inherited: &InheritedList,
+    role: &Role,
+) -> Result<Option<PermView>, Memory>
+    ensures { IfOk result (λ view. option_map permission_view view ≡ permission_in role.now inherited.now (tracked_view tracked.now)) }
 {
     match role {
         Role::Admin => admin_view(alloc, tracked),
-        Role::Named(name) => match perm_of(tracked, name) {
-            Some(perm) => told_view(alloc, tracked, perm),
-            None => Ok(None),
-        },
+        Role::Named(name) => named_view(alloc, tracked, inherited, name),
     }
 }
 
@@ -112,13 +142,13 @@ impl Meta {
     }
 
     /// What a role may see of a table (Hasura, select permissions): `admin` all columns with a GraphQL name and all rows,
-    /// another role what its select permission says. None where the table is not tracked, the role has no permission on
-    /// it, or no permitted column has a GraphQL name.
+    /// another role what its select permission says; an inherited role without one what the roles of its set see together.
+    /// None where the table is not tracked, the role has no permission on it, or no permitted column has a GraphQL name.
     pub fn perm(&self, alloc: Global, role: &Role, t: TableId) -> Result<Option<PermView>, Memory>
         ensures { IfOk result (λ view. option_map permission_view view ≡ permission role.now (meta_view self.now) t) }
     {
         match self.tracked_table(t) {
-            Some(tracked) => view_in(alloc, tracked, role),
+            Some(tracked) => view_in(alloc, tracked, &self.inherited, role),
             None => Ok(None),
         }
     }

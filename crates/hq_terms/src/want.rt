@@ -5,4 +5,8 @@ pub enum Want {
     Bigint,
     Boolean,
     Pattern,
+    IntegerList,
+    BigintList,
+    TextList,
+    BooleanList,
 }

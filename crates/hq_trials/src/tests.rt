@@ -4,3 +4,4 @@ mod memory;
 mod pages;
 mod store;
 mod system;
+mod talk;

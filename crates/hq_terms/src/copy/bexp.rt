@@ -1,7 +1,7 @@
 ghost use Rattle.std.specs.Prelude.{◌≡◌, IfOk, map};
 ghost use Rattle.hq_terms.specs.Bexp.{bexp_view};
 
-use crate::copy::copy_list;
+use crate::copy::TryCopy;
 use crate::{Bexp, BexpList};
 use hq_base::Memory;
 use std::alloc::Global;
@@ -32,12 +32,21 @@ fn copy_bexp(alloc: Global, bexp: &Bexp) -> Result<Bexp, Memory>
         } => Ok(Bexp::Test {
             col: *col,
             test: *test,
-            operands: copy_list(alloc, operands)?,
+            operands: operands.try_copy(alloc)?,
             negated: *negated,
         }),
         Bexp::Through { rel, inner } => Ok(Bexp::Through {
             rel: *rel,
             inner: Box::new(alloc, copy_bexp(alloc, inner)?)?,
+        }),
+        Bexp::Exists { table, inner } => Ok(Bexp::Exists {
+            table: *table,
+            inner: Box::new(alloc, copy_bexp(alloc, inner)?)?,
+        }),
+        Bexp::Columns { left, op, right } => Ok(Bexp::Columns {
+            left: *left,
+            op: *op,
+            right: *right,
         }),
     }
 }

@@ -1,5 +1,7 @@
 use crate::copy::{TryCopy, copy_list};
-use crate::{ColId, Column, ForeignKey, Operand, Pair, Rel, RootNames, Table, Var};
+use crate::{
+    ColId, Column, ForeignKey, Inherited, Operand, Operands, Pair, Rel, RootNames, Table, Var,
+};
 use hq_base::{Memory, Txt, Val};
 use std::alloc::Global;
 
@@ -37,6 +39,15 @@ impl TryCopy for Operand {
         match self {
             Operand::Const(value) => Ok(Operand::Const(value.try_copy(alloc)?)),
             Operand::Session(name) => Ok(Operand::Session(name.copy(alloc)?)),
+        }
+    }
+}
+
+impl TryCopy for Operands {
+    fn try_copy(&self, alloc: Global) -> Result<Operands, Memory> {
+        match self {
+            Operands::List(operands) => Ok(Operands::List(copy_list(alloc, operands)?)),
+            Operands::Session(name) => Ok(Operands::Session(name.copy(alloc)?)),
         }
     }
 }
@@ -90,6 +101,15 @@ impl TryCopy for Rel {
             remote: self.remote,
             pairs: copy_list(alloc, &self.pairs)?,
             many: self.many,
+        })
+    }
+}
+
+impl TryCopy for Inherited {
+    fn try_copy(&self, alloc: Global) -> Result<Inherited, Memory> {
+        Ok(Inherited {
+            role: self.role.copy(alloc)?,
+            set: copy_list(alloc, &self.set)?,
         })
     }
 }

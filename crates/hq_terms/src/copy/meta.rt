@@ -58,6 +58,7 @@ impl Meta {
     {
         Ok(Meta {
             tracked: copy_all_tracked(alloc, &self.tracked)?,
+            inherited: copy_list(alloc, &self.inherited)?,
         })
     }
 }

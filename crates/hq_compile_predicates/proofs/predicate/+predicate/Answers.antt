@@ -7,7 +7,7 @@ use Rattle.hq_compiled.specs.Predicates.{numbers, numbers_all}
 use Rattle.hq_compile_context.specs.Contexts.{context_schema, context_rights}
 use Rattle.hq_compile_predicates.specs.Unmasked.{unmasked, own_predicate, own_predicates}
 use Rattle.hq_compile_tables.proofs.Loops.{viewed_rest-more, count-more}
-use Rattle.hq_compile_predicates.proofs.Remotes.{remote_of}
+use Rattle.hq_compile_predicates.proofs.Remotes.{remote_of, row_made}
 use Rattle.hq_compile_predicates.proofs.predicate.+predicate.Goals as goal
 
 -- the condition on remote rows is put together from its parts
@@ -19,6 +19,17 @@ remote_row-returns-clause-predicate g t c =
     (λ pred is. remote_of (g.C.Counted.more s r) (g.C.Counted.guard s r) s c.args.t c.args.p c.args.r c.args.next.now (bexp_view c.args.inner.now)
     _ _ c.take_number.new.next c.remote_members.new.next _ _ _ is
     c.remote-remote.ensures c.in_ok-n.ensures.taken c.in_ok-n.ensures.numbers c.in_ok-members.ensures.numbers c.in_ok-members.ensures.members c.in_ok-inner.ensures.predicate)
+    c.remote_exists.ensures
+
+-- the condition on rows of a table is put together from its parts
+pub some_row-returns-clause-predicate : goal.some_row-returns-clause-predicate
+some_row-returns-clause-predicate g t c =
+    let s = context_schema c.args.context.now in
+    let r = context_rights c.args.context.now in
+    IfOk-weaker c.remote_exists.result _ _
+    (λ pred is. row_made (g.C.Counted.more s r) (g.C.Counted.guard s r) s c.args.u c.args.next.now (bexp_view c.args.inner.now)
+    _ c.take_number.new.next c.condition.new.next _ _ _ _ is
+    c.in_ok-n.ensures.taken c.in_ok-n.ensures.numbers c.in_ok-guard.ensures.numbers c.in_ok-members.ensures c.in_ok-guard.ensures.predicate c.in_ok-inner.ensures.predicate)
     c.remote_exists.ensures
 
 -- a condition is made, and the loop goes on behind it and its numbers

@@ -2,13 +2,16 @@ use Rattle.std.proofs.Common.{◌≡◌, ◌++◌, map, drop}
 use Rattle.hq_base.specs.Due.{mapped}
 use Rattle.hq_base.specs.Json.{member_view}
 use Rattle.hq_terms.specs.Bexp.{bexp_view}
-use Rattle.hq_filter_read.specs.Condition.{condition_due}
+use Rattle.hq_terms.specs.Schema.{table, column}
+use Rattle.hq_terms.specs.Scope.{scope_schema}
+use Rattle.hq_filter_read.specs.Condition.{written_on}
 use Rattle.hq_filter_read.specs.Each.{each_member}
-use Rattle.hq_filter_read.specs.Operator.{operator_named}
 use Rattle.hq_filter_read.proofs.condition.conditions.Given as goal
 
 -- the conditions so far, and then those of the rest
 abbrev pub invariant-loop-member : goal.invariant-loop-member
 invariant-loop-member l =
-    each_member (λ name p. condition_due l.col l.ty p (operator_named name)) l.path (map member_view l.members)
-    ≡ mapped (λ rest. map bexp_view l.conditions.items ++ rest) (each_member (λ name p. condition_due l.col l.ty p (operator_named name)) l.path (map member_view (drop l.member-index l.members)))
+    let s = scope_schema l.scope in
+    let written = written_on (table s l.t) l.col (column s l.t l.col).ty in
+    each_member written l.path (map member_view l.members)
+    ≡ mapped (λ rest. map bexp_view l.conditions.items ++ rest) (each_member written l.path (map member_view (drop l.member-index l.members)))

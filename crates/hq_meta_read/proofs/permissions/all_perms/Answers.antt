@@ -1,4 +1,4 @@
-use Rattle.std.proofs.Common.{◌≡◌, ◌∙◌, ℕ, ◌++◌, ◌∷◌, [], List, Some, map, take, option_map, slice_get, length, None, refl, sym, ap, subst}
+use Rattle.std.proofs.Common.{◌≡◌, ◌∙◌, ℕ, ◌+◌, ◌++◌, ◌∷◌, [], List, Some, map, take, option_map, slice_get, length, None, refl, sym, ap, subst}
 use Rattle.std.specs.List.{AllZip, zip}
 use Rattle.std.proofs.lemmas.Bool.{ltb-true}
 use Rattle.std.proofs.lemmas.Option.{slice_get-map, slice_get_read, slice_get_past}
@@ -7,7 +7,6 @@ use Rattle.std.proofs.lemmas.Result.{err_from_is_err_and}
 use Rattle.std.proofs.lemmas.Slice.Zip.{all_zipped_more}
 use Rattle.hq_base.specs.Json.{JsonTree, json_view}
 use Rattle.hq_terms.specs.Meta.{PermTree, meta_view, perm_view}
-use Rattle.hq_terms.specs.Schema.{schema_of}
 use Rattle.hq_meta_tables.specs.declared.refusal.MetaRefusal.TheVariants.{Memory}
 use Rattle.hq_meta_read.specs.Permitted.{perms_at}
 use Rattle.hq_meta_read.specs.Sound.{Shallow, AllSound}
@@ -39,7 +38,7 @@ loop-place-preserved c =
     let perms = map perm_view c.in_ok-perms_at.field-0 in
     let there : slice_get js c.loop-place.place ≡ Some entry = slice_get-map json_view c.args.list.now c.loop-place.place ∙ ap (option_map json_view) (slice_get_read c.args.list.now (length c.args.list.now) c.loop-place.place c.in-Some.entry.now refl (ltb-true c.loop-place.place (length c.args.list.now) (sym c.in-Some.ensures.lookup.0)) c.in-Some.ensures.lookup.1) in
     let grown : map (map perm_view) c.push.new.self ≡ map (map perm_view) c.loop-place.all ++ perms ∷ [] = ap (map (map perm_view)) c.in_ok-push.ensures.ok ∙ map-append (map perm_view) c.loop-place.all (c.in_ok-perms_at.field-0 ∷ []) in
-    let R = λ (e : ℕ × JsonTree) (ps : List PermTree). AllSound (schema_of tables m) e.0 ps in
+    let R = λ (e : ℕ × JsonTree) (ps : List PermTree). AllSound tables m e.0 ps in
     record {
       due = zip_given (λ before. read) c.args.path.now c.in_ok-path.path (map (map perm_view) c.loop-place.all) (map (map perm_view) c.push.new.self) c.args.tables.now js c.loop-place.place c.index-tables-place.result entry perms c.loop-place-test.true c.index-tables-place.is there c.in_ok-path.ensures c.in_ok-perms_at.ensures.due grown
           ∙ c.loop-place.invariant.due;
@@ -53,7 +52,7 @@ loop-place-preserved-in_default c =
     let tables = c.args.scope.now.catalog.now.tables in
     let m = meta_view c.args.scope.now.meta.now in
     let js = map json_view c.args.list.now in
-    let R = λ (e : ℕ × JsonTree) (ps : List PermTree). AllSound (schema_of tables m) e.0 ps in
+    let R = λ (e : ℕ × JsonTree) (ps : List PermTree). AllSound tables m e.0 ps in
     let none : slice_get js c.loop-place.place ≡ None = slice_get-map json_view c.args.list.now c.loop-place.place ∙ ap (option_map json_view) (slice_get_past c.args.list.now c.loop-place.place c.in_default.ensures.lookup.3) in
     record {
       due = zip_skipped (λ before. perms_at tables m) c.args.path.now (map (map perm_view) c.loop-place.all) c.args.tables.now js c.loop-place.place none ∙ c.loop-place.invariant.due;
@@ -62,6 +61,7 @@ loop-place-preserved-in_default c =
 
 pub returns-clause-sound : goal.returns-clause-sound
 returns-clause-sound c =
-    let s = schema_of c.args.scope.now.catalog.now.tables (meta_view c.args.scope.now.meta.now) in
+    let tables = c.args.scope.now.catalog.now.tables in
+    let m = meta_view c.args.scope.now.meta.now in
     let js = map json_view c.args.list.now in
-    subst (λ (ts : List ℕ). AllZip (λ e ps. AllSound s e.0 ps) (zip ts js) (map (map perm_view) c.loop-place.all)) (take_past c.args.tables.now c.loop-place.place c.loop-place-test.false) c.loop-place.invariant.sound
+    subst (λ (ts : List ℕ). AllZip (λ e ps. AllSound tables m e.0 ps) (zip ts js) (map (map perm_view) c.loop-place.all)) (take_past c.args.tables.now c.loop-place.place c.loop-place-test.false) c.loop-place.invariant.sound

@@ -2,7 +2,6 @@ use Rattle.std.proofs.Common.{◌∙◌, ◌∷◌, [], map, sym, ap, subst}
 use Rattle.std.proofs.lemmas.List.{map-append}
 use Rattle.hq_base.specs.Json.{json_view}
 use Rattle.hq_terms.specs.Meta.{meta_view, perm_view}
-use Rattle.hq_terms.specs.Schema.{schema_of}
 use Rattle.hq_meta_read.specs.Permitted.{perm_at}
 use Rattle.hq_meta_read.specs.Sound.{Shallow, AllSound}
 use Rattle.hq_meta_read.proofs.Nesting.{all_item}
@@ -24,6 +23,6 @@ loop-place-preserved c =
           (ap (λ before. perm_at tables m c.args.table (map perm_view before) c.in_ok-path.path item) (sym c.as_slice.ensures) ∙ c.in_ok-perm.ensures.due)
           (ap (map perm_view) c.in_ok-push.ensures.ok ∙ map-append perm_view c.loop-place.perms (c.in_ok-perm.perm ∷ []))
           ∙ c.loop-place.invariant.due;
-      sound = subst (λ ps. AllSound (schema_of tables m) c.args.table (map perm_view ps)) (sym c.in_ok-push.ensures.ok)
-          (sound_more (schema_of tables m) c.args.table c.loop-place.perms c.in_ok-perm.perm c.loop-place.invariant.sound c.in_ok-perm.ensures.sound);
+      sound = subst (λ ps. AllSound tables m c.args.table (map perm_view ps)) (sym c.in_ok-push.ensures.ok)
+          (sound_more tables m c.args.table c.loop-place.perms c.in_ok-perm.perm c.loop-place.invariant.sound c.in_ok-perm.ensures.sound);
     }

@@ -4,7 +4,7 @@ use Rattle.hq_ask_tree.specs.Request.{ask_view}
 use Rattle.hq_sql_tree.specs.Form.{select_fits}
 use Rattle.hq_sql_tree.specs.Tree.{SelectTree}
 use Rattle.hq_compiled.specs.Asked.{asked_statement}
-use Rattle.hq_sql_compile.proofs.Requests.{bare_bounds, statement_is_readable}
+use Rattle.hq_sql_compile.proofs.Requests.{statement_is_readable}
 use Rattle.hq_sql_compile.proofs.statement.compile.Goals as goal
 
 pub returns-clause-well_formed : goal.returns-clause-well_formed
@@ -12,7 +12,7 @@ returns-clause-well_formed c =
     let tables = c.args.catalog.now.tables in
     let meta = meta_view c.args.meta.now in
     let ask = ask_view c.args.ask.now in
-    c.requests_are_asked.ensures.well_formed tables meta ask c.args.catalog.now.valid c.requires.fit c.requires.request (bare_bounds c.args.ask.now.bound) c.in_ok-select.ensures.held
+    c.requests_are_asked.ensures.well_formed tables meta ask c.args.catalog.now.valid c.requires.fit c.requires.request c.in_ok-select.ensures.held
     (subst (λ (s : SelectTree). select_fits s ≡ true) c.in_ok-select.ensures.tree c.fits.ensures)
 
 pub returns-clause-readable : goal.returns-clause-readable

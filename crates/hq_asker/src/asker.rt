@@ -1,0 +1,87 @@
+ghost use Rattle.std.specs.Prelude.{◌≡◌, true, IfOk, Some};
+ghost use Rattle.hq_terms.specs.Database.{is_database};
+ghost use Rattle.hq_asker.specs.Asker.{due_of, next_of, sum};
+
+use hq_base::{Memory, Txt};
+use hq_db::SqlDb;
+use hq_engine::{Engine, EngineRefusal};
+use hq_link::Database;
+use hq_live::{Asked, Asker, Reloaded};
+use hq_loading::{LoadingRefusal, load_tables};
+use hq_outside::{Files, count_fault};
+use hq_tables::{MemTables, RowsList};
+use hq_terms::{Catalog, Session};
+use std::alloc::Global;
+
+/// Answers requests by the engine over a database in memory, and reads its table files again. `refused` counts the readings that a
+/// file was refused in.
+#[derive(Drop)]
+pub struct EngineAsker<F> {
+    pub engine: Engine,
+    pub db: SqlDb<MemTables>,
+    pub files: F,
+    pub dir: Txt,
+    pub refused: u64,
+    ghost catalog: { ⟦<SqlDb<MemTables> as Database>⟧.tables db ≡ engine.catalog.tables },
+}
+
+// A database of a catalog with these rows.
+fn database(alloc: Global, catalog: &Catalog, rows: RowsList) -> Result<SqlDb<MemTables>, Memory>
+    requires { is_database catalog.now.tables rows ≡ true }
+    ensures tables { IfOk result (λ db. ⟦<SqlDb<MemTables> as Database>⟧.tables db ≡ catalog.now.tables) }
+    ensures rows { IfOk result (λ db. ⟦<SqlDb<MemTables> as Database>⟧.database db ≡ Some rows) }
+{
+    Ok(SqlDb::new(MemTables::new(catalog.copy(alloc)?, rows)))
+}
+
+impl<F: Files> EngineAsker<F> {
+    // How often the files have failed, and a reading was refused.
+    fn failures(&self) -> u64
+        ensures { result ≡ sum (F.faults self.now.files) self.now.refused }
+    {
+        self.files.faults().saturating_add(self.refused)
+    }
+}
+
+impl<F: Files> Asker for EngineAsker<F> {
+    ghost due = { λ a. due_of a.engine (⟦<SqlDb<MemTables> as Database>⟧.database a.db) };
+
+    ghost next = { λ a. next_of a.engine (F.folder a.files) a.dir };
+
+    ghost faults = { λ a. sum (F.faults a.files) a.refused };
+
+    /// A database in memory never fails.
+    fn ask(&mut self, alloc: Global, session: &Session, body: &[u8]) -> Asked {
+        match self.engine.answer(alloc, session, body, &mut self.db) {
+            Ok(reply) => Asked::Reply(reply.body),
+            Err(EngineRefusal::Memory | EngineRefusal::Database { .. }) => Asked::Memory,
+        }
+    }
+
+    /// Reads the table files. The database that is present stays until the new one is whole.
+    fn reload(&mut self, alloc: Global) -> Reloaded {
+        let before = self.failures();
+        let tables = self.engine.catalog.tables.as_slice();
+        match load_tables(alloc, &mut self.files, &self.dir, tables) {
+            Ok(rows) => match database(alloc, &self.engine.catalog, rows) {
+                Ok(db) => {
+                    self.db = db;
+                    Reloaded::New
+                }
+                Err(Memory) => Reloaded::Memory,
+            },
+            Err(LoadingRefusal::Memory) => Reloaded::Memory,
+            Err(LoadingRefusal::Failed) => Reloaded::Failed {
+                before,
+                after: self.failures(),
+            },
+            Err(LoadingRefusal::File { .. }) => {
+                count_fault(&mut self.refused);
+                Reloaded::Failed {
+                    before,
+                    after: self.failures(),
+                }
+            }
+        }
+    }
+}

@@ -1,0 +1,263 @@
+//! A refused metadata in words.
+
+use crate::known::{
+    is_operator, put_columns, put_foreign_keys, put_operators, put_table, put_tables,
+};
+use crate::node::{Node, put_written_table};
+use crate::path::{has, is_element, parent};
+use hq_base::{Bytes, Json, JsonRefusal, Memory};
+use hq_meta_tables::MetaRefusal;
+use hq_places::{Words, put_not_json};
+use hq_terms::{Catalog, Table, table_place};
+use std::alloc::Global;
+
+// The text of a member, or another one.
+fn text_or<'a>(object: &'a Json, member: &str, other: &'static str) -> &'a str {
+    match object.member(member) {
+        Some(Json::Str(text)) => text.as_str(),
+        _ => other,
+    }
+}
+
+// The table of the catalog that an entry tracks.
+fn tracked<'a>(catalog: &'a Catalog, node: &Node<'_>) -> Option<&'a Table> {
+    let table = node.table_entry()?.member("table")?;
+    let tables = catalog.tables.as_slice();
+    let at = match table {
+        Json::Str(name) => table_place(tables, "public", name.as_str()),
+        table => table_place(
+            tables,
+            text_or(table, "schema", ""),
+            text_or(table, "name", ""),
+        ),
+    };
+    tables.get(at?)
+}
+
+// What a member of this name is to be.
+fn expected(name: &[u8], element: bool) -> &'static str {
+    match name {
+        b"sources" => "a list of one source",
+        b"kind" => "\"postgres\"",
+        b"tables" if element => "an object with a member \"table\"",
+        b"tables" => "a list of tables",
+        b"table" | b"remote_table" => "a text, or {\"schema\": .., \"name\": ..}",
+        b"columns" if element => "the name of a column",
+        b"columns" => "a list of columns, or \"*\"",
+        b"filter" => "an object",
+        b"limit" => "a whole number, not negative",
+        b"allow_aggregations" => "true or false",
+        b"role" => "the name of a role, not \"admin\"",
+        b"permission" => "an object with \"columns\" and \"filter\"",
+        b"using" => "either \"foreign_key_constraint_on\" or \"manual_configuration\"",
+        b"foreign_key_constraint_on" => "a column, a list of columns, or a table with its columns",
+        b"column_mapping" => "an object of columns, each with a column of the other table",
+        b"object_relationships" | b"array_relationships" if element =>
+            "an object with \"name\" and \"using\"",
+        b"select_permissions" if element => "an object with \"role\" and \"permission\"",
+        b"object_relationships" | b"array_relationships" | b"select_permissions" => "a list",
+        b"inherited_roles"
+        | b"customization"
+        | b"query_root_fields"
+        | b"subscription_root_fields" => { "none: hq would answer otherwise than Hasura" }
+        b"_and" | b"_or" => "a list of filters",
+        b"_not" => "a filter",
+        _ => expected_name(name),
+    }
+}
+
+fn expected_name(name: &[u8]) -> &'static str {
+    match name {
+        b"name" | b"custom_name" | b"select" | b"select_by_pk" | b"select_aggregate" => {
+            "a name of GraphQL: letters, digits and _, not a digit first, and not __ in front"
+        }
+        b"$" => "an object with \"version\" and \"sources\"",
+        _ => "another form",
+    }
+}
+
+// Adds the table, the role or relationship, and the path of a node.
+fn put_path(words: &mut Words, node: &Node<'_>) {
+    words.put("  = at ");
+    words.put_bytes(node.path);
+    if let Some(entry) = node.table_entry()
+        && let Some(table) = entry.member("table")
+    {
+        words.put(", of table ");
+        put_written_table(words, table);
+    }
+    if let Some(role) = node.role() {
+        words.put(", role ");
+        words.put_shown(role.as_bytes());
+    }
+    if let Some(name) = node.relationship() {
+        words.put(", relationship ");
+        words.put_shown(name.as_bytes());
+    }
+    words.put("\n");
+}
+
+// Adds the columns of the table that an entry tracks, where the node is of that table itself.
+fn put_known_columns(words: &mut Words, node: &Node<'_>, catalog: &Catalog) {
+    let remote = has(node.path, b".column_mapping.") || has(node.path, b".remote_table");
+    if let Some(table) = tracked(catalog, node)
+        && !remote
+        && is_of_own_table(node)
+    {
+        words.put("; ");
+        put_table(words, table);
+        words.put(" has: ");
+        put_columns(words, table);
+    }
+}
+
+// Whether no relationship stands between a permission's filter and the node.
+fn is_of_own_table(node: &Node<'_>) -> bool {
+    let above = parent(node.path);
+    !has(above, b".filter.")
+        || has(above, b"._and[")
+        || has(above, b"._or[")
+        || above.ends_with(b"._not")
+}
+
+fn unknown_column(words: &mut Words, node: &Node<'_>, catalog: &Catalog) {
+    words.put("no column ");
+    match node.value() {
+        Some([b'"', name @ .., b'"'])
+            if !has(node.path, b".filter.") && !has(node.path, b"custom_column_names") => {
+            words.put_quoted(name);
+        }
+        _ => words.put_quoted(node.name()),
+    }
+    put_known_columns(words, node, catalog);
+}
+
+fn unknown_table(words: &mut Words, node: &Node<'_>, catalog: &Catalog) {
+    words.put("the catalog has no table ");
+    node.put_value(words);
+    words.put(", or it is not tracked; the catalog has: ");
+    put_tables(words, catalog);
+}
+
+fn no_foreign_key(words: &mut Words, node: &Node<'_>, catalog: &Catalog) {
+    words.put("no foreign key ");
+    node.put_value(words);
+    if let Some(table) = tracked(catalog, node) {
+        words.put("; ");
+        put_table(words, table);
+        words.put(" has: ");
+        put_foreign_keys(words, catalog, table);
+    }
+}
+
+fn bad_operand(words: &mut Words, node: &Node<'_>) {
+    let name = node.name();
+    if !name.starts_with(b"_") || is_operator(name) {
+        node.put_value(words);
+        words.put(" is no operand of ");
+        words.put_quoted(name);
+        words.put(" for a column of this type");
+        return;
+    }
+    words.put("no operator ");
+    words.put_quoted(name);
+    words.put("; there are: ");
+    put_operators(words);
+}
+
+fn bad_shape(words: &mut Words, node: &Node<'_>) {
+    words.put("expected ");
+    words.put(expected(node.name(), is_element(node.path)));
+    words.put("; found ");
+    node.put_value(words);
+}
+
+// What is wrong with a node.
+fn put_refusal(words: &mut Words, node: &Node<'_>, catalog: &Catalog, refusal: &MetaRefusal) {
+    match refusal {
+        MetaRefusal::UnknownTable { .. } => unknown_table(words, node, catalog),
+        MetaRefusal::UnknownColumn { .. } => unknown_column(words, node, catalog),
+        MetaRefusal::NoForeignKey { .. } => no_foreign_key(words, node, catalog),
+        MetaRefusal::BadOperand { .. } => bad_operand(words, node),
+        MetaRefusal::BadMapping { .. } => {
+            words.put(
+                "a mapping has columns whose values can be compared, and at least one pair; found ",
+            );
+            node.put_value(words);
+        }
+        MetaRefusal::RepeatedName { .. } => {
+            words.put("the name ");
+            node.put_value(words);
+            words.put(" stands in the schema already");
+        }
+        MetaRefusal::RepeatedRole { .. } => {
+            words.put("role ");
+            node.put_value(words);
+            words.put(" has a permission on this table already");
+        }
+        MetaRefusal::Version { .. } => {
+            words.put("expected version 3; found ");
+            node.put_value(words);
+        }
+        MetaRefusal::Sources { count } => {
+            words.put("expected one source; found ");
+            words.put_number(*count);
+        }
+        _ => bad_shape(words, node),
+    }
+}
+
+fn of_node(
+    words: &mut Words,
+    text: &[u8],
+    json: &Json,
+    path: &[u8],
+    catalog: &Catalog,
+    refusal: &MetaRefusal,
+) {
+    let node = Node {
+        text,
+        json,
+        wrapped: json.member("version").is_none() && json.member("metadata").is_some(),
+        path,
+    };
+    node.put_place(words);
+    put_refusal(words, &node, catalog, refusal);
+    words.put("\n");
+    node.put_excerpt(words);
+    put_path(words, &node);
+}
+
+// The path of the node that is refused.
+fn path_of(refusal: &MetaRefusal) -> &[u8] {
+    match refusal {
+        MetaRefusal::Shape { path }
+        | MetaRefusal::UnknownTable { path }
+        | MetaRefusal::UnknownColumn { path }
+        | MetaRefusal::NoForeignKey { path }
+        | MetaRefusal::BadOperand { path }
+        | MetaRefusal::BadMapping { path }
+        | MetaRefusal::RepeatedName { path }
+        | MetaRefusal::RepeatedRole { path } => path.as_bytes(),
+        MetaRefusal::Version { .. } => b"$.version",
+        MetaRefusal::Sources { .. } => b"$.sources",
+        MetaRefusal::NotJson | MetaRefusal::Memory => b"$",
+    }
+}
+
+/// Why the text of a metadata over a catalog is refused, and where.
+pub fn metadata_words(
+    alloc: Global,
+    text: &[u8],
+    catalog: &Catalog,
+    refusal: &MetaRefusal,
+) -> Result<Bytes, Memory> {
+    let mut words = Words::new(alloc);
+    words.put("metadata.json:");
+    match Json::from_body(alloc, text) {
+        Ok(json) => of_node(&mut words, text, &json, path_of(refusal), catalog, refusal),
+        Err(JsonRefusal::Memory) => return Err(Memory),
+        Err(_) => put_not_json(alloc, &mut words, text),
+    }
+    words.told()
+}

@@ -1,0 +1,226 @@
+//! A refused table file in words.
+
+use crate::known::put_columns;
+use hq_base::{Bytes, Memory, Ty};
+use hq_places::{Place, Words, field_at, open_quote, piece, place_of, put_excerpt, record_at};
+use hq_tables::LoadRefusal;
+use hq_terms::{Column, Table};
+use std::alloc::Global;
+
+// The name in quotes that a field of the header is, without its own quotes.
+fn bare(field: &[u8]) -> &[u8] {
+    match field {
+        [b'"', name @ .., b'"'] => name,
+        name => name,
+    }
+}
+
+// The name of the column at a field.
+fn column_name(text: &[u8], col: u64) -> &[u8] {
+    match field_at(text, 1, col) {
+        Some((_, name)) => bare(name),
+        None => &[],
+    }
+}
+
+fn column_named<'a>(table: &'a Table, name: &[u8]) -> Option<&'a Column> {
+    table
+        .columns
+        .as_slice()
+        .iter()
+        .find(|column| column.name.as_bytes() == name)
+}
+
+// The place at which a record begins.
+fn record_place(text: &[u8], record: u64) -> Option<Place> {
+    match record_at(text, record) {
+        Some(found) => Some(place_of(text, found.start)),
+        None => None,
+    }
+}
+
+fn put_line(words: &mut Words, text: &[u8], record: u64) {
+    if let Some(place) = record_place(text, record) {
+        words.put_place(place);
+        words.put(": ");
+    }
+}
+
+fn put_record(words: &mut Words, text: &[u8], record: u64) {
+    if let Some(found) = record_at(text, record) {
+        put_excerpt(words, text, found.start);
+    }
+}
+
+fn of_header(words: &mut Words, text: &[u8], table: &Table) {
+    words.put("1:1: the header is ");
+    if let Some(found) = record_at(text, 1) {
+        words.put_quoted(piece(text, found.start, found.end));
+    } else {
+        words.put("not there");
+    }
+    words.put("; it is to be the table's columns, each once, in any order: ");
+    put_columns(words, table);
+    words.put("\n");
+}
+
+fn of_width(words: &mut Words, text: &[u8], line: u64) {
+    put_line(words, text, line);
+    if let (Some(header), Some(found)) = (record_at(text, 1), record_at(text, line)) {
+        words.put("record ");
+        words.put_number(line);
+        words.put(" has ");
+        words.put_number(found.fields);
+        words.put(if found.fields == 1 {
+            " field"
+        } else {
+            " fields"
+        });
+        words.put(", and the header ");
+        words.put_number(header.fields);
+    }
+    words.put("\n");
+    put_record(words, text, line);
+}
+
+// What is wanted of a column.
+fn put_want(words: &mut Words, column: Option<&Column>) {
+    let Some(column) = column else {
+        return;
+    };
+    words.put(match column.ty {
+        Ty::Integer => ", a whole number from -2147483648 to 2147483647",
+        Ty::Bigint => ", a whole number of 64 bits",
+        Ty::Boolean => ", which is t, f, true or false",
+        _ => "",
+    });
+}
+
+fn of_field(words: &mut Words, text: &[u8], table: &Table, line: u64, col: u64, said: &str) {
+    let Some((at, value)) = field_at(text, line, col) else {
+        return;
+    };
+    let name = column_name(text, col);
+    words.put_place(place_of(text, at));
+    words.put(": ");
+    words.put_quoted(value);
+    words.put(said);
+    words.put(" column ");
+    words.put_quoted(name);
+    put_want(words, column_named(table, name));
+    words.put("\n");
+    put_excerpt(words, text, at);
+}
+
+fn of_open_quote(words: &mut Words, text: &[u8], line: u64) {
+    if let Some(at) = open_quote(text) {
+        words.put_place(place_of(text, at));
+        words.put(": the quote of a field of record ");
+        words.put_number(line);
+        words.put(
+            " is not closed, so that it takes all rows behind it; a quote inside a field is written twice\n",
+        );
+        put_excerpt(words, text, at);
+    }
+}
+
+// The field of a column in the header's order.
+fn field_of(text: &[u8], column: &Column) -> Option<u64> {
+    let header = record_at(text, 1)?;
+    for col in 0..header.fields {
+        let col = col.saturating_add(1);
+        if column_name(text, col) == column.name.as_bytes() {
+            return Some(col);
+        }
+    }
+    None
+}
+
+// Adds the values of the key of a record.
+fn put_key(words: &mut Words, text: &[u8], table: &Table, line: u64) {
+    for (at, col) in table.key.as_slice().iter().enumerate() {
+        words.put(if at == 0 { "" } else { ", " });
+        if let Some(column) = table.column(*col)
+            && let Some(field) = field_of(text, column)
+            && let Some((_, value)) = field_at(text, line, field)
+        {
+            words.put_bytes(column.name.as_bytes());
+            words.put(" = ");
+            words.put_shown(value);
+        }
+    }
+}
+
+fn of_repeated(words: &mut Words, text: &[u8], table: &Table, line: u64, earlier: u64) {
+    put_line(words, text, line);
+    words.put("the key ");
+    put_key(words, text, table, line);
+    words.put(" stands in record ");
+    words.put_number(earlier);
+    words.put(" already, at ");
+    if let Some(place) = record_place(text, earlier) {
+        words.put_place(place);
+    }
+    words.put("\n");
+    put_record(words, text, line);
+}
+
+fn of_refusal(words: &mut Words, text: &[u8], table: &Table, refusal: LoadRefusal) {
+    match refusal {
+        LoadRefusal::Header => of_header(words, text, table),
+        LoadRefusal::Width { line } => of_width(words, text, line),
+        LoadRefusal::NotUtf8 { line, col } => of_field(
+            words,
+            text,
+            table,
+            line,
+            col,
+            " is no UTF-8 in",
+        ),
+        LoadRefusal::ZeroByte { line, col } => of_field(
+            words,
+            text,
+            table,
+            line,
+            col,
+            " has a zero byte in",
+        ),
+        LoadRefusal::NotInteger { line, col } => {
+            of_field(words, text, table, line, col, " is no value of")
+        }
+        LoadRefusal::NotBoolean { line, col } => {
+            of_field(words, text, table, line, col, " is no value of")
+        }
+        LoadRefusal::NullInNotNull { line, col } => {
+            of_field(
+                words,
+                text,
+                table,
+                line,
+                col,
+                " is NULL, which may not stand in",
+            )
+        }
+        LoadRefusal::Unclosed { line } => of_open_quote(words, text, line),
+        LoadRefusal::RepeatedKey { line, earlier } => of_repeated(
+            words, text, table, line, earlier,
+        ),
+        LoadRefusal::Memory => {}
+    }
+}
+
+/// Why the text of a table's file is refused, and where.
+pub fn table_words(
+    alloc: Global,
+    text: &[u8],
+    table: &Table,
+    refusal: LoadRefusal,
+) -> Result<Bytes, Memory> {
+    let mut words = Words::new(alloc);
+    words.put_bytes(table.schema.as_bytes());
+    words.put(".");
+    words.put_bytes(table.name.as_bytes());
+    words.put(".csv:");
+    of_refusal(&mut words, text, table, refusal);
+    words.told()
+}

@@ -1,0 +1,5 @@
+pub mod Own
+pub mod Rows
+pub mod Same
+pub mod Steps
+pub mod Turns
