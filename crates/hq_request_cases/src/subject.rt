@@ -24,7 +24,7 @@ pub enum About {
 
 impl About {
     /// Each subject, in the order of its line.
-    pub const ALL: [About; 15] = [
+    pub const ALL: [About; 16] = [
         About::Worked,
         About::Blog,
         About::Shop,
