@@ -12,11 +12,13 @@ joined : (old : Option (List ℕ)) (first second : List ℕ) → option_map (λ 
 joined None first second = refl
 joined (Some text) first second = ap Some (append_assoc text first second)
 
-added_to : (old between new : Option (List ℕ)) (first second : List ℕ) → (between ≡ None) ⊎ (between ≡ option_map (λ text. text ++ first) old) → new ≡ option_map (λ text. text ++ second) between → Adds old new (first ++ second)
+added_to : (old between new : Option (List ℕ)) (first second : List ℕ)
+    → (between ≡ None) ⊎ (between ≡ option_map (λ text. text ++ first) old) → new ≡ option_map (λ text. text ++ second) between → Adds old new (first ++ second)
 added_to old between new first second (inl wanting) later = record { added = inl cc }
 added_to old between new first second (inr before) later = record { added = inr (later ∙ (ap (option_map (λ text. text ++ second)) before ∙ joined old first second)) }
 
-added_then : (old between new : Option (List ℕ)) (first second : List ℕ) → (between ≡ None) ⊎ (between ≡ option_map (λ text. text ++ first) old) → (new ≡ None) ⊎ (new ≡ option_map (λ text. text ++ second) between) → Adds old new (first ++ second)
+added_then : (old between new : Option (List ℕ)) (first second : List ℕ)
+    → (between ≡ None) ⊎ (between ≡ option_map (λ text. text ++ first) old) → (new ≡ None) ⊎ (new ≡ option_map (λ text. text ++ second) between) → Adds old new (first ++ second)
 added_then old between new first second before (inl wanting) = record { added = inl wanting }
 added_then old between new first second before (inr later) = added_to old between new first second before later
 

@@ -20,13 +20,15 @@ shown_cut most [] h e = absurd (omega (arith, h))
 shown_cut most (b ∷ bs) h e = chosen (is_cut most b) (codes "..") (shown_byte b ∷ shown (most - 1) bs) e
 
 -- and where not
-pub shown_on : (most : ℕ) (rest : List ℕ) → 1 ≤ length rest → is_cut most (get_or rest 0 0) ≡ false → shown most rest ≡ shown_byte (get_or rest 0 0) ∷ shown (most - 1) (take (length rest - 1) (drop 1 rest))
+pub shown_on : (most : ℕ) (rest : List ℕ) → 1 ≤ length rest → is_cut most (get_or rest 0 0) ≡ false
+    → shown most rest ≡ shown_byte (get_or rest 0 0) ∷ shown (most - 1) (take (length rest - 1) (drop 1 rest))
 shown_on most [] h e = absurd (omega (arith, h))
 shown_on most (b ∷ bs) h e =
     not_chosen (is_cut most b) (codes "..") (shown_byte b ∷ shown (most - 1) bs) e
     ∙ ap (λ later. shown_byte b ∷ shown (most - 1) later) (sym (take_all (length (b ∷ bs) - 1) bs (omega arith)))
 
-pub shown_next : (most : ℕ) (rest : List ℕ) (byte left : ℕ) → 1 ≤ length rest → is_cut most (get_or rest 0 0) ≡ false → byte ≡ shown_byte (get_or rest 0 0) → left ≡ most - 1 → byte ∷ shown left (take (length rest - 1) (drop 1 rest)) ≡ shown most rest
+pub shown_next : (most : ℕ) (rest : List ℕ) (byte left : ℕ) → 1 ≤ length rest → is_cut most (get_or rest 0 0) ≡ false
+    → byte ≡ shown_byte (get_or rest 0 0) → left ≡ most - 1 → byte ∷ shown left (take (length rest - 1) (drop 1 rest)) ≡ shown most rest
 shown_next most rest byte left h e is less =
     ap (λ b. b ∷ shown left (take (length rest - 1) (drop 1 rest))) is
     ∙ (ap (λ n. shown_byte (get_or rest 0 0) ∷ shown n (take (length rest - 1) (drop 1 rest))) less ∙ sym (shown_on most rest h e))

@@ -10,7 +10,9 @@ one_less : (number done : ℕ) → done < number → number - done ≡ suc (numb
 one_less number done h = omega arith
 
 -- the next record
-pub record_next : (number done : ℕ) (rest next all : List ℕ) → done < number → from_record (number - done) rest ≡ all → next ≡ from_next rest → from_record (number - (done + 1)) next ≡ all
+pub record_next : (number done : ℕ) (rest next all : List ℕ) → done < number
+    → from_record (number - done) rest ≡ all → next ≡ from_next rest
+    → from_record (number - (done + 1)) next ≡ all
 record_next number done rest next all h led is =
     ap (from_record (number - (done + 1))) is ∙ (sym (ap (λ n. from_record n rest) (one_less number done h)) ∙ led)
 
@@ -24,19 +26,26 @@ record_none number [] all none led = sym (nothing number) ∙ led
 record_none number (c ∷ cs) all none led = absurd (omega (arith, none))
 
 -- the next field
-pub field_next : (number done : ℕ) (rest next : List ℕ) (all : Option (List ℕ)) → done < number → from_field (number - done) rest ≡ all → Some next ≡ behind_byte 44 (behind_field st.StartField rest) → from_field (number - (done + 1)) next ≡ all
+pub field_next : (number done : ℕ) (rest next : List ℕ) (all : Option (List ℕ)) → done < number
+    → from_field (number - done) rest ≡ all → Some next ≡ behind_byte 44 (behind_field st.StartField rest)
+    → from_field (number - (done + 1)) next ≡ all
 field_next number done rest next all h led is =
     ap (option_and_then (from_field (number - (done + 1)))) is ∙ (sym (ap (λ n. from_field n rest) (one_less number done h)) ∙ led)
 
 -- what an entry leads on to
 abbrev entry_led : (most : ℕ) (is_list : Bool) (path : List ℕ) (number : ℕ) (found : Option Node) → Option Entry → Option Node
-entry_led most is_list path number found here = option_map_or (λ e. option_map_or (λ later. entries most is_list path (number + 1) later (taken found e)) (behind_comma e.0) (taken found e)) here found
+entry_led most is_list path number found here =
+    option_map_or (λ e. option_map_or (λ later. entries most is_list path (number + 1) later (taken found e)) (behind_comma e.0) (taken found e)) here found
 
 -- the next entry
-pub entries_next : (size number : ℕ) (is_list : Bool) (path rest later : List ℕ) (found next all : Option Node) (e : Entry) → number < size → entries (size - number) is_list path number rest found ≡ all → entry_at is_list path number (unblanked rest) ≡ Some e → behind_comma e.0 ≡ Some later → next ≡ taken found e → entries (size - (number + 1)) is_list path (number + 1) later next ≡ all
+pub entries_next : (size number : ℕ) (is_list : Bool) (path rest later : List ℕ) (found next all : Option Node) (e : Entry) → number < size
+    → entries (size - number) is_list path number rest found ≡ all
+    → entry_at is_list path number (unblanked rest) ≡ Some e → behind_comma e.0 ≡ Some later → next ≡ taken found e
+    → entries (size - (number + 1)) is_list path (number + 1) later next ≡ all
 entries_next size number is_list path rest later found next all e h led here comma is =
     ap (entries (size - (number + 1)) is_list path (number + 1) later) is
-    ∙ (sym (ap (entry_led (size - (number + 1)) is_list path number found) here ∙ ap (λ c. option_map_or (λ l. entries (size - (number + 1)) is_list path (number + 1) l (taken found e)) c (taken found e)) comma)
+    ∙ (sym (ap (entry_led (size - (number + 1)) is_list path number found) here
+        ∙ ap (λ c. option_map_or (λ l. entries (size - (number + 1)) is_list path (number + 1) l (taken found e)) c (taken found e)) comma)
     ∙ (sym (ap (λ n. entries n is_list path number rest found) (one_less size number h)) ∙ led))
 
 -- the next step on the way

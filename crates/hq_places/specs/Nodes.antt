@@ -106,7 +106,9 @@ taken found e = option_map_or (λ path. Some (e.0, path)) e.1 found
 abbrev pub entries : ℕ → (is_list : Bool) (path : List ℕ) (number : ℕ) → List ℕ → Option Node → Option Node
 entries zero is_list path number text found = found
 entries (suc most) is_list path number text found =
-    option_map_or (λ e. option_map_or (λ later. entries most is_list path (number + 1) later (taken found e)) (behind_comma e.0) (taken found e)) (entry_at is_list path number (unblanked text)) found
+    option_map_or
+        (λ e. option_map_or (λ later. entries most is_list path (number + 1) later (taken found e)) (behind_comma e.0) (taken found e))
+        (entry_at is_list path number (unblanked text)) found
 
 -- what a path leads to in the value that a text begins with
 abbrev pub child : (text path : List ℕ) → Option Node

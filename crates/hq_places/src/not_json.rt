@@ -1,9 +1,6 @@
 //! Why a text is no JSON of whole numbers and of texts without a zero byte.
-ghost use Rattle.std.specs.Prelude.{ℕ, List, ◌≡◌, ◌≤◌, ◌++◌, length, IfOk};
-ghost use Rattle.hq_places.specs.Excerpts.{excerpt};
-ghost use Rattle.hq_places.specs.Lines.{line_of, column_of};
-ghost use Rattle.hq_places.specs.Reasons.{IsReason};
-ghost use Rattle.hq_places.specs.Words.{Adds, place_text};
+ghost use Rattle.std.specs.Prelude.{◌≤◌, length, IfOk};
+ghost use Rattle.hq_places.specs.Reasons.{AddsReason, IsReason};
 
 use crate::number::{Odd, first_odd, syntax_error};
 use crate::{Words, place_of, put_excerpt};
@@ -35,7 +32,7 @@ fn reason(alloc: Global, text: &[u8]) -> Result<(usize, &'static str), Memory>
 
 /// Adds the place from which a text is no such JSON, and why, and then its line.
 pub fn put_not_json(alloc: Global, words: &mut Words, text: &[u8])
-    ensures { (at : ℕ) × (at ≤ length text.now) × (said : List ℕ) × IsReason said × (marks : ℕ) × (1 ≤ marks) × Adds words.old words.new (place_text (line_of text.now at) (column_of text.now at) ++ (said ++ excerpt text.now at marks)) }
+    ensures { AddsReason words.old words.new text.now }
 {
     match reason(alloc, text) {
         Err(Memory) => words.stop_if(true),
