@@ -6,7 +6,7 @@ ghost use Rattle.std.specs.Iterator.{IsFinite};
 use hq_app::{World, run};
 use hq_base::{List, Memory, Txt, TxtRefusal};
 use hq_outside::write_all;
-use hq_system::{DirFiles, FileDisk, StdSink, StdSource, TcpDoor};
+use hq_system::{DirFiles, StdSink, StdSource, TcpDoor};
 use std::alloc::Global;
 use std::env;
 use std::io::{ErrorKind, Write};
@@ -80,7 +80,6 @@ fn main(rt: HostRuntime) -> ExitCode {
     let world = World {
         files: DirFiles::new(rt),
         door: TcpDoor::new(alloc, rt),
-        disk: FileDisk::new(rt),
         input: StdSource::new(rt.stdin()),
         out: StdSink::new(rt.stdout()),
         err,

@@ -8,4 +8,4 @@ mod world;
 pub use hq_commands::{Done, INPUT_LIMIT, Refusal};
 pub use laws::outputs_agree;
 pub use top::{answer_one, run};
-pub use world::{Observed, Ran, World};
+pub use world::{Ran, World};

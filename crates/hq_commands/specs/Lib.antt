@@ -7,5 +7,3 @@ pub mod Check
 pub mod Serving
 pub mod Generating
 pub mod Showing
-pub mod Disks
-pub mod Explaining

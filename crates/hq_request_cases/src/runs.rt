@@ -1,24 +1,21 @@
-//! Runs of the program over a directory, a door and a disk in memory.
+//! Runs of the program over a directory and a door in memory.
 
 use crate::directory::{failing, folder};
 use crate::links::{door, push_links};
 use hq_app::{Ran, World, run};
 use hq_base::Txt;
 use hq_case::{Case, Stop, Words, push_bytes};
-use hq_memory::{MemDisk, MemDoor, MemFiles, MemSink, MemSource};
+use hq_memory::{MemDoor, MemFiles, MemSink, MemSource};
 use std::alloc::Global;
 
 // What the program is run in.
-type Inside = World<MemFiles, MemDoor, MemDisk, MemSource, MemSink, MemSink>;
+type Inside = World<MemFiles, MemDoor, MemSource, MemSink, MemSink>;
 
 // What a run leaves.
-type Left = Ran<MemFiles, MemDoor, MemDisk, MemSource, MemSink, MemSink>;
+type Left = Ran<MemFiles, MemDoor, MemSource, MemSink, MemSink>;
 
 // The bytes of room on each output.
 const ROOM: usize = 65_536;
-
-// The bytes of room on the disk.
-const DISK_ROOM: usize = 1_048_576;
 
 fn input(alloc: Global, case: &Case) -> Result<MemSource, Stop> {
     let bytes = case.bytes(alloc, "in")?;
@@ -46,13 +43,10 @@ fn streams(alloc: Global, case: &Case) -> Result<(MemSource, MemSink, MemSink), 
 fn world(rt: &HostRuntime, case: &Case) -> Result<Inside, Stop> {
     let files = folder(rt, case)?;
     let door = door(rt.alloc(), case)?;
-    let calls = failing(rt.alloc(), case, "disk")?;
-    let disk = MemDisk::new(rt.alloc(), &[], DISK_ROOM, calls)?;
     let (input, out, err) = streams(rt.alloc(), case)?;
     Ok(World {
         files,
         door,
-        disk,
         input,
         out,
         err,
@@ -72,49 +66,9 @@ fn push_run(alloc: Global, case: &Case, words: &[Txt], world: Inside, out: &mut 
     push_left(alloc, case, &left, out);
 }
 
-// What comes of a run by these words.
-fn outcome(rt: &HostRuntime, case: &Case, words: &[Txt]) -> Result<String, Stop> {
-    let mut told = Words::new(rt.alloc());
-    push_run(rt.alloc(), case, words, world(rt, case)?, &mut told);
-    told.told()
-}
-
-// The words of the same run with its tables in pages, where its command has one.
-fn paged(alloc: Global, words: &[Txt]) -> Result<Option<Vec<Txt>>, Stop> {
-    let [command, rest @ ..] = words else {
-        return Ok(None);
-    };
-    if !matches!(command.as_str(), "query" | "serve") {
-        return Ok(None);
-    }
-    let mut paged = Vec::new(alloc);
-    paged.push(command.copy(alloc)?)?;
-    paged.push(Txt::of(alloc, b"--paged")?)?;
-    for word in rest {
-        paged.push(word.copy(alloc)?)?;
-    }
-    Ok(Some(paged))
-}
-
-// Whether one of the words asks for pages.
-fn is_paged(words: &[Txt]) -> bool {
-    words.iter().any(|word| word.as_str() == "--paged")
-}
-
-/// The status of a run, what it wrote, the line that it told, and what each link got. A query and a `serve` that do not ask for
-/// pages run once more with them: what comes of that follows where it is something else.
+/// The status of a run, what it wrote, the line that it told, and what each link got.
 pub fn tell_outcome(rt: &HostRuntime, case: &Case, out: &mut Words) -> Result<(), Stop> {
     let words = case.texts(rt.alloc(), "words")?;
-    let told = outcome(rt, case, words.as_slice())?;
-    out.push(told.as_str());
-    if is_paged(words.as_slice()) {
-        return Ok(());
-    }
-    if let Some(words) = paged(rt.alloc(), words.as_slice())? {
-        let again = outcome(rt, case, words.as_slice())?;
-        if again.as_str() != told.as_str() {
-            out.push_pair(" | in pages ", again.as_str());
-        }
-    }
+    push_run(rt.alloc(), case, words.as_slice(), world(rt, case)?, out);
     Ok(())
 }

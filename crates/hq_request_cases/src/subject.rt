@@ -16,7 +16,6 @@ pub enum About {
     Skipped,
     Directories,
     Runs,
-    Explain,
     Serving,
     Statements,
     Pins,
@@ -24,7 +23,7 @@ pub enum About {
 
 impl About {
     /// Each subject, in the order of its line.
-    pub const ALL: [About; 16] = [
+    pub const ALL: [About; 15] = [
         About::Worked,
         About::Blog,
         About::Shop,
@@ -37,7 +36,6 @@ impl About {
         About::Skipped,
         About::Directories,
         About::Runs,
-        About::Explain,
         About::Serving,
         About::Statements,
         About::Pins,
@@ -59,7 +57,6 @@ impl Subject for About {
             About::Skipped => "skipped",
             About::Directories => "directories",
             About::Runs => "runs",
-            About::Explain => "explain",
             About::Serving => "serving",
             About::Statements => "statements",
             About::Pins => "pins",

@@ -23,16 +23,8 @@ fn push_asked(alloc: Global, words: &[Txt], out: &mut Words) {
 
 fn push_command(command: &Command, out: &mut Words) {
     match command {
-        Command::Query {
-            dir,
-            headers,
-            paged,
-        } => {
-            push_request("query ", dir, headers, out);
-            push_paged(*paged, out);
-        }
+        Command::Query { dir, headers } => push_request("query ", dir, headers, out),
         Command::Sql { dir, headers } => push_request("sql ", dir, headers, out),
-        Command::Explain { dir, headers } => push_request("explain ", dir, headers, out),
         Command::Check { dir } => out.push_pair("check ", dir.as_str()),
         Command::Gen { n } => {
             out.push("gen ");
@@ -48,12 +40,10 @@ fn push_command(command: &Command, out: &mut Words) {
             connections,
             secret,
             unauthorized,
-            paged,
         } => {
             push_serve(dir, *port, *connections, out);
             push_text(", secret '", secret, out);
             push_text(", unauthorized '", unauthorized, out);
-            push_paged(*paged, out);
         }
     }
 }
@@ -72,12 +62,6 @@ fn push_serve(dir: &Txt, port: u16, connections: u32, out: &mut Words) {
     out.push_number(u64::from(port));
     out.push(" for ");
     out.push_number(u64::from(connections));
-}
-
-fn push_paged(paged: bool, out: &mut Words) {
-    if paged {
-        out.push(" in pages");
-    }
 }
 
 fn push_text(before: &str, text: &Option<Txt>, out: &mut Words) {
