@@ -1,0 +1,9 @@
+//! Talks of live queries with the peers of a hall, one after the other, with a line for each.
+#![tactic(auto)]
+
+mod line;
+mod refusal;
+mod serving;
+
+pub use refusal::TalksRefusal;
+pub use serving::serve_talks;
