@@ -18,15 +18,6 @@ pub record ToldLink (L : Type 0) : Type 0 where
   pub sent : L → Option (List Out)
   pub faults : L → ℕ
 
--- what a hall tells: its links, how many it accepted, and how often it has failed
-pub record SeenHall (L : Type 0) : Type 0 where
-  pub links : Option (List L)
-  pub accepted : ℕ
-  pub faults : ℕ
-
-abbrev pub seen_hall : {L : Type 0} → (links : Option (List L)) → (accepted faults : ℕ) → SeenHall L
-seen_hall links accepted faults = record { links = links; accepted = accepted; faults = faults }
-
 -- a talk: its link before it and behind it, and how it ended
 pub record Held (L : Type 0) : Type 0 where
   pub old : L

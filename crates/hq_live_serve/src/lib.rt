@@ -2,8 +2,6 @@
 #![tactic(auto)]
 
 mod line;
-mod refusal;
 mod serving;
 
-pub use refusal::TalksRefusal;
 pub use serving::serve_talks;

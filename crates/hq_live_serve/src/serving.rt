@@ -5,15 +5,15 @@ ghost use Rattle.hq_session.specs.Hook.{KeepsRule};
 ghost use Rattle.hq_live.specs.Asking.{KeepsFiles};
 ghost use Rattle.hq_live.specs.Runs.{standing};
 ghost use Rattle.hq_live_serve.specs.Lines.{line_of};
-ghost use Rattle.hq_live_serve.specs.Talking.{seen_hall};
-ghost use Rattle.hq_live_serve.specs.Serving.{HoldsNext, ServesTalks, Wrote};
+ghost use Rattle.hq_serve.specs.Serving.{Wrote};
+ghost use Rattle.hq_live_serve.specs.Serving.{HoldsNext, ServesTalks};
 
-use crate::TalksRefusal;
 use crate::line::put_line;
 use hq_base::Bytes;
 use hq_live::{Asker, Live};
 use hq_messages::{Hall, HallFailed};
 use hq_outside::{Sink, write_all};
+use hq_serve::ServeRefusal;
 use hq_session::{Headers, Hook, HookAnswer, HookRule};
 use hq_talk::{TalkEnd, talk};
 use std::alloc::Global;
@@ -24,10 +24,10 @@ fn write_line<K: Sink>(
     line: &mut Bytes,
     number: u64,
     end: TalkEnd,
-) -> Result<(), TalksRefusal>
+) -> Result<(), ServeRefusal>
     ensures ok { OnOk result (Appends (K.written out.old) (K.written out.new) (line_of number end)) }
     ensures wrote { Wrote (K.written out.old) (K.written out.new) (line_of number end) result }
-    ensures write { IsErrOf result TalksRefusal.WriteFailed → Rose (K.faults out.old) (K.faults out.new) }
+    ensures write { IsErrOf result ServeRefusal.WriteFailed → Rose (K.faults out.old) (K.faults out.new) }
     ensures later { K.faults out.old ≤ K.faults out.new }
 {
     put_line(line, number, end)?;
@@ -47,7 +47,7 @@ fn talk_next<H: Hall, A: Asker, P: HookRule, F: Fn(&Headers) -> HookAnswer>(
     ensures holds { IfOk result (HoldsNext (P.allows hook.now.rule) (record { left = H.Talk.left; sent = H.Talk.sent; faults = H.Talk.faults })
         (standing (A.due live.old.asker) (A.next live.old.asker) (A.faults live.old.asker) live.old.subscriptions.items)
         (standing (A.due live.new.asker) (A.next live.new.asker) (A.faults live.new.asker) live.new.subscriptions.items)
-        (seen_hall (H.talks hall.old) (H.accepted hall.old) (H.faults hall.old)) (seen_hall (H.talks hall.new) (H.accepted hall.new) (H.faults hall.new))) }
+        (H.accepted hall.old) (H.accepted hall.new) (H.talks hall.old) (H.talks hall.new)) }
     ensures none { live.new.subscriptions.items ≡ [] }
     ensures cause { HasCause (H.faults hall.old) (H.faults hall.new) result }
     ensures talks { OnErr result (H.talks hall.new ≡ H.talks hall.old) }
@@ -74,7 +74,7 @@ pub fn serve_talks<H: Hall, A: Asker, P: HookRule, F: Fn(&Headers) -> HookAnswer
     hook: &Hook<P, F>,
     out: &mut K,
     connections: u32,
-) -> Result<(), TalksRefusal>
+) -> Result<(), ServeRefusal>
     requires keeps { KeepsRule F.Fn P.allows hook.now }
     requires none { live.old.subscriptions.items ≡ [] }
 
@@ -82,7 +82,7 @@ pub fn serve_talks<H: Hall, A: Asker, P: HookRule, F: Fn(&Headers) -> HookAnswer
     ensures serves { ServesTalks (P.allows hook.now.rule) (record { left = H.Talk.left; sent = H.Talk.sent; faults = H.Talk.faults }) connections
         (standing (A.due live.old.asker) (A.next live.old.asker) (A.faults live.old.asker) live.old.subscriptions.items)
         (standing (A.due live.new.asker) (A.next live.new.asker) (A.faults live.new.asker) live.new.subscriptions.items)
-        (seen_hall (H.talks hall.old) (H.accepted hall.old) (H.faults hall.old)) (seen_hall (H.talks hall.new) (H.accepted hall.new) (H.faults hall.new))
+        (H.accepted hall.old) (H.accepted hall.new) (H.talks hall.old) (H.talks hall.new)
         (K.written out.old) (K.written out.new) result }
 
     // No subscription is left, and no peer stays connected.
@@ -90,8 +90,8 @@ pub fn serve_talks<H: Hall, A: Asker, P: HookRule, F: Fn(&Headers) -> HookAnswer
     ensures closed { IsNone (H.present hall.old) → IsNone (H.present hall.new) }
 
     // A failure is told only where that count rose.
-    ensures hall { IsErrOf result TalksRefusal.HallFailed → Rose (H.faults hall.old) (H.faults hall.new) }
-    ensures write { IsErrOf result TalksRefusal.WriteFailed → Rose (K.faults out.old) (K.faults out.new) }
+    ensures hall { IsErrOf result ServeRefusal.DoorFailed → Rose (H.faults hall.old) (H.faults hall.new) }
+    ensures write { IsErrOf result ServeRefusal.WriteFailed → Rose (K.faults out.old) (K.faults out.new) }
 
     // No count falls, and files that the asker reads from stay those of their folder.
     ensures hall_later { H.faults hall.old ≤ H.faults hall.new }
@@ -101,7 +101,9 @@ pub fn serve_talks<H: Hall, A: Asker, P: HookRule, F: Fn(&Headers) -> HookAnswer
 {
     let mut line = Bytes::new(alloc);
     'talks: for served in 0..connections {
-        let end = talk_next(alloc, hall, live, hook)?;
+        let Ok(end) = talk_next(alloc, hall, live, hook) else {
+            return Err(ServeRefusal::DoorFailed);
+        };
         match write_line(out, &mut line, served as u64 + 1, end) {
             Ok(()) => {}
             Err(refusal) => return Err(refusal),
