@@ -5,10 +5,12 @@ use Rattle.hq_outside.specs.Causes.{one_more}
 use Rattle.hq_outside.specs.Links.{with_present}
 use Rattle.hq_session.specs.declared.header.Header.{Header}
 use Rattle.hq_session.specs.declared.hook.HookAnswer.{HookAnswer}
+use Rattle.hq_messages.specs.Messages.{IsNextTalk}
 use Rattle.hq_messages.specs.declared.messages.Message.{Message}
 use Rattle.hq_live.specs.Runs.{Standing}
+use Rattle.hq_talk.specs.declared.end.TalkEnd.{TalkEnd}
 use Rattle.hq_live_serve.specs.Talking.{ToldLink, Held, IsHeld, AreHeld, Accepts, ends_of}
-use Rattle.hq_live_serve.specs.Serving.{Holds}
+use Rattle.hq_live_serve.specs.Serving.{Holds, HoldsNext}
 
 -- the ends of one more talk
 pub ends_more : {L : Type 0} (talks : List (Held L)) (x : Held L) → ends_of (talks ++ x ∷ []) ≡ ends_of talks ++ x.end ∷ []
@@ -44,3 +46,18 @@ module _ {L : Type 0} (allows : List Header → HookAnswer → Type 0) (t : Told
   -- no talk
   pub holds_none : (s : Standing) (a : ℕ) (l : Option (List L)) → Holds allows t s s a a l l []
   holds_none s a l = record { held = refl; accepted = (refl, refl) }
+
+  -- the peer that was present is the next one of the hall, and its talk was held
+  pub next_held : (s s' : Standing) (a a1 a2 : ℕ) (l l1 l2 : Option (List L)) (present : Option L) (old new : L) (e : TalkEnd)
+      → IsNextTalk t.left l a present → present ≡ Some old → a1 ≡ one_more a → l1 ≡ l → a2 ≡ a1 → l2 ≡ with_present l1 a1 new
+      → IsHeld allows t s s' (record { old = old; new = new; end = e }) → HoldsNext allows t s s' a a2 l l2 e
+  next_held s s' a a1 a2 l l1 l2 present old new e next is count same closed set held =
+      let place : with_present l1 a1 new ≡ with_present l (one_more a) new = ap (λ o. with_present o a1 new) same ∙ ap (λ n. with_present l n new) count in
+      record {
+        talk = record { old = old; new = new; end = e };
+        ends = refl;
+        holds = record {
+          held = (s', held, refl);
+          accepted = (subst (λ (p : Option L). IsNextTalk t.left l a p) is next, (closed ∙ count, set ∙ place));
+        };
+      }
