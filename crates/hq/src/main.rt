@@ -7,6 +7,7 @@ use hq_app::{World, run};
 use hq_base::{List, Memory, Txt, TxtRefusal};
 use hq_outside::write_all;
 use hq_system::{DirFiles, FileDisk, StdSink, StdSource, TcpDoor};
+use hq_ws::TcpHall;
 use std::alloc::Global;
 use std::env;
 use std::io::{ErrorKind, Write};
@@ -84,6 +85,7 @@ fn main(rt: HostRuntime) -> ExitCode {
         input: StdSource::new(rt.stdin()),
         out: StdSink::new(rt.stdout()),
         err,
+        hall: TcpHall::new(alloc, rt),
     };
     let ran = run(alloc, words.as_slice(), world);
     ExitCode::from(ran.status)

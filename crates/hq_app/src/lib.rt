@@ -2,6 +2,7 @@
 #![tactic(auto)]
 
 mod laws;
+mod living;
 mod top;
 mod world;
 

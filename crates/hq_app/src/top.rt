@@ -5,9 +5,10 @@ ghost use Rattle.hq_commands.specs.Ending.{Answer, Silent, Tells, NotDatabase, s
 ghost use Rattle.hq_commands.specs.Answers.{Answers};
 ghost use Rattle.hq_app.specs.Laws.{AnswersAlike};
 ghost use Rattle.hq_app.specs.Outside.{NoneFell};
-ghost use Rattle.hq_app.specs.Runs.{DatabaseCause, EndsWith, MayFail, ReadCause, Runs, opens_door, reads_input, uses_disk, tells_files};
+ghost use Rattle.hq_app.specs.Runs.{DatabaseCause, EndsWith, MayFail, ReadCause, Runs, opens_door, opens_hall, reads_input, uses_disk, tells_files, tells_lines};
 
 use crate::laws::outputs_agree;
+use crate::living::live_over;
 use crate::{Observed, Ran, World};
 use hq_base::Txt;
 use hq_commands::{
@@ -17,6 +18,7 @@ use hq_commands::{
 use hq_db::SqlDb;
 use hq_engine::Engine;
 use hq_link::Database;
+use hq_messages::Hall;
 use hq_outside::{Disk, Door, Files, Sink, Source};
 use hq_session::{Headers, SecretRule};
 use hq_tables::Tables;
@@ -24,29 +26,30 @@ use hq_terms::Session;
 use hq_words::Command;
 use std::alloc::Global;
 
-// What a run did, and the world that it leaves.
+/// What a run did, and the world that it leaves.
 #[derive(Drop)]
-struct Ended<F, D, X, S, K, E> {
-    answer: Result<Done, Refusal>,
-    world: World<F, D, X, S, K, E>,
+pub struct Ended<F, D, X, S, K, E, H> {
+    pub answer: Result<Done, Refusal>,
+    pub world: World<F, D, X, S, K, E, H>,
 }
 
 // Answers a request over tables that are kept on the disk.
-fn query_paged<F: Files, D: Door, X: Disk, S: Source, K: Sink, E: Sink>(
+fn query_paged<F: Files, D: Door, X: Disk, S: Source, K: Sink, E: Sink, H: Hall>(
     alloc: Global,
     dir: &Txt,
     headers: &Headers,
-    world: World<F, D, X, S, K, E>,
-) -> Ended<F, D, X, S, K, E>
-    ensures runs { Runs (Some (Command.Query dir.now headers.now true)) (⟦<World<F, D, X, S, K, E> as Observed>⟧.seen world) (⟦<World<F, D, X, S, K, E> as Observed>⟧.seen result.world) result.answer }
-    ensures read { IsErrOf result.answer Refusal.ReadFailed → ReadCause (Some (Command.Query dir.now headers.now true)) (⟦<World<F, D, X, S, K, E> as Observed>⟧.seen world) (⟦<World<F, D, X, S, K, E> as Observed>⟧.seen result.world) }
+    world: World<F, D, X, S, K, E, H>,
+) -> Ended<F, D, X, S, K, E, H>
+    ensures runs { Runs (Some (Command.Query dir.now headers.now true)) (⟦<World<F, D, X, S, K, E, H> as Observed>⟧.seen world) (⟦<World<F, D, X, S, K, E, H> as Observed>⟧.seen result.world) result.answer }
+    ensures read { IsErrOf result.answer Refusal.ReadFailed → ReadCause (Some (Command.Query dir.now headers.now true)) (⟦<World<F, D, X, S, K, E, H> as Observed>⟧.seen world) (⟦<World<F, D, X, S, K, E, H> as Observed>⟧.seen result.world) }
     ensures silent { Silent (K.written world.out) (K.written result.world.out) result.answer }
     ensures door { result.world.door ≡ world.door }
+    ensures hall { result.world.hall ≡ world.hall }
     ensures words { IsErrOf result.answer Refusal.BadWords → ⊥ }
     ensures write { IsErrOf result.answer Refusal.WriteFailed → Rose (K.faults world.out) (K.faults result.world.out) }
     ensures err { result.world.err ≡ world.err }
     ensures folder { F.folder result.world.files ≡ F.folder world.files }
-    ensures later { NoneFell (⟦<World<F, D, X, S, K, E> as Observed>⟧.seen world) (⟦<World<F, D, X, S, K, E> as Observed>⟧.seen result.world) }
+    ensures later { NoneFell (⟦<World<F, D, X, S, K, E, H> as Observed>⟧.seen world) (⟦<World<F, D, X, S, K, E, H> as Observed>⟧.seen result.world) }
 {
     let World {
         mut files,
@@ -55,6 +58,7 @@ fn query_paged<F: Files, D: Door, X: Disk, S: Source, K: Sink, E: Sink>(
         mut input,
         mut out,
         err,
+        hall,
     } = world;
     let done = query_on_disk(alloc, dir, headers, &mut files, disk, &mut input, &mut out);
     Ended {
@@ -66,28 +70,30 @@ fn query_paged<F: Files, D: Door, X: Disk, S: Source, K: Sink, E: Sink>(
             input,
             out,
             err,
+            hall,
         },
     }
 }
 
 // Serves over tables that are kept on the disk.
-fn serve_paged<F: Files, D: Door, X: Disk, S: Source, K: Sink, E: Sink>(
+fn serve_paged<F: Files, D: Door, X: Disk, S: Source, K: Sink, E: Sink, H: Hall>(
     alloc: Global,
     dir: &Txt,
     rule: &SecretRule,
     port: u16,
     connections: u32,
-    world: World<F, D, X, S, K, E>,
-) -> Ended<F, D, X, S, K, E>
-    ensures runs { Runs (Some (Command.Serve dir.now port connections rule.now.secret rule.now.unauthorized true)) (⟦<World<F, D, X, S, K, E> as Observed>⟧.seen world) (⟦<World<F, D, X, S, K, E> as Observed>⟧.seen result.world) result.answer }
-    ensures read { IsErrOf result.answer Refusal.ReadFailed → ReadCause (Some (Command.Serve dir.now port connections rule.now.secret rule.now.unauthorized true)) (⟦<World<F, D, X, S, K, E> as Observed>⟧.seen world) (⟦<World<F, D, X, S, K, E> as Observed>⟧.seen result.world) }
+    world: World<F, D, X, S, K, E, H>,
+) -> Ended<F, D, X, S, K, E, H>
+    ensures runs { Runs (Some (Command.Serve dir.now port connections rule.now.secret rule.now.unauthorized true)) (⟦<World<F, D, X, S, K, E, H> as Observed>⟧.seen world) (⟦<World<F, D, X, S, K, E, H> as Observed>⟧.seen result.world) result.answer }
+    ensures read { IsErrOf result.answer Refusal.ReadFailed → ReadCause (Some (Command.Serve dir.now port connections rule.now.secret rule.now.unauthorized true)) (⟦<World<F, D, X, S, K, E, H> as Observed>⟧.seen world) (⟦<World<F, D, X, S, K, E, H> as Observed>⟧.seen result.world) }
     ensures failed { IfErr result.answer NotDatabase }
     ensures input { result.world.input ≡ world.input }
+    ensures hall { result.world.hall ≡ world.hall }
     ensures words { IsErrOf result.answer Refusal.BadWords → ⊥ }
     ensures write { IsErrOf result.answer Refusal.WriteFailed → Rose (K.faults world.out) (K.faults result.world.out) }
     ensures err { result.world.err ≡ world.err }
     ensures folder { F.folder result.world.files ≡ F.folder world.files }
-    ensures later { NoneFell (⟦<World<F, D, X, S, K, E> as Observed>⟧.seen world) (⟦<World<F, D, X, S, K, E> as Observed>⟧.seen result.world) }
+    ensures later { NoneFell (⟦<World<F, D, X, S, K, E, H> as Observed>⟧.seen world) (⟦<World<F, D, X, S, K, E, H> as Observed>⟧.seen result.world) }
 {
     let World {
         mut files,
@@ -96,6 +102,7 @@ fn serve_paged<F: Files, D: Door, X: Disk, S: Source, K: Sink, E: Sink>(
         input,
         mut out,
         err,
+        hall,
     } = world;
     let (files_in, door_in, out_in) = (&mut files, &mut door, &mut out);
     let done = serve_on_disk(
@@ -118,29 +125,31 @@ fn serve_paged<F: Files, D: Door, X: Disk, S: Source, K: Sink, E: Sink>(
             input,
             out,
             err,
+            hall,
         },
     }
 }
 
 // Does what a command asks.
-fn obey<F: Files, D: Door, X: Disk, S: Source, K: Sink, E: Sink>(
+fn obey<F: Files, D: Door, X: Disk, S: Source, K: Sink, E: Sink, H: Hall>(
     alloc: Global,
     command: Command,
-    world: World<F, D, X, S, K, E>,
-) -> Ended<F, D, X, S, K, E>
+    world: World<F, D, X, S, K, E, H>,
+) -> Ended<F, D, X, S, K, E, H>
     requires { HasFewAuthors command }
-    ensures runs { Runs (Some command) (⟦<World<F, D, X, S, K, E> as Observed>⟧.seen world) (⟦<World<F, D, X, S, K, E> as Observed>⟧.seen result.world) result.answer }
-    ensures read { IsErrOf result.answer Refusal.ReadFailed → ReadCause (Some command) (⟦<World<F, D, X, S, K, E> as Observed>⟧.seen world) (⟦<World<F, D, X, S, K, E> as Observed>⟧.seen result.world) }
-    ensures silent { opens_door (Some command) ≡ false → tells_files (Some command) ≡ false → Silent (K.written world.out) (K.written result.world.out) result.answer }
+    ensures runs { Runs (Some command) (⟦<World<F, D, X, S, K, E, H> as Observed>⟧.seen world) (⟦<World<F, D, X, S, K, E, H> as Observed>⟧.seen result.world) result.answer }
+    ensures read { IsErrOf result.answer Refusal.ReadFailed → ReadCause (Some command) (⟦<World<F, D, X, S, K, E, H> as Observed>⟧.seen world) (⟦<World<F, D, X, S, K, E, H> as Observed>⟧.seen result.world) }
+    ensures silent { tells_lines (Some command) ≡ false → tells_files (Some command) ≡ false → Silent (K.written world.out) (K.written result.world.out) result.answer }
     ensures words { result.answer ≢ Err Refusal.BadWords }
     ensures input { reads_input (Some command) ≡ false → result.world.input ≡ world.input }
     ensures door { opens_door (Some command) ≡ false → result.world.door ≡ world.door }
+    ensures hall { opens_hall (Some command) ≡ false → result.world.hall ≡ world.hall }
     ensures write { IsErrOf result.answer Refusal.WriteFailed → Rose (K.faults world.out) (K.faults result.world.out) }
-    ensures failed { IfErr result.answer (MayFail (Some command) (⟦<World<F, D, X, S, K, E> as Observed>⟧.seen world) (⟦<World<F, D, X, S, K, E> as Observed>⟧.seen result.world)) }
+    ensures failed { IfErr result.answer (MayFail (Some command) (⟦<World<F, D, X, S, K, E, H> as Observed>⟧.seen world) (⟦<World<F, D, X, S, K, E, H> as Observed>⟧.seen result.world)) }
     ensures disk { uses_disk (Some command) ≡ false → result.world.disk ≡ world.disk }
     ensures err { result.world.err ≡ world.err }
     ensures folder { F.folder result.world.files ≡ F.folder world.files }
-    ensures later { NoneFell (⟦<World<F, D, X, S, K, E> as Observed>⟧.seen world) (⟦<World<F, D, X, S, K, E> as Observed>⟧.seen result.world) }
+    ensures later { NoneFell (⟦<World<F, D, X, S, K, E, H> as Observed>⟧.seen world) (⟦<World<F, D, X, S, K, E, H> as Observed>⟧.seen result.world) }
 {
     let mut world = world;
     match command {
@@ -189,6 +198,19 @@ fn obey<F: Files, D: Door, X: Disk, S: Source, K: Sink, E: Sink>(
             let answer = serve(alloc, &dir, &rule, port, connections, files, door, out);
             Ended { answer, world }
         }
+        Command::Live {
+            dir,
+            port,
+            connections,
+            secret,
+            unauthorized,
+        } => {
+            let rule = SecretRule {
+                secret,
+                unauthorized,
+            };
+            live_over(alloc, dir, &rule, port, connections, world)
+        }
         Command::Gen { n } => {
             let answer = generate_and_answer(alloc, n, &mut world.out);
             Ended { answer, world }
@@ -201,23 +223,24 @@ fn obey<F: Files, D: Door, X: Disk, S: Source, K: Sink, E: Sink>(
 }
 
 // Reads the words, and does what they ask.
-fn answered<F: Files, D: Door, X: Disk, S: Source, K: Sink, E: Sink>(
+fn answered<F: Files, D: Door, X: Disk, S: Source, K: Sink, E: Sink, H: Hall>(
     alloc: Global,
     words: &[Txt],
-    world: World<F, D, X, S, K, E>,
-) -> Ended<F, D, X, S, K, E>
-    ensures runs { Runs (command_of words.now) (⟦<World<F, D, X, S, K, E> as Observed>⟧.seen world) (⟦<World<F, D, X, S, K, E> as Observed>⟧.seen result.world) result.answer }
-    ensures read { IsErrOf result.answer Refusal.ReadFailed → ReadCause (command_of words.now) (⟦<World<F, D, X, S, K, E> as Observed>⟧.seen world) (⟦<World<F, D, X, S, K, E> as Observed>⟧.seen result.world) }
-    ensures silent { opens_door (command_of words.now) ≡ false → tells_files (command_of words.now) ≡ false → Silent (K.written world.out) (K.written result.world.out) result.answer }
+    world: World<F, D, X, S, K, E, H>,
+) -> Ended<F, D, X, S, K, E, H>
+    ensures runs { Runs (command_of words.now) (⟦<World<F, D, X, S, K, E, H> as Observed>⟧.seen world) (⟦<World<F, D, X, S, K, E, H> as Observed>⟧.seen result.world) result.answer }
+    ensures read { IsErrOf result.answer Refusal.ReadFailed → ReadCause (command_of words.now) (⟦<World<F, D, X, S, K, E, H> as Observed>⟧.seen world) (⟦<World<F, D, X, S, K, E, H> as Observed>⟧.seen result.world) }
+    ensures silent { tells_lines (command_of words.now) ≡ false → tells_files (command_of words.now) ≡ false → Silent (K.written world.out) (K.written result.world.out) result.answer }
     ensures words { IsErrOf result.answer Refusal.BadWords → command_of words.now ≡ None }
     ensures input { reads_input (command_of words.now) ≡ false → result.world.input ≡ world.input }
     ensures door { opens_door (command_of words.now) ≡ false → result.world.door ≡ world.door }
+    ensures hall { opens_hall (command_of words.now) ≡ false → result.world.hall ≡ world.hall }
     ensures write { IsErrOf result.answer Refusal.WriteFailed → Rose (K.faults world.out) (K.faults result.world.out) }
-    ensures failed { IfErr result.answer (MayFail (command_of words.now) (⟦<World<F, D, X, S, K, E> as Observed>⟧.seen world) (⟦<World<F, D, X, S, K, E> as Observed>⟧.seen result.world)) }
+    ensures failed { IfErr result.answer (MayFail (command_of words.now) (⟦<World<F, D, X, S, K, E, H> as Observed>⟧.seen world) (⟦<World<F, D, X, S, K, E, H> as Observed>⟧.seen result.world)) }
     ensures disk { uses_disk (command_of words.now) ≡ false → result.world.disk ≡ world.disk }
     ensures err { result.world.err ≡ world.err }
     ensures folder { F.folder result.world.files ≡ F.folder world.files }
-    ensures later { NoneFell (⟦<World<F, D, X, S, K, E> as Observed>⟧.seen world) (⟦<World<F, D, X, S, K, E> as Observed>⟧.seen result.world) }
+    ensures later { NoneFell (⟦<World<F, D, X, S, K, E, H> as Observed>⟧.seen world) (⟦<World<F, D, X, S, K, E, H> as Observed>⟧.seen result.world) }
 {
     match Command::read(alloc, words) {
         Ok(command) => obey(alloc, command, world),
@@ -285,21 +308,22 @@ pub fn answer_one<T: Tables, S: Source, K: Sink, E: Sink>(
 /// none is. `explain DIR [HEADER]...` tells a person of it, or of the directory where that is refused. `check DIR` loads the
 /// directory and writes `ok: T tables, R roles, N rows`. `serve DIR --port P --connections N`
 /// serves so many connections of HTTP at this machine's port, one after the other, and writes a line after each. With `--paged` these
-/// two keep the tables on the disk, under the name `hq.pages` in the directory. `gen N` makes a
+/// two keep the tables on the disk, under the name `hq.pages` in the directory. `live DIR --port P --connections N` talks of live
+/// queries with so many peers of a WebSocket, one after the other, and writes a line after each. `gen N` makes a
 /// database of N authors, answers five requests over it, and writes how long the replies are. `help`, `--help` or `-h` writes the
 /// commands and the statuses, and `--version` the program's line and the kit's. Everything that it touches is handed in, and handed back with
 /// the status that the program ends with.
-pub fn run<F: Files, D: Door, X: Disk, S: Source, K: Sink, E: Sink>(
+pub fn run<F: Files, D: Door, X: Disk, S: Source, K: Sink, E: Sink, H: Hall>(
     alloc: Global,
     words: &[Txt],
-    world: World<F, D, X, S, K, E>,
-) -> Ran<F, D, X, S, K, E>
+    world: World<F, D, X, S, K, E, H>,
+) -> Ran<F, D, X, S, K, E, H>
     // The status is that of an answer, and standard error has its line. The answer is the one that is due for the command that
     // the words ask for, unless memory or an object of the outside failed.
-    ensures ends { EndsWith (command_of words.now) (⟦<World<F, D, X, S, K, E> as Observed>⟧.seen world) (⟦<World<F, D, X, S, K, E> as Observed>⟧.seen result.world) result.status }
+    ensures ends { EndsWith (command_of words.now) (⟦<World<F, D, X, S, K, E, H> as Observed>⟧.seen world) (⟦<World<F, D, X, S, K, E, H> as Observed>⟧.seen result.world) result.status }
 
-    // Nothing is written at a status other than 0, 1 and 5, but the lines of `serve`, and what `explain` tells of a refused file.
-    ensures silent { opens_door (command_of words.now) ≡ false → tells_files (command_of words.now) ≡ false → result.status ≢ 0 → result.status ≢ 1 → result.status ≢ 5
+    // Nothing is written at a status other than 0, 1 and 5, but the lines of `serve` and `live`, and what `explain` tells of a refused file.
+    ensures silent { tells_lines (command_of words.now) ≡ false → tells_files (command_of words.now) ≡ false → result.status ≢ 0 → result.status ≢ 1 → result.status ≢ 5
         → K.written result.world.out ≡ K.written world.out }
 
     // It ends with 2 only where the words ask for no command, and there with nothing else but want of memory.
@@ -307,17 +331,18 @@ pub fn run<F: Files, D: Door, X: Disk, S: Source, K: Sink, E: Sink>(
     ensures bad_words { command_of words.now ≡ None → (result.status ≡ 2) ⊎ (result.status ≡ 7) }
 
     // A failure is told only where the count of that object rose, as the command uses it.
-    ensures read { result.status ≡ 4 → ReadCause (command_of words.now) (⟦<World<F, D, X, S, K, E> as Observed>⟧.seen world) (⟦<World<F, D, X, S, K, E> as Observed>⟧.seen result.world) }
+    ensures read { result.status ≡ 4 → ReadCause (command_of words.now) (⟦<World<F, D, X, S, K, E, H> as Observed>⟧.seen world) (⟦<World<F, D, X, S, K, E, H> as Observed>⟧.seen result.world) }
     ensures write { result.status ≡ 5 → Rose (K.faults world.out) (K.faults result.world.out) }
-    ensures database { result.status ≡ 6 → DatabaseCause (command_of words.now) (⟦<World<F, D, X, S, K, E> as Observed>⟧.seen world) (⟦<World<F, D, X, S, K, E> as Observed>⟧.seen result.world) }
+    ensures database { result.status ≡ 6 → DatabaseCause (command_of words.now) (⟦<World<F, D, X, S, K, E, H> as Observed>⟧.seen world) (⟦<World<F, D, X, S, K, E, H> as Observed>⟧.seen result.world) }
 
-    // A command that reads no input leaves it, one that opens no door leaves that, and one without `--paged` the disk. The folder is
+    // A command that reads no input leaves it, one that opens no door leaves that, and so with the hall and, without `--paged`, the disk. The folder is
     // unchanged, and no count falls.
     ensures input { reads_input (command_of words.now) ≡ false → result.world.input ≡ world.input }
     ensures door { opens_door (command_of words.now) ≡ false → result.world.door ≡ world.door }
+    ensures hall { opens_hall (command_of words.now) ≡ false → result.world.hall ≡ world.hall }
     ensures disk { uses_disk (command_of words.now) ≡ false → result.world.disk ≡ world.disk }
     ensures folder { F.folder result.world.files ≡ F.folder world.files }
-    ensures later { NoneFell (⟦<World<F, D, X, S, K, E> as Observed>⟧.seen world) (⟦<World<F, D, X, S, K, E> as Observed>⟧.seen result.world) }
+    ensures later { NoneFell (⟦<World<F, D, X, S, K, E, H> as Observed>⟧.seen world) (⟦<World<F, D, X, S, K, E, H> as Observed>⟧.seen result.world) }
 {
     let Ended { answer, mut world } = answered(alloc, words, world);
     let status = tell(&mut world.err, answer);

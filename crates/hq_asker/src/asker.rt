@@ -1,6 +1,8 @@
-ghost use Rattle.std.specs.Prelude.{◌≡◌, true, IfOk, Some};
+ghost use Rattle.std.specs.Prelude.{◌≡◌, ◌≤◌, true, length, IfOk, Some};
 ghost use Rattle.hq_terms.specs.Database.{is_database};
-ghost use Rattle.hq_asker.specs.Asker.{due_of, next_of, sum};
+ghost use Rattle.hq_terms.specs.Meta.{meta_view};
+ghost use Rattle.hq_live.specs.Asking.{GaveReply, KeepsFiles, Reloads};
+ghost use Rattle.hq_asker.specs.Asker.{due_of, next_of, sum, NeverFails, FailsFor};
 
 use hq_base::{Memory, Txt};
 use hq_db::SqlDb;
@@ -44,22 +46,41 @@ impl<F: Files> EngineAsker<F> {
 }
 
 impl<F: Files> Asker for EngineAsker<F> {
-    ghost due = { λ a. due_of a.engine (⟦<SqlDb<MemTables> as Database>⟧.database a.db) };
+    ghost due = { λ a. due_of a.engine.catalog.tables (meta_view a.engine.meta) (⟦<SqlDb<MemTables> as Database>⟧.database a.db) };
 
-    ghost next = { λ a. next_of a.engine (F.folder a.files) a.dir };
+    ghost next = { λ a. next_of a.engine.catalog.tables (meta_view a.engine.meta) (F.folder a.files) a.dir };
 
+    // A database in memory never fails.
     ghost faults = { λ a. sum (F.faults a.files) a.refused };
 
-    /// A database in memory never fails.
-    fn ask(&mut self, alloc: Global, session: &Session, body: &[u8]) -> Asked {
+    ghost reads = { λ folder faults a. (F.folder a.files ≡ folder) × (faults ≤ F.faults a.files) };
+
+    /// Never fails.
+    fn ask(&mut self, alloc: Global, session: &Session, body: &[u8]) -> Asked
+        requires { length body.now ≤ 1048576 }
+        ensures asked { GaveReply (⟦<EngineAsker<F> as Asker>⟧.due self.old session.now body.now) (⟦<EngineAsker<F> as Asker>⟧.faults self.old) (⟦<EngineAsker<F> as Asker>⟧.faults self.new) result }
+        ensures due { ⟦<EngineAsker<F> as Asker>⟧.due self.new ≡ ⟦<EngineAsker<F> as Asker>⟧.due self.old }
+        ensures next { ⟦<EngineAsker<F> as Asker>⟧.next self.new ≡ ⟦<EngineAsker<F> as Asker>⟧.next self.old }
+        ensures files { KeepsFiles (⟦<EngineAsker<F> as Asker>⟧.reads) self.old self.new }
+        ensures later { ⟦<EngineAsker<F> as Asker>⟧.faults self.old ≤ ⟦<EngineAsker<F> as Asker>⟧.faults self.new }
+        ensures never { NeverFails result }
+    {
         match self.engine.answer(alloc, session, body, &mut self.db) {
             Ok(reply) => Asked::Reply(reply.body),
             Err(EngineRefusal::Memory | EngineRefusal::Database { .. }) => Asked::Memory,
         }
     }
 
-    /// Reads the table files. The database that is present stays until the new one is whole.
-    fn reload(&mut self, alloc: Global) -> Reloaded {
+    /// Reads the table files. The database that is present stays until the new one is whole. Fails where the files do, and where one
+    /// of them is refused.
+    fn reload(&mut self, alloc: Global) -> Reloaded
+        ensures reloaded { Reloads (⟦<EngineAsker<F> as Asker>⟧.due self.old) (⟦<EngineAsker<F> as Asker>⟧.due self.new)
+            (⟦<EngineAsker<F> as Asker>⟧.next self.old) (⟦<EngineAsker<F> as Asker>⟧.next self.new)
+            (⟦<EngineAsker<F> as Asker>⟧.faults self.old) (⟦<EngineAsker<F> as Asker>⟧.faults self.new) result }
+        ensures files { KeepsFiles (⟦<EngineAsker<F> as Asker>⟧.reads) self.old self.new }
+        ensures later { ⟦<EngineAsker<F> as Asker>⟧.faults self.old ≤ ⟦<EngineAsker<F> as Asker>⟧.faults self.new }
+        ensures failed { FailsFor self.old.engine.catalog.tables (F.folder self.old.files) self.old.dir (F.faults self.old.files) (F.faults self.new.files) self.old.refused self.new.refused result }
+    {
         let before = self.failures();
         let tables = self.engine.catalog.tables.as_slice();
         match load_tables(alloc, &mut self.files, &self.dir, tables) {

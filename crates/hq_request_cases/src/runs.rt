@@ -1,18 +1,20 @@
-//! Runs of the program over a directory, a door and a disk in memory.
+//! Runs of the program over a directory, a door, a disk and a hall in memory.
 
 use crate::directory::{failing, folder};
 use crate::links::{door, push_links};
+use crate::talks::{hall, push_talks};
 use hq_app::{Ran, World, run};
 use hq_base::Txt;
 use hq_case::{Case, Stop, Words, push_bytes};
 use hq_memory::{MemDisk, MemDoor, MemFiles, MemSink, MemSource};
+use hq_messages::MemHall;
 use std::alloc::Global;
 
 // What the program is run in.
-type Inside = World<MemFiles, MemDoor, MemDisk, MemSource, MemSink, MemSink>;
+type Inside = World<MemFiles, MemDoor, MemDisk, MemSource, MemSink, MemSink, MemHall>;
 
 // What a run leaves.
-type Left = Ran<MemFiles, MemDoor, MemDisk, MemSource, MemSink, MemSink>;
+type Left = Ran<MemFiles, MemDoor, MemDisk, MemSource, MemSink, MemSink, MemHall>;
 
 // The bytes of room on each output.
 const ROOM: usize = 65_536;
@@ -48,6 +50,7 @@ fn world(rt: &HostRuntime, case: &Case) -> Result<Inside, Stop> {
     let door = door(rt.alloc(), case)?;
     let calls = failing(rt.alloc(), case, "disk")?;
     let disk = MemDisk::new(rt.alloc(), &[], DISK_ROOM, calls)?;
+    let hall = hall(rt.alloc(), case)?;
     let (input, out, err) = streams(rt.alloc(), case)?;
     Ok(World {
         files,
@@ -56,6 +59,7 @@ fn world(rt: &HostRuntime, case: &Case) -> Result<Inside, Stop> {
         input,
         out,
         err,
+        hall,
     })
 }
 
@@ -65,6 +69,7 @@ fn push_left(alloc: Global, case: &Case, left: &Left, out: &mut Words) {
     push_bytes(alloc, left.world.out.bytes(), out);
     push_bytes(alloc, left.world.err.bytes(), out);
     push_links(alloc, case, &left.world.door, out);
+    push_talks(alloc, case, &left.world.hall, out);
 }
 
 fn push_run(alloc: Global, case: &Case, words: &[Txt], world: Inside, out: &mut Words) {
@@ -101,7 +106,7 @@ fn is_paged(words: &[Txt]) -> bool {
     words.iter().any(|word| word.as_str() == "--paged")
 }
 
-/// The status of a run, what it wrote, the line that it told, and what each link got. A query and a `serve` that do not ask for
+/// The status of a run, what it wrote, the line that it told, and what each link got and each talk was sent. A query and a `serve` that do not ask for
 /// pages run once more with them: what comes of that follows where it is something else.
 pub fn tell_outcome(rt: &HostRuntime, case: &Case, out: &mut Words) -> Result<(), Stop> {
     let words = case.texts(rt.alloc(), "words")?;

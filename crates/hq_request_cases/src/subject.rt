@@ -18,13 +18,14 @@ pub enum About {
     Runs,
     Explain,
     Serving,
+    Live,
     Statements,
     Pins,
 }
 
 impl About {
     /// Each subject, in the order of its line.
-    pub const ALL: [About; 16] = [
+    pub const ALL: [About; 17] = [
         About::Worked,
         About::Blog,
         About::Shop,
@@ -39,6 +40,7 @@ impl About {
         About::Runs,
         About::Explain,
         About::Serving,
+        About::Live,
         About::Statements,
         About::Pins,
     ];
@@ -61,6 +63,7 @@ impl Subject for About {
             About::Runs => "runs",
             About::Explain => "explain",
             About::Serving => "serving",
+            About::Live => "live",
             About::Statements => "statements",
             About::Pins => "pins",
         }

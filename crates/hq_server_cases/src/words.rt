@@ -50,10 +50,21 @@ fn push_command(command: &Command, out: &mut Words) {
             unauthorized,
             paged,
         } => {
-            push_serve(dir, *port, *connections, out);
+            push_port("serve ", dir, *port, *connections, out);
             push_text(", secret '", secret, out);
             push_text(", unauthorized '", unauthorized, out);
             push_paged(*paged, out);
+        }
+        Command::Live {
+            dir,
+            port,
+            connections,
+            secret,
+            unauthorized,
+        } => {
+            push_port("live ", dir, *port, *connections, out);
+            push_text(", secret '", secret, out);
+            push_text(", unauthorized '", unauthorized, out);
         }
     }
 }
@@ -66,8 +77,8 @@ fn push_request(word: &str, dir: &Txt, headers: &Headers, out: &mut Words) {
     }
 }
 
-fn push_serve(dir: &Txt, port: u16, connections: u32, out: &mut Words) {
-    out.push_pair("serve ", dir.as_str());
+fn push_port(word: &str, dir: &Txt, port: u16, connections: u32, out: &mut Words) {
+    out.push_pair(word, dir.as_str());
     out.push(" at ");
     out.push_number(u64::from(port));
     out.push(" for ");

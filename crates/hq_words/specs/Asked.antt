@@ -7,8 +7,8 @@ use Rattle.clap.specs.Words.{Kinds, Row, Text, first_of, all_of, one_of}
 use Rattle.hq_session.specs.Fields.{header_in}
 use Rattle.hq_session.specs.declared.header.Header.{Header}
 use Rattle.hq_words.specs.declared.command.Command.{Command}
-use Rattle.hq_words.specs.declared.command.Command.TheVariants.{Query, Sql, Explain, Check, Serve, Gen, Show}
-use Rattle.hq_words.specs.Grammar.{request_faults, request_rows, query_faults, query_rows, check_faults, check_rows, serve_faults, serve_rows, gen_faults, gen_rows}
+use Rattle.hq_words.specs.declared.command.Command.TheVariants.{Query, Sql, Explain, Check, Serve, Live, Gen, Show}
+use Rattle.hq_words.specs.Grammar.{request_faults, request_rows, query_faults, query_rows, check_faults, check_rows, serve_faults, serve_rows, live_faults, live_rows, gen_faults, gen_rows}
 use Rattle.hq_words.specs.Pages.{page_named}
 
 -- the words are in the grammar
@@ -86,6 +86,19 @@ serve_in rows =
 abbrev pub serve_of : List Text → Option Command
 serve_of words = cond (are_taken (serve_faults words)) (serve_in (serve_rows words)) None
 
+-- a command that talks, of its parts
+abbrev pub live_with : (dir : Option Text) → (port connections : Option ℕ) → (secret unauthorized : Option (Option Text)) → Option Command
+live_with dir port connections secret unauthorized =
+    option_and_then (λ d. option_and_then (λ p. option_and_then (λ n. option_and_then (λ s. option_map (λ u. Live d p n s u) unauthorized) secret) connections) port) dir
+
+abbrev pub live_in : List Row → Option Command
+live_in rows =
+    live_with (dir_in rows) (number_in (codes "port") rows) (number_in (codes "connections") rows)
+    (filled (first_of (codes "admin-secret") rows)) (filled (first_of (codes "unauthorized-role") rows))
+
+abbrev pub live_of : List Text → Option Command
+live_of words = cond (are_taken (live_faults words)) (live_in (live_rows words)) None
+
 -- a command that generates so many authors, where they are few
 abbrev pub gen_with : ℕ → Option Command
 gen_with n = cond (are_few n) (Some (Gen n)) None
@@ -109,7 +122,8 @@ command_named name words =
     cond (bytes_eq name (codes "explain")) (option_map (λ r. Explain r.0 r.1) (request_of words)) (
     cond (bytes_eq name (codes "check")) (check_of words) (
     cond (bytes_eq name (codes "serve")) (serve_of words) (
-    cond (bytes_eq name (codes "gen")) (gen_of words) (page_of name words))))))
+    cond (bytes_eq name (codes "live")) (live_of words) (
+    cond (bytes_eq name (codes "gen")) (gen_of words) (page_of name words)))))))
 
 -- the command that words ask for
 abbrev pub command_of : List Text → Option Command

@@ -60,6 +60,10 @@ check_app = with_rule (bare_app (codes "check")) dir_rule
 abbrev pub serve_app : App
 serve_app = with_rule (with_rule (with_rule (with_rule (with_rule (with_rule (bare_app (codes "serve")) dir_rule) port_rule) connections_rule) secret_rule) unauthorized_rule) paged_rule
 
+-- live DIR --port P --connections N [--admin-secret S] [--unauthorized-role R]
+abbrev pub live_app : App
+live_app = with_rule (with_rule (with_rule (with_rule (with_rule (bare_app (codes "live")) dir_rule) port_rule) connections_rule) secret_rule) unauthorized_rule
+
 -- gen N
 abbrev pub gen_app : App
 gen_app = with_rule (bare_app (codes "gen")) authors_rule
@@ -88,6 +92,12 @@ serve_faults words = fault_of serve_app words
 
 unfoldable pub serve_rows : List Text → List Row
 serve_rows words = matches_of serve_app words
+
+unfoldable pub live_faults : List Text → Kinds
+live_faults words = fault_of live_app words
+
+unfoldable pub live_rows : List Text → List Row
+live_rows words = matches_of live_app words
 
 unfoldable pub gen_faults : List Text → Kinds
 gen_faults words = fault_of gen_app words

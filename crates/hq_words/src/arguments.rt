@@ -1,6 +1,6 @@
 ghost use Rattle.std.specs.Prelude.{◌≡◌, IfOk, false};
 ghost use Rattle.clap.specs.Words.{app_of, rule_of};
-ghost use Rattle.hq_words.specs.Grammar.{authors_rule, bare_app, check_app, connections_rule, dir_rule, gen_app, headers_rule, paged_rule, port_rule, query_app, request_app, secret_rule, serve_app, unauthorized_rule};
+ghost use Rattle.hq_words.specs.Grammar.{authors_rule, bare_app, check_app, connections_rule, dir_rule, gen_app, headers_rule, paged_rule, port_rule, live_app, query_app, request_app, secret_rule, serve_app, unauthorized_rule};
 
 use clap::{Arg, ArgAction, Command, value_parser};
 use std::alloc::{AllocError, Global};
@@ -125,6 +125,18 @@ pub fn serve_command<'a>(alloc: Global) -> Result<Command<'a>, AllocError>
         .arg(secret_arg(alloc))?
         .arg(unauthorized_arg(alloc))?
         .arg(paged_arg(alloc))
+}
+
+/// DIR --port P --connections N [--admin-secret S] [--unauthorized-role R]
+pub fn live_command<'a>(alloc: Global) -> Result<Command<'a>, AllocError>
+    ensures { IfOk result (λ c. app_of c ≡ live_app) }
+{
+    bare_command(alloc, "live")
+        .arg(dir_arg(alloc))?
+        .arg(port_arg(alloc))?
+        .arg(connections_arg(alloc))?
+        .arg(secret_arg(alloc))?
+        .arg(unauthorized_arg(alloc))
 }
 
 /// N

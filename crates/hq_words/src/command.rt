@@ -3,6 +3,7 @@ ghost use Rattle.clap.specs.Words.{found_of, rows_of};
 ghost use Rattle.hq_base.specs.Due.{Gives};
 ghost use Rattle.hq_words.specs.Asked.{HasFewAuthors, check_of, command_named, command_of, gen_in, gen_of, gen_with, page_of, query_in, query_of, request_in, request_of, serve_in, serve_of};
 
+use crate::living::live;
 use crate::parse::{check_matches, gen_matches, query_matches, request_matches, serve_matches};
 use crate::values::{
     authors_of, connections_of, filled, given_headers, is_paged, port_of, text_of,
@@ -44,6 +45,14 @@ pub enum Command {
         secret: Option<Txt>,
         unauthorized: Option<Txt>,
         paged: bool,
+    },
+    /// To talk of live queries over a directory at a port, with so many peers.
+    Live {
+        dir: Txt,
+        port: u16,
+        connections: u32,
+        secret: Option<Txt>,
+        unauthorized: Option<Txt>,
     },
     /// To answer requests over a generated database of so many authors, from 1 to 100,000.
     Gen {
@@ -202,6 +211,7 @@ fn command_named(alloc: Global, name: &str, words: &[Txt]) -> Result<Command, Wo
         }
         "check" => check(alloc, words),
         "serve" => serve(alloc, words),
+        "live" => live(alloc, words),
         "gen" => generate(alloc, words),
         _ => page(name, words),
     }

@@ -17,6 +17,7 @@ hq sql DIR [HEADER]...      writes the text of SQL that query would ask
 hq explain DIR [HEADER]...  tells in words what is wrong with the request or the directory, and where, or what the request asks
 hq check DIR                reads the directory, and writes what it holds
 hq serve DIR --port P --connections N [--admin-secret S] [--unauthorized-role R] [--paged]    serves N connections of HTTP at 127.0.0.1
+hq live DIR --port P --connections N [--admin-secret S] [--unauthorized-role R]    talks of live queries over N WebSockets at 127.0.0.1
 hq gen N                    answers requests over a generated database of N authors
 hq help                     writes these lines
 hq --version                writes the version of the program, and of the kit with which it is proved

@@ -1,10 +1,12 @@
 ghost use Rattle.std.specs.Prelude.{◌≡◌, true};
 ghost use Rattle.clap.specs.Words.{app_of, fault_of, is_simple_and_free, matches_of};
-ghost use Rattle.hq_words.specs.Grammar.{check_faults, check_rows, gen_faults, gen_rows, query_faults, query_rows, request_faults, request_rows, serve_faults, serve_rows};
+ghost use Rattle.hq_words.specs.Grammar.{check_faults, check_rows, gen_faults, gen_rows, live_faults, live_rows, query_faults, query_rows, request_faults, request_rows, serve_faults, serve_rows};
 ghost use Rattle.hq_words.specs.Parsing.{Parses};
 
 use crate::WordsRefusal;
-use crate::arguments::{check_command, gen_command, query_command, request_command, serve_command};
+use crate::arguments::{
+    check_command, gen_command, live_command, query_command, request_command, serve_command,
+};
 use clap::error::ErrorKind;
 use clap::{ArgMatches, Command};
 use hq_base::Txt;
@@ -59,6 +61,16 @@ pub fn serve_matches<'a>(alloc: Global, words: &'a [Txt]) -> Result<ArgMatches<'
     ensures { Parses (serve_faults words.entry.now) (serve_rows words.entry.now) result }
 {
     let Ok(command) = serve_command(alloc) else {
+        return Err(WordsRefusal::Memory);
+    };
+    parse(command, words)
+}
+
+/// What the words behind `live` say.
+pub fn live_matches<'a>(alloc: Global, words: &'a [Txt]) -> Result<ArgMatches<'a>, WordsRefusal>
+    ensures { Parses (live_faults words.entry.now) (live_rows words.entry.now) result }
+{
+    let Ok(command) = live_command(alloc) else {
         return Err(WordsRefusal::Memory);
     };
     parse(command, words)
