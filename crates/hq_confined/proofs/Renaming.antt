@@ -173,7 +173,6 @@ module _ (s : Schema) where
         let inner : is_alike within P Q ≡ true = own_alike b within u n m (n + 1 + 0 + 0) (m + 1 + 0 + 0) far (omega arith) (omega arith) (omega arith) (omega arith) in
         let kept = where_alike within _ _ (member_alike within (link s t (rel s t k) p n) (link s t (rel s t k) q m) (with_member tree.always (with_member P [])) (with_member tree.always (with_member Q [])) linked (member_alike within P Q [] [] inner tt)) in
         rw (same_text (table s u).schema, same_text (table s u).name, same_text unit_name) kept
-
     own_alike (exists_in u b) r t p q n m h lt lu bn bm =
         let within : Renaming = (table_alias n, table_alias m) ∷ r in
         let far = inner_stands r n m in

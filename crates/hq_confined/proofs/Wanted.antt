@@ -104,7 +104,6 @@ module _ (s : Schema) (g : Grants) where
         (joins_clean s g within (n + 1) from (masks s R far cs n) _ j) (joins_shapes s g within (n + 1) from (masks s R far cs n) _ j) refl refl
         (ap (λ l. stand_among l (filter_conjuncts s g far) (table_alias n)) is ∙ stand) refl
         (subst (λ l. where_faults s g final (is_exempt s g final l (from_of far n)) (where_of (with_member L (with_member A (with_member B [])))) ≡ []) (sym is) kept) refl
-
     wanted_clean (exists_in u b) look t p n scope f own lt k v bound = absurd f
     wanted_clean (two_columns l op r) look t p n scope f own lt k u bound = absurd f
 

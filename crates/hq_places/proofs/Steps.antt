@@ -45,7 +45,7 @@ pub entries_next : (size number : ℕ) (is_list : Bool) (path rest later : List 
 entries_next size number is_list path rest later found next all e h led here comma is =
     ap (entries (size - (number + 1)) is_list path (number + 1) later) is
     ∙ (sym (ap (entry_led (size - (number + 1)) is_list path number found) here
-        ∙ ap (λ c. option_map_or (λ l. entries (size - (number + 1)) is_list path (number + 1) l (taken found e)) c (taken found e)) comma)
+    ∙ ap (λ c. option_map_or (λ l. entries (size - (number + 1)) is_list path (number + 1) l (taken found e)) c (taken found e)) comma)
     ∙ (sym (ap (λ n. entries n is_list path number rest found) (one_less size number h)) ∙ led))
 
 -- the next step on the way

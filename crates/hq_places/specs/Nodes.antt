@@ -107,8 +107,8 @@ abbrev pub entries : ℕ → (is_list : Bool) (path : List ℕ) (number : ℕ) �
 entries zero is_list path number text found = found
 entries (suc most) is_list path number text found =
     option_map_or
-        (λ e. option_map_or (λ later. entries most is_list path (number + 1) later (taken found e)) (behind_comma e.0) (taken found e))
-        (entry_at is_list path number (unblanked text)) found
+    (λ e. option_map_or (λ later. entries most is_list path (number + 1) later (taken found e)) (behind_comma e.0) (taken found e))
+    (entry_at is_list path number (unblanked text)) found
 
 -- what a path leads to in the value that a text begins with
 abbrev pub child : (text path : List ℕ) → Option Node
