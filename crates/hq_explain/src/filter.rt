@@ -2,7 +2,9 @@
 
 use hq_base::Val;
 use hq_places::Words;
-use hq_terms::{Arity, Bexp, BexpList, Catalog, ColId, Meta, Op, Operand, RelId, TableId, Test};
+use hq_terms::{
+    Arity, Bexp, BexpList, Catalog, ColId, Meta, Op, Operand, Operands, RelId, TableId, Test,
+};
 
 /// What a filter is over: a table of a catalog, with its relationships.
 #[derive(Clone, Copy)]
@@ -10,6 +12,17 @@ pub struct Scope<'a> {
     pub catalog: &'a Catalog,
     pub meta: &'a Meta,
     pub table: TableId,
+}
+
+impl<'a> Scope<'a> {
+    // The same catalog, at another table of it.
+    fn of(&self, table: TableId) -> Scope<'a> {
+        Scope {
+            catalog: self.catalog,
+            meta: self.meta,
+            table,
+        }
+    }
 }
 
 fn put_value(words: &mut Words, value: &Val) {
@@ -29,10 +42,23 @@ fn put_operand(words: &mut Words, operand: &Operand) {
     }
 }
 
-fn put_operands(words: &mut Words, operands: &[Operand]) {
+fn put_list(words: &mut Words, operands: &[Operand]) {
     for (at, operand) in operands.iter().enumerate() {
         words.put(if at == 0 { "" } else { ", " });
         put_operand(words, operand);
+    }
+}
+
+// The operands of a test, in brackets where it takes a list of them. A list that a session variable gives goes by the variable's name.
+fn put_operands(words: &mut Words, test: Test, operands: &Operands) {
+    match operands {
+        Operands::Session(name) => words.put_bytes(name.as_bytes()),
+        Operands::List(operands) if test.arity() == Arity::Many => {
+            words.put("(");
+            put_list(words, operands.as_slice());
+            words.put(")");
+        }
+        Operands::List(operands) => put_list(words, operands.as_slice()),
     }
 }
 
@@ -70,19 +96,34 @@ fn put_column(words: &mut Words, scope: &Scope<'_>, col: ColId) {
     }
 }
 
-fn put_test(words: &mut Words, test: Test, negated: bool, operands: &[Operand]) {
+// A column, what is said of it, and what it is tested against.
+fn put_test(
+    words: &mut Words,
+    scope: &Scope<'_>,
+    col: ColId,
+    test: Test,
+    operands: &Operands,
+    negated: bool,
+) {
+    put_column(words, scope, col);
     words.put(test_word(test, negated));
-    if test.arity() == Arity::Many {
-        words.put("(");
-        put_operands(words, operands);
-        words.put(")");
-    } else {
-        put_operands(words, operands);
-    }
+    put_operands(words, test, operands);
 }
 
+// How a column stands to another one of the same row.
+fn put_compared(words: &mut Words, scope: &Scope<'_>, left: ColId, op: Op, right: ColId) {
+    put_column(words, scope, left);
+    words.put(sign(op));
+    put_column(words, scope, right);
+}
+
+// Expressions in brackets with a word between them, or what they come to where there are none.
 #[cycle(bexp)]
-fn put_members(words: &mut Words, scope: &Scope<'_>, word: &str, bexps: &BexpList) {
+fn put_members(words: &mut Words, scope: &Scope<'_>, word: &str, none: &str, bexps: &BexpList) {
+    if bexps.is_empty() {
+        words.put(none);
+        return;
+    }
     words.put("(");
     for (at, bexp) in bexps.iter().enumerate() {
         words.put(if at == 0 { "" } else { word });
@@ -91,25 +132,53 @@ fn put_members(words: &mut Words, scope: &Scope<'_>, word: &str, bexps: &BexpLis
     words.put(")");
 }
 
-// The rows behind a relationship, and what it is named.
-fn behind<'a>(scope: &Scope<'a>, rel: RelId, words: &mut Words) -> Option<Scope<'a>> {
+// The table behind a relationship; adds the relationship's name.
+fn behind<'a>(words: &mut Words, scope: &Scope<'a>, rel: RelId) -> Option<Scope<'a>> {
     let tracked = scope.meta.tracked_table(scope.table)?;
     let found = tracked.rel(rel)?;
     words.put_bytes(found.name.as_bytes());
-    Some(Scope {
-        catalog: scope.catalog,
-        meta: scope.meta,
-        table: found.remote,
-    })
+    Some(scope.of(found.remote))
+}
+
+// What a row that is sought is to meet; nothing where any row is.
+#[cycle(bexp)]
+fn put_with(words: &mut Words, scope: &Scope<'_>, inner: &Bexp) {
+    match inner {
+        Bexp::True => {}
+        Bexp::And(_) | Bexp::Or(_) => {
+            words.put(" with ");
+            put_filter(words, scope, inner);
+        }
+        _ => {
+            words.put(" with (");
+            put_filter(words, scope, inner);
+            words.put(")");
+        }
+    }
 }
 
 #[cycle(bexp)]
 fn put_through(words: &mut Words, scope: &Scope<'_>, rel: RelId, inner: &Bexp) {
     words.put("some ");
-    if let Some(remote) = behind(scope, rel, words) {
-        words.put(" with ");
-        put_filter(words, &remote, inner);
+    if let Some(remote) = behind(words, scope, rel) {
+        put_with(words, &remote, inner);
     }
+}
+
+// Adds a table's name in the database.
+fn put_table(words: &mut Words, scope: &Scope<'_>) {
+    if let Some(table) = scope.catalog.table(scope.table) {
+        words.put_bytes(table.schema.as_bytes());
+        words.put(".");
+        words.put_bytes(table.name.as_bytes());
+    }
+}
+
+#[cycle(bexp)]
+fn put_exists(words: &mut Words, scope: &Scope<'_>, inner: &Bexp) {
+    words.put("some row of ");
+    put_table(words, scope);
+    put_with(words, scope, inner);
 }
 
 /// Adds a filter.
@@ -117,8 +186,8 @@ fn put_through(words: &mut Words, scope: &Scope<'_>, rel: RelId, inner: &Bexp) {
 pub fn put_filter(words: &mut Words, scope: &Scope<'_>, bexp: &Bexp) {
     match bexp {
         Bexp::True => words.put("true"),
-        Bexp::And(bexps) => put_members(words, scope, " and ", bexps),
-        Bexp::Or(bexps) => put_members(words, scope, " or ", bexps),
+        Bexp::And(bexps) => put_members(words, scope, " and ", "true", bexps),
+        Bexp::Or(bexps) => put_members(words, scope, " or ", "false", bexps),
         Bexp::Not(inner) => {
             words.put("not ");
             put_filter(words, scope, inner);
@@ -128,10 +197,9 @@ pub fn put_filter(words: &mut Words, scope: &Scope<'_>, bexp: &Bexp) {
             test,
             operands,
             negated,
-        } => {
-            put_column(words, scope, *col);
-            put_test(words, *test, *negated, operands.as_slice());
-        }
+        } => put_test(words, scope, *col, *test, operands, *negated),
         Bexp::Through { rel, inner } => put_through(words, scope, *rel, inner),
+        Bexp::Exists { table, inner } => put_exists(words, &scope.of(*table), inner),
+        Bexp::Columns { left, op, right } => put_compared(words, scope, *left, *op, *right),
     }
 }

@@ -50,6 +50,10 @@ fn put_want(words: &mut Words, want: Option<Want>) {
         Some(Want::Bigint) => "a bigint",
         Some(Want::Boolean) => "a boolean: true or false",
         Some(Want::Pattern) => "a pattern: it ends in a single \\",
+        Some(Want::IntegerList) => "a list of integers, as {1,2}",
+        Some(Want::BigintList) => "a list of bigints, as {1,2}",
+        Some(Want::TextList) => "a list of texts, as {a,b}",
+        Some(Want::BooleanList) => "a list of booleans, as {true,false}",
     });
 }
 
