@@ -1,5 +1,5 @@
 -- Talks that are held one after the other, and one more.
-use Rattle.std.proofs.Common.{◌≡◌, ◌+◌, ◌++◌, ℕ, List, [], ◌∷◌, length, refl, sym, ap, ◌∙◌, subst, arith}
+use Rattle.std.proofs.Common.{◌≡◌, ◌++◌, ℕ, suc, List, [], ◌∷◌, length, refl, sym, ap, ◌∙◌, subst, arith}
 use Rattle.std.specs.Prelude.{Option, Some}
 use Rattle.hq_outside.specs.Causes.{one_more}
 use Rattle.hq_outside.specs.Links.{with_present}
@@ -19,7 +19,7 @@ ends_more (y ∷ ys) x = ap (λ w. y.end ∷ w) (ends_more ys x)
 
 pub ends_length : {L : Type 0} (talks : List (Held L)) → length (ends_of talks) ≡ length talks
 ends_length [] = refl
-ends_length (y ∷ ys) = ap (λ n. n + 1) (ends_length ys)
+ends_length (y ∷ ys) = ap suc (ends_length ys)
 
 -- the next peer of a hall
 accepts_more : {L : Type 0} (left : L → Option (List Message)) (a a1 a2 : ℕ) (l l1 l2 : Option (List L)) (talks : List (Held L)) (x : Held L)

@@ -43,7 +43,7 @@ talks-preserved g c =
           (standing (due last.asker) (next last.asker) (faults last.asker) last.subscriptions.items)
           (g.H.Hall.accepted c.args.hall.now) (g.H.Hall.accepted c.talks.hall) (g.H.Hall.accepted c.talk_next.new.hall) (g.H.Hall.talks c.args.hall.now) (g.H.Hall.talks c.talks.hall) (g.H.Hall.talks c.talk_next.new.hall)
           (g.K.Sink.written c.args.out.now) (g.K.Sink.written c.talks.out) (g.K.Sink.written c.write_line.new.out) c.in-Ok.end
-          c.talks.invariant.held c.in-Ok.ensures.holds c.in-Ok-2.ensures.ok;
+          c.talks.invariant.held c.in-Ok.ensures.holds c.in-Ok-write_line.ensures.ok;
       none = search rules;
       closed = λ none. c.in-Ok.ensures.closed;
       hall = search rules;
