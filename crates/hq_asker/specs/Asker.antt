@@ -46,6 +46,16 @@ IsRefused (Err (loading.File file fault)) = ⊤
 IsRefused (Err loading.Failed) = ⊥
 IsRefused (Err loading.Memory) = ⊥
 
+-- these are the rows of a folder's table files, where that is told
+abbrev pub IsRead : List Table → Option (List File) → (dir : List ℕ) → Option (List (List Row)) → Type 0
+IsRead tables folder dir told = (rows : List (List Row)) × (told ≡ Some rows) × IfSome folder (λ files. each_due (rows_in files dir) tables ≡ Ok rows)
+
+-- they are not read: a file is refused, over told files only where it is to be
+abbrev pub IsUnread : List Table → Option (List File) → (dir : List ℕ) → LoadingRefusal → Type 0
+IsUnread tables folder dir (loading.File file fault) = IfSome folder (λ files. IsRefused (each_due (rows_in files dir) tables))
+IsUnread tables folder dir loading.Failed = ⊤
+IsUnread tables folder dir loading.Memory = ⊤
+
 -- Why a reload fails, by the counts of the files and of refused readings: the files failed, or a file of a table was refused, and that is
 -- so over told files. It never tells that there is nothing to take.
 abbrev pub FailsFor : List Table → Option (List File) → (dir : List ℕ) → (read read' refused refused' : ℕ) → Reloaded → Type 0

@@ -1,8 +1,9 @@
-ghost use Rattle.std.specs.Prelude.{◌≡◌, ◌≤◌, true, length, IfOk, Some};
+ghost use Rattle.std.specs.Prelude.{◌≡◌, ◌≤◌, true, length, IfOk, IfErr, IsErrOf, Some};
+ghost use Rattle.hq_outside.specs.Causes.{Rose};
 ghost use Rattle.hq_terms.specs.Database.{is_database};
 ghost use Rattle.hq_terms.specs.Meta.{meta_view};
 ghost use Rattle.hq_live.specs.Asking.{GaveReply, KeepsFiles, Reloads};
-ghost use Rattle.hq_asker.specs.Asker.{due_of, next_of, sum, NeverFails, FailsFor};
+ghost use Rattle.hq_asker.specs.Asker.{due_of, next_of, sum, NeverFails, FailsFor, IsRead, IsUnread};
 
 use hq_base::{Memory, Txt};
 use hq_db::SqlDb;
@@ -34,6 +35,24 @@ fn database(alloc: Global, catalog: &Catalog, rows: RowsList) -> Result<SqlDb<Me
     ensures rows { IfOk result (λ db. ⟦<SqlDb<MemTables> as Database>⟧.database db ≡ Some rows) }
 {
     Ok(SqlDb::new(MemTables::new(catalog.copy(alloc)?, rows)))
+}
+
+// A database of the rows of the table files.
+fn read<F: Files>(
+    alloc: Global,
+    engine: &Engine,
+    files: &mut F,
+    dir: &Txt,
+) -> Result<SqlDb<MemTables>, LoadingRefusal>
+    ensures tables { IfOk result (λ db. ⟦<SqlDb<MemTables> as Database>⟧.tables db ≡ engine.now.catalog.tables) }
+    ensures rows { IfOk result (λ db. IsRead engine.now.catalog.tables (F.folder files.old) dir.now (⟦<SqlDb<MemTables> as Database>⟧.database db)) }
+    ensures refused { IfErr result (IsUnread engine.now.catalog.tables (F.folder files.old) dir.now) }
+    ensures failed { IsErrOf result LoadingRefusal.Failed → Rose (F.faults files.old) (F.faults files.new) }
+    ensures folder { F.folder files.new ≡ F.folder files.old }
+    ensures later { F.faults files.old ≤ F.faults files.new }
+{
+    let rows = load_tables(alloc, files, dir, engine.catalog.tables.as_slice())?;
+    Ok(database(alloc, &engine.catalog, rows)?)
 }
 
 impl<F: Files> EngineAsker<F> {
@@ -82,15 +101,11 @@ impl<F: Files> Asker for EngineAsker<F> {
         ensures failed { FailsFor self.old.engine.catalog.tables (F.folder self.old.files) self.old.dir (F.faults self.old.files) (F.faults self.new.files) self.old.refused self.new.refused result }
     {
         let before = self.failures();
-        let tables = self.engine.catalog.tables.as_slice();
-        match load_tables(alloc, &mut self.files, &self.dir, tables) {
-            Ok(rows) => match database(alloc, &self.engine.catalog, rows) {
-                Ok(db) => {
-                    self.db = db;
-                    Reloaded::New
-                }
-                Err(Memory) => Reloaded::Memory,
-            },
+        match read(alloc, &self.engine, &mut self.files, &self.dir) {
+            Ok(db) => {
+                self.db = db;
+                Reloaded::New
+            }
             Err(LoadingRefusal::Memory) => Reloaded::Memory,
             Err(LoadingRefusal::Failed) => Reloaded::Failed {
                 before,
