@@ -8,7 +8,7 @@ use Rattle.std.proofs.lemmas.Bool.{and_parts}
 use Rattle.hq_base.specs.Lists.{Zip}
 use Rattle.hq_base.specs.declared.value.Val.{Val}
 use Rattle.hq_base.specs.declared.value.Val.TheVariants as val
-use Rattle.hq_terms.specs.Bexp.{BexpTree, always, and_of, or_of, not_of, test, through, BexpTrees, no_bexp, bexp}
+use Rattle.hq_terms.specs.Bexp.{BexpTree, always, and_of, or_of, not_of, test, through, exists_in, two_columns, BexpTrees, no_bexp, bexp, operands_of}
 use Rattle.hq_terms.specs.Schema.{Schema, table, rel}
 use Rattle.hq_terms.specs.Tests.{arity, is_of_nothing}
 use Rattle.hq_terms.specs.declared.bexp.Operand.{Operand}
@@ -161,7 +161,7 @@ module _ (s : Schema) where
     own_alike (or_of bs) r t p q n m h lt lu bn bm = or_alike r (predicates bs s (filter_mode s) (own_look (table s t).columns p) t p n) (predicates bs s (filter_mode s) (own_look (table s t).columns q) t q m) (owns_alike bs r t p q n m h lt lu bn bm)
     own_alike (not_of b) r t p q n m h lt lu bn bm = own_alike b r t p q n m h lt lu bn bm
     own_alike (test c tested vs negated) r t p q n m h lt lu bn bm =
-        test_alike r (tested_at (table s t).columns (own_look (table s t).columns p c) c tested) (tested_at (table s t).columns (own_look (table s t).columns q c) c tested) tested vs negated (column_alike r (table_alias p) (table_alias q) (own_look (table s t).columns p c).name (compares tested && is_text_column (table s t).columns c) h)
+        test_alike r (tested_at (table s t).columns (own_look (table s t).columns p c) c tested) (tested_at (table s t).columns (own_look (table s t).columns q c) c tested) tested (operands_of vs) negated (column_alike r (table_alias p) (table_alias q) (own_look (table s t).columns p c).name (compares tested && is_text_column (table s t).columns c) h)
     own_alike (through k b) r t p q n m h lt lu bn bm =
         let u : ℕ = (rel s t k).remote in
         let within : Renaming = (table_alias n, table_alias m) ∷ r in
@@ -173,6 +173,19 @@ module _ (s : Schema) where
         let inner : is_alike within P Q ≡ true = own_alike b within u n m (n + 1 + 0 + 0) (m + 1 + 0 + 0) far (omega arith) (omega arith) (omega arith) (omega arith) in
         let kept = where_alike within _ _ (member_alike within (link s t (rel s t k) p n) (link s t (rel s t k) q m) (with_member tree.always (with_member P [])) (with_member tree.always (with_member Q [])) linked (member_alike within P Q [] [] inner tt)) in
         rw (same_text (table s u).schema, same_text (table s u).name, same_text unit_name) kept
+    own_alike (exists_in u b) r t p q n m h lt lu bn bm =
+        let within : Renaming = (table_alias n, table_alias m) ∷ r in
+        let far = inner_stands r n m in
+        let P : PredTree = predicate b s (filter_mode s) (own_look (table s u).columns n) u n (n + 1 + 0 + 0) in
+        let Q : PredTree = predicate b s (filter_mode s) (own_look (table s u).columns m) u m (m + 1 + 0 + 0) in
+        let inner : is_alike within P Q ≡ true = own_alike b within u n m (n + 1 + 0 + 0) (m + 1 + 0 + 0) far (omega arith) (omega arith) (omega arith) (omega arith) in
+        let kept = where_alike within (with_member P []) (with_member Q []) (member_alike within P Q [] [] inner tt) in
+        rw (same_text (table s u).schema, same_text (table s u).name, same_text unit_name) kept
+    own_alike (two_columns a op b) r t p q n m h lt lu bn bm =
+        let columns : List Column = (table s t).columns in
+        let left = column_alike r (table_alias p) (table_alias q) (name_of columns a) (is_text_column columns a) h in
+        let right = column_alike r (table_alias p) (table_alias q) (name_of columns b) (is_text_column columns b) h in
+        rw (left, op_same op, right) refl
 
     owns_alike : (bs : BexpTrees) (r : Renaming) (t p q n m : ℕ) → stands_for r (table_alias p) (table_alias q) ≡ true → p < n → q < m → n + numbers_all bs s (filter_mode s) t ≤ 2 ^ 64 → m + numbers_all bs s (filter_mode s) t ≤ 2 ^ 64
         → Zip (Alike r) (predicates bs s (filter_mode s) (own_look (table s t).columns p) t p n) (predicates bs s (filter_mode s) (own_look (table s t).columns q) t q m)

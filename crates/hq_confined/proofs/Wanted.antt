@@ -2,7 +2,7 @@
 use Rattle.std.proofs.Common.{◌≡◌, ℕ, suc, ◌+◌, ◌<◌, ◌≤◌, ◌^◌, List, [], ◌∷◌, ◌++◌, length, Bool, true, false, cond, not, ◌&&◌, ◌||◌, ◌==◌, Option, Some, None, bytes_eq, is_none, refl, sym, ap, ◌∙◌, subst, arith, eq-eqb}
 use Rattle.std.specs.List.{list_any}
 use Rattle.hq_base.specs.Lists.{Each}
-use Rattle.hq_terms.specs.Bexp.{BexpTree, always, and_of, or_of, not_of, test, through, BexpTrees, no_bexp, bexp}
+use Rattle.hq_terms.specs.Bexp.{BexpTree, always, and_of, or_of, not_of, test, through, exists_in, two_columns, BexpTrees, no_bexp, bexp, operands_of}
 use Rattle.hq_terms.specs.Grants.{Grants, grant}
 use Rattle.hq_terms.specs.Schema.{Schema, table, rel}
 use Rattle.hq_terms.specs.Tests.{is_of_nothing}
@@ -74,7 +74,7 @@ module _ (s : Schema) (g : Grants) where
     wanted_clean (or_of bs) look t p n scope f own lt k u bound = or_clean s g scope (predicates bs s (where_mode s (rights_of g)) look t p n) (wanteds_clean bs look t p n scope f own lt k u bound)
     wanted_clean (not_of b) look t p n scope f own lt k u bound = wanted_clean b look t p n scope f own lt k u bound
     wanted_clean (test c tested vs negated) look t p n scope f own lt k u bound =
-        test_clean s g scope (tested_at (table s t).columns (look c) c tested) tested vs negated (λ some. column_clean s g scope (look c).alias (look c).name (compares tested && is_text_column (table s t).columns c) (k c (used_else c (is_of_nothing tested vs) some)))
+        test_clean s g scope (tested_at (table s t).columns (look c) c tested) tested (operands_of vs) negated (λ some. column_clean s g scope (look c).alias (look c).name (compares tested && is_text_column (table s t).columns c) (k c (used_else c (is_of_nothing tested (operands_of vs)) some)))
     wanted_clean (through r b) look t p n scope f own lt k u bound =
         let R : Rights = rights_of g in
         let far : ℕ = (rel s t r).remote in
@@ -104,6 +104,8 @@ module _ (s : Schema) (g : Grants) where
         (joins_clean s g within (n + 1) from (masks s R far cs n) _ j) (joins_shapes s g within (n + 1) from (masks s R far cs n) _ j) refl refl
         (ap (λ l. stand_among l (filter_conjuncts s g far) (table_alias n)) is ∙ stand) refl
         (subst (λ l. where_faults s g final (is_exempt s g final l (from_of far n)) (where_of (with_member L (with_member A (with_member B [])))) ≡ []) (sym is) kept) refl
+    wanted_clean (exists_in u b) look t p n scope f own lt k v bound = absurd f
+    wanted_clean (two_columns l op r) look t p n scope f own lt k u bound = absurd f
 
     wanteds_clean : (bs : BexpTrees) (look : Look) (t p n : ℕ) (scope : Shapes) → AllAllowed bs s g t → Scans scope p t → p < n → Shows s g scope look (columns_in_all bs) → LooksUnder n look → n + numbers_all bs s (where_mode s (rights_of g)) t ≤ 2 ^ 64
         → Each (IsClean s g scope) (predicates bs s (where_mode s (rights_of g)) look t p n)

@@ -10,6 +10,7 @@ use Rattle.hq_terms.specs.Grants.{Grants}
 use Rattle.hq_terms.specs.Permission.{Permission}
 use Rattle.hq_terms.specs.Schema.{Schema}
 use Rattle.hq_terms.specs.Selected.{ListArguments, SortKey}
+use Rattle.hq_terms.specs.declared.bexp.Operands.TheVariants as operands
 use Rattle.hq_terms.specs.declared.bexp.Operand.TheVariants.{Const}
 use Rattle.hq_terms.specs.declared.op.Op.TheVariants.{Eq}
 use Rattle.hq_terms.specs.declared.test.Test.TheVariants.{Compare}
@@ -46,10 +47,10 @@ schema =
     ∷ []
 
 abbrev is_published : BexpTree
-is_published = test 3 (Compare Eq) (Const (val.Bool true) ∷ []) false
+is_published = test 3 (Compare Eq) (operands.List (Const (val.Bool true) ∷ [])) false
 
 abbrev is_own : BexpTree
-is_own = test 1 (Compare Eq) (Const (val.Int (pos 1)) ∷ []) false
+is_own = test 1 (Compare Eq) (operands.List (Const (val.Int (pos 1)) ∷ [])) false
 
 -- a user sees all authors, and the articles that are published or his own, without part of their key
 abbrev author : Permission
@@ -64,8 +65,8 @@ user = Some author ∷ Some article ∷ []
 -- one whose filters reach further, and to whom part of the key and the rating show of some articles alone
 abbrev guest : Grants
 guest =
-    Some (record author { filter = through 0 is_published; masks = record { column = 1; shown = test 0 (Compare Eq) (Const (val.Int (pos 1)) ∷ []) false } ∷ [] })
-    ∷ Some (record article { filter = and_of (bexp is_published (bexp (through 0 (test 1 (Compare Eq) (Const (val.Text (codes "Ann")) ∷ []) false)) no_bexp)); masks = record { column = 2; shown = and_of (bexp is_own (bexp is_published no_bexp)) } ∷ record { column = 4; shown = through 0 always } ∷ [] })
+    Some (record author { filter = through 0 is_published; masks = record { column = 1; shown = test 0 (Compare Eq) (operands.List (Const (val.Int (pos 1)) ∷ [])) false } ∷ [] })
+    ∷ Some (record article { filter = and_of (bexp is_published (bexp (through 0 (test 1 (Compare Eq) (operands.List (Const (val.Text (codes "Ann")) ∷ [])) false)) no_bexp)); masks = record { column = 2; shown = and_of (bexp is_own (bexp is_published no_bexp)) } ∷ record { column = 4; shown = through 0 always } ∷ [] })
     ∷ []
 
 abbrev admin : Grants
@@ -86,7 +87,7 @@ of_titles = field (codes "title") (column 2) (field (codes "rating") (column 4) 
 -- {author(where:{articles:{rating:{_eq:5}}}){name articles(distinct_on:title,order_by:[{title:desc},{author:{name:desc}}],limit:2){title rating author{name}}}}
 abbrev nested : FieldTrees
 nested =
-    one (list (from_table 0) (record plain { wanted = through 0 (test 4 (Compare Eq) (Const (val.Int (pos 5)) ∷ []) false) })
+    one (list (from_table 0) (record plain { wanted = through 0 (test 4 (Compare Eq) (operands.List (Const (val.Int (pos 5)) ∷ [])) false) })
     (field (codes "name") (column 1)
     (field (codes "a")
     (list (along 0) (record plain { distinct = 2 ∷ []; sorts = by [] 2 ∷ by (0 ∷ []) 1 ∷ []; limit = Some 2 })
@@ -173,7 +174,7 @@ abbrev mask_of_name : ℕ → JoinTrees
 mask_of_name n = tree.join (tree.rows [] (record { value = at_a (codes "name"); name = codes "v" } ∷ []) (tree.one (codes "o")) tree.no_join (unlike n) [] None None) (codes "m") tree.no_join
 
 abbrev masked_authors : Grants
-masked_authors = Some (record author { masks = record { column = 1; shown = test 0 (Compare Eq) (Const (val.Int (pos 1)) ∷ []) false } ∷ [] }) ∷ []
+masked_authors = Some (record author { masks = record { column = 1; shown = test 0 (Compare Eq) (operands.List (Const (val.Int (pos 1)) ∷ [])) false } ∷ [] }) ∷ []
 
 mask_is_confined : faults schema masked_authors (authors (tree.column (codes "m") (codes "v") false) (mask_of_name 1) tree.no_filter by_id None) ≡ []
 unfolding table_alias fold_alias join_alias value_name key_name needed_name unit_name digits

@@ -2,7 +2,7 @@
 use Rattle.std.specs.Prelude.{◌≡◌, ℕ, ◌<◌, List, [], ◌∷◌, length, true, false, Some, None, is_some, slice_index_or, ◌==◌}
 use Rattle.std.specs.List.{list_any}
 use Rattle.hq_base.specs.Lists.{Each}
-use Rattle.hq_terms.specs.Bexp.{BexpTree, always, and_of, or_of, not_of, test, through, BexpTrees, no_bexp, bexp}
+use Rattle.hq_terms.specs.Bexp.{BexpTree, always, and_of, or_of, not_of, test, through, exists_in, two_columns, BexpTrees, no_bexp, bexp}
 use Rattle.hq_terms.specs.Grants.{Grants, grant}
 use Rattle.hq_terms.specs.Permission.{Mask}
 use Rattle.hq_terms.specs.Permitted.{mask_of}
@@ -49,6 +49,7 @@ pub record Leads (s : Schema) (g : Grants) (t r : ℕ) : Type 0 where
   pub within : r < length (table s t).rels
   pub ready : Ready s g (rel s t r).remote
 
+-- what a `where` asks is there and permitted; it asks for no table by itself, and compares no two columns
 abbrev mutual
   pub Allowed : BexpTree → Schema → Grants → (t : ℕ) → Type 0
   Allowed always s g t = Unit {0}
@@ -57,6 +58,8 @@ abbrev mutual
   Allowed (not_of b) s g t = Allowed b s g t
   Allowed (test c tested vs negated) s g t = Unit {0}
   Allowed (through r b) s g t = Leads s g t r × Permits s g (rel s t r).remote (columns_in b) × Allowed b s g (rel s t r).remote
+  Allowed (exists_in u b) s g t = ⊥
+  Allowed (two_columns l op r) s g t = ⊥
 
   pub AllAllowed : BexpTrees → Schema → Grants → (t : ℕ) → Type 0
   AllAllowed no_bexp s g t = Unit {0}

@@ -2,7 +2,9 @@
 
 use crate::known::put_columns;
 use hq_base::{Bytes, Memory, Ty};
-use hq_places::{Place, Words, field_at, open_quote, piece, place_of, put_excerpt, record_at};
+use hq_places::{
+    Piece, Words, field_at, field_count, open_quote, place_of, put_excerpt, record_at,
+};
 use hq_tables::LoadRefusal;
 use hq_terms::{Column, Table};
 use std::alloc::Global;
@@ -18,7 +20,7 @@ fn bare(field: &[u8]) -> &[u8] {
 // The name of the column at a field.
 fn column_name(text: &[u8], col: u64) -> &[u8] {
     match field_at(text, 1, col) {
-        Some((_, name)) => bare(name),
+        Some(field) => bare(field.text),
         None => &[],
     }
 }
@@ -31,18 +33,10 @@ fn column_named<'a>(table: &'a Table, name: &[u8]) -> Option<&'a Column> {
         .find(|column| column.name.as_bytes() == name)
 }
 
-// The place at which a record begins.
-fn record_place(text: &[u8], record: u64) -> Option<Place> {
-    match record_at(text, record) {
-        Some(found) => Some(place_of(text, found.start)),
-        None => None,
-    }
-}
-
-fn put_line(words: &mut Words, text: &[u8], record: u64) {
-    if let Some(place) = record_place(text, record) {
-        words.put_place(place);
-        words.put(": ");
+// Adds the line and column at which a record begins.
+fn put_start(words: &mut Words, text: &[u8], record: u64) {
+    if let Some(found) = record_at(text, record) {
+        words.put_place(place_of(text, found.start));
     }
 }
 
@@ -55,7 +49,7 @@ fn put_record(words: &mut Words, text: &[u8], record: u64) {
 fn of_header(words: &mut Words, text: &[u8], table: &Table) {
     words.put("1:1: the header is ");
     if let Some(found) = record_at(text, 1) {
-        words.put_quoted(piece(text, found.start, found.end));
+        words.put_quoted(found.text);
     } else {
         words.put("not there");
     }
@@ -64,21 +58,24 @@ fn of_header(words: &mut Words, text: &[u8], table: &Table) {
     words.put("\n");
 }
 
-fn of_width(words: &mut Words, text: &[u8], line: u64) {
-    put_line(words, text, line);
-    if let (Some(header), Some(found)) = (record_at(text, 1), record_at(text, line)) {
-        words.put("record ");
-        words.put_number(line);
-        words.put(" has ");
-        words.put_number(found.fields);
-        words.put(if found.fields == 1 {
-            " field"
-        } else {
-            " fields"
-        });
-        words.put(", and the header ");
-        words.put_number(header.fields);
+// How many fields a record has, none where there is no such record.
+fn fields_of(text: &[u8], record: u64) -> usize {
+    match record_at(text, record) {
+        Some(found) => field_count(found.text),
+        None => 0,
     }
+}
+
+fn of_width(words: &mut Words, text: &[u8], line: u64) {
+    put_start(words, text, line);
+    words.put(": record ");
+    words.put_number(line);
+    words.put(" has ");
+    let fields = fields_of(text, line);
+    words.put_count(fields);
+    words.put(if fields == 1 { " field" } else { " fields" });
+    words.put(", and the header ");
+    words.put_count(fields_of(text, 1));
     words.put("\n");
     put_record(words, text, line);
 }
@@ -97,11 +94,11 @@ fn put_want(words: &mut Words, column: Option<&Column>) {
 }
 
 fn of_field(words: &mut Words, text: &[u8], table: &Table, line: u64, col: u64, said: &str) {
-    let Some((at, value)) = field_at(text, line, col) else {
+    let Some(Piece { start, text: value }) = field_at(text, line, col) else {
         return;
     };
     let name = column_name(text, col);
-    words.put_place(place_of(text, at));
+    words.put_place(place_of(text, start));
     words.put(": ");
     words.put_quoted(value);
     words.put(said);
@@ -109,7 +106,7 @@ fn of_field(words: &mut Words, text: &[u8], table: &Table, line: u64, col: u64, 
     words.put_quoted(name);
     put_want(words, column_named(table, name));
     words.put("\n");
-    put_excerpt(words, text, at);
+    put_excerpt(words, text, start);
 }
 
 fn of_open_quote(words: &mut Words, text: &[u8], line: u64) {
@@ -124,11 +121,10 @@ fn of_open_quote(words: &mut Words, text: &[u8], line: u64) {
     }
 }
 
-// The field of a column in the header's order.
+// The field of a column in the header's order, counted from 1.
 fn field_of(text: &[u8], column: &Column) -> Option<u64> {
-    let header = record_at(text, 1)?;
-    for col in 0..header.fields {
-        let col = col.saturating_add(1);
+    for done in 0..fields_of(text, 1) {
+        let col = (done as u64).saturating_add(1);
         if column_name(text, col) == column.name.as_bytes() {
             return Some(col);
         }
@@ -142,25 +138,23 @@ fn put_key(words: &mut Words, text: &[u8], table: &Table, line: u64) {
         words.put(if at == 0 { "" } else { ", " });
         if let Some(column) = table.column(*col)
             && let Some(field) = field_of(text, column)
-            && let Some((_, value)) = field_at(text, line, field)
+            && let Some(value) = field_at(text, line, field)
         {
             words.put_bytes(column.name.as_bytes());
             words.put(" = ");
-            words.put_shown(value);
+            words.put_shown(value.text);
         }
     }
 }
 
 fn of_repeated(words: &mut Words, text: &[u8], table: &Table, line: u64, earlier: u64) {
-    put_line(words, text, line);
-    words.put("the key ");
+    put_start(words, text, line);
+    words.put(": the key ");
     put_key(words, text, table, line);
     words.put(" stands in record ");
     words.put_number(earlier);
     words.put(" already, at ");
-    if let Some(place) = record_place(text, earlier) {
-        words.put_place(place);
-    }
+    put_start(words, text, earlier);
     words.put("\n");
     put_record(words, text, line);
 }

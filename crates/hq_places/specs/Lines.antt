@@ -1,6 +1,6 @@
 -- Lines and columns of a text. A line ends at a line feed; a column is a character of UTF-8 (RFC 3629, section 3: the bytes from 128
 -- to 191 are those inside a character). Both are counted from 1.
-use Rattle.std.specs.Prelude.{ℕ, List, Bool, ◌+◌, ◌||◌, not, filter, length, nat_eq, nat_lt, nat_le, reverse, take, drop, take_while}
+use Rattle.std.specs.Prelude.{ℕ, List, Bool, ◌+◌, ◌-◌, ◌||◌, not, filter, length, nat_eq, nat_lt, nat_le, reverse, take, drop, take_while}
 
 -- whether a byte ends a line, and whether it is the first of a character
 abbrev pub is_line_end : ℕ → Bool
@@ -33,3 +33,10 @@ length_before front = length (behind_last_end front)
 
 abbrev pub length_behind : List ℕ → ℕ
 length_behind rest = length (take_while (λ b. not (is_line_end b)) rest)
+
+-- the line around a place, without its line end: what of it stands before the place, and what from there on
+abbrev pub line_before : List ℕ → (at : ℕ) → List ℕ
+line_before text at = let front = take at text in drop (length front - length_before front) front
+
+abbrev pub line_behind : List ℕ → (at : ℕ) → List ℕ
+line_behind text at = let rest = drop at text in take (length_behind rest) rest

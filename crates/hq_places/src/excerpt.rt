@@ -1,6 +1,10 @@
 //! The line of a text around a place, with a mark below the place.
+ghost use Rattle.std.specs.Prelude.{ℕ, ◌≡◌, ◌≤◌, ◌++◌, replicate};
+ghost use Rattle.hq_places.specs.Words.{Adds, shown};
+ghost use Rattle.hq_places.specs.Excerpts.{blank_dots, blank_margin, character_count, dots, excerpt, last_bytes, length_inside, line_told, margin, marks_told, shown_front};
 
-use crate::{Place, Words, line_around, place_of};
+use crate::place::begins_character;
+use crate::{Line, Words, line_around, place_of};
 use itoa::Buffer;
 
 // The most bytes of a line that are shown before the place, and from it on.
@@ -8,12 +12,89 @@ const BEFORE: usize = 70;
 
 const BEHIND: usize = 50;
 
-fn is_name(byte: u8) -> bool {
-    byte.is_ascii_alphanumeric() || byte == b'_'
+// What of the bytes before a place is shown, the first character perhaps not whole.
+fn last_bytes(before: &[u8]) -> &[u8]
+    ensures { result.now ≡ last_bytes before.now }
+{
+    &before[before.len().saturating_sub(BEFORE)..]
 }
 
-fn begins_character(byte: u8) -> bool {
-    byte < 128 || byte >= 192
+// How many of these bytes stand before the first character that begins in them.
+fn length_inside(bytes: &[u8]) -> usize
+    ensures { result ≡ length_inside bytes.now }
+{
+    bytes
+        .iter()
+        .take_while(|byte| !begins_character(**byte))
+        .count()
+}
+
+// What of the bytes before a place is shown.
+fn shown_front(before: &[u8]) -> &[u8]
+    ensures { result.now ≡ shown_front before.now }
+{
+    let last = last_bytes(before);
+    &last[length_inside(last)..]
+}
+
+// How many characters begin in these bytes.
+fn character_count(bytes: &[u8]) -> usize
+    ensures { result ≡ character_count bytes.now }
+{
+    bytes.iter().filter(|byte| begins_character(**byte)).count()
+}
+
+// What stands in the place of the bytes that are not shown.
+fn dots(before: &[u8]) -> &'static str
+    ensures { result.now ≡ dots before.now }
+{
+    if before.len() > BEFORE { ".." } else { "" }
+}
+
+fn blank_dots(before: &[u8]) -> &'static str
+    ensures { result.now ≡ blank_dots before.now }
+{
+    if before.len() > BEFORE { "  " } else { "" }
+}
+
+// Adds a byte so many times.
+fn put_repeated(words: &mut Words, byte: u8, count: usize)
+    ensures { Adds words.old words.new (replicate count byte) }
+{
+    'times: for done in 0..count {
+        words.put_byte(byte);
+    }
+}
+
+fn put_margin(words: &mut Words, line: u128)
+    ensures { Adds words.old words.new (margin line) }
+{
+    words.put("  ");
+    words.put(Buffer::new().format(line));
+    words.put(" | ");
+}
+
+fn put_blank_margin(words: &mut Words, line: u128)
+    ensures { Adds words.old words.new (blank_margin line) }
+{
+    let digits = Buffer::new().format(line).len();
+    words.put("  ");
+    put_repeated(words, b' ', digits);
+    words.put(" | ");
+}
+
+fn put_line(words: &mut Words, number: u128, line: &Line<'_>)
+    ensures { Adds words.old words.new (line_told number line.now.before.now line.now.behind.now) }
+{
+    put_margin(words, number);
+    words.put(dots(line.before));
+    words.put_cut(shown_front(line.before), BEFORE);
+    words.put_cut(line.behind, BEHIND);
+    words.put("\n");
+}
+
+fn is_name(byte: u8) -> bool {
+    byte.is_ascii_alphanumeric() || byte == b'_'
 }
 
 // How many bytes of these a name has.
@@ -22,90 +103,43 @@ fn name_length(rest: &[u8]) -> usize {
 }
 
 // How many bytes the token has that these begin with.
-fn mark_length(rest: &[u8]) -> usize {
+fn token_length(rest: &[u8]) -> usize {
     match rest {
-        [b'$' | b'@', name @ ..] => name_length(name).saturating_add(1),
+        [b'$' | b'@' | b'-', name @ ..] => name_length(name).saturating_add(1),
         [b'.', b'.', b'.', ..] => 3,
         [b'"', text @ ..] => text
             .iter()
             .take_while(|byte| **byte != b'"')
             .count()
             .saturating_add(2),
-        [b'-', name @ ..] => name_length(name).saturating_add(1),
-        _ => name_length(rest).max(1),
+        _ => name_length(rest),
     }
 }
 
-// Whether a byte of a front of this length is among the last that are shown.
-fn is_shown_before(at: usize, length: usize) -> bool {
-    length.saturating_sub(at) <= BEFORE
+// How many characters of the token that these begin with are shown, at least one.
+fn mark_count(rest: &[u8]) -> usize
+    ensures { 1 ≤ result }
+{
+    let length = token_length(rest).min(BEHIND).min(rest.len());
+    character_count(&rest[..length]).max(1)
 }
 
-// Shows what stands before the place, cut short; each character as a space where it is `blank`.
-fn put_before(words: &mut Words, before: &[u8], blank: bool) {
-    if before.len() > BEFORE {
-        words.put(if blank { "  " } else { ".." });
-    }
-    for (at, byte) in before.iter().enumerate() {
-        if is_shown_before(at, before.len()) {
-            put_character(words, *byte, blank);
-        }
-    }
+fn put_marks(words: &mut Words, number: u128, before: &[u8], marks: usize)
+    ensures { Adds words.old words.new (marks_told number before.now marks) }
+{
+    put_blank_margin(words, number);
+    words.put(blank_dots(before));
+    put_repeated(words, b' ', character_count(shown_front(before)));
+    put_repeated(words, b'^', marks);
+    words.put("\n");
 }
 
-// Shows a byte of a line, or a space for a character; tabs stay.
-fn put_character(words: &mut Words, byte: u8, blank: bool) {
-    if byte == b'\t' {
-        words.put("\t");
-    } else if !blank {
-        words.put_byte(if byte < 32 { b' ' } else { byte });
-    } else if begins_character(byte) {
-        words.put(" ");
-    }
-}
-
-fn put_behind(words: &mut Words, behind: &[u8]) {
-    for (at, byte) in behind.iter().enumerate() {
-        if at >= BEHIND && begins_character(*byte) {
-            words.put("..");
-            return;
-        }
-        put_character(words, *byte, false);
-    }
-}
-
-// As many marks as a token has characters, within the line.
-fn put_marks(words: &mut Words, behind: &[u8]) {
-    let length = mark_length(behind).min(BEHIND);
-    words.put("^");
-    for (at, byte) in behind.iter().enumerate() {
-        if at > 0 && at < length && begins_character(*byte) {
-            words.put("^");
-        }
-    }
-}
-
-// What stands before a line: its number, or a blank of the same length.
-fn put_margin(words: &mut Words, place: Place, blank: bool) {
-    let mut buffer = Buffer::new();
-    let digits = buffer.format(place.line);
-    words.put("  ");
-    for digit in digits.as_bytes() {
-        words.put_byte(if blank { b' ' } else { *digit });
-    }
-    words.put(" | ");
-}
-
-/// Adds the line around a place of a text, and a line with a mark below the place.
-pub fn put_excerpt(words: &mut Words, text: &[u8], at: usize) {
+/// Adds the line around a place of a text, and below it a mark for each character of the token at the place.
+pub fn put_excerpt(words: &mut Words, text: &[u8], at: usize)
+    ensures { (marks : ℕ) × (1 ≤ marks) × Adds words.old words.new (excerpt text.now at marks) }
+{
     let place = place_of(text, at);
     let line = line_around(text, at);
-    put_margin(words, place, false);
-    put_before(words, line.before, false);
-    put_behind(words, line.behind);
-    words.put("\n");
-    put_margin(words, place, true);
-    put_before(words, line.before, true);
-    put_marks(words, line.behind);
-    words.put("\n");
+    put_line(words, place.line, &line);
+    put_marks(words, place.line, line.before, mark_count(line.behind));
 }

@@ -2,7 +2,6 @@
 //! that tell of them.
 #![tactic(auto)]
 
-mod csv;
 mod excerpt;
 mod json;
 mod line;
@@ -10,14 +9,16 @@ mod not_json;
 mod number;
 mod part;
 mod place;
+mod quoted;
+mod records;
+mod stand;
 mod words;
 
-pub use csv::{Record, field_at, open_quote, record_at};
 pub use excerpt::put_excerpt;
 pub use json::{Found, find, value_at};
 pub use line::{Line, line_around};
 pub use not_json::put_not_json;
-pub use number::{Odd, first_odd, syntax_error};
 pub use part::piece;
 pub use place::{Place, place_of};
+pub use records::{Piece, field_at, field_count, open_quote, record_at};
 pub use words::Words;

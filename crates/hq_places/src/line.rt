@@ -1,6 +1,6 @@
 //! The line around a place.
-ghost use Rattle.std.specs.Prelude.{◌≡◌, ◌-◌, take, drop, length};
-ghost use Rattle.hq_places.specs.Lines.{length_before, length_behind};
+ghost use Rattle.std.specs.Prelude.{◌≡◌};
+ghost use Rattle.hq_places.specs.Lines.{length_before, length_behind, line_before, line_behind};
 
 use crate::place::{before, is_line_end};
 
@@ -31,8 +31,8 @@ fn length_behind(rest: &[u8]) -> usize
 
 /// The line around the byte at `at`, or around the end of the text.
 pub fn line_around(text: &[u8], at: usize) -> Line<'_>
-    ensures before { let front = take at text.now in result.before.now ≡ drop (length front - length_before front) front }
-    ensures behind { let rest = drop at text.now in result.behind.now ≡ take (length_behind rest) rest }
+    ensures before { result.before.now ≡ line_before text.now at }
+    ensures behind { result.behind.now ≡ line_behind text.now at }
 {
     let front = before(text, at);
     let rest = &text[front.len()..];

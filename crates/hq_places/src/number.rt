@@ -1,5 +1,8 @@
 //! What keeps a text from being a JSON value of whole numbers and of texts without a zero byte.
+ghost use Rattle.std.specs.Prelude.{IfOk, IsNone, IsSome, IsUtf8};
+ghost use Rattle.serde_json.specs.Read.{read};
 
+use hq_base::Memory;
 use serde_json::Value;
 use std::alloc::Global;
 
@@ -131,11 +134,14 @@ fn index_of(text: &[u8], line: usize, column: usize) -> usize {
         .min(text.len())
 }
 
-/// The place from which on a text is no JSON, as `serde_json` tells it.
-pub fn syntax_error(alloc: Global, text: &[u8]) -> Option<usize> {
+/// The place from which on a text is no JSON, as `serde_json` tells it; none where it is JSON.
+pub fn syntax_error(alloc: Global, text: &[u8]) -> Result<Option<usize>, Memory>
+    ensures { IfOk result (λ at. IsNone at → IsUtf8 text.now × IsSome (read text.now)) }
+{
     match Value::from_slice(alloc, text) {
-        Ok(_) => None,
-        Err(error) if error.is_eof() => Some(text.len()),
-        Err(error) => Some(index_of(text, error.line(), error.column())),
+        Ok(_) => Ok(None),
+        Err(error) if error.is_memory() => Err(Memory),
+        Err(error) if error.is_eof() => Ok(Some(text.len())),
+        Err(error) => Ok(Some(index_of(text, error.line(), error.column()))),
     }
 }

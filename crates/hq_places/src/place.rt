@@ -17,7 +17,7 @@ pub(crate) fn is_line_end(byte: u8) -> bool
 }
 
 // Whether a byte of UTF-8 is the first of a character.
-fn begins_character(byte: u8) -> bool
+pub(crate) fn begins_character(byte: u8) -> bool
     ensures { result ≡ begins_character byte }
 {
     byte < 128 || byte >= 192
