@@ -13,7 +13,7 @@ use crate::masks::mask_parts;
 use crate::used::columns_in;
 use hq_base::Memory;
 use hq_compile_context::Context;
-use hq_compile_predicates::{Counted, MaskParts, filter_predicate, predicate};
+use hq_compile_predicates::{Counted, MaskParts, filter_predicate, predicate_of};
 use hq_compile_tables::MaskPlace;
 use hq_sql_tree::Pred;
 use hq_terms::{Bexp, TableId};
@@ -66,5 +66,5 @@ pub fn where_predicate(
         IfOk result (λ p. pred_view p ≡ predicate (bexp_view wanted.now) s (where_mode s (context_rights context.now)) look t number next.old) }
     ensures numbers { OnOk result (next.new ≡ next.old + where_numbers (bexp_view wanted.now) (context_schema context.now) (context_rights context.now) t) }
 {
-    predicate(alloc, context, &PermittedRows, t, number, places, wanted, next)
+    predicate_of(alloc, context, &PermittedRows, t, number, places, wanted, next)
 }

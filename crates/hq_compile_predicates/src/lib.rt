@@ -5,4 +5,4 @@ mod counted;
 mod predicate;
 
 pub use counted::{AllRows, Counted, MaskParts};
-pub use predicate::{filter_predicate, own_predicate, predicate, row_members};
+pub use predicate::{filter_predicate, own_predicate, predicate_of, row_members};

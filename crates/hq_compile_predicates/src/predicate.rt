@@ -16,8 +16,8 @@ use crate::counted::{AllRows, Counted};
 use hq_base::Memory;
 use hq_compile_context::{Context, take_number};
 use hq_compile_tables::{
-    MaskPlace, Shown, column_test, columns_test, exists_where, first_member, joined_by_and,
-    joined_by_or, link, negation, with_member,
+    MaskPlace, column_test, columns_test, exists_where, first_member, joined_by_and, joined_by_or,
+    link, negation, table_shown, with_member,
 };
 use hq_sql_tree::{JoinList, Pred, PredList};
 use hq_terms::{Bexp, BexpList, RelId, TableId};
@@ -25,7 +25,7 @@ use std::alloc::Global;
 
 /// An expression over table t, whose rows stand at the alias of number p and are looked at behind the joins of masks.
 #[cycle(predicate)]
-pub fn predicate<C: Counted>(
+pub fn predicate_of<C: Counted>(
     alloc: Global,
     context: &Context,
     counted: &C,
@@ -49,7 +49,7 @@ pub fn predicate<C: Counted>(
             alloc, context, counted, t, p, places, bexps, next,
         )?)),
         Bexp::Not(inner) => {
-            let inner = predicate(alloc, context, counted, t, p, places, inner, next)?;
+            let inner = predicate_of(alloc, context, counted, t, p, places, inner, next)?;
             negation(alloc, inner)
         }
         Bexp::Test {
@@ -59,7 +59,7 @@ pub fn predicate<C: Counted>(
             negated,
         } => column_test(
             alloc,
-            &shown(context, t, p, places),
+            &table_shown(context, t, p, places),
             *col,
             *test,
             operands,
@@ -71,7 +71,7 @@ pub fn predicate<C: Counted>(
         Bexp::Exists { table, inner } => some_row(alloc, context, counted, *table, inner, next),
         Bexp::Columns { left, op, right } => columns_test(
             alloc,
-            &shown(context, t, p, places),
+            &table_shown(context, t, p, places),
             *left,
             *op,
             *right,
@@ -144,21 +144,8 @@ fn counted_row<C: Counted>(
     let parts = counted.masks(alloc, context, u, n, inner, next)?;
     let members = with_guard(alloc, context, counted, u, n, members, next)?;
     let places = parts.places.as_slice();
-    let inner = predicate(alloc, context, counted, u, n, places, inner, next)?;
+    let inner = predicate_of(alloc, context, counted, u, n, places, inner, next)?;
     some_exists(alloc, context, u, n, parts.joins, members, inner)
-}
-
-// The columns of table t at the alias of number p, behind the joins of masks.
-fn shown<'a>(context: &Context<'a>, t: TableId, p: u64, places: &'a [MaskPlace]) -> Shown<'a>
-    ensures columns { result.columns.now ≡ (table (context_schema context.now) t).columns }
-    ensures number { result.number ≡ p }
-    ensures places { result.places.now ≡ places.now }
-{
-    Shown {
-        columns: context.columns(t),
-        number: p,
-        places,
-    }
 }
 
 // The members of a WHERE, and that rows of table u at the alias of number n count.
@@ -214,7 +201,7 @@ fn predicates<C: Counted>(
 {
     let mut preds = Vec::new(alloc);
     for bexp in bexps {
-        preds.push(predicate(
+        preds.push(predicate_of(
             alloc, context, counted, t, p, places, bexp, next,
         )?)?;
     }
@@ -233,7 +220,7 @@ pub fn own_predicate(
     ensures predicate { IfOk result (λ p. pred_view p ≡ own_predicate (bexp_view bexp.now) (context_schema context.now) t number next.old) }
     ensures numbers { OnOk result (next.new ≡ next.old + own_numbers (bexp_view bexp.now) (context_schema context.now) t) }
 {
-    predicate(alloc, context, &AllRows, t, number, &[], bexp, next)
+    predicate_of(alloc, context, &AllRows, t, number, &[], bexp, next)
 }
 
 /// The filter of a table at the alias of this number: never true where nothing is granted of the table.

@@ -11,5 +11,5 @@ abbrev pub look_in : List MaskPlace → List Column → (p : ℕ) → Look
 look_in [] columns p c = own_look columns p c
 look_in (x ∷ xs) columns p c = cond (x.col == c) (value_place x.number) (look_in xs columns p c)
 
-abbrev pub shown_look : Shown → Look
-shown_look x = look_in x.places.now x.columns.now x.number
+abbrev pub look_of : Shown → Look
+look_of x = look_in x.places.now x.columns.now x.number

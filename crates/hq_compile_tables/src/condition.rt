@@ -7,7 +7,7 @@ ghost use Rattle.hq_sql_tree.specs.Tree as tree;
 ghost use Rattle.hq_sql_tree.specs.View.{expr_view, pred_view, filter_view};
 ghost use Rattle.hq_compiled.specs.Conditions.{literal, operand_literal, joined_by_and, joined_by_or, with_member, where_of, negation_if, first_literal, literals_for, test_of};
 ghost use Rattle.hq_compiled.specs.Looks.{compared_at, tested_at};
-ghost use Rattle.hq_compile_tables.specs.Shown.{shown_look};
+ghost use Rattle.hq_compile_tables.specs.Shown.{look_of};
 
 use crate::shown::{Shown, compared_shown, tested_shown};
 use hq_base::{Memory, Val};
@@ -189,7 +189,7 @@ fn listed_test(
     operands: &[Operand],
     negated: bool,
 ) -> Result<Pred, Memory>
-    ensures { IfOk result (λ p. pred_view p ≡ test_of (tested_at shown.now.columns.now (shown_look shown.now column) column test) test operands.now negated) }
+    ensures { IfOk result (λ p. pred_view p ≡ test_of (tested_at shown.now.columns.now (look_of shown.now column) column test) test operands.now negated) }
 {
     if is_of_nothing(test, operands) {
         return Ok(one_of_nothing(negated));
@@ -213,7 +213,7 @@ pub fn column_test(
     operands: &Operands,
     negated: bool,
 ) -> Result<Pred, Memory>
-    ensures { IfOk result (λ p. pred_view p ≡ test_of (tested_at shown.now.columns.now (shown_look shown.now column) column test) test (operands_of operands.now) negated) }
+    ensures { IfOk result (λ p. pred_view p ≡ test_of (tested_at shown.now.columns.now (look_of shown.now column) column test) test (operands_of operands.now) negated) }
 {
     match operands {
         Operands::List(operands) => {
@@ -234,7 +234,7 @@ pub fn columns_test(
     op: Op,
     right: ColId,
 ) -> Result<Pred, Memory>
-    ensures { let at = λ (c : ℕ). compared_at shown.now.columns.now (shown_look shown.now c) c in
+    ensures { let at = λ (c : ℕ). compared_at shown.now.columns.now (look_of shown.now c) c in
         IfOk result (λ p. pred_view p ≡ tree.test (at left) (Compare op) (at right ∷ [])) }
 {
     let left = compared_shown(alloc, shown, left)?;

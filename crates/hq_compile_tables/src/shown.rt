@@ -1,14 +1,17 @@
 //! Columns as they are shown.
 ghost use Rattle.std.specs.Prelude.{◌≡◌, IfOk, find, option_copied, ◌==◌};
+ghost use Rattle.hq_terms.specs.Schema.{table};
 ghost use Rattle.hq_sql_tree.specs.Tree as tree;
 ghost use Rattle.hq_sql_tree.specs.View.{expr_view};
 ghost use Rattle.hq_compiled.specs.Looks.{cell_at, compared_at, tested_at};
-ghost use Rattle.hq_compile_tables.specs.Shown.{shown_look};
+ghost use Rattle.hq_compile_context.specs.Contexts.{context_schema};
+ghost use Rattle.hq_compile_tables.specs.Shown.{look_of};
 
 use crate::columns::{column_at, compares, is_text, value_at};
 use hq_base::{List, Memory};
+use hq_compile_context::Context;
 use hq_sql_tree::Expr;
-use hq_terms::{ColId, Column, Test};
+use hq_terms::{ColId, Column, TableId, Test};
 use std::alloc::Global;
 
 /// A masked column, and the number of the join that shows it.
@@ -29,6 +32,24 @@ pub struct Shown<'a> {
     pub places: &'a [MaskPlace],
 }
 
+/// The columns of table t at the alias of this number, some of which joins show.
+pub fn table_shown<'a>(
+    context: &Context<'a>,
+    t: TableId,
+    number: u64,
+    places: &'a [MaskPlace],
+) -> Shown<'a>
+    ensures columns { result.columns.now ≡ (table (context_schema context.now) t).columns }
+    ensures number { result.number ≡ number }
+    ensures places { result.places.now ≡ places.now }
+{
+    Shown {
+        columns: context.columns(t),
+        number,
+        places,
+    }
+}
+
 fn place_of(places: &[MaskPlace], column: ColId) -> Option<&MaskPlace>
     ensures { option_copied result ≡ find (λ x. x.col == column) places.now }
 {
@@ -42,7 +63,7 @@ pub fn shown_at(
     column: ColId,
     collate: bool,
 ) -> Result<Expr, Memory>
-    ensures { IfOk result (λ e. expr_view e ≡ tree.column (shown_look shown.now column).alias (shown_look shown.now column).name collate) }
+    ensures { IfOk result (λ e. expr_view e ≡ tree.column (look_of shown.now column).alias (look_of shown.now column).name collate) }
 {
     match place_of(shown.places, column) {
         Some(place) => value_at(alloc, place.number, collate),
@@ -52,14 +73,14 @@ pub fn shown_at(
 
 /// A column as it is shown.
 pub fn shown_column(alloc: Global, shown: &Shown, column: ColId) -> Result<Expr, Memory>
-    ensures { IfOk result (λ e. expr_view e ≡ cell_at (shown_look shown.now column)) }
+    ensures { IfOk result (λ e. expr_view e ≡ cell_at (look_of shown.now column)) }
 {
     shown_at(alloc, shown, column, false)
 }
 
 /// The same column, as it is compared.
 pub fn compared_shown(alloc: Global, shown: &Shown, column: ColId) -> Result<Expr, Memory>
-    ensures { IfOk result (λ e. expr_view e ≡ compared_at shown.now.columns.now (shown_look shown.now column) column) }
+    ensures { IfOk result (λ e. expr_view e ≡ compared_at shown.now.columns.now (look_of shown.now column) column) }
 {
     let collate = is_text(shown.columns, column);
     shown_at(alloc, shown, column, collate)
@@ -72,7 +93,7 @@ pub(crate) fn tested_shown(
     column: ColId,
     test: Test,
 ) -> Result<Expr, Memory>
-    ensures { IfOk result (λ e. expr_view e ≡ tested_at shown.now.columns.now (shown_look shown.now column) column test) }
+    ensures { IfOk result (λ e. expr_view e ≡ tested_at shown.now.columns.now (look_of shown.now column) column test) }
 {
     let collate = compares(test) && is_text(shown.columns, column);
     shown_at(alloc, shown, column, collate)
