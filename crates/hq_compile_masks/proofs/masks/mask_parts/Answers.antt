@@ -1,10 +1,14 @@
 use Rattle.std.proofs.Common.{◌∙◌, ℕ, ◌+◌, ◌++◌, List, [], ◌∷◌, map, drop, sym, ap}
 use Rattle.std.proofs.lemmas.List.{append-nil, at_drop_all}
 use Rattle.hq_terms.specs.PermView.{mask_view}
+use Rattle.hq_terms.specs.Permission.{Mask as MaskTree}
+use Rattle.hq_terms.specs.Schema.{table}
 use Rattle.hq_terms.specs.declared.perm.Mask.{Mask}
 use Rattle.hq_sql_tree.specs.View.{join_view}
-use Rattle.hq_compiled.specs.Masks.{mask_numbers, mask_joins}
-use Rattle.hq_compile_context.specs.Contexts.{context_schema}
+use Rattle.hq_compiled.specs.Masks.{mask_numbers, mask_joins, used_masks}
+use Rattle.hq_compile_context.specs.Contexts.{context_schema, context_rights}
+use Rattle.hq_compile_tables.specs.Shown.{look_in}
+use Rattle.hq_compile_tables.specs.declared.shown.MaskPlace.{MaskPlace}
 use Rattle.hq_compile_tables.proofs.Loops.{rest-more, count-more}
 use Rattle.hq_compile_masks.specs.MaskPlaces.{used_of, mask_places}
 use Rattle.hq_compile_masks.proofs.Masks.{first_joins, first_places, first_numbers, places_are_look}
@@ -38,3 +42,30 @@ loop-mask-preserved c =
       numbers = count-more (λ (ms : List Mask). mask_numbers (used_of cs (map mask_view ms)) s t) items i m n k (mask_numbers one s t) _ c.loop-mask.invariant.numbers c.loop-mask-test.true c.mask-item.is
           (first_numbers cs s t p (mask_view m) rest) adds.numbers;
     }
+
+-- behind the last mask nothing is left
+pub returns-clause-joins : goal.returns-clause-joins
+returns-clause-joins c =
+    let s = context_schema c.args.context.now in
+    let g = context_rights c.args.context.now in
+    let t = c.args.t in
+    let p = c.args.p in
+    let cs = c.args.used.now in
+    let done = map join_view c.loop-mask.parts.joins.items in
+    sym (append-nil done) ∙ sym (at_drop_all (λ (ms : List Mask). done ++ mask_joins (used_of cs (map mask_view ms)) s t p c.loop-mask.next) c.masks-mask-items.result.now c.loop-mask.mask-index c.loop-mask-test.false)
+    ∙ c.loop-mask.invariant.joins ∙ ap (λ (ms : List MaskTree). mask_joins (used_of cs ms) s t p c.args.next.now) c.masks-mask-items.ensures
+    ∙ ap (λ (n : ℕ). mask_joins (used_masks g t cs) s t p n) c.requires
+
+pub returns-clause-looks : goal.returns-clause-looks
+returns-clause-looks c =
+    let s = context_schema c.args.context.now in
+    let g = context_rights c.args.context.now in
+    let t = c.args.t in
+    let p = c.args.p in
+    let cs = c.args.used.now in
+    let done = c.loop-mask.parts.places in
+    let all = sym (append-nil done) ∙ sym (at_drop_all (λ (ms : List Mask). done ++ mask_places (used_of cs (map mask_view ms)) s t c.loop-mask.next) c.masks-mask-items.result.now c.loop-mask.mask-index c.loop-mask-test.false)
+    ∙ c.loop-mask.invariant.places ∙ ap (λ (ms : List MaskTree). mask_places (used_of cs ms) s t c.args.next.now) c.masks-mask-items.ensures
+    ∙ ap (λ (n : ℕ). mask_places (used_masks g t cs) s t n) c.requires in
+    ap (λ (ps : List MaskPlace). look_in ps (table s t).columns p) all ∙ places_are_look (used_masks g t cs) s t p (p + 1)
+

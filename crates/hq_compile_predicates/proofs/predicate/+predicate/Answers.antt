@@ -1,4 +1,4 @@
-use Rattle.std.proofs.Common.{ℕ, ◌+◌, List, [], ◌∷◌, map, drop, refl, sym, ap}
+use Rattle.std.proofs.Common.{◌∙◌, ℕ, ◌+◌, List, [], ◌∷◌, map, drop, refl, sym, ap}
 use Rattle.std.proofs.lemmas.Result.{IfOk-weaker}
 use Rattle.hq_terms.specs.Bexp.{bexp_view, bexps_of}
 use Rattle.hq_terms.specs.Schema.{table}
@@ -8,6 +8,7 @@ use Rattle.hq_compiled.specs.Looks.{own_look}
 use Rattle.hq_compiled.specs.Predicates.{numbers, numbers_all, predicate, predicates}
 use Rattle.hq_compile_context.specs.Contexts.{context_schema, context_rights}
 use Rattle.hq_compile_tables.specs.Shown.{look_in}
+use Rattle.hq_compile_tables.specs.declared.shown.MaskPlace.{MaskPlace}
 use Rattle.hq_compile_tables.proofs.Loops.{viewed_rest-more, count-more}
 use Rattle.hq_compile_predicates.proofs.Remotes.{counted_of, remote_of, row_of}
 use Rattle.hq_compile_predicates.proofs.predicate.+predicate.Goals as goal
@@ -17,11 +18,12 @@ pub counted_row-returns-clause-predicate : goal.counted_row-returns-clause-predi
 counted_row-returns-clause-predicate g t c =
     let s = context_schema c.args.context.now in
     let m = g.C.Counted.mode s (context_rights c.args.context.now) in
+    let look = λ (places : List MaskPlace). look_in places (table s c.args.u).columns c.args.n in
     IfOk-weaker c.some_exists.result _ _
     (λ pred is. counted_of s m (bexp_view c.args.inner.now) c.args.u c.args.n c.args.next.now c.masks.new.next c.with_guard.new.next (pred_view c.args.tie)
-    _ (look_in c.in_ok-parts.parts.places (table s c.args.u).columns c.args.n) _ _ _ pred
-    is c.in_ok-inner.ensures.predicate c.in_ok-members-2.ensures.numbers c.in_ok-members-2.ensures.members c.in_ok-members.ensures c.in_ok-parts.ensures.looks
-    c.in_ok-parts.ensures.joins c.in_ok-parts.ensures.numbers c.requires)
+    _ (look c.as_slice-places.result.now) _ _ _ pred
+    is c.in_ok-inner.ensures.predicate c.in_ok-members-2.ensures.numbers c.in_ok-members-2.ensures.members c.in_ok-members.ensures
+    (ap look c.as_slice-places.ensures ∙ c.in_ok-parts.ensures.looks) c.in_ok-parts.ensures.joins c.in_ok-parts.ensures.numbers c.requires)
     c.some_exists.ensures
 
 -- the row behind a relationship is tied to the row
