@@ -9,4 +9,4 @@ pub mod Places
 pub mod Steps
 mod Worked
 pub mod Together
-mod Permitting
+pub mod Permitting

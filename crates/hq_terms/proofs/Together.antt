@@ -1,11 +1,11 @@
 -- What roles permit together: the masks bind where the filter does, and are one level deeper than the filters at most.
 use Rattle.std.proofs.Common.{◌≡◌, ℕ, ◌≤◌, suc, List, [], ◌∷◌, ◌++◌, filter, find, Bool, true, false, cond, Option, Some, None, Result, Ok, Err, bytes_eq, refl, sym, ap, subst, ◌∙◌, arith}
-use Rattle.std.specs.Prelude.{is_ok, option_and_then, ◌==◌}
+use Rattle.std.specs.Prelude.{is_ok, option_and_then, option_map, unwrap_or, ◌==◌}
 use Rattle.std.specs.List.{list_all, list_any}
 use Rattle.std.proofs.lemmas.Bool.{false≢true}
 use Rattle.std.proofs.Math.Nat.{max-le}
 use Rattle.hq_base.specs.Due.{and_then, mapped}
-use Rattle.hq_base.specs.Lists.{Each}
+use Rattle.hq_base.specs.Lists.{Each, firsts}
 use Rattle.hq_base.proofs.Lists.{each_all}
 use Rattle.hq_terms.specs.Bexp.{BexpTree, always, or_of, bexps_of, depth, depth_of_all}
 use Rattle.hq_terms.specs.Binding.{bound, bound_all, bound_masks}
@@ -196,16 +196,22 @@ module _ (P Q : BexpTree → Type 0) (weak : (b : BexpTree) → P b → Q b) (of
 pub permission_low : (role : Role) (is : List Inherited) (k : TrackedTree) (n : ℕ) → AreLow role is k n
 permission_low role is k n all p e = permission_holds (λ b. depth b ≤ n) (λ b. depth b ≤ suc n) (λ b h. omega arith) (omega arith) (either_low n) k all role is p e
 
--- ---- where there are no inherited roles
+-- ---- roles that are not inherited
 
 nothing_permitted : (cs : List ℕ) → filter (λ c. list_any (permits c) []) cs ≡ []
 nothing_permitted [] = refl
 nothing_permitted (c ∷ cs) = nothing_permitted cs
 
--- a role may see what its own entry permits
-pub own_alone : (name : List ℕ) (k : TrackedTree) → permission_in (Named name) [] k ≡ own_permission k name
-own_alone name k = by (own_permission k name)
+-- what the roles of the set of an entry permit together
+abbrev of_entry : TrackedTree → Option Inherited → Option Permission
+of_entry k o = combined k (permissions_of k (firsts bytes_eq (unwrap_or (option_map (λ i. i.set) o) [])))
+
+-- a role that is not inherited may see what its own entry permits
+pub own_alone : (is : List Inherited) (name : List ℕ) (k : TrackedTree) → find (λ i. bytes_eq i.role name) is ≡ None → permission_in (Named name) is k ≡ own_permission k name
+own_alone is name k none = by (own_permission k name)
   where
-    by : (o : Option Permission) → or_inherited o k (set_of [] name) ≡ o
-    by None = ap (with_columns (record { columns = []; filter = either []; limit = None; aggregations = false; masks = masks_for [] (columns_of_any k []) })) (nothing_permitted (named_columns k))
+    by : (o : Option Permission) → or_inherited o k (set_of is name) ≡ o
+    by None =
+        ap (of_entry k) none
+        ∙ ap (with_columns (record { columns = []; filter = either []; limit = None; aggregations = false; masks = masks_for [] (columns_of_any k []) })) (nothing_permitted (named_columns k))
     by (Some p) = refl
