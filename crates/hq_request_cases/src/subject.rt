@@ -8,6 +8,7 @@ pub enum About {
     Blog,
     Shop,
     ReachingFilters,
+    InheritedRoles,
     Relationships,
     Aggregates,
     Introspection,
@@ -24,11 +25,12 @@ pub enum About {
 
 impl About {
     /// Each subject, in the order of its line.
-    pub const ALL: [About; 15] = [
+    pub const ALL: [About; 17] = [
         About::Worked,
         About::Blog,
         About::Shop,
         About::ReachingFilters,
+        About::InheritedRoles,
         About::Relationships,
         About::Aggregates,
         About::Introspection,
@@ -51,6 +53,7 @@ impl Subject for About {
             About::Blog => "blog",
             About::Shop => "shop",
             About::ReachingFilters => "reaching_filters",
+            About::InheritedRoles => "inherited_roles",
             About::Relationships => "relationships",
             About::Aggregates => "aggregates",
             About::Introspection => "introspection",
