@@ -2,7 +2,7 @@
 
 use hq_base::Ty;
 use hq_places::Words;
-use hq_terms::{Catalog, Operator, Table};
+use hq_terms::{Catalog, Op, Operator, Table};
 
 fn put_comma(words: &mut Words, at: usize) {
     words.put(if at == 0 { "" } else { ", " });
@@ -22,13 +22,35 @@ pub fn put_operators(words: &mut Words) {
         put_comma(words, at);
         words.put(operator.name());
     }
+    words.put(", and between columns ");
+    for (at, op) in Op::all().iter().enumerate() {
+        put_comma(words, at);
+        words.put(op.name_of_columns());
+    }
 }
 
-/// Whether an operator has this name.
+/// Whether an operator of a column and an operand has this name.
 pub fn is_operator(name: &[u8]) -> bool {
-    Operator::all()
+    name == b"_ne".as_slice()
+        || Operator::all()
+            .iter()
+            .any(|operator| operator.name().as_bytes() == name)
+}
+
+/// Whether an operator between two columns has this name.
+pub fn compares_columns(name: &[u8]) -> bool {
+    Op::all()
         .iter()
-        .any(|operator| operator.name().as_bytes() == name)
+        .any(|op| op.name_of_columns().as_bytes() == name)
+}
+
+/// Whether a table has a column of this name.
+pub fn has_column(table: &Table, name: &[u8]) -> bool {
+    table
+        .columns
+        .as_slice()
+        .iter()
+        .any(|column| column.name.as_bytes() == name)
 }
 
 /// Adds the name of a table.

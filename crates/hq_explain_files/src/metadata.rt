@@ -1,10 +1,11 @@
 //! A refused metadata in words.
 
 use crate::known::{
-    is_operator, put_columns, put_foreign_keys, put_operators, put_table, put_tables,
+    compares_columns, has_column, is_operator, put_columns, put_foreign_keys, put_operators,
+    put_table, put_tables,
 };
 use crate::node::{Node, put_written_table};
-use crate::path::{has, is_element, parent};
+use crate::path::{behind, has, has_connectives_alone, is_element, last_name, parent};
 use hq_base::{Bytes, Json, JsonRefusal, Memory};
 use hq_meta_tables::MetaRefusal;
 use hq_places::{Words, put_not_json};
@@ -61,7 +62,10 @@ fn expected(name: &[u8], element: bool) -> &'static str {
         | b"query_root_fields"
         | b"subscription_root_fields" => { "none: hq would answer otherwise than Hasura" }
         b"_and" | b"_or" => "a list of filters",
-        b"_not" => "a filter",
+        b"_not" | b"_where" => "a filter: an object",
+        b"_exists" => "an object with \"_table\" and \"_where\"",
+        b"_table" => "a tracked table: a text, or {\"schema\": .., \"name\": ..}",
+        _ if compares_columns(name) => "the name of another column of the table",
         _ => expected_name(name),
     }
 }
@@ -71,7 +75,7 @@ fn expected_name(name: &[u8]) -> &'static str {
         b"name" | b"custom_name" | b"select" | b"select_by_pk" | b"select_aggregate" => {
             "a name of GraphQL: letters, digits and _, not a digit first, and not __ in front"
         }
-        b"$" => "an object with \"version\" and \"sources\"",
+        b"$" => "an object with \"version\", and \"sources\" or \"tables\"",
         _ => "another form",
     }
 }
@@ -99,9 +103,7 @@ fn put_path(words: &mut Words, node: &Node<'_>) {
 
 // Adds the columns of the table that an entry tracks, where the node is of that table itself.
 fn put_known_columns(words: &mut Words, node: &Node<'_>, catalog: &Catalog) {
-    let remote = has(node.path, b".column_mapping.") || has(node.path, b".remote_table");
     if let Some(table) = tracked(catalog, node)
-        && !remote
         && is_of_own_table(node)
     {
         words.put("; ");
@@ -111,24 +113,60 @@ fn put_known_columns(words: &mut Words, node: &Node<'_>, catalog: &Catalog) {
     }
 }
 
-// Whether no relationship stands between a permission's filter and the node.
+// The parts of a relationship that name columns of the other table.
+const REMOTE: [&str; 3] = [
+    ".foreign_key_constraint_on.column",
+    ".remote_table",
+    ".column_mapping.",
+];
+
+fn is_remote(path: &[u8]) -> bool {
+    REMOTE.iter().any(|part| has(path, part.as_bytes()))
+}
+
+// Whether a node is of the table itself: no relationship and no `_exists` stands between a permission's filter and it.
 fn is_of_own_table(node: &Node<'_>) -> bool {
-    let above = parent(node.path);
-    !has(above, b".filter.")
-        || has(above, b"._and[")
-        || has(above, b"._or[")
-        || above.ends_with(b"._not")
+    match behind(node.path, b".filter") {
+        Some(inside) => has_connectives_alone(condition(inside)),
+        None => !is_remote(node.path),
+    }
+}
+
+// What stands before the name of a column in a path.
+fn condition(path: &[u8]) -> &[u8] {
+    if compares_columns(last_name(path)) {
+        parent(parent(path))
+    } else {
+        parent(path)
+    }
+}
+
+// Whether a node that names no column does so by its own name, and not by its value: as a member of a filter, of the custom names, or
+// of a mapping where the table lacks it.
+fn is_named_by_name(node: &Node<'_>, catalog: &Catalog) -> bool {
+    if has(node.path, b".column_mapping.") {
+        return match tracked(catalog, node) {
+            Some(table) => !has_column(table, node.name()),
+            None => false,
+        };
+    }
+    if has(node.path, b".filter.") {
+        return !compares_columns(node.name());
+    }
+    has(node.path, b".custom_column_names.") || has(node.path, b".column_config.")
+}
+
+// Adds the name of a column that is unknown.
+fn put_column_name(words: &mut Words, node: &Node<'_>, catalog: &Catalog) {
+    match node.value() {
+        Some([b'"', name @ .., b'"']) if !is_named_by_name(node, catalog) => words.put_quoted(name),
+        _ => words.put_quoted(node.name()),
+    }
 }
 
 fn unknown_column(words: &mut Words, node: &Node<'_>, catalog: &Catalog) {
     words.put("no column ");
-    match node.value() {
-        Some([b'"', name @ .., b'"'])
-            if !has(node.path, b".filter.") && !has(node.path, b"custom_column_names") => {
-            words.put_quoted(name);
-        }
-        _ => words.put_quoted(node.name()),
-    }
+    put_column_name(words, node, catalog);
     put_known_columns(words, node, catalog);
 }
 
@@ -139,10 +177,17 @@ fn unknown_table(words: &mut Words, node: &Node<'_>, catalog: &Catalog) {
     put_tables(words, catalog);
 }
 
+// Whether an object stands at a node.
+fn is_object(node: &Node<'_>) -> bool {
+    matches!(node.value(), Some([b'{', ..]))
+}
+
 fn no_foreign_key(words: &mut Words, node: &Node<'_>, catalog: &Catalog) {
     words.put("no foreign key ");
     node.put_value(words);
-    if let Some(table) = tracked(catalog, node) {
+    if let Some(table) = tracked(catalog, node)
+        && !is_object(node)
+    {
         words.put("; ");
         put_table(words, table);
         words.put(" has: ");
@@ -152,6 +197,13 @@ fn no_foreign_key(words: &mut Words, node: &Node<'_>, catalog: &Catalog) {
 
 fn bad_operand(words: &mut Words, node: &Node<'_>) {
     let name = node.name();
+    if compares_columns(name) {
+        words.put("a column of another type is no operand of ");
+        words.put_quoted(name);
+        words.put(": ");
+        node.put_value(words);
+        return;
+    }
     if !name.starts_with(b"_") || is_operator(name) {
         node.put_value(words);
         words.put(" is no operand of ");
@@ -166,6 +218,12 @@ fn bad_operand(words: &mut Words, node: &Node<'_>) {
 }
 
 fn bad_shape(words: &mut Words, node: &Node<'_>) {
+    if parent(node.path).ends_with(b"._exists") && node.name().first() != Some(&b'_') {
+        words.put("no member ");
+        words.put_quoted(node.name());
+        words.put(" of \"_exists\"; it has: _table, _where");
+        return;
+    }
     words.put("expected ");
     words.put(expected(node.name(), is_element(node.path)));
     words.put("; found ");
@@ -196,7 +254,7 @@ fn put_refusal(words: &mut Words, node: &Node<'_>, catalog: &Catalog, refusal: &
             words.put(" has a permission on this table already");
         }
         MetaRefusal::Version { .. } => {
-            words.put("expected version 3; found ");
+            words.put("expected version 2 or 3; found ");
             node.put_value(words);
         }
         MetaRefusal::Sources { count } => {
@@ -204,6 +262,14 @@ fn put_refusal(words: &mut Words, node: &Node<'_>, catalog: &Catalog, refusal: &
             words.put_number(*count);
         }
         _ => bad_shape(words, node),
+    }
+}
+
+// Whether what is read stands in a wrapper.
+fn is_wrapped(json: &Json) -> bool {
+    match (json.member("version"), json.member("metadata")) {
+        (None, Some(metadata)) => metadata.as_object().is_some(),
+        _ => false,
     }
 }
 
@@ -218,7 +284,7 @@ fn of_node(
     let node = Node {
         text,
         json,
-        wrapped: json.member("version").is_none() && json.member("metadata").is_some(),
+        wrapped: is_wrapped(json),
         path,
     };
     node.put_place(words);

@@ -14,7 +14,7 @@ pub struct Node<'a> {
     pub path: &'a [u8],
 }
 
-/// The value of this path and element.
+// The element of this number of a list.
 fn element(list: Option<&Json>, number: usize) -> Option<&Json> {
     list?.as_array()?.get(number)
 }
@@ -70,13 +70,13 @@ impl<'a> Node<'a> {
 
     /// The entry of the table that the node is of.
     pub fn table_entry(&self) -> Option<&'a Json> {
-        let (number, _) = number_behind(self.path, b".tables[")?;
+        let number = number_behind(self.path, b".tables[")?;
         element(self.tables(), number)
     }
 
     /// The role of the permission that the node is of.
     pub fn role(&self) -> Option<&'a Txt> {
-        let (number, _) = number_behind(self.path, b".select_permissions[")?;
+        let number = number_behind(self.path, b".select_permissions[")?;
         let permissions = self.table_entry()?.member("select_permissions");
         element(permissions, number)?.member("role")?.as_txt()
     }
@@ -84,10 +84,10 @@ impl<'a> Node<'a> {
     /// The relationship that the node is of.
     pub fn relationship(&self) -> Option<&'a Txt> {
         let (name, number) = match number_behind(self.path, b".object_relationships[") {
-            Some((number, _)) => ("object_relationships", number),
+            Some(number) => ("object_relationships", number),
             None => (
                 "array_relationships",
-                number_behind(self.path, b".array_relationships[")?.0,
+                number_behind(self.path, b".array_relationships[")?,
             ),
         };
         let relationships = self.table_entry()?.member(name);

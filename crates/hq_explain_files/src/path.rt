@@ -42,7 +42,7 @@ fn is_at(path: &[u8], at: usize, sought: &[u8]) -> bool {
 }
 
 // The place behind the first piece of a path that is this one.
-fn behind(path: &[u8], sought: &[u8]) -> Option<usize> {
+fn index_behind(path: &[u8], sought: &[u8]) -> Option<usize> {
     for (at, _) in path.iter().enumerate() {
         if is_at(path, at, sought) {
             return Some(at.saturating_add(sought.len()));
@@ -51,24 +51,40 @@ fn behind(path: &[u8], sought: &[u8]) -> Option<usize> {
     None
 }
 
-/// Whether a piece stands in a path.
-pub fn has(path: &[u8], sought: &[u8]) -> bool {
-    behind(path, sought).is_some()
+/// What stands behind the first piece of a path that is this one.
+pub fn behind<'a>(path: &'a [u8], sought: &[u8]) -> Option<&'a [u8]> {
+    let start = index_behind(path, sought)?;
+    Some(piece(path, start, path.len()))
 }
 
-/// The number behind the first piece of a path that is this one, and the path up to behind it.
-pub fn number_behind<'a>(path: &'a [u8], sought: &[u8]) -> Option<(usize, &'a [u8])> {
-    let start = behind(path, sought)?;
+/// Whether a piece stands in a path.
+pub fn has(path: &[u8], sought: &[u8]) -> bool {
+    index_behind(path, sought).is_some()
+}
+
+// Whether a name of a path is of a connective, which leads to no other table.
+fn is_connective(name: &[u8]) -> bool {
+    name.is_empty()
+        || name == b"_not".as_slice()
+        || name.starts_with(b"_and[")
+        || name.starts_with(b"_or[")
+}
+
+/// Whether the names of a path are of connectives alone.
+pub fn has_connectives_alone(path: &[u8]) -> bool {
+    path.split(|byte| *byte == b'.').all(is_connective)
+}
+
+/// The number behind the first piece of a path that is this one.
+pub fn number_behind(path: &[u8], sought: &[u8]) -> Option<usize> {
     let mut number = 0usize;
-    for (at, byte) in path.iter().enumerate() {
-        if at >= start && *byte == b']' {
-            return Some((number, piece(path, 0, at.saturating_add(1))));
+    for byte in behind(path, sought)? {
+        if *byte == b']' {
+            return Some(number);
         }
-        if at >= start {
-            number = number
-                .saturating_mul(10)
-                .saturating_add(usize::from(byte.saturating_sub(b'0')));
-        }
+        number = number
+            .saturating_mul(10)
+            .saturating_add(usize::from(byte.saturating_sub(b'0')));
     }
     None
 }
