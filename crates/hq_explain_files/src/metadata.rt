@@ -48,7 +48,10 @@ fn expected(name: &[u8], element: bool) -> &'static str {
         b"filter" => "an object",
         b"limit" => "a whole number, not negative",
         b"allow_aggregations" => "true or false",
-        b"role" => "the name of a role, not \"admin\"",
+        b"role" | b"role_name" => "the name of a role, not \"admin\"",
+        b"role_set" if element => "the name of a role that is neither \"admin\" nor inherited",
+        b"role_set" => "a list of roles, at least one",
+        b"inherited_roles" if element => "an object with \"role_name\" and \"role_set\"",
         b"permission" => "an object with \"columns\" and \"filter\"",
         b"using" => "either \"foreign_key_constraint_on\" or \"manual_configuration\"",
         b"foreign_key_constraint_on" => "a column, a list of columns, or a table with its columns",
@@ -56,11 +59,13 @@ fn expected(name: &[u8], element: bool) -> &'static str {
         b"object_relationships" | b"array_relationships" if element =>
             "an object with \"name\" and \"using\"",
         b"select_permissions" if element => "an object with \"role\" and \"permission\"",
-        b"object_relationships" | b"array_relationships" | b"select_permissions" => "a list",
-        b"inherited_roles"
-        | b"customization"
-        | b"query_root_fields"
-        | b"subscription_root_fields" => { "none: hq would answer otherwise than Hasura" }
+        b"object_relationships"
+        | b"array_relationships"
+        | b"select_permissions"
+        | b"inherited_roles" => "a list",
+        b"customization" | b"query_root_fields" | b"subscription_root_fields" => {
+            "none: hq would answer otherwise than Hasura"
+        }
         b"_and" | b"_or" => "a list of filters",
         b"_not" | b"_where" => "a filter: an object",
         b"_exists" => "an object with \"_table\" and \"_where\"",
@@ -195,6 +200,16 @@ fn no_foreign_key(words: &mut Words, node: &Node<'_>, catalog: &Catalog) {
     }
 }
 
+fn repeated_role(words: &mut Words, node: &Node<'_>) {
+    words.put("role ");
+    node.put_value(words);
+    words.put(if node.name() == b"role_name" {
+        " is inherited already"
+    } else {
+        " has a permission on this table already"
+    });
+}
+
 fn bad_operand(words: &mut Words, node: &Node<'_>) {
     let name = node.name();
     if compares_columns(name) {
@@ -248,11 +263,7 @@ fn put_refusal(words: &mut Words, node: &Node<'_>, catalog: &Catalog, refusal: &
             node.put_value(words);
             words.put(" stands in the schema already");
         }
-        MetaRefusal::RepeatedRole { .. } => {
-            words.put("role ");
-            node.put_value(words);
-            words.put(" has a permission on this table already");
-        }
+        MetaRefusal::RepeatedRole { .. } => repeated_role(words, node),
         MetaRefusal::Version { .. } => {
             words.put("expected version 2 or 3; found ");
             node.put_value(words);
