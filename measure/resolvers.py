@@ -47,7 +47,7 @@ def entries_of(metadata):
 def sets_of(metadata):
     """The inherited roles of an export, each with its set."""
     metadata = metadata.get("metadata", metadata)
-    return {i["role_name"]: list(dict.fromkeys(i["role_set"])) for i in metadata.get("inherited_roles", [])}
+    return {i["role_name"]: i["role_set"] for i in metadata.get("inherited_roles", [])}
 
 
 def is_free_name(name):
@@ -62,6 +62,16 @@ def combined(columns, permissions):
     return {"columns": shown, "filter": either(permissions), "limit": None if None in limits else max(limits),
             "allow_aggregations": any(p.get("allow_aggregations") for p in permissions),
             "masks": {c: either([p for p in permissions if c in p["columns"]]) for c in shown if any(c not in p["columns"] for p in permissions)}}
+
+
+def inherit(model, sets):
+    """Gives each role of `sets` that has no permission on a table what the roles of its set have together, each counted once."""
+    for t in model:
+        own = dict(t.perms)
+        for role, roles in sets.items():
+            permissions = [own[r] for r in dict.fromkeys(roles) if r in own]
+            if permissions and role not in own:
+                t.perms[role] = combined(t.kinds, permissions)
 
 
 def pairs_of(t, by_key, using):
@@ -98,10 +108,7 @@ def read_model(directory):
             columns = [c for c in t.kinds if (given == "*" or c in given) and is_free_name(t.names[c])]
             if columns:
                 t.perms[p["role"]] = {**p["permission"], "columns": columns}
-        for role, roles in sets_of(metadata).items():
-            permissions = [t.perms[r] for r in roles if r in t.perms]
-            if permissions and role not in t.perms:
-                t.perms[role] = combined(t.kinds, permissions)
+    inherit(model, sets_of(metadata))
     return model
 
 

@@ -59,7 +59,7 @@ class Table:
         if role == "admin":
             return True, True, every, []
         own = {p["role"]: self.own(every, p["permission"]) for p in entry.get("select_permissions", [])}
-        given = [own[r] for r in ([role] if own.get(role) else sets.get(role, [])) if own.get(r)]
+        given = [own[r] for r in ([role] if own.get(role) else dict.fromkeys(sets.get(role, []))) if own.get(r)]
         if not given:
             return False, False, [], []
         together = combined(every, given)
