@@ -36,7 +36,7 @@ use Rattle.hq_meta_read.proofs.Beside.{WithRels, put_rels, WithPerms, put_perms,
 use Rattle.hq_meta_read.proofs.Heads.{Head, Tracked, all_tracked-Tracked}
 use Rattle.hq_meta_read.proofs.Keys.{joins}
 use Rattle.hq_meta_read.proofs.Links.{Related, Rels, rels_at-Rels}
-use Rattle.hq_meta_read.proofs.Inheriting.{inherited_due-fits}
+use Rattle.hq_meta_read.proofs.InheritedFit.{inherited_due-fits}
 use Rattle.hq_meta_read.proofs.Lists.{list_all-from, list_all-same, all_both}
 use Rattle.hq_meta_read.proofs.Perms.{Permits, Perms, perms_at-Perms}
 use Rattle.hq_meta_read.proofs.Steps.{ok_always, ok_both, ok_and_then, ok_next, Behind, each_after-Behind}

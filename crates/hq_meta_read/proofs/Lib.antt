@@ -6,7 +6,7 @@ mod Keys
 mod Links
 mod Perms
 mod Beside
-mod Inheriting
+mod InheritedFit
 mod Fitting
 mod Loops
 mod Nesting
