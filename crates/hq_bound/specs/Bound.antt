@@ -3,14 +3,18 @@
 use Rattle.std.specs.Prelude.{ℕ, List, [], ◌∷◌, Option, Some, None, Result, Ok}
 use Rattle.hq_base.specs.Due.{mapped, ◌>>=◌}
 use Rattle.hq_terms.specs.Bexp.{or_of, no_bexp}
-use Rattle.hq_terms.specs.Binding.{bound_permission}
+use Rattle.hq_terms.specs.Binding.{bound, bound_permission}
 use Rattle.hq_terms.specs.Meta.{MetaTree}
-use Rattle.hq_terms.specs.Permission.{Permission, permission}
+use Rattle.hq_terms.specs.Permission.{Mask, Permission, permission}
 use Rattle.hq_terms.specs.Schema.{Schema}
 use Rattle.hq_terms.specs.declared.bind.BindRefusal.{BindRefusal}
 use Rattle.hq_terms.specs.declared.role.Role.{Role}
 use Rattle.hq_terms.specs.declared.session.Var.{Var}
 use Rattle.hq_ask_tree.specs.Request.{BoundTree}
+
+-- a mask of table t, bound
+abbrev pub mask_due : Mask → Schema → List Var → ℕ → Result Mask BindRefusal
+mask_due m s vars t = mapped (λ shown. record { column = m.column; shown = shown }) (bound m.shown s vars t)
 
 -- table t with the filter and the masks of a permission
 abbrev pub of_table : ℕ → Permission → BoundTree

@@ -9,13 +9,31 @@ ghost use Rattle.hq_terms.specs.declared.bind.BindRefusal.TheVariants as refusal
 ghost use Rattle.hq_ask_tree.specs.Fields.{fields_of, keyed_field_view};
 ghost use Rattle.hq_ask_tree.specs.Request.{bound_view};
 ghost use Rattle.hq_ask_tree.specs.Touched.{touched};
-ghost use Rattle.hq_bound.specs.Bound.{of_table, bound_due, bounds_due};
+ghost use Rattle.hq_bound.specs.Bound.{mask_due, of_table, bound_due, bounds_due};
 
 use crate::fields::touched_tables;
 use hq_ask_tree::{AskFields, Bound, BoundList};
 use hq_base::List;
 use hq_terms::{Bexp, BindRefusal, Mask, MaskList, PermView, Role, Scope, Session, TableId};
 use std::alloc::Global;
+
+fn bound_mask(
+    alloc: Global,
+    scope: &Scope<'_>,
+    session: &Session,
+    t: TableId,
+    mask: &Mask,
+) -> Result<Mask, BindRefusal>
+    ensures { Gives mask_view refusal.Memory (mask_due (mask_view mask.now) (scope_schema scope.now) session.now.vars t) result }
+{
+    let shown = mask
+        .shown
+        .bind(alloc, session, scope.catalog, scope.meta, t)?;
+    Ok(Mask {
+        col: mask.col,
+        shown,
+    })
+}
 
 fn bound_masks(
     alloc: Global,
@@ -28,13 +46,8 @@ fn bound_masks(
 {
     let mut bound = Vec::new(alloc);
     for mask in masks {
-        let shown = mask
-            .shown
-            .bind(alloc, session, scope.catalog, scope.meta, t)?;
-        bound.push(Mask {
-            col: mask.col,
-            shown,
-        })?;
+        let one = bound_mask(alloc, scope, session, t, mask)?;
+        bound.push(one)?;
     }
     Ok(bound)
 }
