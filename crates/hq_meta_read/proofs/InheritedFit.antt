@@ -16,8 +16,9 @@ use Rattle.hq_meta_tables.specs.declared.field.Field.TheVariants as field
 use Rattle.hq_meta_tables.specs.declared.refusal.MetaRefusal.TheVariants.{Shape, RepeatedRole}
 use Rattle.hq_meta_tables.specs.Each.{each, each_after}
 use Rattle.hq_meta_tables.specs.Node.{checked, at, value_of, object_at, text_at, member_at, text_member, list_member}
+use Rattle.hq_meta_tables.specs.Top.{is_empty}
 use Rattle.hq_meta_read.specs.Inheriting.{is_named, is_entered, inherited_form, unless_at, plain_names, own_roles, new_role, inherited_at, inherited_due}
-use Rattle.hq_meta_read.proofs.Lists.{push_differ, list_all-same}
+use Rattle.hq_meta_read.proofs.Lists.{push_differ, list_all-same, positive}
 use Rattle.hq_meta_read.proofs.Steps.{ok_weaker, ok_both, ok_and_then, ok_next, ok_found, ok_tested, ok_unless, ok_checked, each_after-keeps, Behind, each_after-Behind}
 
 -- ---- names that are none of these
@@ -69,6 +70,10 @@ inherited_form-given path j =
     (text_member path object field.RoleName) (text_member-given path object))
     (object_at path j) (object_at-same path j)
 
+has_some : (xs : List (List ℕ)) → not (is_empty xs) ≡ true → nat_lt 0 (length xs) ≡ true
+has_some [] h = cc
+has_some (x ∷ xs) h = positive (length xs)
+
 -- an inherited role as its entry gives it
 record Entered (entries : List JsonTree) (j : JsonTree) (i : Inherited) : Type 0 where
   named : given j ≡ Some i.role
@@ -100,11 +105,11 @@ inherited_at-Entered entries before path j =
     let behind = at path field.RoleSet in
     ok_and_then (λ i. and_then (λ u. and_then (λ v. and_then (λ w. Ok i) (new_role before here i.role)) (own_roles entries path i)) (plain_names path i)) (λ i. given j ≡ Some i.role) P
     (λ i named. ok_and_then (λ u. and_then (λ v. and_then (λ w. Ok i) (new_role before here i.role)) (own_roles entries path i)) (λ u. (not (is_admin_name i.role) ≡ true) × (list_all (λ r. not (is_admin_name r)) i.set ≡ true)) P
-    (λ u f. ok_and_then (λ v. and_then (λ w. Ok i) (new_role before here i.role)) (λ v. (nat_lt 0 (length i.set) ≡ true) × (list_all (λ r. not (is_entered entries r)) i.set ≡ true)) P
+    (λ u f. ok_and_then (λ v. and_then (λ w. Ok i) (new_role before here i.role)) (λ v. (not (is_empty i.set) ≡ true) × (list_all (λ r. not (is_entered entries r)) i.set ≡ true)) P
     (λ v g. ok_and_then (λ w. Ok i) (λ w. list_any (λ k. bytes_eq k.role i.role) before ≡ false) P
-    (λ w new. (record { named = named; plain = f.0; none_admin = f.1; some = g.0; own = g.1 }, new))
+    (λ w new. (record { named = named; plain = f.0; none_admin = f.1; some = has_some i.set g.0; own = g.1 }, new))
     (new_role before here i.role) (new_role-new before here i.role))
-    (own_roles entries path i) (both_checked behind (nat_lt 0 (length i.set)) behind (is_entered entries) i.set))
+    (own_roles entries path i) (both_checked behind (not (is_empty i.set)) behind (is_entered entries) i.set))
     (plain_names path i) (both_checked here (not (is_admin_name i.role)) behind is_admin_name i.set))
     (inherited_form path j) (inherited_form-given path j)
 

@@ -1,6 +1,6 @@
 -- The inherited roles of a metadata file (Hasura v2, metadata format: inherited_roles). An entry has all its tests before the
 -- next one's: its form, then its names, and then that no entry before it is of its name.
-use Rattle.std.specs.Prelude.{ℕ, List, [], position, length, Bool, false, not, nat_lt, Option, Some, None, option_and_then, Result, Ok, Err, if◌then◌else◌, bytes_eq}
+use Rattle.std.specs.Prelude.{ℕ, List, [], position, Bool, false, not, Option, Some, None, option_and_then, Result, Ok, Err, if◌then◌else◌, bytes_eq}
 use Rattle.std.specs.List.{list_any}
 use Rattle.hq_base.specs.Due.{◌>>=◌}
 use Rattle.hq_base.specs.Json.{JsonTree}
@@ -13,6 +13,7 @@ use Rattle.hq_meta_tables.specs.declared.refusal.MetaRefusal.{MetaRefusal}
 use Rattle.hq_meta_tables.specs.declared.refusal.MetaRefusal.TheVariants.{Shape, RepeatedRole}
 use Rattle.hq_meta_tables.specs.Each.{each, each_after}
 use Rattle.hq_meta_tables.specs.Node.{checked, at, value_of, object_at, text_at, text_member, list_member}
+use Rattle.hq_meta_tables.specs.Top.{is_empty}
 
 -- a name that is given is this one
 abbrev pub is_named : (name : List ℕ) → (given : Option (List ℕ)) → Bool
@@ -46,7 +47,7 @@ plain_names path i = do
 -- the set has a role at least, none of which is inherited itself
 abbrev pub own_roles : (entries : List JsonTree) → (path : List ℕ) → Inherited → Result (Unit {0}) MetaRefusal
 own_roles entries path i = do
-  _ ← checked (at path field.RoleSet) (nat_lt 0 (length i.set))
+  _ ← checked (at path field.RoleSet) (not (is_empty i.set))
   unless_at (at path field.RoleSet) (position (is_entered entries) i.set)
 
 -- the role is none of those before it

@@ -8,6 +8,7 @@ ghost use Rattle.hq_terms.specs.Names.{is_admin_name};
 ghost use Rattle.hq_meta_tables.specs.declared.field.Field.TheVariants as field;
 ghost use Rattle.hq_meta_tables.specs.Each.{each, each_after};
 ghost use Rattle.hq_meta_tables.specs.Node.{at, text_at, value_of};
+ghost use Rattle.hq_meta_tables.specs.Top.{is_empty};
 ghost use Rattle.hq_meta_read.specs.Inheriting.{is_named, is_entered, inherited_form, unless_at, plain_names, own_roles, new_role, inherited_at, inherited_due};
 
 use hq_base::{Json, List, Memory, Txt, item_path, top_path};
@@ -105,7 +106,7 @@ fn check_none(alloc: Global, path: &Txt, place: Option<usize>) -> Result<(), Met
 fn admin_place(names: &[Txt]) -> Option<usize>
     ensures { result ≡ position is_admin_name names.now }
 {
-    names.iter().position(is_admin)
+    names.iter().position(|name| is_admin(name))
 }
 
 // The first of these names that some entry is for.
@@ -113,6 +114,12 @@ fn entered_place(entries: &[Json], names: &[Txt]) -> Option<usize>
     ensures { result ≡ position (is_entered (map json_view entries.now)) names.now }
 {
     names.iter().position(|name| is_entered(entries, name))
+}
+
+fn is_empty(names: &[Txt]) -> bool
+    ensures { result ≡ is_empty names.now }
+{
+    matches!(names, [])
 }
 
 // No name is that of admin.
@@ -138,7 +145,7 @@ fn check_set(
     ensures { Gives (λ done. done) MetaRefusal.Memory (own_roles (map json_view entries.now) path.now entry.now) result }
 {
     let path = at(alloc, path, Field::RoleSet)?;
-    if entry.set.len() == 0 {
+    if is_empty(entry.set.as_slice()) {
         return Err(MetaRefusal::Shape { path });
     }
     let place = entered_place(entries, entry.set.as_slice());
