@@ -1,5 +1,5 @@
 -- The conflict within a set is the first.
-use Rattle.hq_rules_overlap.specs.Sets.{arena_view}
+use Rattle.hq_overlap_sets.specs.Sets.{arena_view}
 use Rattle.hq_rules_overlap.proofs.Floors.{floor_is_first}
 use Rattle.hq_rules_overlap.proofs.first.first_among.Goals as goal
 

@@ -4,9 +4,9 @@ use Rattle.std.specs.Result.{IfOk}
 use Rattle.std.proofs.lemmas.Result.{IfOk-weaker}
 use Rattle.hq_schema.specs.Schema.{schema_view}
 use Rattle.hq_gql_tree.specs.View.{document_view}
-use Rattle.hq_rules_overlap.specs.Pairs.{IsFirst}
-use Rattle.hq_rules_overlap.specs.Sets.{SetTree}
-use Rattle.hq_rules_overlap.proofs.Together.{first_is_place}
+use Rattle.hq_overlap_sets.specs.Pairs.{IsFirst}
+use Rattle.hq_overlap_sets.specs.Sets.{SetTree}
+use Rattle.hq_overlap_sets.proofs.Together.{first_is_place}
 use Rattle.hq_rules_overlap.proofs.first.first_overlap.Goals as goal
 
 pub returns-clause-first : goal.returns-clause-first

@@ -1,10 +1,10 @@
 -- What is kept has the same answer, beside the conflict that is known.
 use Rattle.std.proofs.Common.{sym, subst, Option, ℕ}
 use Rattle.hq_schema.specs.Schema.{schema_view}
-use Rattle.hq_rules_overlap.specs.Disputes.{noted_in}
-use Rattle.hq_rules_overlap.specs.Pairs.{IsFirst}
-use Rattle.hq_rules_overlap.specs.Sets.{arena_view}
-use Rattle.hq_rules_overlap.proofs.Sifting.{first_still}
+use Rattle.hq_overlap_classes.specs.Disputes.{noted_in}
+use Rattle.hq_overlap_sets.specs.Pairs.{IsFirst}
+use Rattle.hq_overlap_sets.specs.Sets.{arena_view}
+use Rattle.hq_overlap_classes.proofs.Sifting.{first_still}
 use Rattle.hq_rules_overlap.proofs.first.first_sifted.Goals as goal
 
 pub returns : goal.returns

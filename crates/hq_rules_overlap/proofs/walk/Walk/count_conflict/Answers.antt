@@ -1,9 +1,9 @@
 -- What is counted is a conflict.
 use Rattle.std.proofs.Common.{◌∙◌, ap, sym, refl, subst, Option, ℕ}
 use Rattle.hq_gql_nodes.specs.Least.{earlier, at_if}
-use Rattle.hq_rules_overlap.specs.Pairs.{later, AtMost}
-use Rattle.hq_rules_overlap.specs.Sets.{field_in, arena_view}
-use Rattle.hq_rules_overlap.proofs.FieldTests.{violates_by, by_violates}
+use Rattle.hq_overlap_sets.specs.Pairs.{later, AtMost}
+use Rattle.hq_overlap_sets.specs.Sets.{field_in, arena_view}
+use Rattle.hq_overlap_sets.proofs.FieldTests.{violates_by, by_violates}
 use Rattle.hq_rules_overlap.proofs.Steps.{spend_step, count_step, counted_now, step_then}
 use Rattle.hq_rules_overlap.proofs.walk.Walk.count_conflict.Goals as goal
 

@@ -2,8 +2,8 @@
 use Rattle.std.proofs.Common.{ℕ}
 use Rattle.std.proofs.lemmas.List.Elements.{All-weaker}
 use Rattle.std.proofs.lemmas.Result.{on_ok_weaker}
-use Rattle.hq_rules_overlap.specs.Pairs.{fields_at, spreads_at}
-use Rattle.hq_rules_overlap.specs.Sets.{FieldTree, arena_view}
+use Rattle.hq_overlap_sets.specs.Pairs.{fields_at, spreads_at}
+use Rattle.hq_overlap_sets.specs.Sets.{FieldTree, arena_view}
 use Rattle.hq_rules_overlap.specs.Walk.{Known, ComparedWith, Step}
 use Rattle.hq_rules_overlap.proofs.Steps.{spend_step, step_then, known_kept, with_kept, on_ok_weaker2}
 use Rattle.hq_rules_overlap.proofs.walk.Walk.finish_sets.Goals as goal
