@@ -1,2 +1,4 @@
+mod Leading
+mod Counting
 pub mod Joining
 pub mod Sifting

@@ -4,16 +4,19 @@ use Rattle.std.specs.Prelude.{MatchOption, ⊤, filter, slice_get, option_map, n
 use Rattle.std.specs.List.{All, Contains}
 use Rattle.hq_schema.specs.Schema.{SchemaTree}
 use Rattle.hq_overlap_classes.specs.declared.disputes.Disputes.{Disputes}
+use Rattle.hq_overlap_sets.specs.declared.sets.Arena.{Arena}
 use Rattle.hq_overlap_sets.specs.declared.sets.Entry.{Entry}
 use Rattle.hq_overlap_sets.specs.declared.sets.Set.{Set}
 use Rattle.std.proofs.lemmas.Bool.{both_ways, cases_lt, or_left, or_right}
+use Rattle.hq_overlap_classes.specs.Classes.{size_at}
 use Rattle.hq_overlap_classes.specs.Disputes.{Noted, IsSettled, IsTrueOf, IsTrueAt, IsTrueOfAll, keeps, kept_set, IsKeptBelow, AreKept, class_of, first_of, is_concerned, is_disputed, key_number, keeps_entry, noted_in}
 use Rattle.hq_overlap_sets.specs.Pairs.{fields_in, spreads_in, fields_at, spreads_at, here, Reached, SameLabel, Violates, later, AtMost, IsFirst}
-use Rattle.hq_overlap_sets.specs.Sets.{FieldTree, SetTree, entry_view, set_view}
+use Rattle.hq_overlap_sets.specs.Sets.{FieldTree, SetTree, entry_view, set_view, set_in, arena_view}
 use Rattle.hq_overlap_sets.specs.Together as walk
 use Rattle.hq_overlap_sets.specs.Together.{Together, AreConflicts}
 use Rattle.hq_overlap_sets.proofs.Tests.{no_member, contains_cases, contains_first, contains_later}
 use Rattle.hq_overlap_sets.proofs.Least.{same_some}
+use Rattle.std.proofs.lemmas.List.{length-map}
 use Rattle.std.proofs.lemmas.List.Elements.{All-contains}
 use Rattle.hq_overlap_sets.proofs.Reaching.{from_together, in_sets, found_from, label_turned, label_joined}
 use Rattle.hq_overlap_sets.proofs.Together.{set_of_field, set_of_spread}
@@ -27,7 +30,7 @@ one_from true y ys zs x h f =
     ])
 one_from false y ys zs x h f = contains_later y ys x (f h)
 
-filter_from : {X : Type 0} (p : X → Bool) (xs : List X) (x : X) → Contains (filter p xs) x → Contains xs x
+pub filter_from : {X : Type 0} (p : X → Bool) (xs : List X) (x : X) → Contains (filter p xs) x → Contains xs x
 filter_from p [] x h = h
 filter_from p (y ∷ ys) x h = one_from (p y) y ys (filter p ys) x h (filter_from p ys x)
 
@@ -310,3 +313,36 @@ module _ (s : SchemaTree) (d : Disputes) (c k : ℕ) (first e : Entry) where
         settled = λ h. settled (known ∙ h);
         told = λ h. let two = told_by (is_concerned d c) (is_disputed d c k) (is_concerned d (class_of d.classes.sets e.below)) told h in (sym known ∙ two.0, two.1);
       }
+
+-- what is kept counts no more
+short_by : {X : Type 0} (b : Bool) (x : X) (ys : List X) (n : ℕ) → length ys ≤ n → length (cond b (x ∷ ys) ys) ≤ n + 1
+short_by true x ys n h = omega (arith, h)
+short_by false x ys n h = omega (arith, h)
+
+filter_short : {X : Type 0} (p : X → Bool) (xs : List X) → length (filter p xs) ≤ length xs
+filter_short p [] = omega arith
+filter_short p (x ∷ xs) = short_by (p x) x (filter p xs) (length xs) (filter_short p xs)
+
+smaller_by : (b : Bool) (n : Noted) (s : ℕ) (x : SetTree) → n.concerned (n.class s) ≡ b
+    → (length (kept_set n s x).fields ≤ length x.fields) × (length (kept_set n s x).spreads ≤ length x.spreads)
+smaller_by true n s x e = rw e (filter_short (keeps n (n.class s)) x.fields, omega arith)
+smaller_by false n s x e = rw e (omega arith, omega arith)
+
+smaller_in : (n : Noted) (s : ℕ) (o : Option SetTree) → (length (fields_in (option_map (kept_set n s) o)) ≤ length (fields_in o)) × (length (spreads_in (option_map (kept_set n s) o)) ≤ length (spreads_in o))
+smaller_in n s None = (omega arith, omega arith)
+smaller_in n s (Some x) = smaller_by (n.concerned (n.class s)) n s x refl
+
+pub kept_smaller : (n : Noted) (sets kept : List SetTree) → AreKept n sets kept → (s : ℕ) → size_at kept s ≤ size_at sets s
+kept_smaller n sets kept are_kept s =
+    let e = kept_get n sets kept are_kept s in
+    let fields = ap (λ o. length (fields_in o)) e in
+    let spreads = ap (λ o. length (spreads_in o)) e in
+    let low = smaller_in n s (slice_get sets s) in
+    omega (arith, fields, spreads, low.0, low.1)
+
+-- all sets are kept
+pub all_kept : (n : Noted) (a : Arena) (items : List Set) (count : ℕ) → length a.sets.items ≤ count → length items ≡ count → IsKeptBelow n (arena_view a) (map (set_in a) items) count → count ≤ length a.sets.items → AreKept n (arena_view a) (map (set_in a) items)
+all_kept n a items count all long each inside =
+    let sets = length-map a.sets.items (set_in a) in
+    let kept = length-map items (set_in a) in
+    record { as_long = omega (arith, sets, kept, long, all, inside); each = λ s h. each s (omega (arith, h, sets, all)) }

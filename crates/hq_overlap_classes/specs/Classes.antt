@@ -1,5 +1,5 @@
 -- Selection sets of one class, and sets that are at fault: what a document itself says, before anything is noted of it.
-use Rattle.std.specs.Prelude.{◌≡◌, ℕ, ◌<◌, List, length}
+use Rattle.std.specs.Prelude.{◌≡◌, ℕ, ◌<◌, ◌+◌, List, length, sum_by}
 use Rattle.std.specs.List.{All, Contains}
 use Rattle.std.specs.List.Sorted.{IsStrictlyIncreasing}
 use Rattle.hq_overlap_sets.specs.Pairs.{fields_at, spreads_at, Violates}
@@ -25,6 +25,10 @@ pub data AtFault (sets : List SetTree) : ℕ → Type 0 where
   differ : {c : ℕ} {a b : FieldTree} → IsOfClass sets c a → IsOfClass sets c b → Violates a b → AtFault sets c
   leads : {c : ℕ} {a : FieldTree} → IsOfClass sets c a → AtFault sets a.below → AtFault sets c
 
--- more than so many sets are at fault
+-- a set counts one, and each of its fields and spreads one more
+abbrev pub size_at : List SetTree → ℕ → ℕ
+size_at sets s = length (fields_at sets s) + length (spreads_at sets s) + 1
+
+-- the sets at fault, with their fields and spreads, are more than so many
 abbrev pub MoreAtFault : List SetTree → (count : ℕ) → Type 0
-MoreAtFault sets count = (found : List ℕ) × IsStrictlyIncreasing found × All (AtFault sets) found × (count < length found)
+MoreAtFault sets count = (found : List ℕ) × IsStrictlyIncreasing found × All (AtFault sets) found × (count < sum_by (size_at sets) found)

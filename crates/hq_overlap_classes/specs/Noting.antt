@@ -1,6 +1,6 @@
 -- What is noted in memory of a document's sets is so: sets that share a class are of one class, what is noted of a class stands in it,
 -- and what is said to be in dispute is.
-use Rattle.std.specs.Prelude.{◌≡◌, ℕ, List, Bool, true, Some, ◌<◌, slice_get, Vec}
+use Rattle.std.specs.Prelude.{◌≡◌, ℕ, List, Bool, true, Some, ◌<◌, ◌≤◌, sum_by, slice_get, Vec}
 use Rattle.std.specs.declared.alloc.Global.{Global}
 use Rattle.std.specs.List.{All, Contains}
 use Rattle.std.specs.List.Sorted.{IsStrictlyIncreasing}
@@ -8,7 +8,7 @@ use Rattle.hq_schema.specs.Schema.{SchemaTree}
 use Rattle.hq_overlap_classes.specs.declared.classes.Classes.{Classes}
 use Rattle.hq_overlap_classes.specs.declared.disputes.Disputes.{Disputes}
 use Rattle.hq_overlap_classes.specs.declared.partition.Partition.{Partition}
-use Rattle.hq_overlap_classes.specs.Classes.{Joined, IsOfClass, AtFault}
+use Rattle.hq_overlap_classes.specs.Classes.{Joined, IsOfClass, AtFault, size_at}
 use Rattle.hq_overlap_classes.specs.Disputes.{first_of, label_of, is_disputed}
 use Rattle.hq_overlap_sets.specs.declared.sets.Entry.{Entry}
 use Rattle.hq_overlap_sets.specs.declared.sets.Pair.{Pair}
@@ -54,8 +54,10 @@ pub record IsSo (s : SchemaTree) (sets : List SetTree) (d : Disputes) : Type 0 w
   pub noted : AreDisputed s sets d
   pub concerned : AreMarked sets d.concerned.items
 
--- sets at fault in ascending order, all before a number
-pub record AreFound (sets : List SetTree) (before : ℕ) (found : List ℕ) : Type 0 where
+-- sets at fault in ascending order, all before a number, that count no less than a sum
+pub record AreFound (sets : List SetTree) (before sum : ℕ) : Type 0 where
+  pub found : List ℕ
   pub ascending : IsStrictlyIncreasing found
   pub at_fault : All (AtFault sets) found
   pub low : All (λ s. s < before) found
+  pub enough : sum ≤ sum_by (size_at sets) found

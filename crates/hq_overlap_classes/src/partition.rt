@@ -1,7 +1,8 @@
 //! The selection sets of a document in classes, each with the list of its members; of two classes that are joined the smaller one is
 //! renamed.
-ghost use Rattle.std.specs.Prelude.{◌≡◌, IfOk, OnOk};
+ghost use Rattle.std.specs.Prelude.{◌≡◌, ◌++◌, ◌∷◌, [], IfOk, OnOk};
 ghost use Rattle.std.specs.List.{All};
+ghost use Rattle.hq_gql_nodes.specs.Reach.{graph_view};
 ghost use Rattle.hq_overlap_classes.specs.Classes.{Joined};
 ghost use Rattle.hq_overlap_classes.specs.Disputes.{class_of};
 ghost use Rattle.hq_overlap_classes.specs.Noting.{AreClasses, IsPartition};
@@ -44,7 +45,7 @@ impl Partition {
     // Adds the next set in a class of its own.
     fn push(&mut self, alloc: Global, number: usize) -> Result<(), Memory>
         ensures classes { OnOk result (self.new.classes.items ≡ self.old.classes.items ++ (number ∷ [])) }
-        ensures members { OnOk result (map (λ row. row.items) self.new.members.items ≡ map (λ row. row.items) self.old.members.items ++ ((number ∷ []) ∷ [])) }
+        ensures members { OnOk result (graph_view self.new.members.items ≡ graph_view self.old.members.items ++ ((number ∷ []) ∷ [])) }
     {
         let members = alone(alloc, number)?;
         self.classes.push(number)?;

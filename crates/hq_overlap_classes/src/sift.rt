@@ -2,6 +2,7 @@
 ghost use Rattle.std.specs.Prelude.{◌≡◌, ◌||◌, ◌<◌, ◌++◌, ◌∷◌, [], Some, map, length, filter, slice_get, option_map, true, not, IfOk, OnOk, if◌then◌else◌};
 ghost use Rattle.std.specs.List.{All};
 ghost use Rattle.hq_schema.specs.Schema.{schema_view};
+ghost use Rattle.hq_overlap_classes.specs.Classes.{size_at};
 ghost use Rattle.hq_overlap_classes.specs.Disputes.{IsSettled, IsTrueOf, IsTrueAt, IsTrueOfAll, keeps_entry, kept_set, AreKept, class_of, first_of, is_disputed, is_concerned, key_number, noted_in};
 ghost use Rattle.hq_overlap_sets.specs.Pairs.{SameLabel};
 ghost use Rattle.hq_overlap_sets.specs.Sets.{entry_view, set_in, arena_view};
@@ -232,7 +233,8 @@ impl<'a> Disputes<'a> {
         alloc: Global,
         arena: &Arena<'a>,
     ) -> Result<Vec<Set<'a>>, Memory>
-        ensures { IfOk result (λ kept. AreKept (noted_in (schema_view arena.now.schema.now) self.now) (arena_view arena.now) (map (set_in arena.now) kept.items)) }
+        ensures kept { IfOk result (λ kept. AreKept (noted_in (schema_view arena.now.schema.now) self.now) (arena_view arena.now) (map (set_in arena.now) kept.items)) }
+        ensures smaller { IfOk result (λ kept. (s : ℕ) → size_at (map (set_in arena.now) kept.items) s ≤ size_at (arena_view arena.now) s) }
     {
         let mut sets = Vec::with_capacity(alloc, arena.sets.len())?;
         for number in 0..arena.sets.len() {

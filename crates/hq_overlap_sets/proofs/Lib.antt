@@ -1,6 +1,6 @@
 pub mod Tests
 pub mod ShapeLemmas
-mod ValueLemmas
+pub mod ValueLemmas
 mod Noted
 mod ValueSteps
 mod Ways
@@ -11,3 +11,4 @@ pub mod Stepping
 pub mod Reaching
 pub mod ArenaLemmas
 pub mod Together
+pub mod RowLemmas

@@ -43,3 +43,7 @@ all_at_end_itself P xs ys i e h all = subst (All P) e (subst (All P) (take_all i
 -- an element of a list that equals another
 pub stands_in : {X : Type 0} (xs ys : List X) (i : ℕ) (d : X) → xs ≡ ys → i < length xs → Contains ys (get_or xs i d)
 stands_in xs ys i d e h = subst (λ zs. Contains zs (get_or xs i d)) e (Contains-get_or xs i d h)
+
+-- what holds of each element that stands in a list holds of all
+pub all_from : {X : Type 0} (P : X → Type 0) (xs : List X) → ((x : X) → Contains xs x → P x) → All P xs
+all_from P xs f k d h = f (get_or xs k d) (Contains-get_or xs k d h)

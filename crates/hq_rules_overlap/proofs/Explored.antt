@@ -1,20 +1,23 @@
 -- Steps of the search by groups.
 use Rattle.std.proofs.Common.{◌≡◌, ◌∙◌, ℕ, zero, suc, ◌+◌, ◌<◌, ◌≤◌, List, [], ◌∷◌, ◌++◌, length, Bool, true, false, Option, Some, None, ◌⊎◌, inl, inr, sym, refl, ap, subst, arith, append_assoc}
-use Rattle.std.specs.Prelude.{slice_get, Vec}
-use Rattle.std.specs.declared.alloc.Global.{Global}
+use Rattle.std.specs.Prelude.{slice_get}
+use Rattle.hq_gql_nodes.specs.Reach.{graph_view}
 use Rattle.std.specs.List.{All, Contains}
 use Rattle.std.proofs.lemmas.Bool.{cases_lt}
 use Rattle.std.proofs.lemmas.List.Elements.{All-contains, Contains-append_left}
 use Rattle.std.proofs.lemmas.Option.{slice_get_within}
 use Rattle.hq_overlap_sets.specs.Sets.{FieldTree, SetTree}
-use Rattle.hq_overlap_sets.specs.Pairs.{Violates, later, AtMost}
+use Rattle.hq_overlap_sets.specs.Pairs.{fields_at, spreads_at, Violates, later, AtMost}
 use Rattle.hq_overlap_sets.specs.Together as walk
-use Rattle.hq_overlap_sets.specs.Together.{Together}
+use Rattle.hq_overlap_sets.specs.Together.{Together, AreConflicts}
 use Rattle.hq_overlap_sets.proofs.Growing.{nothing_more}
 use Rattle.hq_overlap_sets.proofs.Least.{same_some}
-use Rattle.hq_overlap_sets.proofs.Tests.{no_member, contains_cases, contains_first}
+use Rattle.hq_overlap_sets.proofs.RowLemmas.{only_one}
+use Rattle.hq_overlap_sets.proofs.Tests.{no_member, contains_cases}
 use Rattle.hq_rules_overlap.specs.Groups.{HasAll, AreTogether, IsClosed, IsWithin, AreOf, AreCounted, InOne, HaveBelow, IsDone, IsExplored, AreExplored, IsCovered}
-use Rattle.hq_rules_overlap.specs.Exploring.{Continues, IsKept}
+use Rattle.hq_rules_overlap.specs.declared.groups.Groups.{Groups}
+use Rattle.hq_rules_overlap.specs.Walk.{IsEmpty}
+use Rattle.hq_rules_overlap.specs.Exploring.{Continues, IsKept, is_marked, lists_of, Goes, IsSound, IsAtEnd, LookedAt, Explored}
 
 pub goes_nowhere : (lists : List (List ℕ)) → Continues lists lists
 goes_nowhere lists = ([], sym (nothing_more lists))
@@ -101,3 +104,80 @@ group_done sets lists least group fields closed of_group counted below = record 
   counted = λ a b p q v. counted a b (of_group.all a p) (of_group.all b q) v;
   below = λ a b p q e. below a b (of_group.all a p) (of_group.all b q) e;
 }
+
+-- a set that is covered stays so
+pub covered_kept : (sets : List SetTree) (old new : List (List ℕ)) (least lower : Option ℕ) → Continues old new → ((n : ℕ) → AtMost least n → AtMost lower n) → (s : ℕ) → IsCovered sets old least s → IsCovered sets new lower s
+covered_kept sets old new least lower more low s x = explored_kept sets old new least lower more low (s ∷ []) x
+
+-- a list that is kept stays so
+pub kept_longer : (old new : List (List ℕ)) (list : List ℕ) → Continues old new → IsKept old list → IsKept new list
+kept_longer old new list more kept s h = still_there old new list more (kept s h)
+
+-- a state of which only steps changed
+pub sound_same : (sets : List SetTree) (p q : Groups) → q.lists ≡ p.lists → q.covered ≡ p.covered → q.found ≡ p.found → IsSound sets p → IsSound sets q
+sound_same sets p q lists covered found sound =
+    let same = ap (λ ls. graph_view ls.rows.items) lists in
+    let least = ap (λ f. f.least) found in
+    record {
+      best = subst (λ f. AreConflicts sets f.best) (sym found) sound.best;
+      together = subst (All (AreTogether sets)) (sym same) sound.together;
+      covered = λ s m.
+          subst (λ (ls : List (List ℕ)). IsCovered sets ls q.found.least s) (sym same)
+          (subst (λ (o : Option ℕ). IsCovered sets (lists_of p) o s) (sym least) (sound.covered s (subst (λ marks. is_marked marks.items s ≡ true) covered m)));
+    }
+
+pub goes_same : (p q r : Groups) → q.lists ≡ p.lists → q.found ≡ p.found → Goes q r → Goes p r
+goes_same p q r lists found g = record {
+  lists = subst (λ ls. Continues (graph_view ls.rows.items) (lists_of r)) lists g.lists;
+  lower = λ n h. g.lower n (subst (λ f. AtMost f.least n) (sym found) h);
+}
+
+pub looked_same : (sets : List SetTree) (p q r : Groups) (group : List ℕ) → q.lists ≡ p.lists → q.found ≡ p.found → LookedAt sets q r group → LookedAt sets p r group
+looked_same sets p q r group lists found x = record { sound = x.sound; goes = goes_same p q r lists found x.goes; done = x.done }
+
+pub goes_then : (p q r : Groups) → Goes p q → Goes q r → Goes p r
+goes_then p q r a b = record { lists = goes_on (lists_of p) (lists_of q) (lists_of r) a.lists b.lists; lower = λ n h. b.lower n (a.lower n h) }
+
+pub goes_still : (p : Groups) → Goes p p
+goes_still p = record { lists = goes_nowhere (lists_of p); lower = λ n h. h }
+
+-- a set without fields and spreads is a group that is done
+empty_done : (sets : List SetTree) (lists : List (List ℕ)) (least : Option ℕ) (s : ℕ) → IsEmpty sets s → IsDone sets lists least (s ∷ [])
+empty_done sets lists least s empty =
+    let no_field = λ (a : FieldTree) (w : IsWithin sets (s ∷ []) a). no_member a (subst (λ (fs : List FieldTree). Contains fs a) (ap (fields_at sets) (sym (only_one s w.set w.of_group)) ∙ empty.fields) w.stands) in
+    record {
+      closed = λ t u h c. absurd (no_member u (subst (λ (us : List ℕ). Contains us u) (ap (spreads_at sets) (sym (only_one s t h)) ∙ empty.spreads) c));
+      counted = λ a b p q v. absurd (no_field a p);
+      below = λ a b p q e. absurd (no_field a p);
+    }
+
+pub empty_covered : (sets : List SetTree) (lists : List (List ℕ)) (least : Option ℕ) (s : ℕ) → IsEmpty sets s → IsCovered sets lists least s
+empty_covered sets lists least s empty = record { group = s ∷ []; done = empty_done sets lists least s empty; has = λ t h. h }
+
+-- a list that was looked at is explored, and its sets are marked
+module _ (sets : List SetTree) (p q r : Groups) (list group : List ℕ) (has : HasAll group list) (looked : LookedAt sets p q group)
+    (lists : r.lists ≡ q.lists) (found : r.found ≡ q.found)
+    (marks : (s : ℕ) → is_marked r.covered.items s ≡ true → (is_marked q.covered.items s ≡ true) ⊎ Contains group s) where
+  its_group : IsExplored sets (lists_of q) q.found.least group
+  its_group = record { group = group; done = looked.done; has = λ s h. h }
+
+  covered_by : (s : ℕ) → (is_marked q.covered.items s ≡ true) ⊎ Contains group s → IsCovered sets (lists_of q) q.found.least s
+  covered_by s (inl old) = looked.sound.covered s old
+  covered_by s (inr new) = covered_of sets (lists_of q) q.found.least group s its_group new
+
+  at_r : (P : List (List ℕ) → Option ℕ → Type 0) → P (lists_of q) q.found.least → P (lists_of r) r.found.least
+  at_r P h = subst (λ (ls : List (List ℕ)). P ls r.found.least) (sym (ap (λ ls. graph_view ls.rows.items) lists)) (subst (P (lists_of q)) (sym (ap (λ f. f.least) found)) h)
+
+  pub marked_sound : IsSound sets r
+  marked_sound = record {
+    best = subst (λ f. AreConflicts sets f.best) (sym found) looked.sound.best;
+    together = subst (λ ls. All (AreTogether sets) (graph_view ls.rows.items)) (sym lists) looked.sound.together;
+    covered = λ s m. at_r (λ ls o. IsCovered sets ls o s) (covered_by s (marks s m));
+  }
+
+  pub marked_explored : Explored sets p r list
+  marked_explored = record {
+    sound = marked_sound;
+    goes = record { lists = subst (λ ls. Continues (lists_of p) (graph_view ls.rows.items)) (sym lists) looked.goes.lists; lower = λ n h. subst (λ f. AtMost f.least n) (sym found) (looked.goes.lower n h) };
+    explored = at_r (λ ls o. IsExplored sets ls o list) (record { group = group; done = looked.done; has = has });
+  }

@@ -4,13 +4,13 @@ use Rattle.std.specs.List.{All, Contains}
 use Rattle.std.specs.List.Sorted.{IsPermutation}
 use Rattle.std.proofs.lemmas.List.{take_more}
 use Rattle.std.proofs.lemmas.List.Elements.{All-nil, All-append, All-contains, All-weaker, Contains-append_left, Contains-append_right, Contains-push}
-use Rattle.std.proofs.lemmas.List.Sorted.{Contains-permutation}
+use Rattle.std.proofs.lemmas.List.Sorted.{IsPermutation-map, All-permutation, Contains-permutation}
 use Rattle.hq_overlap_sets.specs.Sets.{FieldTree, SetTree}
 use Rattle.hq_overlap_sets.specs.Pairs.{fields_at}
-use Rattle.hq_overlap_sets.proofs.Tests.{no_member, contains_cases, contains_first, contains_later, contains_map}
+use Rattle.hq_overlap_sets.proofs.Tests.{no_member, contains_cases}
 use Rattle.hq_rules_overlap.specs.Groups.{AreTogether, IsWithin, AreOf, IsMet, AreMet}
-use Rattle.hq_rules_overlap.proofs.Grouped.{all_from}
-use Rattle.hq_rules_overlap.proofs.Growth.{split_member}
+use Rattle.hq_overlap_sets.proofs.Stepping.{all_from}
+use Rattle.hq_overlap_sets.proofs.RowLemmas.{split_member}
 
 -- the same field of a larger group
 pub within_more : (sets : List SetTree) (group more : List ℕ) (a : FieldTree) → ((s : ℕ) → Contains group s → Contains more s) → IsWithin sets group a → IsWithin sets more a
@@ -49,22 +49,13 @@ module _ (sets : List SetTree) (group : List ℕ) (i x : ℕ) (old new : List Fi
   }
 
 -- the same fields in another order
-from_map : {X Y : Type 0} (f : X → Y) (xs : List X) (y : Y) → Contains (map f xs) y → (x : X) × Contains xs x × (f x ≡ y)
-from_map f [] y h = absurd (no_member y h)
-from_map f (x ∷ xs) y h =
-    (elim (contains_cases (f x) (map f xs) y h) [
-      | inl same ↦ (x, contains_first x xs, same)
-      | inr behind ↦ let r = from_map f xs y behind in (r.0, contains_later x xs r.0 r.1, r.2)
-    ])
-
-map_turned : {X Y : Type 0} (f : X → Y) (xs ys : List X) (y : Y) → IsPermutation xs ys → Contains (map f xs) y → Contains (map f ys) y
-map_turned f xs ys y p h = let r = from_map f xs y h in subst (Contains (map f ys)) r.2 (contains_map f ys r.0 (Contains-permutation xs ys r.0 p r.1))
-
-pub of_turned : {X : Type 0} (sets : List SetTree) (group : List ℕ) (f : X → FieldTree) (xs ys : List X) → IsPermutation xs ys → IsPermutation ys xs → AreOf sets group (map f xs) → AreOf sets group (map f ys)
-of_turned sets group f xs ys p q before = record {
-  only = all_from (IsWithin sets group) (map f ys) (λ a m. All-contains (IsWithin sets group) (map f xs) a before.only (map_turned f ys xs a q m));
-  all = λ a w. map_turned f xs ys a p (before.all a w);
-}
+pub of_turned : {X : Type 0} (sets : List SetTree) (group : List ℕ) (f : X → FieldTree) (xs ys : List X) → IsPermutation xs ys → AreOf sets group (map f xs) → AreOf sets group (map f ys)
+of_turned sets group f xs ys p before =
+    let q = IsPermutation-map f xs ys p in
+    record {
+      only = All-permutation (IsWithin sets group) (map f xs) (map f ys) q before.only;
+      all = λ a w. Contains-permutation (map f xs) (map f ys) a q (before.all a w);
+    }
 
 -- each two fields of a group of sets that are put together are met
 pub are_met : (sets : List SetTree) (group : List ℕ) (fields : List FieldTree) → AreTogether sets group → AreOf sets group fields → AreMet sets fields

@@ -70,7 +70,3 @@ module _ (first : List ℕ → Option FieldTree) (label : List ℕ → ℕ → O
               | inl y ↦ absurd (settled_both a b x y v)
             ])
       ])
-
--- what holds of each element that stands in a list holds of all
-pub all_from : {X : Type 0} (P : X → Type 0) (xs : List X) → ((x : X) → Contains xs x → P x) → All P xs
-all_from P xs f k d h = f (get_or xs k d) (Contains-get_or xs k d h)

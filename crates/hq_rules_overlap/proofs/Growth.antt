@@ -12,21 +12,14 @@ use Rattle.hq_overlap_sets.specs.Together as walk
 use Rattle.hq_overlap_sets.specs.Together.{Together}
 use Rattle.hq_overlap_sets.proofs.Growing.{nothing_more}
 use Rattle.hq_overlap_sets.proofs.Least.{same_some}
-use Rattle.hq_overlap_sets.proofs.Tests.{no_member, contains_first, contains_cases}
+use Rattle.hq_overlap_sets.proofs.RowLemmas.{split_member}
+use Rattle.hq_overlap_sets.proofs.Tests.{contains_first}
 use Rattle.hq_rules_overlap.specs.Groups.{HasAll, AreTogether, Grows, IsClosed}
-use Rattle.hq_rules_overlap.proofs.Grouped.{all_from}
+use Rattle.hq_overlap_sets.proofs.Stepping.{all_from}
 
--- what stands in two lists one after the other stands in one of them
-pub split_member : (xs ys : List ℕ) (s : ℕ) → Contains (xs ++ ys) s → Contains xs s ⊎ Contains ys s
-split_member [] ys s h = inr h
-split_member (x ∷ xs) ys s h =
-    (elim (contains_cases x (xs ++ ys) s h) [
-      | inl same ↦ inl (subst (Contains (x ∷ xs)) same (contains_first x xs))
-      | inr behind ↦ (elim (split_member xs ys s behind) [
-          | inl left ↦ inl (Contains-append_right (x ∷ []) xs s left)
-          | inr right ↦ inr right
-        ])
-    ])
+-- a number at a place stands in the list
+pub contains_at : (xs : List ℕ) (i x y : ℕ) → slice_get xs i ≡ Some x → x ≡ y → Contains xs y
+contains_at xs i x y h e = subst (Contains xs) e (i, slice_get_within xs i x h, get_or_from_slice_get xs i x x h)
 
 -- nothing is added of what stands there, and what is added at the end
 pub adds_nothing : (old : List ℕ) (s : ℕ) → Contains old s → Grows (s ∷ []) old old
@@ -88,6 +81,9 @@ module _ (sets : List SetTree) (s : ℕ) (old new : List ℕ) (together : AreTog
 -- the sets so far have what they spread in the group
 abbrev pub HaveSpreads : List SetTree → List ℕ → ℕ → Type 0
 HaveSpreads sets group count = (k s u : ℕ) → k < count → slice_get group k ≡ Some s → Contains (spreads_at sets s) u → Contains group u
+
+pub no_spreads : (sets : List SetTree) (group : List ℕ) → HaveSpreads sets group 0
+no_spreads sets group k s u h e c = absurd (omega arith)
 
 get_before : (xs ys : List ℕ) (k z : ℕ) → k < length xs → slice_get (xs ++ ys) k ≡ Some z → slice_get xs k ≡ Some z
 get_before [] ys k z l h = absurd (omega arith)

@@ -1,12 +1,14 @@
 -- The rows of sets below the fields of each key.
-use Rattle.std.proofs.Common.{◌≡◌, ◌∙◌, ℕ, zero, suc, ◌<◌, ◌≤◌, List, [], ◌∷◌, length, get_or, ◌⊎◌, inl, inr, sym, refl, ap, subst, arith}
+use Rattle.std.proofs.Common.{◌≡◌, ◌∙◌, ℕ, zero, suc, ◌<◌, ◌≤◌, List, [], ◌∷◌, map, length, get_or, ◌⊎◌, inl, inr, sym, refl, ap, subst, arith}
 use Rattle.std.specs.Prelude.{slice_get, Vec}
 use Rattle.std.specs.declared.alloc.Global.{Global}
 use Rattle.std.specs.Borrow.{Bor}
 use Rattle.std.specs.HashMap.{HashMap}
 use Rattle.std.specs.List.{All, Contains}
 use Rattle.std.proofs.lemmas.Bool.{cases_lt}
+use Rattle.std.proofs.lemmas.List.{length-map}
 use Rattle.std.proofs.lemmas.List.Elements.{All-contains, Contains-get_or}
+use Rattle.std.proofs.lemmas.Option.{slice_get_within}
 use Rattle.hq_gql_nodes.specs.Reach.{graph_view}
 use Rattle.hq_overlap_sets.specs.Rows.{row_at}
 use Rattle.hq_overlap_sets.specs.Sets.{FieldTree, SetTree, place_in}
@@ -71,3 +73,7 @@ below_more fields old new at a s stands key is only before c t h =
       | inl old ↦ before c t old
       | inr same ↦ record { field = a; stands = stands; of_key = subst (λ (n : ℕ). IsKeyAt fields n a) same.0 key; is = is ∙ same.1 }
     ])
+
+-- the place of a key is one of the list
+pub key_inside : {X : Type 0} (f : X → FieldTree) (xs : List X) (at : ℕ) (a : FieldTree) → IsKeyAt (map f xs) at a → at < length xs
+key_inside f xs at a k = subst (λ (n : ℕ). at < n) (length-map xs f) (slice_get_within (map f xs) at k.first k.stands)

@@ -7,14 +7,15 @@ use Rattle.std.specs.Result.{OnOk}
 use Rattle.std.proofs.lemmas.Bool.{eqb-true, and_parts, or_cases}
 use Rattle.std.proofs.lemmas.List.{take_all, length-map, get_or-map}
 use Rattle.std.proofs.lemmas.List.Elements.{All-nil, All-more, All-weaker, All-map, Contains-get_or, Contains-push, Contains-push_cases, Contains-append_left}
-use Rattle.hq_rules_overlap.specs.declared.walk.Pair.{Pair}
+use Rattle.hq_overlap_sets.specs.declared.sets.Pair.{Pair}
 use Rattle.hq_rules_overlap.specs.declared.walk.Walk.{Walk}
 use Rattle.hq_overlap_sets.specs.Sets.{FieldTree, SetTree}
 use Rattle.hq_overlap_sets.specs.Pairs.{fields_in, spreads_in, fields_at, AtMost, Violates, later}
 use Rattle.hq_gql_nodes.specs.Least.{earlier, at_if}
 use Rattle.hq_overlap_sets.proofs.Growing.{nothing_more, join_assoc}
 use Rattle.hq_overlap_sets.proofs.Least.{low_left, low_right, earlier_cases, at_if_true, at_if_low}
-use Rattle.hq_rules_overlap.specs.Walk.{Together, IsSound, IsEmpty, Step, Met, is_marked, Known, Compared, ComparedWith, IsDone, IsConflict, AreConflicts}
+use Rattle.hq_rules_overlap.specs.Walk.{IsSound, IsEmpty, Step, Met, is_marked, Known, Compared, ComparedWith, IsDone}
+use Rattle.hq_overlap_sets.specs.Together.{Together, IsConflict, AreConflicts}
 
 -- one more pair
 module _ (sets : List SetTree) (p q : Walk) (l r : ℕ) (together : Together sets l r)
@@ -88,11 +89,6 @@ count_step sets p q v n pairs marks best conflict =
 
 pub counted_now : (o : Option ℕ) (v : Bool) (n : ℕ) → v ≡ true → AtMost (earlier o (at_if v n)) n
 counted_now o v n h = low_right o (at_if v n) n (at_if_low v n h)
-
--- only the steps that are left changed
-pub spend_step : (sets : List SetTree) (p q : Walk) → q.pairs ≡ p.pairs → q.marks ≡ p.marks → q.best ≡ p.best → Step sets p q
-spend_step sets p q pairs marks best =
-    same_step sets p q pairs marks (λ n h. subst (λ o. AtMost o n) (sym best) h) (λ found. subst (AreConflicts sets) (sym best) found)
 
 pub step_refl : (sets : List SetTree) (p : Walk) → Step sets p p
 step_refl sets p = same_step sets p p refl refl (λ n h. h) (λ f. f)

@@ -9,7 +9,7 @@ use Rattle.hq_rules_overlap.specs.declared.groups.Groups.{Groups}
 use Rattle.hq_rules_overlap.specs.declared.groups.Search.{Search}
 use Rattle.hq_rules_overlap.specs.declared.groups.Search.TheVariants.{First, Known}
 use Rattle.hq_rules_overlap.specs.declared.lists.Lists.{Lists}
-use Rattle.hq_rules_overlap.specs.Groups.{AreTogether, IsDone, AreExplored, IsCovered}
+use Rattle.hq_rules_overlap.specs.Groups.{AreTogether, IsDone, IsExplored, AreExplored, IsCovered}
 
 -- a list goes on where another one ends
 abbrev pub Continues : List (List ℕ) → List (List ℕ) → Type 0
@@ -49,11 +49,11 @@ pub record LookedAt (sets : List SetTree) (p q : Groups) (group : List ℕ) : Ty
   pub goes : Goes p q
   pub done : IsDone sets (lists_of q) q.found.least group
 
--- .. and so was a list, with those of its group marked
+-- a list was explored
 pub record Explored (sets : List SetTree) (p q : Groups) (list : List ℕ) : Type 0 where
   pub sound : IsSound sets q
   pub goes : Goes p q
-  pub covered : (s : ℕ) → Contains list s → IsCovered sets (lists_of q) q.found.least s
+  pub explored : IsExplored sets (lists_of q) q.found.least list
 
 -- what a search tells
 abbrev pub Tells : List SetTree → Search → Type 0

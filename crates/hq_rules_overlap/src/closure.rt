@@ -9,12 +9,19 @@ use hq_base::Memory;
 use hq_overlap_sets::Arena;
 use std::alloc::Global;
 
+// The number at a place of a list.
+fn number_at(list: &[usize], place: usize) -> Option<usize>
+    ensures { result ≡ slice_get list.now place }
+{
+    list.get(place).copied()
+}
+
 // Whether a number stands at a place of a list.
 fn stands_at(list: &[usize], place: usize, number: usize) -> bool
     ensures { result ≡ true → Contains list.now number }
 {
-    match list.get(place) {
-        Some(found) => *found == number,
+    match number_at(list, place) {
+        Some(found) => found == number,
         None => false,
     }
 }
@@ -23,8 +30,8 @@ fn stands_at(list: &[usize], place: usize, number: usize) -> bool
 fn stands(list: &[usize], spots: &[usize], number: usize) -> bool
     ensures { result ≡ true → Contains list.now number }
 {
-    match spots.get(number) {
-        Some(place) => stands_at(list, *place, number),
+    match number_at(spots, number) {
+        Some(place) => stands_at(list, place, number),
         None => false,
     }
 }
@@ -70,13 +77,6 @@ fn add_spreads(
         Some(found) => add_all(group, spots, &found.spreads),
         None => Ok(()),
     }
-}
-
-// The number at a place of a list.
-fn number_at(list: &[usize], place: usize) -> Option<usize>
-    ensures { result ≡ slice_get list.now place }
-{
-    list.get(place).copied()
 }
 
 // Adds what the sets of a group spread, also those that are found meanwhile.

@@ -11,6 +11,7 @@ use crate::closure::closure;
 use crate::found::Found;
 use crate::gather::{heads_of, sorted_entries};
 use crate::lists::Lists;
+use crate::walk::is_empty;
 use hq_base::Memory;
 use hq_overlap_sets::{Arena, Entry};
 use std::alloc::Global;
@@ -169,7 +170,7 @@ impl Groups {
         self.run(alloc, arena)
     }
 
-    // The same, unless the set is passed over or is in a group that was looked at.
+    // The same, unless the set is passed over, is in a group that was looked at, or has nothing.
     fn cover(
         &mut self,
         alloc: Global,
@@ -184,7 +185,13 @@ impl Groups {
         ensures end { IfOk result (λ going. going ≡ true → IsAtEnd (arena_view arena.now) self.new) }
         ensures covered { IfOk result (λ going. going ≡ true → is_marked passed.now set ≡ false → IsCovered (arena_view arena.now) (lists_of self.new) self.new.found.least set) }
     {
-        if is_marked(passed, set) || is_marked(&self.covered, set) {
+        if is_marked(passed, set) {
+            return Ok(true);
+        }
+        if is_marked(&self.covered, set) {
+            return Ok(true);
+        }
+        if is_empty(arena, set) {
             return Ok(true);
         }
         self.start_at(alloc, arena, set)

@@ -12,5 +12,5 @@ mod lists;
 mod refusal;
 mod walk;
 
-pub use first::{MOST_SETS, first_overlap};
+pub use first::{MOST_AT_FAULT, first_overlap};
 pub use refusal::OverlapRefusal;

@@ -4,9 +4,9 @@ use thiserror::Error;
 /// Why the rule on fields that cannot be merged has no answer.
 #[derive(Clone, Copy, Debug, PartialEq, Eq, Error)]
 pub enum OverlapRefusal {
-    /// More selection sets are at fault than are compared with each other.
+    /// The selection sets at fault have more fields and spreads than are compared in pairs.
     #[error("too many selection sets at fault")]
-    TooManySets,
+    TooMuchAtFault,
     #[error("out of memory")]
     Memory,
 }

@@ -22,8 +22,8 @@ pub struct Walk {
     pub best: Option<u64>,
 }
 
-// Whether a set has neither fields nor spreads.
-fn is_empty(arena: &Arena<'_>, set: usize) -> bool
+/// Whether a set has neither fields nor spreads.
+pub fn is_empty(arena: &Arena<'_>, set: usize) -> bool
     ensures { result ≡ true → IsEmpty (arena_view arena.now) set }
 {
     let Some(found) = arena.set(set) else {
@@ -106,11 +106,12 @@ impl Walk {
         ensures step { OnOk result (Step (arena_view arena.now) self.old self.new) }
         ensures counted { OnOk result (Violates (field_in arena.now a.now) (field_in arena.now b.now) → AtMost self.new.best (later (field_in arena.now a.now) (field_in arena.now b.now))) }
     {
-        if is_at_most(self.best, later(a, b)) {
+        let at = later(a, b);
+        if is_at_most(self.best, at) {
             return Ok(());
         }
         let apart = cannot_merge(alloc, arena.schema, a, b)?;
-        self.count(apart, later(a, b));
+        self.count(apart, at);
         Ok(())
     }
 
