@@ -27,9 +27,9 @@ split_any (x ∷ xs) ys y h =
     (elim (contains_cases x (xs ++ ys) y h) [
       | inl same ↦ inl (subst (Contains (x ∷ xs)) same (contains_first x xs))
       | inr behind ↦ (elim (split_any xs ys y behind) [
-          | inl left ↦ inl (contains_later x xs y left)
-          | inr right ↦ inr right
-        ])
+        | inl left ↦ inl (contains_later x xs y left)
+        | inr right ↦ inr right
+      ])
     ])
 
 from_flat : {X Y : Type 0} (f : X → List Y) (xs : List X) (y : Y) → Contains (flat_map f xs) y → (x : X) × Contains xs x × Contains (f x) y

@@ -1,5 +1,5 @@
 //! Selection sets in classes of those that may be put together.
-ghost use Rattle.std.specs.Prelude.{◌≡◌, Some, map, IfOk, OnOk};
+ghost use Rattle.std.specs.Prelude.{◌≡◌, map, IfOk, OnOk};
 ghost use Rattle.hq_schema.specs.Schema.{schema_view};
 ghost use Rattle.hq_gql_tree.specs.Selections.{field_view};
 ghost use Rattle.hq_overlap_classes.specs.Classes.{Joined, IsOfClass};
@@ -179,11 +179,7 @@ impl<'a> Classes<'a> {
     }
 
     // Notes the fields of each set, and the sets that it spreads.
-    fn note_all(
-        &mut self,
-        arena: &Arena<'a>,
-        pending: &mut Vec<Pair>,
-    ) -> Result<(), Memory>
+    fn note_all(&mut self, arena: &Arena<'a>, pending: &mut Vec<Pair>) -> Result<(), Memory>
         requires sound { AreNoted (schema_view arena.now.schema.now) (arena_view arena.now) self.old }
         requires pending { AreToJoin (arena_view arena.now) pending.old.items }
         ensures sound { OnOk result (AreNoted (schema_view arena.now.schema.now) (arena_view arena.now) self.new) }

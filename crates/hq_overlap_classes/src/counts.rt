@@ -1,5 +1,5 @@
 //! How much is at fault.
-ghost use Rattle.std.specs.Prelude.{◌≡◌, ◌≤◌, ◌+◌, ℕ, Some, true, slice_get, IfOk};
+ghost use Rattle.std.specs.Prelude.{◌≡◌, ◌≤◌, ◌+◌, ℕ, Some, true, slice_get};
 ghost use Rattle.hq_schema.specs.Schema.{schema_view};
 ghost use Rattle.hq_overlap_classes.specs.Classes.{AtFault, MoreAtFault, size_at};
 ghost use Rattle.hq_overlap_classes.specs.Noting.{IsSo, AreFound};

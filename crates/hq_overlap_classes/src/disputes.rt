@@ -1,5 +1,5 @@
 //! The fields of a class that differ from the first ones of their key, and the classes that lead to such fields.
-ghost use Rattle.std.specs.Prelude.{◌≡◌, true, Some, map, IfOk, OnOk};
+ghost use Rattle.std.specs.Prelude.{◌≡◌, true, map, IfOk, OnOk};
 ghost use Rattle.hq_schema.specs.Schema.{schema_view};
 ghost use Rattle.hq_overlap_classes.specs.Classes.{IsOfClass};
 ghost use Rattle.hq_overlap_classes.specs.Disputes.{label_of, is_disputed, is_concerned};

@@ -85,11 +85,7 @@ fn add_start(
 }
 
 // The classes of the keys in dispute.
-fn starts(
-    alloc: Global,
-    arena: &Arena<'_>,
-    disputes: &Disputes<'_>,
-) -> Result<Vec<usize>, Memory>
+fn starts(alloc: Global, arena: &Arena<'_>, disputes: &Disputes<'_>) -> Result<Vec<usize>, Memory>
     requires { AreDisputed (schema_view arena.now.schema.now) (arena_view arena.now) disputes.now }
     ensures { IfOk result (λ starts. All (AtFault (arena_view arena.now)) starts.items) }
 {

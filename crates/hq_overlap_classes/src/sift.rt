@@ -1,15 +1,14 @@
 //! The part of a document's selection sets in which fields can be in conflict at all.
-ghost use Rattle.std.specs.Prelude.{◌≡◌, ◌||◌, ◌<◌, ◌++◌, ◌∷◌, [], Some, map, length, filter, slice_get, option_map, true, not, IfOk, OnOk, if◌then◌else◌};
+ghost use Rattle.std.specs.Prelude.{◌≡◌, ◌||◌, ◌<◌, ◌≤◌, ◌++◌, ◌∷◌, [], ℕ, Some, map, length, filter, slice_get, option_map, true, not, IfOk, OnOk, if◌then◌else◌};
 ghost use Rattle.std.specs.List.{All};
 ghost use Rattle.hq_schema.specs.Schema.{schema_view};
 ghost use Rattle.hq_overlap_classes.specs.Classes.{size_at};
 ghost use Rattle.hq_overlap_classes.specs.Disputes.{IsSettled, IsTrueOf, IsTrueAt, IsTrueOfAll, keeps_entry, kept_set, AreKept, class_of, first_of, is_disputed, is_concerned, key_number, noted_in};
-ghost use Rattle.hq_overlap_sets.specs.Pairs.{SameLabel};
 ghost use Rattle.hq_overlap_sets.specs.Sets.{entry_view, set_in, arena_view};
 
 use crate::disputes::Disputes;
 use hq_base::Memory;
-use hq_overlap_sets::{Arena, Entry, Set, empty_set, same_label, same_shape};
+use hq_overlap_sets::{Arena, Entry, Set, are_alike, empty_set};
 use hq_schema::Schema;
 use std::alloc::Global;
 
@@ -192,12 +191,7 @@ impl<'a> Disputes<'a> {
     }
 
     // What is kept of a set.
-    fn kept_set(
-        &self,
-        alloc: Global,
-        number: usize,
-        set: &Set<'a>,
-    ) -> Result<Set<'a>, Memory>
+    fn kept_set(&self, alloc: Global, number: usize, set: &Set<'a>) -> Result<Set<'a>, Memory>
         ensures entries { IfOk result (λ kept. kept.entries.items ≡ if is_concerned self.now (class_of self.now.classes.sets number) then filter (keeps_entry self.now (class_of self.now.classes.sets number)) set.now.entries.items else []) }
         ensures spreads { IfOk result (λ kept. kept.spreads.items ≡ if is_concerned self.now (class_of self.now.classes.sets number) then set.now.spreads.items else []) }
     {
@@ -212,12 +206,7 @@ impl<'a> Disputes<'a> {
     }
 
     // What is kept of the set of a number.
-    fn kept_at(
-        &self,
-        alloc: Global,
-        arena: &Arena<'a>,
-        number: usize,
-    ) -> Result<Set<'a>, Memory>
+    fn kept_at(&self, alloc: Global, arena: &Arena<'a>, number: usize) -> Result<Set<'a>, Memory>
         requires { number < length (arena_view arena.now) }
         ensures { IfOk result (λ kept. option_map (kept_set (noted_in (schema_view arena.now.schema.now) self.now) number) (slice_get (arena_view arena.now) number) ≡ Some (set_in arena.now kept)) }
     {
@@ -228,11 +217,7 @@ impl<'a> Disputes<'a> {
     }
 
     /// What is kept of a document's sets.
-    pub fn kept_sets(
-        &self,
-        alloc: Global,
-        arena: &Arena<'a>,
-    ) -> Result<Vec<Set<'a>>, Memory>
+    pub fn kept_sets(&self, alloc: Global, arena: &Arena<'a>) -> Result<Vec<Set<'a>>, Memory>
         ensures kept { IfOk result (λ kept. AreKept (noted_in (schema_view arena.now.schema.now) self.now) (arena_view arena.now) (map (set_in arena.now) kept.items)) }
         ensures smaller { IfOk result (λ kept. (s : ℕ) → size_at (map (set_in arena.now) kept.items) s ≤ size_at (arena_view arena.now) s) }
     {

@@ -5,11 +5,13 @@ use Rattle.hq_gql_nodes.specs.Reach.{graph_view}
 use Rattle.std.specs.List.{All, Contains}
 use Rattle.std.proofs.lemmas.Bool.{cases_lt}
 use Rattle.std.proofs.lemmas.List.Elements.{All-contains, Contains-append_left}
-use Rattle.std.proofs.lemmas.Option.{slice_get_within}
+use Rattle.std.proofs.lemmas.List.{length-append}
+use Rattle.std.proofs.lemmas.Option.{slice_get_within, get_or_from_slice_get}
 use Rattle.hq_overlap_sets.specs.Sets.{FieldTree, SetTree}
 use Rattle.hq_overlap_sets.specs.Pairs.{fields_at, spreads_at, Violates, later, AtMost}
 use Rattle.hq_overlap_sets.specs.Together as walk
 use Rattle.hq_overlap_sets.specs.Together.{Together, AreConflicts}
+use Rattle.hq_rules_overlap.proofs.Grouped.{each_explored}
 use Rattle.hq_overlap_sets.proofs.Growing.{nothing_more}
 use Rattle.hq_overlap_sets.proofs.Least.{same_some}
 use Rattle.hq_overlap_sets.proofs.RowLemmas.{only_one}
@@ -181,3 +183,79 @@ module _ (sets : List SetTree) (p q r : Groups) (list group : List ℕ) (has : H
     goes = record { lists = subst (λ ls. Continues (lists_of p) (graph_view ls.rows.items)) (sym lists) looked.goes.lists; lower = λ n h. subst (λ f. AtMost f.least n) (sym found) (looked.goes.lower n h) };
     explored = at_r (λ ls o. IsExplored sets ls o list) (record { group = group; done = looked.done; has = has });
   }
+
+pub explored_from : (sets : List SetTree) (p q r : Groups) (list : List ℕ) → q.lists ≡ p.lists → q.found ≡ p.found → Explored sets q r list → Explored sets p r list
+explored_from sets p q r list lists found x = record { sound = x.sound; goes = goes_same p q r lists found x.goes; explored = x.explored }
+
+-- at the end each list is explored
+pub all_explored : (sets : List SetTree) (q : Groups) → IsAtEnd sets q → (list : List ℕ) → Contains (lists_of q) list → IsExplored sets (lists_of q) q.found.least list
+all_explored sets q end list h = let all = end.all in each_explored sets (lists_of q) q.found.least q.done (omega (arith, all)) end.explored list h
+
+-- so a set of one of them is covered
+pub end_covers : (sets : List SetTree) (q : Groups) (s : ℕ) → IsAtEnd sets q → Contains (lists_of q) (s ∷ []) → IsCovered sets (lists_of q) q.found.least s
+end_covers sets q s end h = all_explored sets q end (s ∷ []) h
+
+-- a state that has more lists
+pub more_sound : (sets : List SetTree) (p q : Groups) → Continues (lists_of p) (lists_of q) → q.found ≡ p.found → q.covered ≡ p.covered → All (AreTogether sets) (lists_of q) → IsSound sets p → IsSound sets q
+more_sound sets p q more found covered together sound = record {
+  best = subst (λ f. AreConflicts sets f.best) (sym found) sound.best;
+  together = together;
+  covered = λ s m.
+      subst (λ f. IsCovered sets (lists_of q) f.least s) (sym found)
+      (covered_kept sets (lists_of p) (lists_of q) p.found.least p.found.least more (λ n h. h) s (sound.covered s (subst (λ marks. is_marked marks.items s ≡ true) covered m)));
+}
+
+pub more_explored : (sets : List SetTree) (p q : Groups) → Continues (lists_of p) (lists_of q) → q.found ≡ p.found → q.done ≡ p.done → length (lists_of p) ≡ p.done → AreExplored sets (lists_of p) p.found.least p.done
+    → AreExplored sets (lists_of q) q.found.least q.done
+more_explored sets p q more found done all explored =
+    subst (λ (n : ℕ). AreExplored sets (lists_of q) q.found.least n) (sym done)
+    (subst (λ f. AreExplored sets (lists_of q) f.least p.done) (sym found) (all_kept sets (lists_of p) (lists_of q) p.found.least p.found.least more (λ n h. h) p.done (omega (arith, all)) explored))
+
+-- a list that goes on is longer
+longer : (old new : List (List ℕ)) → Continues old new → length old ≤ length new
+longer old new more = let e = ap length more.1 ∙ length-append old more.0 in omega (arith, e)
+
+pub more_inside : (old new : List (List ℕ)) (done : ℕ) → Continues old new → length old ≡ done → done ≤ length new
+more_inside old new done more all = let long = longer old new more in omega (arith, long, all)
+
+pub one_inside : (old new : List (List ℕ)) (at : ℕ) (list : List ℕ) → slice_get old at ≡ Some list → Continues old new → at + 1 ≤ length new
+one_inside old new at list h more =
+    let inside = slice_get_within old at list h in
+    let long = longer old new more in
+    omega (arith, inside, long)
+
+pub goes_more : (p q : Groups) → Continues (lists_of p) (lists_of q) → q.found ≡ p.found → Goes p q
+goes_more p q more found = record { lists = more; lower = λ n h. subst (λ f. AtMost f.least n) (sym found) h }
+
+-- the sets of a list that stands at a place
+pub got_together : (sets : List SetTree) (lists : List (List ℕ)) (at : ℕ) (list : List ℕ) → slice_get lists at ≡ Some list → All (AreTogether sets) lists → AreTogether sets list
+got_together sets lists at list h all = All-contains (AreTogether sets) lists list all (at, slice_get_within lists at list h, get_or_from_slice_get lists at list list h)
+
+-- where no list is left, all are explored
+none_left : (lists : List (List ℕ)) (at : ℕ) → slice_get lists at ≡ None → length lists ≤ at
+none_left [] at h = omega arith
+none_left (x ∷ xs) zero h = absurd (cc)
+none_left (x ∷ xs) (suc at) h = let r = none_left xs at h in omega (arith, r)
+
+pub at_end : (sets : List SetTree) (q : Groups) (at : ℕ) → IsSound sets q → AreExplored sets (lists_of q) q.found.least at → at ≤ length (lists_of q) → slice_get (lists_of q) at ≡ None → IsAtEnd sets (record q { done = at })
+at_end sets q at sound explored inside none =
+    let long = none_left (lists_of q) at none in
+    record {
+      sound = record { best = sound.best; together = sound.together; covered = sound.covered };
+      explored = explored;
+      all = omega (arith, long, inside);
+    }
+
+pub goes_done : (p q : Groups) (at : ℕ) → Goes p q → Goes p (record q { done = at })
+goes_done p q at g = record { lists = g.lists; lower = g.lower }
+
+-- the sets so far are covered
+pub covered_more : (sets : List SetTree) (p q : Groups) (passed : List Bool) (n : ℕ) → Goes p q → ((s : ℕ) → s < n → is_marked passed s ≡ false → IsCovered sets (lists_of p) p.found.least s)
+    → (is_marked passed n ≡ false → IsCovered sets (lists_of q) q.found.least n) → (s : ℕ) → s < n + 1 → is_marked passed s ≡ false → IsCovered sets (lists_of q) q.found.least s
+covered_more sets p q passed n goes before now s h unmarked =
+    (elim (cases_lt s n) [
+      | inl less ↦ covered_kept sets (lists_of p) (lists_of q) p.found.least q.found.least goes.lists goes.lower s (before s less unmarked)
+      | inr more ↦
+          let e : n ≡ s = omega (arith, h, more) in
+          subst (IsCovered sets (lists_of q) q.found.least) e (now (subst (λ (m : ℕ). is_marked passed m ≡ false) (sym e) unmarked))
+    ])

@@ -1,6 +1,6 @@
 -- Marks that are set.
 use Rattle.std.proofs.Common.{◌≡◌, ◌∙◌, ℕ, zero, suc, ◌+◌, ◌<◌, ◌≤◌, List, [], ◌∷◌, ◌++◌, length, take, get_or, set, Bool, true, false, Option, Some, None, ◌⊎◌, inl, inr, sym, refl, ap, subst, arith}
-use Rattle.std.specs.Prelude.{slice_get, unwrap_or}
+use Rattle.std.specs.Prelude.{replicate}
 use Rattle.std.specs.List.{Contains}
 use Rattle.std.proofs.lemmas.List.{take_more}
 use Rattle.std.proofs.lemmas.List.Elements.{Contains-append_left, Contains-push}
@@ -31,5 +31,11 @@ marks_more ns i x start old new h is now before s m =
       | inr same ↦ inr (subst (λ (xs : List ℕ). Contains xs s) (sym grown) (subst (Contains (take i ns ++ (x ∷ []))) same (Contains-push (take i ns) x)))
     ])
 
-pub no_marks : (n s : ℕ) (marks : List Bool) → ((k : ℕ) → unwrap_or (slice_get marks k) false ≡ false) → is_marked marks s ≡ false
-no_marks n s marks none = none s
+none_at : (n s : ℕ) → is_marked (replicate n false) s ≡ true → ⊥
+none_at zero s h = absurd (cc)
+none_at (suc n) zero h = absurd (cc)
+none_at (suc n) (suc s) h = none_at n s h
+
+-- no mark is set at first
+pub none_set : (marks : List Bool) (n s : ℕ) → marks ≡ replicate n false → is_marked marks s ≡ true → ⊥
+none_set marks n s e h = none_at n s (subst (λ (ms : List Bool). is_marked ms s ≡ true) e h)

@@ -77,3 +77,9 @@ below_more fields old new at a s stands key is only before c t h =
 -- the place of a key is one of the list
 pub key_inside : {X : Type 0} (f : X → FieldTree) (xs : List X) (at : ℕ) (a : FieldTree) → IsKeyAt (map f xs) at a → at < length xs
 key_inside f xs at a k = subst (λ (n : ℕ). at < n) (length-map xs f) (slice_get_within (map f xs) at k.first k.stands)
+
+-- a list that a row is stands among the rows
+pub listed : (rows : List (Vec ℕ Global)) (at : ℕ) (list : List ℕ) → at < length rows → row_at rows at ≡ list → Contains (graph_view rows) list
+listed rows at list h e =
+    let inside : at < length (graph_view rows) = subst (λ (n : ℕ). at < n) (sym (length-map rows (λ row. row.items))) h in
+    subst (Contains (graph_view rows)) e (Contains-get_or (graph_view rows) at [] inside)

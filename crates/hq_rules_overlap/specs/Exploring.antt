@@ -41,7 +41,7 @@ pub record IsSound (sets : List SetTree) (q : Groups) : Type 0 where
 pub record IsAtEnd (sets : List SetTree) (q : Groups) : Type 0 where
   pub sound : IsSound sets q
   pub explored : AreExplored sets (lists_of q) q.found.least q.done
-  pub all : length (lists_of q) ≤ q.done
+  pub all : length (lists_of q) ≡ q.done
 
 -- a group was looked at
 pub record LookedAt (sets : List SetTree) (p q : Groups) (group : List ℕ) : Type 0 where

@@ -1,5 +1,5 @@
 //! The selection sets below the fields of each key of a group.
-ghost use Rattle.std.specs.Prelude.{◌≡◌, true, length, map, IfOk, IfSome, OnOk};
+ghost use Rattle.std.specs.Prelude.{◌≡◌, ℕ, true, length, map, IfOk, IfSome, OnOk};
 ghost use Rattle.std.specs.List.{All, Contains};
 ghost use Rattle.hq_overlap_sets.specs.Sets.{field_in, arena_view};
 ghost use Rattle.hq_overlap_sets.specs.Rows.{row_at};
@@ -11,12 +11,22 @@ use hq_gql_nodes::NamePlaces;
 use hq_overlap_sets::{Arena, Entry, empty_rows, entry_at, place_of, push_row};
 use std::alloc::Global;
 
+// Whether two fields have one key.
+fn have_one_key(arena: &Arena<'_>, first: &Entry<'_>, entry: &Entry<'_>) -> bool
+    ensures { result ≡ true → (field_in arena.now first.now).key ≡ (field_in arena.now entry.now).key }
+{
+    if first.key() != entry.key() {
+        return false;
+    }
+    true
+}
+
 // Whether the field at a place of a list has the key of another one.
 fn is_key_at(arena: &Arena<'_>, entries: &[Entry<'_>], at: usize, entry: &Entry<'_>) -> bool
     ensures { result ≡ true → IsKeyAt (map (field_in arena.now) entries.now) at (field_in arena.now entry.now) }
 {
     match entry_at(entries, at) {
-        Some(first) => first.key() == entry.key(),
+        Some(first) => have_one_key(arena, &first, entry),
         None => false,
     }
 }

@@ -1,10 +1,10 @@
 //! The search by groups of selection sets that are put together.
-ghost use Rattle.std.specs.Prelude.{◌≡◌, ◌<◌, ◌⊎◌, ℕ, map, Some, true, false, length, slice_get, IfOk, OnOk};
+ghost use Rattle.std.specs.Prelude.{◌≡◌, ◌<◌, ◌≤◌, ◌⊎◌, ℕ, map, true, false, length, IfOk, OnOk};
 ghost use Rattle.std.specs.List.{Contains};
 ghost use Rattle.hq_overlap_sets.specs.Sets.{field_in, arena_view};
 ghost use Rattle.hq_overlap_sets.specs.Together.{AreConflicts};
 ghost use Rattle.hq_rules_overlap.specs.Exploring.{is_marked, lists_of, Goes, IsSound, IsAtEnd, LookedAt, Explored, Tells};
-ghost use Rattle.hq_rules_overlap.specs.Groups.{AreTogether, IsClosed, AreOf, AreExplored, IsCovered};
+ghost use Rattle.hq_rules_overlap.specs.Groups.{HasAll, AreTogether, IsClosed, AreOf, AreExplored, IsCovered};
 
 use crate::below::rows_of;
 use crate::closure::closure;
@@ -121,6 +121,38 @@ impl Groups {
         self.look_at_fields(alloc, arena, group, &entries)
     }
 
+    // Marks the sets of a group that was looked at.
+    fn mark_group(&mut self, group: &[usize])
+        ensures lists { self.new.lists ≡ self.old.lists }
+        ensures found { self.new.found ≡ self.old.found }
+        ensures marks { (s : ℕ) → is_marked self.new.covered.items s ≡ true → (is_marked self.old.covered.items s ≡ true) ⊎ Contains group.now s }
+    {
+        mark_all(&mut self.covered, group);
+    }
+
+    // Looks at a group to which a list belongs, and marks its sets.
+    fn explore_group(
+        &mut self,
+        alloc: Global,
+        arena: &Arena<'_>,
+        list: &[usize],
+        group: &[usize],
+    ) -> Result<bool, Memory>
+        requires sound { IsSound (arena_view arena.now) self.old }
+        requires has { HasAll group.now list.now }
+        requires closed { IsClosed (arena_view arena.now) group.now }
+        requires together { AreTogether (arena_view arena.now) group.now }
+        ensures best { OnOk result (AreConflicts (arena_view arena.now) self.new.found.best) }
+        ensures explored { IfOk result (λ going. going ≡ true → Explored (arena_view arena.now) self.old self.new list.now) }
+    {
+        let going = self.look_at(alloc, arena, group)?;
+        if !going {
+            return Ok(false);
+        }
+        self.mark_group(group);
+        Ok(true)
+    }
+
     // Looks at the group of a list, and marks its sets.
     fn explore(&mut self, alloc: Global, arena: &Arena<'_>, list: &[usize]) -> Result<bool, Memory>
         requires sound { IsSound (arena_view arena.now) self.old }
@@ -129,23 +161,21 @@ impl Groups {
         ensures explored { IfOk result (λ going. going ≡ true → Explored (arena_view arena.now) self.old self.new list.now) }
     {
         let group = closure(alloc, arena, &mut self.spots, list)?;
-        let going = self.look_at(alloc, arena, &group)?;
-        if going {
-            mark_all(&mut self.covered, &group);
-        }
-        Ok(going)
+        self.explore_group(alloc, arena, list, &group)
     }
 
     // Explores the lists one after the other, also those that are added meanwhile.
     fn run(&mut self, alloc: Global, arena: &Arena<'_>) -> Result<bool, Memory>
         requires sound { IsSound (arena_view arena.now) self.old }
         requires explored { AreExplored (arena_view arena.now) (lists_of self.old) self.old.found.least self.old.done }
+        requires inside { self.old.done ≤ length (lists_of self.old) }
         ensures best { OnOk result (AreConflicts (arena_view arena.now) self.new.found.best) }
         ensures goes { IfOk result (λ going. going ≡ true → Goes self.old self.new) }
         ensures end { IfOk result (λ going. going ≡ true → IsAtEnd (arena_view arena.now) self.new) }
     {
         for at in self.done..usize::MAX {
-            let Some(list) = self.lists.list_at(alloc, at)? else {
+            let found = self.lists.list_at(alloc, at)?;
+            let Some(list) = found else {
                 self.done = at;
                 return Ok(true);
             };

@@ -7,6 +7,7 @@ ghost use Rattle.hq_rules_overlap.specs.Exploring.{IsKept, Continues};
 ghost use Rattle.hq_rules_overlap.specs.Groups.{AreTogether};
 
 use hq_base::Memory;
+use hq_gql_nodes::row;
 use hq_overlap_sets::Arena;
 use std::alloc::Global;
 use std::collections::HashMap;
@@ -27,6 +28,16 @@ fn print_of(list: &[usize]) -> u64 {
     print
 }
 
+// Whether two lists are the same.
+fn are_same(found: &[usize], list: &[usize]) -> bool
+    ensures { result ≡ true → found.now ≡ list.now }
+{
+    if found != list {
+        return false;
+    }
+    true
+}
+
 impl Lists {
     /// No list.
     pub fn new(alloc: Global) -> Self
@@ -42,10 +53,10 @@ impl Lists {
     fn is_at(&self, place: usize, list: &[usize]) -> bool
         ensures { result ≡ true → Contains (graph_view self.now.rows.items) list.now }
     {
-        match self.rows.get(place) {
-            Some(found) => found.as_slice() == list,
-            None => false,
+        if place >= self.rows.len() {
+            return false;
         }
+        are_same(row(&self.rows, place), list)
     }
 
     // Whether a list stands at the place that is noted of its number.
@@ -91,7 +102,7 @@ impl Lists {
         ensures grown { OnOk result (Continues (graph_view self.old.rows.items) (graph_view self.new.rows.items)) }
         ensures kept { OnOk result (IsKept (graph_view self.new.rows.items) list.now) }
     {
-        if list.is_empty() {
+        if list.len() == 0 {
             return Ok(());
         }
         self.add(alloc, arena, list)

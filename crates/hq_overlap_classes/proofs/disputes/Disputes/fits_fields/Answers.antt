@@ -4,7 +4,7 @@ use Rattle.hq_schema.specs.Schema.{schema_view}
 use Rattle.hq_overlap_sets.specs.declared.sets.Entry.{Entry}
 use Rattle.hq_overlap_classes.specs.Disputes.{IsTrueOf, noted_in}
 use Rattle.hq_overlap_sets.specs.Sets.{FieldTree, entry_view}
-use Rattle.hq_rules_overlap.proofs.Steps.{all_more_item, all_at_end}
+use Rattle.hq_overlap_sets.proofs.Stepping.{all_more_item, all_at_end}
 use Rattle.hq_overlap_classes.proofs.disputes.Disputes.fits_fields.Goals as goal
 
 pub loop-entry-preserved : goal.loop-entry-preserved

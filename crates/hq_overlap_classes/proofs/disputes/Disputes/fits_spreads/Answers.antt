@@ -1,7 +1,7 @@
 -- One more set is of the class, and all are.
 use Rattle.std.proofs.Common.{rules, ◌≡◌, ℕ, get_or, refl}
 use Rattle.hq_overlap_classes.specs.Disputes.{class_of}
-use Rattle.hq_rules_overlap.proofs.Steps.{all_more, all_at_end_itself}
+use Rattle.hq_overlap_sets.proofs.Stepping.{all_more, all_at_end_itself}
 use Rattle.hq_overlap_classes.proofs.disputes.Disputes.fits_spreads.Goals as goal
 
 pub loop-spread-preserved : goal.loop-spread-preserved
