@@ -1,4 +1,4 @@
-mod Leading
+mod ReachLemmas
 mod Counting
 pub mod Joining
 pub mod Sifting

@@ -1,7 +1,7 @@
 -- What classes at fault lead to is at fault.
 use Rattle.std.proofs.Common.{◌∙◌}
 use Rattle.hq_overlap_sets.specs.Sets.{arena_view}
-use Rattle.hq_overlap_classes.proofs.Leading.{all_reached}
+use Rattle.hq_overlap_classes.proofs.ReachLemmas.{all_reached}
 use Rattle.hq_overlap_classes.proofs.leading.reached_by.Goals as goal
 
 pub marks_of-requires : goal.marks_of-requires
