@@ -29,7 +29,7 @@ loop-entry-preserved c =
       added =
           all_more_item (λ (e : Entry). HasRow keys old (f e)) (λ (e : Entry). HasRow keys new (f e))
           (λ e. c.in_ok-added.ensures.kept (place_in keys (f e).key) (f e).below)
-          c.args.entries.now c.loop-entry.entry-index c.entry-item.result c.loop-entry-test.true c.entry-item.is c.loop-entry.invariant.added (c.in_ok-added.ensures.added c.if-not-added.false);
+          c.args.entries.now c.loop-entry.entry-index c.entry-item.result c.loop-entry-test.true c.entry-item.is c.loop-entry.invariant.added (c.in_ok-added.ensures.added (search rules));
     }
 
 pub returns-clause-added : goal.returns-clause-added

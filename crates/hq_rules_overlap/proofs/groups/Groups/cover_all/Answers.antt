@@ -1,5 +1,5 @@
 -- One more set is covered.
-use Rattle.std.proofs.Common.{◌≡◌, ◌<◌, ℕ, false, length, subst, sym, arith}
+use Rattle.std.proofs.Common.{rules, ◌≡◌, ◌<◌, ℕ, false, length, subst, sym, arith}
 use Rattle.std.proofs.lemmas.List.{length-map}
 use Rattle.hq_overlap_sets.specs.Sets.{set_in, arena_view}
 use Rattle.hq_rules_overlap.specs.Exploring.{is_marked, lists_of}
@@ -21,8 +21,8 @@ loop-set-init c = record { end = c.requires; covered = λ s h. absurd (omega (ar
 pub loop-set-preserved : goal.loop-set-preserved
 loop-set-preserved c =
     record {
-      end = c.in_ok-going.ensures.end c.if-not-going.false;
-      covered = covered_more (arena_view c.args.arena.now) c.loop-set.self c.cover.new.self c.args.passed.now c.loop-set.set (c.in_ok-going.ensures.goes c.if-not-going.false) c.loop-set.invariant.covered (c.in_ok-going.ensures.covered c.if-not-going.false);
+      end = c.in_ok-going.ensures.end (search rules);
+      covered = covered_more (arena_view c.args.arena.now) c.loop-set.self c.cover.new.self c.args.passed.now c.loop-set.set (c.in_ok-going.ensures.goes (search rules)) c.loop-set.invariant.covered (c.in_ok-going.ensures.covered (search rules));
     }
 
 pub returns-then-not-going-clause-best : goal.returns-then-not-going-clause-best

@@ -1,5 +1,5 @@
 -- One more list is explored, and all of them.
-use Rattle.std.proofs.Common.{◌≡◌, ◌∙◌, ap, sym, subst, ℕ, List, Some, None}
+use Rattle.std.proofs.Common.{rules, ◌≡◌, ◌∙◌, ap, sym, subst, ℕ, List, Some, None}
 use Rattle.std.specs.Prelude.{option_map, slice_get, Option, Vec}
 use Rattle.std.specs.declared.alloc.Global.{Global}
 use Rattle.hq_overlap_sets.specs.Sets.{arena_view}
@@ -27,7 +27,7 @@ loop-at-preserved c =
     let new = c.explore.new.self in
     let list = c.in-Some.list.items in
     let at = sym c.in_ok-found.ensures ∙ ap (option_map (λ (v : Vec ℕ Global). v.items)) c.in-Some.is in
-    let x = subst (Explored sets old new) c.deref.ensures.value (c.in_ok-going.ensures.explored c.if-not-going.false) in
+    let x = subst (Explored sets old new) c.deref.ensures.value (c.in_ok-going.ensures.explored (search rules)) in
     record {
       sound = x.sound;
       goes = goes_then c.args.self.now old new c.loop-at.invariant.goes x.goes;
