@@ -14,9 +14,9 @@ split_member (x ∷ xs) ys s h =
     (elim (contains_cases x (xs ++ ys) s h) [
       | inl same ↦ inl (subst (Contains (x ∷ xs)) same (contains_first x xs))
       | inr behind ↦ (elim (split_member xs ys s behind) [
-          | inl left ↦ inl (Contains-append_right (x ∷ []) xs s left)
-          | inr right ↦ inr right
-        ])
+        | inl left ↦ inl (Contains-append_right (x ∷ []) xs s left)
+        | inr right ↦ inr right
+      ])
     ])
 
 -- a number of a list of one

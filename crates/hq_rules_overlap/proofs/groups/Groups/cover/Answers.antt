@@ -1,5 +1,5 @@
 -- A set that is passed over, one that is marked, one without fields and spreads, and another one.
-use Rattle.std.proofs.Common.{◌∙◌, sym}
+use Rattle.std.proofs.Common.{◌∙◌, ap, sym, List, Bool}
 use Rattle.std.proofs.lemmas.Bool.{both_ways}
 use Rattle.hq_overlap_sets.specs.Sets.{arena_view}
 use Rattle.hq_rules_overlap.specs.Exploring.{is_marked, lists_of}
@@ -28,7 +28,9 @@ pub returns-then-is_marked-2-clause-end : goal.returns-then-is_marked-2-clause-e
 returns-then-is_marked-2-clause-end c = λ _. c.requires.end
 
 pub returns-then-is_marked-2-clause-covered : goal.returns-then-is_marked-2-clause-covered
-returns-then-is_marked-2-clause-covered c = λ _ _. c.requires.end.sound.covered c.args.set (? )
+returns-then-is_marked-2-clause-covered c = λ _ _.
+    c.requires.end.sound.covered c.args.set
+    (sym (c.is_marked-2.ensures ∙ ap (λ (ms : List Bool). is_marked ms c.args.set) c.deref.ensures.value) ∙ c.if-is_marked-2.true)
 
 pub returns-then-is_empty-clause-best : goal.returns-then-is_empty-clause-best
 returns-then-is_empty-clause-best c = c.requires.end.sound.best
