@@ -6,7 +6,8 @@ ghost use Rattle.std.specs.Iterator.{IsFinite};
 use hq_app::{World, run};
 use hq_base::{List, Memory, Txt, TxtRefusal};
 use hq_outside::write_all;
-use hq_system::{DirFiles, StdSink, StdSource, TcpDoor};
+use hq_system::{DirFiles, FileDisk, StdSink, StdSource, TcpDoor};
+use hq_ws::TcpHall;
 use std::alloc::Global;
 use std::env;
 use std::io::{ErrorKind, Write};
@@ -80,9 +81,11 @@ fn main(rt: HostRuntime) -> ExitCode {
     let world = World {
         files: DirFiles::new(rt),
         door: TcpDoor::new(alloc, rt),
+        disk: FileDisk::new(rt),
         input: StdSource::new(rt.stdin()),
         out: StdSink::new(rt.stdout()),
         err,
+        hall: TcpHall::new(alloc, rt),
     };
     let ran = run(alloc, words.as_slice(), world);
     ExitCode::from(ran.status)

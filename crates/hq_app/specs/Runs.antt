@@ -1,92 +1,131 @@
 -- How a run ends, by cases on the command that the words ask for.
-use Rattle.std.specs.Prelude.{◌≡◌, ◌≢◌, ◌⊎◌, ℕ, Bool, true, false, List, Option, Some, None, Ok, Err, IfSome}
+use Rattle.std.specs.Prelude.{◌≡◌, ◌≢◌, ◌⊎◌, ◌||◌, ℕ, Bool, true, false, Option, Some, None, Ok, Err, IfErr, IfSome}
 use Rattle.hq_outside.specs.Causes.{Rose}
-use Rattle.hq_outside.specs.declared.files.File.{File}
-use Rattle.hq_serve.specs.Serving.{Told}
 use Rattle.hq_words.specs.declared.command.Command.{Command}
-use Rattle.hq_words.specs.declared.command.Command.TheVariants.{Query, Sql, Check, Serve, Gen, Show}
-use Rattle.hq_commands.specs.Ending.{Answer, Ends}
+use Rattle.hq_words.specs.declared.command.Command.TheVariants.{Query, Sql, Explain, Check, Serve, Live, Gen, Show}
+use Rattle.hq_commands.specs.Ending.{Answer, Ends, NotDatabase, status_of, told_line}
+use Rattle.hq_commands.specs.Explaining.{Explains, explain_output}
 use Rattle.hq_commands.specs.Generating.{GenEnds}
-use Rattle.hq_commands.specs.Output.{query_output, sql_output}
+use Rattle.hq_commands.specs.Disks.{DiskFailed}
+use Rattle.hq_commands.specs.Output.{paged_output, query_output, sql_output}
 use Rattle.hq_commands.specs.Check.{check_output}
-use Rattle.hq_commands.specs.Serving.{SeenDoor, ServeEnds}
+use Rattle.hq_commands.specs.Serving.{PagedServeEnds, ServeEnds}
 use Rattle.hq_commands.specs.Showing.{page_output}
+use Rattle.hq_live_command.specs.Living.{LiveEnds}
 use Rattle.hq_commands.specs.declared.done.Done.TheVariants.{Faulty}
+use Rattle.hq_commands.specs.declared.refusal.Refusal.{Refusal}
 use Rattle.hq_commands.specs.declared.refusal.Refusal.TheVariants.{BadWords, Memory}
+use Rattle.hq_app.specs.Outside.{Outside, TellsLine}
 
--- what files, an input or an output tell, and how often they have failed
-pub record Seen (A : Type 0) : Type 0 where
-  pub told : Option A
-  pub faults : ℕ
-
--- the outside, as far as a run uses it
-pub record Outside (L : Type 0) : Type 0 where
-  pub files : Seen (List File)
-  pub input : Seen (List ℕ)
-  pub out : Seen (List ℕ)
-  pub door : SeenDoor L
-
-abbrev pub outside : {L : Type 0} → (folder : Option (List File)) → (file_faults : ℕ) → (left : Option (List ℕ)) → (input_faults : ℕ) → (written : Option (List ℕ)) → (out_faults : ℕ) → SeenDoor L → Outside L
-outside folder file_faults left input_faults written out_faults door = record {
-  files = record { told = folder; faults = file_faults };
-  input = record { told = left; faults = input_faults };
-  out = record { told = written; faults = out_faults };
-  door = door;
-}
-
--- whether a command reads the standard input, and whether it opens the door
+-- whether a command reads the standard input
 abbrev pub reads_input : Option Command → Bool
-reads_input None = false
-reads_input (Some (Query dir headers)) = true
+reads_input (Some (Query dir headers paged)) = true
 reads_input (Some (Sql dir headers)) = true
-reads_input (Some (Check dir)) = false
-reads_input (Some (Serve dir port connections secret unauthorized)) = false
-reads_input (Some (Gen n)) = false
-reads_input (Some (Show page)) = false
+reads_input (Some (Explain dir headers)) = true
+reads_input command = false
 
+-- whether it opens the door
 abbrev pub opens_door : Option Command → Bool
-opens_door None = false
-opens_door (Some (Query dir headers)) = false
-opens_door (Some (Sql dir headers)) = false
-opens_door (Some (Check dir)) = false
-opens_door (Some (Serve dir port connections secret unauthorized)) = true
-opens_door (Some (Gen n)) = false
-opens_door (Some (Show page)) = false
+opens_door (Some (Serve dir port connections secret unauthorized paged)) = true
+opens_door command = false
 
--- The answer is the due one, as far as it says what was due: of a query and of `sql` over told files and a told input, of a check
--- over told files, of `serve` over what the directory holds, of `gen`, and of a page. A check and a page tell
--- no fault. Words that ask for no command are bad, unless memory is wanted.
-abbrev pub Runs : {L : Type 0} → Told L → Option Command → (before after : Outside L) → Answer → Type 0
-Runs t None before after answer = (answer ≡ Err BadWords) ⊎ (answer ≡ Err Memory)
-Runs t (Some (Query dir headers)) before after answer =
+-- whether it opens the hall
+abbrev pub opens_hall : Option Command → Bool
+opens_hall (Some (Live dir port connections secret unauthorized)) = true
+opens_hall command = false
+
+-- whether it tells of each connection on the output
+abbrev pub tells_lines : Option Command → Bool
+tells_lines command = opens_door command || opens_hall command
+
+-- whether it tells of a refused file on the output
+abbrev pub tells_files : Option Command → Bool
+tells_files (Some (Explain dir headers)) = true
+tells_files command = false
+
+-- whether it keeps tables on the disk
+abbrev pub uses_disk : Option Command → Bool
+uses_disk (Some (Query dir headers paged)) = paged
+uses_disk (Some (Serve dir port connections secret unauthorized paged)) = paged
+uses_disk command = false
+
+-- The answer is the due one, as far as it says what was due: of a query, of `sql` and of `explain` over told files and a told input,
+-- of a check over told files, of `serve` and `live` over what the directory holds, of `gen`, and of a page. With tables on a disk it is the same where
+-- this tells its bytes. A check and a page tell no fault. Words that ask for no command are bad, unless memory is wanted.
+abbrev pub Runs : {L T : Type 0} → Option Command → (before after : Outside L T) → Answer → Type 0
+Runs None before after answer = (answer ≡ Err BadWords) ⊎ (answer ≡ Err Memory)
+Runs (Some (Query dir headers true)) before after answer =
+    IfSome before.files.told (λ files. IfSome before.input.told (λ text. Ends before.out.told after.out.told (paged_output before.disk.told dir headers files text) answer))
+    × IfErr answer (DiskFailed before.disk after.disk)
+Runs (Some (Query dir headers false)) before after answer =
     IfSome before.files.told (λ files. IfSome before.input.told (λ text. Ends before.out.told after.out.told (query_output dir headers files text) answer))
-Runs t (Some (Sql dir headers)) before after answer =
+Runs (Some (Sql dir headers)) before after answer =
     IfSome before.files.told (λ files. IfSome before.input.told (λ text. Ends before.out.told after.out.told (sql_output dir headers files text) answer))
-Runs t (Some (Check dir)) before after answer =
+Runs (Some (Explain dir headers)) before after answer =
+    IfSome before.files.told (λ files. IfSome before.input.told (λ text. Explains before.out.told after.out.told (explain_output dir headers files text) answer))
+Runs (Some (Check dir)) before after answer =
     IfSome before.files.told (λ files. Ends before.out.told after.out.told (check_output dir files) answer) × (answer ≢ Ok Faulty)
-Runs t (Some (Serve dir port connections secret unauthorized)) before after answer =
-    ServeEnds t (record { secret = secret; unauthorized = unauthorized }) connections before.door after.door before.out.told after.out.told before.files.told dir answer
-Runs t (Some (Gen n)) before after answer = GenEnds n before.out.told after.out.told answer
-Runs t (Some (Show page)) before after answer = Ends before.out.told after.out.told (Ok (page_output page)) answer × (answer ≢ Ok Faulty)
+Runs (Some (Serve dir port connections secret unauthorized true)) before after answer =
+    PagedServeEnds before.links (record { secret = secret; unauthorized = unauthorized }) connections before.door after.door before.out.told after.out.told
+    before.disk after.disk before.files.told dir answer
+Runs (Some (Serve dir port connections secret unauthorized false)) before after answer =
+    ServeEnds before.links (record { secret = secret; unauthorized = unauthorized }) connections before.door after.door before.out.told after.out.told before.files.told dir answer
+Runs (Some (Live dir port connections secret unauthorized)) before after answer =
+    LiveEnds before.talks (record { secret = secret; unauthorized = unauthorized }) connections before.hall after.hall before.out.told after.out.told before.files.told dir answer
+Runs (Some (Gen n)) before after answer = GenEnds n before.out.told after.out.told answer
+Runs (Some (Show page)) before after answer = Ends before.out.told after.out.told (Ok (page_output page)) answer × (answer ≢ Ok Faulty)
 
--- a load of files failed, before anything of the input was read, or else a read of the input did
-abbrev pub FilesThenInput : {L : Type 0} → (before after : Outside L) → Type 0
-FilesThenInput before after =
-    Rose before.files.faults after.files.faults × (after.input.told ≡ before.input.told) ⊎ Rose before.input.faults after.input.faults
+-- The status is that of an answer, and standard error has its line. The answer is the one that is due for the command, unless
+-- memory or an object of the outside failed.
+pub record EndsWith {L T : Type 0} (command : Option Command) (before after : Outside L T) (status : ℕ) : Type 0 where
+  pub answer : Answer
+  pub status_is : status ≡ status_of answer
+  pub line : TellsLine before after (told_line answer)
+  pub runs : Runs command before after answer
 
--- a load of files failed, before a link was accepted, or else the door did
-abbrev pub FilesThenDoor : {L : Type 0} → (before after : Outside L) → Type 0
-FilesThenDoor before after =
-    Rose before.files.faults after.files.faults × (after.door.links ≡ before.door.links) × (after.door.accepted ≡ before.door.accepted)
-    ⊎ Rose before.door.faults after.door.faults
+-- a load of files failed
+abbrev pub FilesRose : {L T : Type 0} → (before after : Outside L T) → Type 0
+FilesRose before after = Rose before.files.faults after.files.faults
 
--- Why a read failed: a query loads files before it reads its input, a check loads files alone, and `serve` loads files before it
--- opens its door. `gen` and a page read nothing.
-abbrev pub ReadCause : {L : Type 0} → Option Command → (before after : Outside L) → Type 0
+-- or, of tables that are kept on the disk, a call of it
+abbrev pub FilesOrDiskRose : {L T : Type 0} → (before after : Outside L T) → Type 0
+FilesOrDiskRose before after = FilesRose before after ⊎ Rose before.disk.faults after.disk.faults
+
+-- this came before anything of the input was read, or else a read of the input failed
+abbrev pub ThenInput : {L T : Type 0} → (loads : Type 0) → (before after : Outside L T) → Type 0
+ThenInput loads before after = loads × (after.input.told ≡ before.input.told) ⊎ Rose before.input.faults after.input.faults
+
+-- this came before a link was accepted, or else the door failed
+abbrev pub ThenDoor : {L T : Type 0} → (loads : Type 0) → (before after : Outside L T) → Type 0
+ThenDoor loads before after =
+    loads × (after.door.links ≡ before.door.links) × (after.door.accepted ≡ before.door.accepted) ⊎ Rose before.door.faults after.door.faults
+
+-- this came before a talk, or else the hall failed
+abbrev pub ThenHall : {L T : Type 0} → (loads : Type 0) → (before after : Outside L T) → Type 0
+ThenHall loads before after =
+    loads × (after.hall.links ≡ before.hall.links) × (after.hall.accepted ≡ before.hall.accepted) ⊎ Rose before.hall.faults after.hall.faults
+
+-- Why a read failed: a query loads files, and puts tables on the disk where it keeps them there, before it reads its input; `serve`
+-- does so before it opens its door, and `live` before its hall; a check loads files alone. `gen` and a page read nothing.
+abbrev pub ReadCause : {L T : Type 0} → Option Command → (before after : Outside L T) → Type 0
 ReadCause None before after = ⊥
-ReadCause (Some (Query dir headers)) before after = FilesThenInput before after
-ReadCause (Some (Sql dir headers)) before after = FilesThenInput before after
-ReadCause (Some (Check dir)) before after = Rose before.files.faults after.files.faults
-ReadCause (Some (Serve dir port connections secret unauthorized)) before after = FilesThenDoor before after
+ReadCause (Some (Query dir headers true)) before after = ThenInput (FilesOrDiskRose before after) before after
+ReadCause (Some (Query dir headers false)) before after = ThenInput (FilesRose before after) before after
+ReadCause (Some (Sql dir headers)) before after = ThenInput (FilesRose before after) before after
+ReadCause (Some (Explain dir headers)) before after = ThenInput (FilesRose before after) before after
+ReadCause (Some (Check dir)) before after = FilesRose before after
+ReadCause (Some (Serve dir port connections secret unauthorized true)) before after = ThenDoor (FilesOrDiskRose before after) before after
+ReadCause (Some (Serve dir port connections secret unauthorized false)) before after = ThenDoor (FilesRose before after) before after
+ReadCause (Some (Live dir port connections secret unauthorized)) before after = ThenHall (FilesRose before after) before after
 ReadCause (Some (Gen n)) before after = ⊥
 ReadCause (Some (Show page)) before after = ⊥
+
+-- a failed database comes only in a query whose tables are kept on the disk
+abbrev pub MayFail : {L T : Type 0} → Option Command → (before after : Outside L T) → Refusal → Type 0
+MayFail (Some (Query dir headers true)) before after r = DiskFailed before.disk after.disk r
+MayFail command before after r = NotDatabase r
+
+-- Why a database failed: only in a query whose tables are kept on the disk, whose own count rose where it tells its bytes.
+abbrev pub DatabaseCause : {L T : Type 0} → Option Command → (before after : Outside L T) → Type 0
+DatabaseCause (Some (Query dir headers true)) before after = IfSome before.disk.told (λ bytes. Rose before.disk.faults after.disk.faults)
+DatabaseCause command before after = ⊥

@@ -2,10 +2,11 @@
 #![tactic(auto)]
 
 mod laws;
+mod living;
 mod top;
 mod world;
 
 pub use hq_commands::{Done, INPUT_LIMIT, Refusal};
 pub use laws::outputs_agree;
 pub use top::{answer_one, run};
-pub use world::{Ran, World};
+pub use world::{Observed, Ran, World};

@@ -1,60 +1,204 @@
-ghost use Rattle.std.specs.Prelude.{◌≡◌, ◌≢◌, ◌⊎◌, ◌≤◌, IsErrOf, IfErr, IfSome, None, false};
+ghost use Rattle.std.specs.Prelude.{◌≡◌, ◌≢◌, ◌⊎◌, ◌≤◌, IsErrOf, IfErr, IfSome, None, Some, true, false};
 ghost use Rattle.hq_outside.specs.Causes.{Rose};
-ghost use Rattle.hq_words.specs.Asked.{command_of};
+ghost use Rattle.hq_words.specs.Asked.{HasFewAuthors, command_of};
 ghost use Rattle.hq_commands.specs.Ending.{Answer, Silent, Tells, NotDatabase, status_of, told_line};
 ghost use Rattle.hq_commands.specs.Answers.{Answers};
-ghost use Rattle.hq_commands.specs.Serving.{seen_door};
 ghost use Rattle.hq_app.specs.Laws.{AnswersAlike};
-ghost use Rattle.hq_app.specs.Runs.{ReadCause, Runs, opens_door, outside, reads_input};
+ghost use Rattle.hq_app.specs.Outside.{NoneFell};
+ghost use Rattle.hq_app.specs.Runs.{DatabaseCause, EndsWith, MayFail, ReadCause, Runs, opens_door, opens_hall, reads_input, uses_disk, tells_files, tells_lines};
 
 use crate::laws::outputs_agree;
-use crate::{Ran, World};
+use crate::living::live_over;
+use crate::{Observed, Ran, World};
 use hq_base::Txt;
 use hq_commands::{
-    Done, Refusal, check, generate_and_answer, query, reply_to, serve, show, sql, tell,
+    Done, Refusal, check, explain, generate_and_answer, query, query_on_disk, reply_to, serve,
+    serve_on_disk, show, sql, tell,
 };
 use hq_db::SqlDb;
 use hq_engine::Engine;
 use hq_link::Database;
-use hq_outside::{Door, Files, Sink, Source};
-use hq_session::SecretRule;
+use hq_messages::Hall;
+use hq_outside::{Disk, Door, Files, Sink, Source};
+use hq_session::{Headers, SecretRule};
 use hq_tables::Tables;
 use hq_terms::Session;
 use hq_words::Command;
 use std::alloc::Global;
 
-// Reads the words, and does what they ask.
-fn answered<F: Files, D: Door, S: Source, K: Sink>(
+/// What a run did, and the world that it leaves.
+#[derive(Drop)]
+pub struct Ended<F, D, X, S, K, E, H> {
+    pub answer: Result<Done, Refusal>,
+    pub world: World<F, D, X, S, K, E, H>,
+}
+
+// Answers a request over tables that are kept on the disk.
+fn query_paged<F: Files, D: Door, X: Disk, S: Source, K: Sink, E: Sink, H: Hall>(
     alloc: Global,
-    words: &[Txt],
-    files: &mut F,
-    door: &mut D,
-    input: &mut S,
-    out: &mut K,
-) -> Result<Done, Refusal>
-    ensures runs { Runs (record { left = D.Link.left; written = D.Link.written; read_faults = D.Link.read_faults; write_faults = D.Link.write_faults }) (command_of words.now)
-        (outside (F.folder files.old) (F.faults files.old) (S.left input.old) (S.faults input.old) (K.written out.old) (K.faults out.old) (seen_door (D.links door.old) (D.accepted door.old) (D.faults door.old)))
-        (outside (F.folder files.new) (F.faults files.new) (S.left input.new) (S.faults input.new) (K.written out.new) (K.faults out.new) (seen_door (D.links door.new) (D.accepted door.new) (D.faults door.new))) result }
-    ensures read { IsErrOf result Refusal.ReadFailed → ReadCause (command_of words.now)
-        (outside (F.folder files.old) (F.faults files.old) (S.left input.old) (S.faults input.old) (K.written out.old) (K.faults out.old) (seen_door (D.links door.old) (D.accepted door.old) (D.faults door.old)))
-        (outside (F.folder files.new) (F.faults files.new) (S.left input.new) (S.faults input.new) (K.written out.new) (K.faults out.new) (seen_door (D.links door.new) (D.accepted door.new) (D.faults door.new))) }
-    ensures silent { opens_door (command_of words.now) ≡ false → Silent (K.written out.old) (K.written out.new) result }
-    ensures words { IsErrOf result Refusal.BadWords → command_of words.now ≡ None }
-    ensures input { reads_input (command_of words.now) ≡ false → input.new ≡ input.old }
-    ensures door { opens_door (command_of words.now) ≡ false → door.new ≡ door.old }
-    ensures write { IsErrOf result Refusal.WriteFailed → Rose (K.faults out.old) (K.faults out.new) }
-    ensures failed { IfErr result NotDatabase }
-    ensures folder { F.folder files.new ≡ F.folder files.old }
-    ensures files_later { F.faults files.old ≤ F.faults files.new }
-    ensures door_later { D.faults door.old ≤ D.faults door.new }
-    ensures input_later { S.faults input.old ≤ S.faults input.new }
-    ensures out_later { K.faults out.old ≤ K.faults out.new }
+    dir: &Txt,
+    headers: &Headers,
+    world: World<F, D, X, S, K, E, H>,
+) -> Ended<F, D, X, S, K, E, H>
+    ensures runs { Runs (Some (Command.Query dir.now headers.now true)) (⟦<World<F, D, X, S, K, E, H> as Observed>⟧.seen world) (⟦<World<F, D, X, S, K, E, H> as Observed>⟧.seen result.world) result.answer }
+    ensures read { IsErrOf result.answer Refusal.ReadFailed → ReadCause (Some (Command.Query dir.now headers.now true)) (⟦<World<F, D, X, S, K, E, H> as Observed>⟧.seen world) (⟦<World<F, D, X, S, K, E, H> as Observed>⟧.seen result.world) }
+    ensures silent { Silent (K.written world.out) (K.written result.world.out) result.answer }
+    ensures door { result.world.door ≡ world.door }
+    ensures hall { result.world.hall ≡ world.hall }
+    ensures words { IsErrOf result.answer Refusal.BadWords → ⊥ }
+    ensures write { IsErrOf result.answer Refusal.WriteFailed → Rose (K.faults world.out) (K.faults result.world.out) }
+    ensures err { result.world.err ≡ world.err }
+    ensures folder { F.folder result.world.files ≡ F.folder world.files }
+    ensures later { NoneFell (⟦<World<F, D, X, S, K, E, H> as Observed>⟧.seen world) (⟦<World<F, D, X, S, K, E, H> as Observed>⟧.seen result.world) }
 {
-    match Command::read(alloc, words)? {
-        Command::Query { dir, headers } => query(alloc, &dir, &headers, files, input, out),
-        Command::Sql { dir, headers } => sql(alloc, &dir, &headers, files, input, out),
-        Command::Check { dir } => check(alloc, &dir, files, out),
+    let World {
+        mut files,
+        door,
+        disk,
+        mut input,
+        mut out,
+        err,
+        hall,
+    } = world;
+    let done = query_on_disk(alloc, dir, headers, &mut files, disk, &mut input, &mut out);
+    Ended {
+        answer: done.answer,
+        world: World {
+            files,
+            door,
+            disk: done.disk,
+            input,
+            out,
+            err,
+            hall,
+        },
+    }
+}
+
+// Serves over tables that are kept on the disk.
+fn serve_paged<F: Files, D: Door, X: Disk, S: Source, K: Sink, E: Sink, H: Hall>(
+    alloc: Global,
+    dir: &Txt,
+    rule: &SecretRule,
+    port: u16,
+    connections: u32,
+    world: World<F, D, X, S, K, E, H>,
+) -> Ended<F, D, X, S, K, E, H>
+    ensures runs { Runs (Some (Command.Serve dir.now port connections rule.now.secret rule.now.unauthorized true)) (⟦<World<F, D, X, S, K, E, H> as Observed>⟧.seen world) (⟦<World<F, D, X, S, K, E, H> as Observed>⟧.seen result.world) result.answer }
+    ensures read { IsErrOf result.answer Refusal.ReadFailed → ReadCause (Some (Command.Serve dir.now port connections rule.now.secret rule.now.unauthorized true)) (⟦<World<F, D, X, S, K, E, H> as Observed>⟧.seen world) (⟦<World<F, D, X, S, K, E, H> as Observed>⟧.seen result.world) }
+    ensures failed { IfErr result.answer NotDatabase }
+    ensures input { result.world.input ≡ world.input }
+    ensures hall { result.world.hall ≡ world.hall }
+    ensures words { IsErrOf result.answer Refusal.BadWords → ⊥ }
+    ensures write { IsErrOf result.answer Refusal.WriteFailed → Rose (K.faults world.out) (K.faults result.world.out) }
+    ensures err { result.world.err ≡ world.err }
+    ensures folder { F.folder result.world.files ≡ F.folder world.files }
+    ensures later { NoneFell (⟦<World<F, D, X, S, K, E, H> as Observed>⟧.seen world) (⟦<World<F, D, X, S, K, E, H> as Observed>⟧.seen result.world) }
+{
+    let World {
+        mut files,
+        mut door,
+        disk,
+        input,
+        mut out,
+        err,
+        hall,
+    } = world;
+    let (files_in, door_in, out_in) = (&mut files, &mut door, &mut out);
+    let done = serve_on_disk(
+        alloc,
+        dir,
+        rule,
+        port,
+        connections,
+        files_in,
+        disk,
+        door_in,
+        out_in,
+    );
+    Ended {
+        answer: done.answer,
+        world: World {
+            files,
+            door,
+            disk: done.disk,
+            input,
+            out,
+            err,
+            hall,
+        },
+    }
+}
+
+// Does what a command asks.
+fn obey<F: Files, D: Door, X: Disk, S: Source, K: Sink, E: Sink, H: Hall>(
+    alloc: Global,
+    command: Command,
+    world: World<F, D, X, S, K, E, H>,
+) -> Ended<F, D, X, S, K, E, H>
+    requires { HasFewAuthors command }
+    ensures runs { Runs (Some command) (⟦<World<F, D, X, S, K, E, H> as Observed>⟧.seen world) (⟦<World<F, D, X, S, K, E, H> as Observed>⟧.seen result.world) result.answer }
+    ensures read { IsErrOf result.answer Refusal.ReadFailed → ReadCause (Some command) (⟦<World<F, D, X, S, K, E, H> as Observed>⟧.seen world) (⟦<World<F, D, X, S, K, E, H> as Observed>⟧.seen result.world) }
+    ensures silent { tells_lines (Some command) ≡ false → tells_files (Some command) ≡ false → Silent (K.written world.out) (K.written result.world.out) result.answer }
+    ensures words { result.answer ≢ Err Refusal.BadWords }
+    ensures input { reads_input (Some command) ≡ false → result.world.input ≡ world.input }
+    ensures door { opens_door (Some command) ≡ false → result.world.door ≡ world.door }
+    ensures hall { opens_hall (Some command) ≡ false → result.world.hall ≡ world.hall }
+    ensures write { IsErrOf result.answer Refusal.WriteFailed → Rose (K.faults world.out) (K.faults result.world.out) }
+    ensures failed { IfErr result.answer (MayFail (Some command) (⟦<World<F, D, X, S, K, E, H> as Observed>⟧.seen world) (⟦<World<F, D, X, S, K, E, H> as Observed>⟧.seen result.world)) }
+    ensures disk { uses_disk (Some command) ≡ false → result.world.disk ≡ world.disk }
+    ensures err { result.world.err ≡ world.err }
+    ensures folder { F.folder result.world.files ≡ F.folder world.files }
+    ensures later { NoneFell (⟦<World<F, D, X, S, K, E, H> as Observed>⟧.seen world) (⟦<World<F, D, X, S, K, E, H> as Observed>⟧.seen result.world) }
+{
+    let mut world = world;
+    match command {
+        Command::Query {
+            dir,
+            headers,
+            paged,
+        } => {
+            if paged {
+                return query_paged(alloc, &dir, &headers, world);
+            }
+            let (files, input, out) = (&mut world.files, &mut world.input, &mut world.out);
+            let answer = query(alloc, &dir, &headers, files, input, out);
+            Ended { answer, world }
+        }
+        Command::Sql { dir, headers } => {
+            let (files, input, out) = (&mut world.files, &mut world.input, &mut world.out);
+            let answer = sql(alloc, &dir, &headers, files, input, out);
+            Ended { answer, world }
+        }
+        Command::Explain { dir, headers } => {
+            let (files, input, out) = (&mut world.files, &mut world.input, &mut world.out);
+            let answer = explain(alloc, &dir, &headers, files, input, out);
+            Ended { answer, world }
+        }
+        Command::Check { dir } => {
+            let answer = check(alloc, &dir, &mut world.files, &mut world.out);
+            Ended { answer, world }
+        }
         Command::Serve {
+            dir,
+            port,
+            connections,
+            secret,
+            unauthorized,
+            paged,
+        } => {
+            let rule = SecretRule {
+                secret,
+                unauthorized,
+            };
+            if paged {
+                return serve_paged(alloc, &dir, &rule, port, connections, world);
+            }
+            let (files, door, out) = (&mut world.files, &mut world.door, &mut world.out);
+            let answer = serve(alloc, &dir, &rule, port, connections, files, door, out);
+            Ended { answer, world }
+        }
+        Command::Live {
             dir,
             port,
             connections,
@@ -65,10 +209,45 @@ fn answered<F: Files, D: Door, S: Source, K: Sink>(
                 secret,
                 unauthorized,
             };
-            serve(alloc, &dir, &rule, port, connections, files, door, out)
+            live_over(alloc, dir, &rule, port, connections, world)
         }
-        Command::Gen { n } => generate_and_answer(alloc, n, out),
-        Command::Show { page } => show(page, out),
+        Command::Gen { n } => {
+            let answer = generate_and_answer(alloc, n, &mut world.out);
+            Ended { answer, world }
+        }
+        Command::Show { page } => {
+            let answer = show(page, &mut world.out);
+            Ended { answer, world }
+        }
+    }
+}
+
+// Reads the words, and does what they ask.
+fn answered<F: Files, D: Door, X: Disk, S: Source, K: Sink, E: Sink, H: Hall>(
+    alloc: Global,
+    words: &[Txt],
+    world: World<F, D, X, S, K, E, H>,
+) -> Ended<F, D, X, S, K, E, H>
+    ensures runs { Runs (command_of words.now) (⟦<World<F, D, X, S, K, E, H> as Observed>⟧.seen world) (⟦<World<F, D, X, S, K, E, H> as Observed>⟧.seen result.world) result.answer }
+    ensures read { IsErrOf result.answer Refusal.ReadFailed → ReadCause (command_of words.now) (⟦<World<F, D, X, S, K, E, H> as Observed>⟧.seen world) (⟦<World<F, D, X, S, K, E, H> as Observed>⟧.seen result.world) }
+    ensures silent { tells_lines (command_of words.now) ≡ false → tells_files (command_of words.now) ≡ false → Silent (K.written world.out) (K.written result.world.out) result.answer }
+    ensures words { IsErrOf result.answer Refusal.BadWords → command_of words.now ≡ None }
+    ensures input { reads_input (command_of words.now) ≡ false → result.world.input ≡ world.input }
+    ensures door { opens_door (command_of words.now) ≡ false → result.world.door ≡ world.door }
+    ensures hall { opens_hall (command_of words.now) ≡ false → result.world.hall ≡ world.hall }
+    ensures write { IsErrOf result.answer Refusal.WriteFailed → Rose (K.faults world.out) (K.faults result.world.out) }
+    ensures failed { IfErr result.answer (MayFail (command_of words.now) (⟦<World<F, D, X, S, K, E, H> as Observed>⟧.seen world) (⟦<World<F, D, X, S, K, E, H> as Observed>⟧.seen result.world)) }
+    ensures disk { uses_disk (command_of words.now) ≡ false → result.world.disk ≡ world.disk }
+    ensures err { result.world.err ≡ world.err }
+    ensures folder { F.folder result.world.files ≡ F.folder world.files }
+    ensures later { NoneFell (⟦<World<F, D, X, S, K, E, H> as Observed>⟧.seen world) (⟦<World<F, D, X, S, K, E, H> as Observed>⟧.seen result.world) }
+{
+    match Command::read(alloc, words) {
+        Ok(command) => obey(alloc, command, world),
+        Err(refusal) => Ended {
+            answer: Err(refusal.into()),
+            world,
+        },
     }
 }
 
@@ -126,26 +305,25 @@ pub fn answer_one<T: Tables, S: Source, K: Sink, E: Sink>(
 
 /// The program. `query DIR [HEADER]...` answers the request on the standard input over the directory, for the session of the
 /// headers; `sql DIR [HEADER]...` writes the text of SQL that is asked for it and a line end, or `none` and a line end where
-/// none is. `check DIR` loads the directory and writes `ok: T tables, R roles, N rows`. `serve DIR --port P --connections N`
-/// serves so many connections of HTTP at this machine's port, one after the other, and writes a line after each. `gen N` makes a
+/// none is. `explain DIR [HEADER]...` tells a person of it, or of the directory where that is refused. `check DIR` loads the
+/// directory and writes `ok: T tables, R roles, N rows`. `serve DIR --port P --connections N`
+/// serves so many connections of HTTP at this machine's port, one after the other, and writes a line after each. With `--paged` these
+/// two keep the tables on the disk, under the name `hq.pages` in the directory. `live DIR --port P --connections N` talks of live
+/// queries with so many peers of a WebSocket, one after the other, and writes a line after each. `gen N` makes a
 /// database of N authors, answers five requests over it, and writes how long the replies are. `help`, `--help` or `-h` writes the
 /// commands and the statuses, and `--version` the program's line and the kit's. Everything that it touches is handed in, and handed back with
 /// the status that the program ends with.
-pub fn run<F: Files, D: Door, S: Source, K: Sink, E: Sink>(
+pub fn run<F: Files, D: Door, X: Disk, S: Source, K: Sink, E: Sink, H: Hall>(
     alloc: Global,
     words: &[Txt],
-    world: World<F, D, S, K, E>,
-) -> Ran<F, D, S, K, E>
+    world: World<F, D, X, S, K, E, H>,
+) -> Ran<F, D, X, S, K, E, H>
     // The status is that of an answer, and standard error has its line. The answer is the one that is due for the command that
     // the words ask for, unless memory or an object of the outside failed.
-    ensures ends { (answer : Answer) × (result.status ≡ status_of answer)
-        × Tells (E.written world.err) (E.written result.world.err) (E.faults world.err) (E.faults result.world.err) (told_line answer)
-        × Runs (record { left = D.Link.left; written = D.Link.written; read_faults = D.Link.read_faults; write_faults = D.Link.write_faults }) (command_of words.now)
-        (outside (F.folder world.files) (F.faults world.files) (S.left world.input) (S.faults world.input) (K.written world.out) (K.faults world.out) (seen_door (D.links world.door) (D.accepted world.door) (D.faults world.door)))
-        (outside (F.folder result.world.files) (F.faults result.world.files) (S.left result.world.input) (S.faults result.world.input) (K.written result.world.out) (K.faults result.world.out) (seen_door (D.links result.world.door) (D.accepted result.world.door) (D.faults result.world.door))) answer }
+    ensures ends { EndsWith (command_of words.now) (⟦<World<F, D, X, S, K, E, H> as Observed>⟧.seen world) (⟦<World<F, D, X, S, K, E, H> as Observed>⟧.seen result.world) result.status }
 
-    // Nothing is written at a status other than 0, 1 and 5, but the lines of `serve`.
-    ensures silent { opens_door (command_of words.now) ≡ false → result.status ≢ 0 → result.status ≢ 1 → result.status ≢ 5
+    // Nothing is written at a status other than 0, 1 and 5, but the lines of `serve` and `live`, and what `explain` tells of a refused file.
+    ensures silent { tells_lines (command_of words.now) ≡ false → tells_files (command_of words.now) ≡ false → result.status ≢ 0 → result.status ≢ 1 → result.status ≢ 5
         → K.written result.world.out ≡ K.written world.out }
 
     // It ends with 2 only where the words ask for no command, and there with nothing else but want of memory.
@@ -153,38 +331,20 @@ pub fn run<F: Files, D: Door, S: Source, K: Sink, E: Sink>(
     ensures bad_words { command_of words.now ≡ None → (result.status ≡ 2) ⊎ (result.status ≡ 7) }
 
     // A failure is told only where the count of that object rose, as the command uses it.
-    ensures read { result.status ≡ 4 → ReadCause (command_of words.now)
-        (outside (F.folder world.files) (F.faults world.files) (S.left world.input) (S.faults world.input) (K.written world.out) (K.faults world.out) (seen_door (D.links world.door) (D.accepted world.door) (D.faults world.door)))
-        (outside (F.folder result.world.files) (F.faults result.world.files) (S.left result.world.input) (S.faults result.world.input) (K.written result.world.out) (K.faults result.world.out) (seen_door (D.links result.world.door) (D.accepted result.world.door) (D.faults result.world.door))) }
+    ensures read { result.status ≡ 4 → ReadCause (command_of words.now) (⟦<World<F, D, X, S, K, E, H> as Observed>⟧.seen world) (⟦<World<F, D, X, S, K, E, H> as Observed>⟧.seen result.world) }
     ensures write { result.status ≡ 5 → Rose (K.faults world.out) (K.faults result.world.out) }
-    ensures database { result.status ≢ 6 }
+    ensures database { result.status ≡ 6 → DatabaseCause (command_of words.now) (⟦<World<F, D, X, S, K, E, H> as Observed>⟧.seen world) (⟦<World<F, D, X, S, K, E, H> as Observed>⟧.seen result.world) }
 
-    // A command that reads no input leaves it, and one that opens no door leaves that. The folder is unchanged, and no count falls.
+    // A command that reads no input leaves it, one that opens no door leaves that, and so with the hall and, without `--paged`, the disk. The folder is
+    // unchanged, and no count falls.
     ensures input { reads_input (command_of words.now) ≡ false → result.world.input ≡ world.input }
     ensures door { opens_door (command_of words.now) ≡ false → result.world.door ≡ world.door }
+    ensures hall { opens_hall (command_of words.now) ≡ false → result.world.hall ≡ world.hall }
+    ensures disk { uses_disk (command_of words.now) ≡ false → result.world.disk ≡ world.disk }
     ensures folder { F.folder result.world.files ≡ F.folder world.files }
-    ensures files_later { F.faults world.files ≤ F.faults result.world.files }
-    ensures door_later { D.faults world.door ≤ D.faults result.world.door }
-    ensures input_later { S.faults world.input ≤ S.faults result.world.input }
-    ensures out_later { K.faults world.out ≤ K.faults result.world.out }
+    ensures later { NoneFell (⟦<World<F, D, X, S, K, E, H> as Observed>⟧.seen world) (⟦<World<F, D, X, S, K, E, H> as Observed>⟧.seen result.world) }
 {
-    let World {
-        mut files,
-        mut door,
-        mut input,
-        mut out,
-        mut err,
-    } = world;
-    let answer = answered(alloc, words, &mut files, &mut door, &mut input, &mut out);
-    let status = tell(&mut err, answer);
-    Ran {
-        status,
-        world: World {
-            files,
-            door,
-            input,
-            out,
-            err,
-        },
-    }
+    let Ended { answer, mut world } = answered(alloc, words, world);
+    let status = tell(&mut world.err, answer);
+    Ran { status, world }
 }

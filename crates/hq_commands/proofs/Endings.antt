@@ -1,5 +1,5 @@
 -- How a run ends, by its parts.
-use Rattle.std.proofs.Common.{◌≡◌, ◌≤◌, ◌∙◌, ℕ, List, length, true, Option, Some, None, is_some, IfSome, Result, Ok, Err, option_map, refl, sym, subst, inl, arith}
+use Rattle.std.proofs.Common.{◌≡◌, ◌≤◌, ◌∙◌, ℕ, List, [], length, true, cond, Option, Some, None, is_some, IfSome, Result, Ok, Err, refl, sym, subst, inl, arith}
 use Rattle.std.proofs.lemmas.Bool.{lt-ltb, le-ltb}
 use Rattle.std.specs.Io.KnownBytes.{Appends}
 use Rattle.hq_ask_tree.specs.Request.{AskTree}
@@ -11,10 +11,11 @@ use Rattle.hq_terms.specs.Database.{Row}
 use Rattle.hq_terms.specs.Meta.{MetaTree, meta_view}
 use Rattle.hq_terms.specs.declared.session.Session.{Session}
 use Rattle.hq_terms.specs.declared.table.Table.{Table}
-use Rattle.hq_engine.specs.Asking.{Counts, Asks}
-use Rattle.hq_engine.specs.Engines.{engine_fault, engine_reply, engine_request, engine_text}
+use Rattle.hq_engine.specs.Asking.{Counts, Asks, statement_text, text_for}
+use Rattle.hq_engine.specs.Engines.{IsDueOverEach, engine_fault, engine_reply, engine_request, engine_text}
 use Rattle.hq_faults.specs.FaultTexts.{fault_text, tells_fault}
-use Rattle.hq_engine.specs.Replies.{reply_to}
+use Rattle.hq_engine.specs.Replies.{due_object, reply_to}
+use Rattle.hq_reply.specs.DataTexts.{data_text}
 use Rattle.hq_request.specs.Request.{fault_in, is_answered}
 use Rattle.hq_engine.specs.declared.engine.Engine.{Engine}
 use Rattle.hq_engine.specs.declared.refusal.EngineRefusal.{EngineRefusal}
@@ -22,7 +23,7 @@ use Rattle.hq_engine.specs.declared.refusal.EngineRefusal.TheVariants as engine
 use Rattle.hq_request.specs.declared.refusal.RequestRefusal.{RequestRefusal}
 use Rattle.hq_request.specs.declared.refusal.RequestRefusal.TheVariants as request
 use Rattle.hq_commands.specs.Refusals.{of_input, of_engine}
-use Rattle.hq_commands.specs.Output.{done_by, reply_output, within_limit, request_output, engine_output, statement_output}
+use Rattle.hq_commands.specs.Output.{done_by, known_data, reply_output, within_limit, request_output, engine_output, statement_output, told_rows}
 use Rattle.hq_commands.specs.Ending.{Answer, Ends, NotDatabase, Output, TellsDatabase, Writes, WritesPrefix}
 use Rattle.hq_commands.specs.Answers.{Answers, AskedBy}
 use Rattle.hq_commands.specs.declared.done.Done.{Done}
@@ -75,23 +76,36 @@ pub record Replied (due : Result Output Refusal) (body : List ℕ) : Type 0 wher
   pub done : output.done ≡ done_by body
   pub bytes : IfSome output.bytes (λ bytes. body ≡ bytes)
 
-known_bytes : (f : List (List Row) → List ℕ) (database : Option (List (List Row))) (body : List ℕ) → IfSome database (λ d. Some (f d) ≡ Some body) → IfSome (option_map f database) (λ bytes. body ≡ bytes)
-known_bytes f None body h = tt
-known_bytes f (Some d) body h = cc
+-- data that is known is the reply's: over a told database, and over any where no text is asked
+module _ (tables : List Table) (meta : MetaTree) (session : Session) (ask : AskTree) (body : List ℕ) where
+  data_is : (d : List (List Row)) → Some (data_text (due_object tables meta session d ask)) ≡ Some body → body ≡ data_text (due_object tables meta session d ask)
+  data_is d h = cc
+
+  untold_data : (text : Option (List ℕ)) → (text ≡ None → (d : List (List Row)) → Some (data_text (due_object tables meta session d ask)) ≡ Some body)
+      → IfSome (cond (is_some text) None (Some (data_text (due_object tables meta session [] ask)))) (λ bytes. body ≡ bytes)
+  untold_data None each = data_is [] (each refl [])
+  untold_data (Some text) each = tt
+
+  data_known : (database : Option (List (List Row))) → IfSome database (λ d. Some (data_text (due_object tables meta session d ask)) ≡ Some body)
+      → (statement_text tables meta ask ≡ None → (d : List (List Row)) → Some (data_text (due_object tables meta session d ask)) ≡ Some body)
+      → IfSome (known_data tables meta session database ask) (λ bytes. body ≡ bytes)
+  data_known None told each = untold_data (statement_text tables meta ask) each
+  data_known (Some d) told each = data_is d told
 
 replied_as : (tables : List Table) (meta : MetaTree) (session : Session) (database : Option (List (List Row))) (r : Result AskTree RequestRefusal) (body : List ℕ) → is_answered r ≡ true → tells_fault body ≡ is_some (fault_in r)
-    → IfSome (fault_in r) (λ f. body ≡ fault_text f) → IfSome database (λ d. reply_to tables meta session d r ≡ Some body) → Replied (reply_output tables meta session database r) body
-replied_as tables meta session database (Ok ask) body built kind fault reply =
-    record { output = _; is = refl; done = rw kind refl; bytes = known_bytes _ database body reply }
-replied_as tables meta session database (Err (request.Fault f)) body built kind fault reply = record { output = _; is = refl; done = rw kind refl; bytes = fault }
-replied_as tables meta session database (Err request.Memory) body built kind fault reply = absurd cc
+    → IfSome (fault_in r) (λ f. body ≡ fault_text f) → IfSome database (λ d. reply_to tables meta session d r ≡ Some body)
+    → (text_for tables meta r ≡ None → (d : List (List Row)) → reply_to tables meta session d r ≡ Some body) → Replied (reply_output tables meta session database r) body
+replied_as tables meta session database (Ok ask) body built kind fault reply each =
+    record { output = _; is = refl; done = rw kind refl; bytes = data_known tables meta session ask body database reply each }
+replied_as tables meta session database (Err (request.Fault f)) body built kind fault reply each = record { output = _; is = refl; done = rw kind refl; bytes = fault }
+replied_as tables meta session database (Err request.Memory) body built kind fault reply each = absurd cc
 
 pub replied : (engine : Engine) (session : Session) (database : Option (List (List Row))) (text body : List ℕ) → length text ≤ INPUT_LIMIT → is_answered (engine_request engine session text) ≡ true
     → tells_fault body ≡ is_some (engine_fault engine session text) → IfSome (engine_fault engine session text) (λ f. body ≡ fault_text f) → IfSome database (λ d. engine_reply engine session d text ≡ Some body)
-    → Replied (engine_output engine session database text) body
-replied engine session database text body short built kind fault reply =
+    → IsDueOverEach engine session text body → Replied (engine_output engine session database text) body
+replied engine session database text body short built kind fault reply each =
     subst (λ due. Replied due body) (sym (within_short text (reply_output engine.catalog.tables (meta_view engine.meta) session database (engine_request engine session text)) short))
-    (replied_as engine.catalog.tables (meta_view engine.meta) session database (engine_request engine session text) body built kind fault reply)
+    (replied_as engine.catalog.tables (meta_view engine.meta) session database (engine_request engine session text) body built kind fault reply each)
 
 writes_known : (old new known : Option (List ℕ)) (body : List ℕ) → IfSome known (λ bytes. body ≡ bytes) → Appends old new body → Writes old new known
 writes_known old new None body is h = (body, h)
@@ -111,10 +125,17 @@ cut_ends old new due body bytes is same h = (is.output, is.is, prefix_known old 
 
 -- ---- a directory that is loaded
 
+-- rows on a disk are told alike where its bytes are told as they were before
+pub rows_same : (old new : Option (List ℕ)) (rows : List (List Row)) → is_some new ≡ is_some old → told_rows new rows ≡ told_rows old rows
+rows_same None None rows same = refl
+rows_same None (Some new) rows same = absurd cc
+rows_same (Some old) None rows same = absurd cc
+rows_same (Some old) (Some new) rows same = refl
+
 -- an answer by an engine of these contents is due over them
-pub over_contents : (engine : Engine) (session : Session) (database : Option (List (List Row))) (left : Option (List ℕ)) (tables : List Table) (meta : MetaTree) (rows : List (List Row)) (old new : Option (List ℕ)) (before now : Counts) (answer : Answer)
-    → engine.catalog.tables ≡ tables → meta_view engine.meta ≡ meta → database ≡ Some rows → IfSome left (λ text. Answers engine session database text old new before now answer)
-    → IfSome left (λ text. Ends old new (request_output tables meta session (Some rows) text) answer)
+pub over_contents : (engine : Engine) (session : Session) (database : Option (List (List Row))) (left : Option (List ℕ)) (tables : List Table) (meta : MetaTree) (rows : Option (List (List Row))) (old new : Option (List ℕ)) (before now : Counts) (answer : Answer)
+    → engine.catalog.tables ≡ tables → meta_view engine.meta ≡ meta → database ≡ rows → IfSome left (λ text. Answers engine session database text old new before now answer)
+    → IfSome left (λ text. Ends old new (request_output tables meta session rows text) answer)
 over_contents engine session database None tables meta rows old new before now answer same_tables same_meta same_rows h = tt
 over_contents engine session database (Some text) tables meta rows old new before now answer same_tables same_meta same_rows h =
     subst (λ (d : Option (List (List Row))). Ends old new (request_output tables meta session d text) answer) same_rows

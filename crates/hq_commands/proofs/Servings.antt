@@ -1,23 +1,26 @@
 -- How a run of `serve` ends, by its parts.
-use Rattle.std.proofs.Common.{◌≡◌, ◌⊎◌, ℕ, List, Option, Some, None, IfSome, Result, Ok, Err, ap, subst, inl, inr}
+use Rattle.std.proofs.Common.{◌≡◌, ◌⊎◌, ◌≤◌, ℕ, List, Option, Some, None, IfSome, Result, Ok, Err, ap, subst, inl, inr}
 use Rattle.hq_outside.specs.declared.files.File.{File}
 use Rattle.hq_terms.specs.Database.{Row}
 use Rattle.hq_terms.specs.Meta.{MetaTree}
 use Rattle.hq_terms.specs.declared.table.Table.{Table}
-use Rattle.hq_loading.specs.Loading.{Contents, contents, loaded_view, loading_due, refused_as}
+use Rattle.hq_loading.specs.Loading.{Contents, loaded_view, loading_due, refused_as}
 use Rattle.hq_loading.specs.Told.{GivesUnless}
 use Rattle.hq_loading.specs.declared.loaded.Loaded.{Loaded}
 use Rattle.hq_loading.specs.declared.refusal.LoadingRefusal.{LoadingRefusal}
 use Rattle.hq_loading.specs.declared.refusal.LoadingRefusal.TheVariants as loading
+use Rattle.hq_pages.specs.declared.refusal.PageRefusal.{PageRefusal}
+use Rattle.hq_pages.specs.declared.refusal.PageRefusal.TheVariants as pages
 use Rattle.hq_responder.specs.Due.{denies, gives}
 use Rattle.hq_serve.specs.Serving.{Told, Serves}
 use Rattle.hq_serve.specs.declared.serving.ServeRefusal.{ServeRefusal}
 use Rattle.hq_serve.specs.declared.serving.ServeRefusal.TheVariants as serve
 use Rattle.hq_session.specs.declared.secret.SecretRule.{SecretRule}
+use Rattle.hq_commands.specs.Disks.{SeenDisk}
 use Rattle.hq_commands.specs.Ending.{Answer}
-use Rattle.hq_commands.specs.Refusals.{contents_due, of_loading, of_serving}
-use Rattle.hq_commands.specs.Serving.{SeenDoor, seen_door, Untouched, ServesOver, OpensOver, ServesDirectory, ServeEnds}
-use Rattle.hq_commands.specs.declared.done.Done.TheVariants.{Answered}
+use Rattle.hq_commands.specs.Output.{told_rows}
+use Rattle.hq_commands.specs.Refusals.{contents_due, of_loading, of_pages, of_serving}
+use Rattle.hq_commands.specs.Serving.{SeenDoor, Untouched, answer_of, ServesFrom, ServesOnDisk, ServesTables, OpensOver, PagedServeEnds, ServesDirectory, EndsOver}
 use Rattle.hq_commands.specs.declared.refusal.Refusal.TheVariants as refusal
 
 -- what is due of the directory, by what its loading gives
@@ -38,48 +41,91 @@ refused_due None dir file fault h = tt
 refused_due (Some fs) dir file fault h =
     ap (λ r. refused_as of_loading r) (loading_is (loading.File file fault) (loading_due fs dir) (λ same. cc) (λ same. cc) h)
 
-module _ {L : Type 0} (t : Told L) (rule : SecretRule) (n : ℕ) (before after : SeenDoor L) (old new : Option (List ℕ)) where
+module _ {L : Type 0} (before after : SeenDoor L) (old new : Option (List ℕ)) where
   -- what was served was served, whatever came then
-  opened : (held : Contents) (result : Result (Unit {0}) ServeRefusal) → ServesOver t rule n before after old new held result → OpensOver t rule n before after old new held result
-  opened held (Ok done) s = s
-  opened held (Err serve.DoorFailed) s = inr s
-  opened held (Err serve.WriteFailed) s = s
-  opened held (Err serve.Memory) s = inr s
+  pub opened : (over : Result (Unit {0}) ServeRefusal → Type 0) (result : Result (Unit {0}) ServeRefusal) → over result → OpensOver before after old new over result
+  opened over (Ok done) s = s
+  opened over (Err serve.DoorFailed) s = inr s
+  opened over (Err serve.WriteFailed) s = s
+  opened over (Err serve.Memory) s = inr s
 
-  -- a directory that is not loaded is not served
-  pub load_refused : (files : Option (List File)) (dir : List ℕ) (e : LoadingRefusal) (a : Answer) → a ≡ Err (of_loading e)
-      → IfSome files (λ fs. GivesUnless {X = Loaded} loaded_view loading.Memory loading.Failed (loading_due fs dir) (Err e)) → Untouched before after old new → ServeEnds t rule n before after old new files dir a
-  load_refused files dir (loading.File file fault) a is h u = rw is (u, refused_due files dir file fault h)
-  load_refused files dir loading.Failed a is h u = rw is (inl u)
-  load_refused files dir loading.Memory a is h u = rw is (inl u)
+  -- as one thing was served, so was another that follows
+  pub opens_weaker : (over more : Result (Unit {0}) ServeRefusal → Type 0) (result : Result (Unit {0}) ServeRefusal) → ((r : Result (Unit {0}) ServeRefusal) → over r → more r)
+      → OpensOver before after old new over result → OpensOver before after old new more result
+  opens_weaker over more (Ok done) f s = f (Ok done) s
+  opens_weaker over more (Err serve.WriteFailed) f s = f (Err serve.WriteFailed) s
+  opens_weaker over more (Err serve.DoorFailed) f (inl u) = inl u
+  opens_weaker over more (Err serve.DoorFailed) f (inr s) = inr (f (Err serve.DoorFailed) s)
+  opens_weaker over more (Err serve.Memory) f (inl u) = inl u
+  opens_weaker over more (Err serve.Memory) f (inr s) = inr (f (Err serve.Memory) s)
 
-  -- one that is loaded is served as far as it goes
-  directory : (files : Option (List File)) (dir : List ℕ) (held : Contents) (result : Result (Unit {0}) ServeRefusal) → IfSome files (λ fs. loading_due fs dir ≡ Ok held)
-      → ServesOver t rule n before after old new held result → ServesDirectory t rule n before after old new files dir result
-  directory files dir held result h s = record { held = held; holds = held_due files dir held h; serves = s }
+  module _ (over : Contents → Result (Unit {0}) ServeRefusal → Type 0) (files : Option (List File)) (dir : List ℕ) where
+    -- a directory that is not loaded is not served
+    pub load_refused : (e : LoadingRefusal) (a : Answer) → a ≡ Err (of_loading e)
+        → IfSome files (λ fs. GivesUnless {X = Loaded} loaded_view loading.Memory loading.Failed (loading_due fs dir) (Err e)) → Untouched before after old new → EndsOver before after old new over files dir a
+    load_refused (loading.File file fault) a is h u = rw is (u, refused_due files dir file fault h)
+    load_refused loading.Failed a is h u = rw is (inl u)
+    load_refused loading.Memory a is h u = rw is (inl u)
 
-  pub not_served : (files : Option (List File)) (dir : List ℕ) (held : Contents) (e : ServeRefusal) (a : Answer) → a ≡ Err (of_serving e) → IfSome files (λ fs. loading_due fs dir ≡ Ok held)
-      → OpensOver t rule n before after old new held (Err e) → ServeEnds t rule n before after old new files dir a
-  not_served files dir held serve.WriteFailed a is h s = rw is (directory files dir held (Err serve.WriteFailed) h s)
-  not_served files dir held serve.DoorFailed a is h (inl u) = rw is (inl u)
-  not_served files dir held serve.DoorFailed a is h (inr s) = rw is (inr (directory files dir held (Err serve.DoorFailed) h s))
-  not_served files dir held serve.Memory a is h (inl u) = rw is (inl u)
-  not_served files dir held serve.Memory a is h (inr s) = rw is (inr (directory files dir held (Err serve.Memory) h s))
+    -- nor is one whose tables are not on the disk
+    pub pages_refused : (e : PageRefusal) (a : Answer) → a ≡ Err (of_pages e) → Untouched before after old new → EndsOver before after old new over files dir a
+    pages_refused pages.Failed a is u = rw is (inl u)
+    pages_refused pages.Memory a is u = rw is (inl u)
 
-  pub served : (files : Option (List File)) (dir : List ℕ) (held : Contents) → IfSome files (λ fs. loading_due fs dir ≡ Ok held)
-      → OpensOver t rule n before after old new held (Ok tt) → ServeEnds t rule n before after old new files dir (Ok Answered)
-  served files dir held h s = directory files dir held (Ok tt) h s
+    module _ (held : Contents) (holds : IfSome files (λ fs. loading_due fs dir ≡ Ok held)) where
+      -- one that is loaded is served as far as it goes
+      directory : (result : Result (Unit {0}) ServeRefusal) → over held result → ServesDirectory before after old new over files dir result
+      directory result s = record { held = held; holds = held_due files dir held holds; serves = s }
 
--- what is served by an engine of these contents, at a door that was opened, is served over them
-pub opens_over : {L : Type 0} (t : Told L) (rule : SecretRule) (n : ℕ) (tables ts : List Table) (meta m : MetaTree) (rows : List (List Row)) (database : Option (List (List Row)))
-    (a a1 a2 f f2 : ℕ) (links links1 links2 : Option (List L)) (old new : Option (List ℕ)) (result : Result (Unit {0}) ServeRefusal)
-    → ts ≡ tables → m ≡ meta → database ≡ Some rows → a1 ≡ a → links1 ≡ links
-    → Serves (denies rule) (gives rule ts m database) t n a1 a2 links1 links2 0 0 old new result
-    → OpensOver t rule n (seen_door links a f) (seen_door links2 a2 f2) old new (contents tables meta rows) result
-opens_over t rule n tables ts meta m rows database a a1 a2 f f2 links links1 links2 old new result same_tables same_meta told same_count same_links s =
-    let at_count = subst (λ k. Serves (denies rule) (gives rule ts m database) t n k a2 links1 links2 0 0 old new result) same_count s in
-    let at_links = subst (λ ls. Serves (denies rule) (gives rule ts m database) t n a a2 ls links2 0 0 old new result) same_links at_count in
-    let at_rows = subst (λ (d : Option (List (List Row))). Serves (denies rule) (gives rule ts m d) t n a a2 links links2 0 0 old new result) told at_links in
-    let at_meta = subst (λ (k : MetaTree). Serves (denies rule) (gives rule ts k (Some rows)) t n a a2 links links2 0 0 old new result) same_meta at_rows in
-    let at_tables = subst (λ (k : List Table). Serves (denies rule) (gives rule k meta (Some rows)) t n a a2 links links2 0 0 old new result) same_tables at_meta in
-    opened t rule n (seen_door links a f) (seen_door links2 a2 f2) old new (contents tables meta rows) result at_tables
+      pub ends_as : (result : Result (Unit {0}) ServeRefusal) (a : Answer) → a ≡ answer_of result → OpensOver before after old new (over held) result → EndsOver before after old new over files dir a
+      ends_as (Ok done) a is s = rw is (directory (Ok tt) s)
+      ends_as (Err serve.WriteFailed) a is s = rw is (directory (Err serve.WriteFailed) s)
+      ends_as (Err serve.DoorFailed) a is (inl u) = rw is (inl u)
+      ends_as (Err serve.DoorFailed) a is (inr s) = rw is (inr (directory (Err serve.DoorFailed) s))
+      ends_as (Err serve.Memory) a is (inl u) = rw is (inl u)
+      ends_as (Err serve.Memory) a is (inr s) = rw is (inr (directory (Err serve.Memory) s))
+
+-- what is served by an engine of these contents is served over them
+pub over_same : {L : Type 0} (t : Told L) (rule : SecretRule) (n : ℕ) (before after : SeenDoor L) (old new : Option (List ℕ)) (f f' : ℕ) (tables ts : List Table) (meta m : MetaTree) (rows database : Option (List (List Row)))
+    (result : Result (Unit {0}) ServeRefusal) → ts ≡ tables → m ≡ meta → database ≡ rows
+    → ServesTables t rule n before after old new f f' ts m database result → ServesTables t rule n before after old new f f' tables meta rows result
+over_same t rule n before after old new f f' tables ts meta m rows database result same_tables same_meta told s =
+    let at_rows = subst (λ (d : Option (List (List Row))). ServesTables t rule n before after old new f f' ts m d result) told s in
+    let at_meta = subst (λ (k : MetaTree). ServesTables t rule n before after old new f f' ts k rows result) same_meta at_rows in
+    subst (λ (k : List Table). ServesTables t rule n before after old new f f' k meta rows result) same_tables at_meta
+
+-- a door that was opened is the one that was there
+pub door_same : {L : Type 0} (t : Told L) (rule : SecretRule) (n : ℕ) (tables : List Table) (meta : MetaTree) (rows : Option (List (List Row))) (f f' a a1 a2 : ℕ) (links links1 links2 : Option (List L)) (old new : Option (List ℕ))
+    (result : Result (Unit {0}) ServeRefusal) → a1 ≡ a → links1 ≡ links
+    → Serves (denies rule) (gives rule tables meta rows) t n a1 a2 links1 links2 f f' old new result → Serves (denies rule) (gives rule tables meta rows) t n a a2 links links2 f f' old new result
+door_same t rule n tables meta rows f f' a a1 a2 links links1 links2 old new result same_count same_links s =
+    let at_count = subst (λ k. Serves (denies rule) (gives rule tables meta rows) t n k a2 links1 links2 f f' old new result) same_count s in
+    subst (λ ls. Serves (denies rule) (gives rule tables meta rows) t n a a2 ls links2 f f' old new result) same_links at_count
+
+-- the same over tables on a disk
+pub from_same : {L : Type 0} (t : Told L) (rule : SecretRule) (n : ℕ) (before after : SeenDoor L) (old new : Option (List ℕ)) (disk left : SeenDisk) (first : ℕ) (held : Contents) (ts : List Table) (m : MetaTree) (database : Option (List (List Row)))
+    (result : Result (Unit {0}) ServeRefusal) → ts ≡ held.tables → m ≡ held.meta → database ≡ told_rows disk.told held.rows → disk.faults ≤ first
+    → ServesFrom t rule n before after old new first left ts m database result → ServesOnDisk t rule n before after old new disk left held result
+from_same t rule n before after old new disk left first held ts m database result same_tables same_meta told begins s = record {
+  first = first;
+  begins = begins;
+  serves = record {
+    last = s.last;
+    serves = over_same t rule n before after old new first s.last held.tables ts held.meta m (told_rows disk.told held.rows) database result same_tables same_meta told s.serves;
+    disk = s.disk;
+  };
+}
+
+-- what a link tells
+abbrev pub link_tells : {L : Type 0} → (left written : L → Option (List ℕ)) → (read_faults write_faults : L → ℕ) → Told L
+link_tells left written read_faults write_faults = record { left = left; written = written; read_faults = read_faults; write_faults = write_faults }
+
+-- how a run ends that serves over tables on a disk
+pub ends_on_disk : {L : Type 0} (t : Told L) (rule : SecretRule) (n : ℕ) (before after : SeenDoor L) (old new : Option (List ℕ)) (disk left : SeenDisk) (files : Option (List File)) (dir : List ℕ) (held : Contents)
+    (first : ℕ) (ts : List Table) (m : MetaTree) (database : Option (List (List Row))) (result : Result (Unit {0}) ServeRefusal) (a : Answer)
+    → IfSome files (λ fs. loading_due fs dir ≡ Ok held) → ts ≡ held.tables → m ≡ held.meta → database ≡ told_rows disk.told held.rows → disk.faults ≤ first → a ≡ answer_of result
+    → OpensOver before after old new (ServesFrom t rule n before after old new first left ts m database) result → PagedServeEnds t rule n before after old new disk left files dir a
+ends_on_disk t rule n before after old new disk left files dir held first ts m database result a holds same_tables same_meta told begins is s =
+    ends_as before after old new (ServesOnDisk t rule n before after old new disk left) files dir held holds result a is
+    (opens_weaker before after old new (ServesFrom t rule n before after old new first left ts m database) (ServesOnDisk t rule n before after old new disk left held) result
+    (λ r. from_same t rule n before after old new disk left first held ts m database r same_tables same_meta told begins) s)

@@ -7,3 +7,5 @@ pub mod Check
 pub mod Serving
 pub mod Generating
 pub mod Showing
+pub mod Disks
+pub mod Explaining

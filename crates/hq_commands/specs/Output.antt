@@ -1,6 +1,6 @@
 -- What is due on the standard output for a request: bytes that tell data, its text of SQL or a fault; or the first refusal. It is
 -- a function of the directory's files, the headers and the input.
-use Rattle.std.specs.Prelude.{ℕ, List, ◌++◌, codes, unwrap_or, length, nat_lt, Option, Some, option_map, Result, Ok, Err, cond, if◌then◌else◌}
+use Rattle.std.specs.Prelude.{ℕ, List, [], ◌++◌, codes, unwrap_or, length, nat_lt, Option, Some, None, is_some, option_map, Result, Ok, Err, cond, if◌then◌else◌}
 use Rattle.hq_ask_tree.specs.Request.{AskTree}
 use Rattle.hq_base.specs.Due.{◌>>=◌}
 use Rattle.hq_outside.specs.declared.files.File.{File}
@@ -8,7 +8,7 @@ use Rattle.hq_terms.specs.Database.{Row}
 use Rattle.hq_terms.specs.Meta.{MetaTree, meta_view}
 use Rattle.hq_terms.specs.declared.session.Session.{Session}
 use Rattle.hq_terms.specs.declared.table.Table.{Table}
-use Rattle.hq_engine.specs.Asking.{asked_text}
+use Rattle.hq_engine.specs.Asking.{asked_text, statement_text}
 use Rattle.hq_faults.specs.FaultTexts.{fault_text, tells_fault}
 use Rattle.hq_engine.specs.Replies.{due_object}
 use Rattle.hq_reply.specs.DataTexts.{data_text}
@@ -30,10 +30,15 @@ use Rattle.hq_commands.specs.declared.refusal.Refusal.TheVariants.{Memory, Input
 abbrev pub done_by : (body : List ℕ) → Done
 done_by body = if tells_fault body then Faulty else Answered
 
+-- the data of a request, where it is known: over a told database, and over any where no text is asked of one
+abbrev pub known_data : List Table → MetaTree → Session → Option (List (List Row)) → AskTree → Option (List ℕ)
+known_data tables meta session (Some rows) ask = Some (data_text (due_object tables meta session rows ask))
+known_data tables meta session None ask = cond (is_some (statement_text tables meta ask)) None (Some (data_text (due_object tables meta session [] ask)))
+
 -- the reply to what a body makes: a fault needs no database
 abbrev pub reply_output : List Table → MetaTree → Session → Option (List (List Row)) → Result AskTree RequestRefusal → Result Output Refusal
 reply_output tables meta session database (Ok ask) =
-    Ok (record { done = Answered; bytes = option_map (λ rows. data_text (due_object tables meta session rows ask)) database })
+    Ok (record { done = Answered; bytes = known_data tables meta session database ask })
 reply_output tables meta session database (Err (request.Fault f)) = Ok (record { done = Faulty; bytes = Some (fault_text f) })
 reply_output tables meta session database (Err request.Memory) = Err Memory
 
@@ -53,6 +58,15 @@ engine_output engine session database text = request_output engine.catalog.table
 abbrev pub query_output : (dir : List ℕ) → List Header → List File → (text : List ℕ) → Result Output Refusal
 query_output dir headers files text =
     contents_due dir files >>= λ c. request_output c.tables c.meta (session_of headers) (Some c.rows) text
+
+-- rows that are put on a disk are told where its bytes are
+abbrev pub told_rows : (told : Option (List ℕ)) → List (List Row) → Option (List (List Row))
+told_rows told rows = option_map (λ bytes. rows) told
+
+-- what is due for a query whose tables are put on a disk: where it tells its bytes, the same
+abbrev pub paged_output : (told : Option (List ℕ)) → (dir : List ℕ) → List Header → List File → (text : List ℕ) → Result Output Refusal
+paged_output told dir headers files text =
+    contents_due dir files >>= λ c. request_output c.tables c.meta (session_of headers) (told_rows told c.rows) text
 
 -- the text of SQL that is asked for what a body makes, and a line end; `none` where none is asked; the reply of a fault
 abbrev pub line_text : (text : List ℕ) → List ℕ

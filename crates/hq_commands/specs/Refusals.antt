@@ -8,6 +8,8 @@ use Rattle.hq_loading.specs.declared.refusal.LoadingRefusal.TheVariants as loadi
 use Rattle.hq_outside.specs.declared.files.File.{File}
 use Rattle.hq_outside.specs.declared.streams.InputRefusal.{InputRefusal}
 use Rattle.hq_outside.specs.declared.streams.InputRefusal.TheVariants as input
+use Rattle.hq_pages.specs.declared.refusal.PageRefusal.{PageRefusal}
+use Rattle.hq_pages.specs.declared.refusal.PageRefusal.TheVariants as pages
 use Rattle.hq_serve.specs.declared.serving.ServeRefusal.{ServeRefusal}
 use Rattle.hq_serve.specs.declared.serving.ServeRefusal.TheVariants as serve
 use Rattle.hq_words.specs.declared.refusal.WordsRefusal.{WordsRefusal}
@@ -25,6 +27,11 @@ abbrev pub of_loading : LoadingRefusal → Refusal
 of_loading (loading.File file fault) = RefusedFile file fault
 of_loading loading.Failed = ReadFailed
 of_loading loading.Memory = Memory
+
+-- of a disk
+abbrev pub of_pages : PageRefusal → Refusal
+of_pages pages.Failed = ReadFailed
+of_pages pages.Memory = Memory
 
 -- of the input
 abbrev pub of_input : InputRefusal → Refusal

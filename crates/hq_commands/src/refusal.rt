@@ -4,6 +4,7 @@ use hq_base::{Memory, Txt};
 use hq_engine::EngineRefusal;
 use hq_loading::{Field, Fields, FileFault, LoadingRefusal, Phrase};
 use hq_outside::{InputRefusal, WriteFailed};
+use hq_pages::PageRefusal;
 use hq_serve::ServeRefusal;
 use hq_words::WordsRefusal;
 use thiserror::Error;
@@ -135,6 +136,19 @@ impl From<LoadingRefusal> for Refusal {
             LoadingRefusal::File { file, fault } => Refusal::File { file, fault },
             LoadingRefusal::Failed => Refusal::ReadFailed,
             LoadingRefusal::Memory => Refusal::Memory,
+        }
+    }
+}
+
+impl From<PageRefusal> for Refusal {
+    ghost use Rattle.hq_commands.specs.Refusals.{of_pages};
+
+    ghost from_gives = { λ r e. e ≡ of_pages r };
+
+    fn from(refusal: PageRefusal) -> Self {
+        match refusal {
+            PageRefusal::Failed => Refusal::ReadFailed,
+            PageRefusal::Memory => Refusal::Memory,
         }
     }
 }

@@ -1,6 +1,6 @@
 //! A refused catalog in words.
 
-use crate::known::put_types;
+use crate::known::{put_types, text_of};
 use crate::node::{Node, put_written_table};
 use crate::path::is_element;
 use crate::spot::path_of;
@@ -9,22 +9,41 @@ use hq_catalog_read::CatalogRefusal;
 use hq_places::{Words, put_not_json};
 use std::alloc::Global;
 
+// What an element of a member of this name is to be.
+static ELEMENTS: [(&str, &str); 5] = [
+    ("tables", "a table: an object"),
+    ("columns", "a column: its name, or an object"),
+    ("primary_key", "the name of a column of that table"),
+    ("references", "the name of a column of that table"),
+    (
+        "foreign_keys",
+        "an object, with as many columns as references",
+    ),
+];
+
 // What a member of this name is to be.
+static MEMBERS: [(&str, &str); 9] = [
+    ("tables", "a list of tables"),
+    ("columns", "a list of columns, at least one"),
+    ("primary_key", "a list of names of columns"),
+    ("references", "a list of names of columns"),
+    ("foreign_keys", "a list of foreign keys"),
+    (
+        "table",
+        "a table of this catalog: {\"schema\": .., \"name\": ..}",
+    ),
+    ("nullable", "true or false"),
+    ("schema", "a text"),
+    ("name", "a text"),
+];
+
 fn expected(name: &[u8], element: bool) -> &'static str {
-    match name {
-        b"tables" if element => "a table: an object",
-        b"tables" => "a list of tables",
-        b"columns" if element => "a column: its name, or an object",
-        b"columns" => "a list of columns, at least one",
-        b"primary_key" | b"references" if element => "the name of a column of that table",
-        b"primary_key" | b"references" => "a list of names of columns",
-        b"foreign_keys" if element => "an object, with as many columns as references",
-        b"foreign_keys" => "a list of foreign keys",
-        b"table" => "a table of this catalog: {\"schema\": .., \"name\": ..}",
-        b"nullable" => "true or false",
-        b"schema" | b"name" => "a text",
-        _ => "an object with a list \"tables\"",
-    }
+    let text = if element {
+        text_of(&ELEMENTS, name)
+    } else {
+        text_of(&MEMBERS, name)
+    };
+    text.unwrap_or("an object with a list \"tables\"")
 }
 
 // Adds what is to stand at a node, and what does.

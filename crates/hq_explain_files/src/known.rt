@@ -114,3 +114,13 @@ pub fn put_foreign_keys(words: &mut Words, catalog: &Catalog, table: &Table) {
         }
     }
 }
+
+/// What a table of names and texts has for a name.
+pub fn text_of(texts: &[(&'static str, &'static str)], name: &[u8]) -> Option<&'static str> {
+    for (known, text) in texts {
+        if known.as_bytes() == name {
+            return Some(*text);
+        }
+    }
+    None
+}

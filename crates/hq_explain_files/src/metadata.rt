@@ -2,7 +2,7 @@
 
 use crate::known::{
     compares_columns, has_column, is_operator, put_columns, put_foreign_keys, put_operators,
-    put_table, put_tables,
+    put_table, put_tables, text_of,
 };
 use crate::node::{Node, put_written_table};
 use crate::path::{behind, has, has_connectives_alone, is_element, last_name, parent};
@@ -35,48 +35,94 @@ fn tracked<'a>(catalog: &'a Catalog, node: &Node<'_>) -> Option<&'a Table> {
     tables.get(at?)
 }
 
-// What a member of this name is to be.
-fn expected(name: &[u8], element: bool) -> &'static str {
-    match name {
-        b"sources" => "a list of one source",
-        b"kind" => "\"postgres\"",
-        b"tables" if element => "an object with a member \"table\"",
-        b"tables" => "a list of tables",
-        b"table" | b"remote_table" => "a text, or {\"schema\": .., \"name\": ..}",
-        b"columns" if element => "the name of a column",
-        b"columns" => "a list of columns, or \"*\"",
-        b"filter" => "an object",
-        b"limit" => "a whole number, not negative",
-        b"allow_aggregations" => "true or false",
-        b"role" => "the name of a role, not \"admin\"",
-        b"permission" => "an object with \"columns\" and \"filter\"",
-        b"using" => "either \"foreign_key_constraint_on\" or \"manual_configuration\"",
-        b"foreign_key_constraint_on" => "a column, a list of columns, or a table with its columns",
-        b"column_mapping" => "an object of columns, each with a column of the other table",
-        b"object_relationships" | b"array_relationships" if element =>
-            "an object with \"name\" and \"using\"",
-        b"select_permissions" if element => "an object with \"role\" and \"permission\"",
-        b"object_relationships" | b"array_relationships" | b"select_permissions" => "a list",
-        b"inherited_roles"
-        | b"customization"
-        | b"query_root_fields"
-        | b"subscription_root_fields" => { "none: hq would answer otherwise than Hasura" }
-        b"_and" | b"_or" => "a list of filters",
-        b"_not" | b"_where" => "a filter: an object",
-        b"_exists" => "an object with \"_table\" and \"_where\"",
-        b"_table" => "a tracked table: a text, or {\"schema\": .., \"name\": ..}",
-        _ if compares_columns(name) => "the name of another column of the table",
-        _ => expected_name(name),
-    }
-}
+// What an element of a member of this name is to be.
+static ELEMENTS: [(&str, &str); 8] = [
+    ("tables", "an object with a member \"table\""),
+    ("columns", "the name of a column"),
+    ("foreign_key_constraint_on", "the name of a column"),
+    (
+        "object_relationships",
+        "an object with \"name\" and \"using\"",
+    ),
+    (
+        "array_relationships",
+        "an object with \"name\" and \"using\"",
+    ),
+    (
+        "select_permissions",
+        "an object with \"role\" and \"permission\"",
+    ),
+    ("_and", "a filter: an object"),
+    ("_or", "a filter: an object"),
+];
 
-fn expected_name(name: &[u8]) -> &'static str {
-    match name {
-        b"name" | b"custom_name" | b"select" | b"select_by_pk" | b"select_aggregate" => {
-            "a name of GraphQL: letters, digits and _, not a digit first, and not __ in front"
-        }
-        b"$" => "an object with \"version\", and \"sources\" or \"tables\"",
-        _ => "another form",
+const NAME: &str =
+    "a name of GraphQL: letters, digits and _, not a digit first, and not __ in front";
+
+const NONE: &str = "none: hq would answer otherwise than Hasura";
+
+// What a member of this name is to be.
+static MEMBERS: [(&str, &str); 33] = [
+    (
+        "$",
+        "an object with \"version\", and \"sources\" or \"tables\"",
+    ),
+    ("sources", "a list of one source"),
+    ("kind", "\"postgres\""),
+    ("tables", "a list of tables"),
+    ("table", "a text, or {\"schema\": .., \"name\": ..}"),
+    ("remote_table", "a text, or {\"schema\": .., \"name\": ..}"),
+    ("columns", "a list of columns, or \"*\""),
+    ("filter", "an object"),
+    ("limit", "a whole number, not negative"),
+    ("allow_aggregations", "true or false"),
+    ("role", "the name of a role, not \"admin\""),
+    ("permission", "an object with \"columns\" and \"filter\""),
+    (
+        "using",
+        "either \"foreign_key_constraint_on\" or \"manual_configuration\"",
+    ),
+    (
+        "foreign_key_constraint_on",
+        "a column, a list of columns, or a table with its columns",
+    ),
+    (
+        "column_mapping",
+        "an object of columns, each with a column of the other table",
+    ),
+    ("object_relationships", "a list"),
+    ("array_relationships", "a list"),
+    ("select_permissions", "a list"),
+    ("inherited_roles", NONE),
+    ("customization", NONE),
+    ("query_root_fields", NONE),
+    ("subscription_root_fields", NONE),
+    ("_and", "a list of filters"),
+    ("_or", "a list of filters"),
+    ("_not", "a filter: an object"),
+    ("_where", "a filter: an object"),
+    ("_exists", "an object with \"_table\" and \"_where\""),
+    (
+        "_table",
+        "a tracked table: a text, or {\"schema\": .., \"name\": ..}",
+    ),
+    ("name", NAME),
+    ("custom_name", NAME),
+    ("select", NAME),
+    ("select_by_pk", NAME),
+    ("select_aggregate", NAME),
+];
+
+fn expected(name: &[u8], element: bool) -> &'static str {
+    let text = if element {
+        text_of(&ELEMENTS, name)
+    } else {
+        text_of(&MEMBERS, name)
+    };
+    if compares_columns(name) {
+        "the name of another column of the table"
+    } else {
+        text.unwrap_or("another form")
     }
 }
 

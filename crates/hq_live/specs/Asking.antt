@@ -1,6 +1,7 @@
 -- Due replies, and what asking and reloading give.
-use Rattle.std.specs.Prelude.{◌≡◌, ◌≤◌, ℕ, List, [], ◌∷◌, ⊤}
+use Rattle.std.specs.Prelude.{◌≡◌, ◌≤◌, ℕ, List, [], ◌∷◌, Option, ⊤}
 use Rattle.hq_outside.specs.Causes.{Rose}
+use Rattle.hq_outside.specs.declared.files.File.{File}
 use Rattle.hq_terms.specs.declared.session.Session.{Session}
 use Rattle.hq_live.specs.declared.asker.Asked.{Asked}
 use Rattle.hq_live.specs.declared.asker.Asked.TheVariants as asked
@@ -56,3 +57,7 @@ Reloads due due' next next' old new reloaded.New = Takes due' next next'
 Reloads due due' next next' old new reloaded.Same = IsUsedUp next × (due' ≡ due) × (next' ≡ next)
 Reloads due due' next next' old new (reloaded.Failed before after) = RoseWithin old new before after × (due' ≡ due) × (next' ≡ next)
 Reloads due due' next next' old new reloaded.Memory = (due' ≡ due) × (next' ≡ next)
+
+-- whatever an asker reads from, these calls leave it: files that were those of a folder still are, and no count of theirs fell
+abbrev pub KeepsFiles : {A : Type 0} → (reads : Option (List File) → ℕ → A → Type 0) → (old new : A) → Type 0
+KeepsFiles reads old new = (folder : Option (List File)) (faults : ℕ) → reads folder faults old → reads folder faults new

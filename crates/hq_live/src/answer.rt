@@ -1,5 +1,6 @@
 ghost use Rattle.std.specs.Prelude.{◌≡◌, ◌≤◌, ◌↔◌, Some, IfOk, IsTrue};
 ghost use Rattle.hq_live.specs.Answers.{IsAnswer, AreAnswers};
+ghost use Rattle.hq_live.specs.Asking.{KeepsFiles};
 
 use crate::{Asked, Asker, Subscription};
 use hq_base::{Bytes, Memory};
@@ -35,6 +36,7 @@ pub fn ask<A: Asker>(
     ensures answer { IfOk result (IsAnswer (A.due asker.old) subscription.now (A.faults asker.old) (A.faults asker.new)) }
     ensures due { A.due asker.new ≡ A.due asker.old }
     ensures next { A.next asker.new ≡ A.next asker.old }
+    ensures files { KeepsFiles A.reads asker.old asker.new }
     ensures later { A.faults asker.old ≤ A.faults asker.new }
 {
     match asker.ask(alloc, &subscription.session, subscription.body.as_slice()) {
@@ -59,6 +61,7 @@ pub fn ask_all<A: Asker>(
     ensures answers { IfOk result (λ answers. AreAnswers (A.due asker.old) (A.faults asker.old) (A.faults asker.new) subscriptions.now answers.items) }
     ensures due { A.due asker.new ≡ A.due asker.old }
     ensures next { A.next asker.new ≡ A.next asker.old }
+    ensures files { KeepsFiles A.reads asker.old asker.new }
     ensures later { A.faults asker.old ≤ A.faults asker.new }
 {
     let mut answers = Vec::new(alloc);

@@ -1,5 +1,6 @@
-ghost use Rattle.std.specs.Prelude.{◌≡◌, ◌≤◌, ℕ, length};
-ghost use Rattle.hq_live.specs.Asking.{Due, Next, GaveReply, Reloads};
+ghost use Rattle.std.specs.Prelude.{◌≡◌, ◌≤◌, ℕ, List as Items, Option, length};
+ghost use Rattle.hq_outside.specs.declared.files.File.{File};
+ghost use Rattle.hq_live.specs.Asking.{Due, Next, GaveReply, KeepsFiles, Reloads};
 
 use hq_base::Bytes;
 use hq_terms::Session;
@@ -38,16 +39,21 @@ pub trait Asker {
     /// How often it has failed.
     ghost faults: { Self → ℕ };
 
+    /// Whether the files that it reads from are those of this folder, where that is told, and have failed so often at least.
+    ghost reads: { Option (Items File) → ℕ → Self → Type 0 };
+
     /// Asks for the due reply to a body of at most 1,048,576 bytes.
     fn ask(&mut self, alloc: Global, session: &Session, body: &[u8]) -> Asked
         requires { length body.now ≤ 1048576 }
         ensures asked { GaveReply (due self.old session.now body.now) (faults self.old) (faults self.new) result }
         ensures due { due self.new ≡ due self.old }
         ensures next { next self.new ≡ next self.old }
+        ensures files { KeepsFiles reads self.old self.new }
         ensures later { faults self.old ≤ faults self.new };
 
     /// Takes the next database.
     fn reload(&mut self, alloc: Global) -> Reloaded
         ensures reloaded { Reloads (due self.old) (due self.new) (next self.old) (next self.new) (faults self.old) (faults self.new) result }
+        ensures files { KeepsFiles reads self.old self.new }
         ensures later { faults self.old ≤ faults self.new };
 }

@@ -2,7 +2,7 @@ ghost use Rattle.std.specs.Prelude.{◌≡◌, ◌≤◌, ◌++◌, ◌∷◌, �
 ghost use Rattle.std.specs.List.{list_any};
 ghost use Rattle.hq_live.specs.Answers.{IsAnswer, kept, news};
 ghost use Rattle.hq_live.specs.Steps.{Steps, LeavesAsker, IsRefusal, IsReloadRefusal, IsTooMany, is_of, is_by, is_repeated};
-ghost use Rattle.hq_live.specs.Asking.{Moved};
+ghost use Rattle.hq_live.specs.Asking.{KeepsFiles, Moved};
 ghost use Rattle.hq_live.specs.declared.event.Event.TheVariants as event;
 
 use crate::answer::{Answer, ask, ask_all};
@@ -67,6 +67,7 @@ impl<A: Asker> Live<A> {
         ensures err { OnErr result (self.new.subscriptions.items ≡ self.old.subscriptions.items) }
         ensures due { A.due self.new.asker ≡ A.due self.old.asker }
         ensures next { A.next self.new.asker ≡ A.next self.old.asker }
+        ensures files { KeepsFiles A.reads self.old.asker self.new.asker }
         ensures later { A.faults self.old.asker ≤ A.faults self.new.asker }
     {
         let answer = ask(alloc, &mut self.asker, &begun)?;
@@ -83,6 +84,7 @@ impl<A: Asker> Live<A> {
         ensures err { OnErr result (self.new.subscriptions.items ≡ self.old.subscriptions.items) }
         ensures due { A.due self.new.asker ≡ A.due self.old.asker }
         ensures next { A.next self.new.asker ≡ A.next self.old.asker }
+        ensures files { KeepsFiles A.reads self.old.asker self.new.asker }
         ensures later { A.faults self.old.asker ≤ A.faults self.new.asker }
     {
         let answers = ask_all(alloc, &mut self.asker, &self.subscriptions)?;
@@ -97,6 +99,7 @@ impl<A: Asker> Live<A> {
         ensures failed { IfErr result (IsReloadRefusal (A.faults self.old.asker) (A.faults self.new.asker)) }
         ensures kept { OnErr result ((A.due self.new.asker ≡ A.due self.old.asker) × (A.next self.new.asker ≡ A.next self.old.asker)) }
         ensures subscriptions { self.new.subscriptions.items ≡ self.old.subscriptions.items }
+        ensures files { KeepsFiles A.reads self.old.asker self.new.asker }
         ensures later { A.faults self.old.asker ≤ A.faults self.new.asker }
     {
         match self.asker.reload(alloc) {
@@ -114,6 +117,7 @@ impl<A: Asker> Live<A> {
         ensures failed { IfErr result (IsRefusal event (A.faults self.old.asker) (A.faults self.new.asker)) }
         ensures err { OnErr result (self.new.subscriptions.items ≡ self.old.subscriptions.items) }
         ensures asker { LeavesAsker event (A.due self.old.asker) (A.due self.new.asker) (A.next self.old.asker) (A.next self.new.asker) result }
+        ensures files { KeepsFiles A.reads self.old.asker self.new.asker }
         ensures later { A.faults self.old.asker ≤ A.faults self.new.asker }
     {
         match event {

@@ -77,6 +77,8 @@ impl Asker for MemAsker {
 
     ghost faults = { λ a. a.calls.faults };
 
+    ghost reads = { λ _ _ _. Unit {0} };
+
     /// Fails exactly where the call's number is one of those that are to fail.
     fn ask(&mut self, alloc: Global, session: &Session, body: &[u8]) -> Asked
         ensures asked { GaveReply (due_over self.old.present session.now body.now) self.old.calls.faults self.new.calls.faults result }

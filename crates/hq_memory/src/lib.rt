@@ -17,6 +17,7 @@ pub use calls::Calls;
 pub use disks::MemDisk;
 pub use doors::{MemDoor, MemLinkList, SureDoor, SureLinkList};
 pub use files::{MemFiles, SureFiles};
+pub use link_row::LinkRow;
 pub use links::{MemLink, SureLink};
 pub use sinks::{MemSink, SureSink};
 pub use sources::{MemSource, SureSource};

@@ -3,11 +3,13 @@
 #![tactic(auto)]
 
 mod halls;
+mod mem_hall;
 mod mem_messages;
 mod messages;
 mod refusal;
 
 pub use halls::{Hall, HallFailed};
+pub use mem_hall::{MemHall, MemTalks};
 pub use mem_messages::{MemMessages, MessageList, OutList};
 pub use messages::{In, Message, Messages, Out};
 pub use refusal::LinkRefusal;

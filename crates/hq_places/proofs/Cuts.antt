@@ -1,9 +1,8 @@
 -- What is shown of bytes, byte by byte.
-use Rattle.std.proofs.Common.{◌≡◌, ◌≤◌, ◌<◌, ◌-◌, ◌∙◌, ℕ, List, [], ◌∷◌, Option, true, false, length, take, drop, get_or, refl, sym, ap, subst, arith}
+use Rattle.std.proofs.Common.{◌≡◌, ◌≤◌, ◌<◌, ◌-◌, ◌∙◌, ℕ, List, [], ◌∷◌, true, false, length, take, drop, get_or, refl, sym, ap, arith}
 use Rattle.std.specs.Prelude.{Bool, codes, if◌then◌else◌}
 use Rattle.std.proofs.lemmas.List.{take_all}
-use Rattle.hq_places.specs.Words.{Adds, is_cut, shown, shown_byte}
-use Rattle.hq_places.proofs.Adding.{adds_nothing, adds_then}
+use Rattle.hq_places.specs.Words.{is_cut, shown, shown_byte}
 
 -- one of two texts, by a test
 pub chosen : (b : Bool) (xs ys : List ℕ) → b ≡ true → (if b then xs else ys) ≡ xs

@@ -1,5 +1,5 @@
 -- A byte so many times.
-use Rattle.std.proofs.Common.{◌≡◌, ◌≤◌, ◌<◌, ◌+◌, ◌-◌, ℕ, List, [], ◌∷◌, suc, refl, ap, sym, ◌∙◌, arith}
+use Rattle.std.proofs.Common.{◌≡◌, ◌≤◌, ◌<◌, ◌+◌, ◌-◌, ℕ, [], ◌∷◌, suc, ap, arith}
 use Rattle.std.specs.Prelude.{replicate}
 
 -- all of them, the next one, and no one more

@@ -1,5 +1,5 @@
 -- The next of the steps that are left.
-use Rattle.std.proofs.Common.{◌≡◌, ◌≤◌, ◌<◌, ◌+◌, ◌-◌, ◌∙◌, ℕ, List, [], ◌∷◌, suc, zero, Option, Some, None, length, refl, ap, sym, arith}
+use Rattle.std.proofs.Common.{◌≡◌, ◌<◌, ◌+◌, ◌-◌, ◌∙◌, ℕ, List, [], ◌∷◌, suc, zero, Option, Some, length, refl, ap, sym, arith}
 use Rattle.std.specs.Prelude.{Bool, option_and_then}
 use Rattle.std.specs.Option.{option_map_or}
 use Rattle.csv.specs.declared.parser.State.TheVariants as st

@@ -1,5 +1,5 @@
 -- What is seen of nodes and entries: texts.
-use Rattle.std.specs.Prelude.{List, ℕ, Option, option_map}
+use Rattle.std.specs.Prelude.{option_map}
 use Rattle.hq_places.specs.Nodes as nodes
 use Rattle.hq_places.specs.declared.json.Entry.{Entry}
 use Rattle.hq_places.specs.declared.json.Node.{Node}

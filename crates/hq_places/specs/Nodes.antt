@@ -1,6 +1,6 @@
 -- Where the values of a JSON text stand (RFC 8259, sections 2, 4, 5 and 7), told by what of the text is left there, and which of them a path
 -- such as `$.tables[0].name` leads to.
-use Rattle.std.specs.Prelude.{ℕ, zero, suc, ◌+◌, ◌-◌, ◌==◌, ◌&&◌, ◌||◌, Bool, true, false, nat_eq, List, [], ◌∷◌, ◌++◌, length, take, drop, take_while, codes, decimal, Option, Some, None, option_map, option_and_then, unwrap_or, if◌then◌else◌}
+use Rattle.std.specs.Prelude.{ℕ, zero, suc, ◌+◌, ◌-◌, ◌==◌, ◌&&◌, ◌||◌, Bool, true, false, nat_eq, List, [], ◌∷◌, length, take, drop, take_while, codes, decimal, Option, Some, None, option_map, option_and_then, unwrap_or, if◌then◌else◌}
 use Rattle.std.specs.Option.{option_map_or}
 use Rattle.hq_base.specs.Text.{after}
 use Rattle.hq_places.specs.Records.{behind_byte, part}

@@ -1,6 +1,6 @@
 //! The line of a text around a place, with a mark below the place.
-ghost use Rattle.std.specs.Prelude.{ℕ, ◌≡◌, ◌≤◌, ◌++◌, replicate};
-ghost use Rattle.hq_places.specs.Words.{Adds, shown};
+ghost use Rattle.std.specs.Prelude.{ℕ, ◌≡◌, ◌≤◌, replicate};
+ghost use Rattle.hq_places.specs.Words.{Adds};
 ghost use Rattle.hq_places.specs.Excerpts.{blank_dots, blank_margin, character_count, dots, excerpt, last_bytes, length_inside, line_told, margin, marks_told, shown_front};
 
 use crate::place::begins_character;

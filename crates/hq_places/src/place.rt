@@ -1,5 +1,5 @@
 //! The line and the column of a byte.
-ghost use Rattle.std.specs.Prelude.{◌≡◌, ◌+◌, take};
+ghost use Rattle.std.specs.Prelude.{◌≡◌, take};
 ghost use Rattle.hq_places.specs.Lines.{begins_character, is_line_end, ends_in, characters_in, line_of, column_of};
 
 /// A line and a column, both from 1. A line ends at each line feed, and a column is a character of UTF-8.

@@ -1,5 +1,5 @@
 //! Words that are told to a person.
-ghost use Rattle.std.specs.Prelude.{◌≡◌, ◌∷◌, [], Some, None, IfOk, OnErr, if◌then◌else◌, decimal, ◌&&◌};
+ghost use Rattle.std.specs.Prelude.{◌≡◌, ◌∷◌, [], Some, None, IfOk, OnErr, if◌then◌else◌, decimal};
 ghost use Rattle.std.specs.Fmt.{signed_decimal};
 ghost use Rattle.hq_places.specs.Words.{Adds, is_cut, shown, shown_byte, quoted, place_text};
 

@@ -1,4 +1,4 @@
-//! Cases about whole requests: runs of the program's commands over directories, also those that serve, statements of SQL, and
+//! Cases about whole requests: runs of the program's commands over directories, also those that serve and talk, statements of SQL, and
 //! requests over tables that fail; and one statement that is not a case, over a directory of the system.
 #![tactic(auto)]
 
@@ -10,6 +10,7 @@ mod pins;
 mod runs;
 mod statements;
 mod subject;
+mod talks;
 
 pub use input::answer_input;
 pub use subject::About;

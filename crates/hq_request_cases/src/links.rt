@@ -10,8 +10,8 @@ use std::alloc::Global;
 // The most bytes that a link takes.
 const ROOM: usize = 1_000_000;
 
-// The numbers of the calls of a link that fail, none where the member is absent.
-fn failing_calls(alloc: Global, link: &Json, member: &str) -> Result<NumList, Stop> {
+/// The numbers of the calls of a link that fail, none where the member is absent.
+pub fn failing_calls(alloc: Global, link: &Json, member: &str) -> Result<NumList, Stop> {
     match link.member(member) {
         Some(json) => numbers(alloc, json),
         None => Ok(List::new(alloc)),

@@ -1,21 +1,26 @@
-//! Runs of the program over a directory and a door in memory.
+//! Runs of the program over a directory, a door, a disk and a hall in memory.
 
 use crate::directory::{failing, folder};
 use crate::links::{door, push_links};
+use crate::talks::{hall, push_talks};
 use hq_app::{Ran, World, run};
 use hq_base::Txt;
 use hq_case::{Case, Stop, Words, push_bytes};
-use hq_memory::{MemDoor, MemFiles, MemSink, MemSource};
+use hq_memory::{MemDisk, MemDoor, MemFiles, MemSink, MemSource};
+use hq_messages::MemHall;
 use std::alloc::Global;
 
 // What the program is run in.
-type Inside = World<MemFiles, MemDoor, MemSource, MemSink, MemSink>;
+type Inside = World<MemFiles, MemDoor, MemDisk, MemSource, MemSink, MemSink, MemHall>;
 
 // What a run leaves.
-type Left = Ran<MemFiles, MemDoor, MemSource, MemSink, MemSink>;
+type Left = Ran<MemFiles, MemDoor, MemDisk, MemSource, MemSink, MemSink, MemHall>;
 
 // The bytes of room on each output.
 const ROOM: usize = 65_536;
+
+// The bytes of room on the disk.
+const DISK_ROOM: usize = 1_048_576;
 
 fn input(alloc: Global, case: &Case) -> Result<MemSource, Stop> {
     let bytes = case.bytes(alloc, "in")?;
@@ -43,13 +48,18 @@ fn streams(alloc: Global, case: &Case) -> Result<(MemSource, MemSink, MemSink), 
 fn world(rt: &HostRuntime, case: &Case) -> Result<Inside, Stop> {
     let files = folder(rt, case)?;
     let door = door(rt.alloc(), case)?;
+    let calls = failing(rt.alloc(), case, "disk")?;
+    let disk = MemDisk::new(rt.alloc(), &[], DISK_ROOM, calls)?;
+    let hall = hall(rt.alloc(), case)?;
     let (input, out, err) = streams(rt.alloc(), case)?;
     Ok(World {
         files,
         door,
+        disk,
         input,
         out,
         err,
+        hall,
     })
 }
 
@@ -59,6 +69,7 @@ fn push_left(alloc: Global, case: &Case, left: &Left, out: &mut Words) {
     push_bytes(alloc, left.world.out.bytes(), out);
     push_bytes(alloc, left.world.err.bytes(), out);
     push_links(alloc, case, &left.world.door, out);
+    push_talks(alloc, case, &left.world.hall, out);
 }
 
 fn push_run(alloc: Global, case: &Case, words: &[Txt], world: Inside, out: &mut Words) {
@@ -66,9 +77,49 @@ fn push_run(alloc: Global, case: &Case, words: &[Txt], world: Inside, out: &mut 
     push_left(alloc, case, &left, out);
 }
 
-/// The status of a run, what it wrote, the line that it told, and what each link got.
+// What comes of a run by these words.
+fn outcome(rt: &HostRuntime, case: &Case, words: &[Txt]) -> Result<String, Stop> {
+    let mut told = Words::new(rt.alloc());
+    push_run(rt.alloc(), case, words, world(rt, case)?, &mut told);
+    told.told()
+}
+
+// The words of the same run with its tables in pages, where its command has one.
+fn paged(alloc: Global, words: &[Txt]) -> Result<Option<Vec<Txt>>, Stop> {
+    let [command, rest @ ..] = words else {
+        return Ok(None);
+    };
+    if !matches!(command.as_str(), "query" | "serve") {
+        return Ok(None);
+    }
+    let mut paged = Vec::new(alloc);
+    paged.push(command.copy(alloc)?)?;
+    paged.push(Txt::of(alloc, b"--paged")?)?;
+    for word in rest {
+        paged.push(word.copy(alloc)?)?;
+    }
+    Ok(Some(paged))
+}
+
+// Whether one of the words asks for pages.
+fn is_paged(words: &[Txt]) -> bool {
+    words.iter().any(|word| word.as_str() == "--paged")
+}
+
+/// The status of a run, what it wrote, the line that it told, and what each link got and each talk was sent. A query and a `serve` that do not ask for
+/// pages run once more with them: what comes of that follows where it is something else.
 pub fn tell_outcome(rt: &HostRuntime, case: &Case, out: &mut Words) -> Result<(), Stop> {
     let words = case.texts(rt.alloc(), "words")?;
-    push_run(rt.alloc(), case, words.as_slice(), world(rt, case)?, out);
+    let told = outcome(rt, case, words.as_slice())?;
+    out.push(told.as_str());
+    if is_paged(words.as_slice()) {
+        return Ok(());
+    }
+    if let Some(words) = paged(rt.alloc(), words.as_slice())? {
+        let again = outcome(rt, case, words.as_slice())?;
+        if again.as_str() != told.as_str() {
+            out.push_pair(" | in pages ", again.as_str());
+        }
+    }
     Ok(())
 }

@@ -16,14 +16,16 @@ pub enum About {
     Skipped,
     Directories,
     Runs,
+    Explain,
     Serving,
+    Live,
     Statements,
     Pins,
 }
 
 impl About {
     /// Each subject, in the order of its line.
-    pub const ALL: [About; 15] = [
+    pub const ALL: [About; 17] = [
         About::Worked,
         About::Blog,
         About::Shop,
@@ -36,7 +38,9 @@ impl About {
         About::Skipped,
         About::Directories,
         About::Runs,
+        About::Explain,
         About::Serving,
+        About::Live,
         About::Statements,
         About::Pins,
     ];
@@ -57,7 +61,9 @@ impl Subject for About {
             About::Skipped => "skipped",
             About::Directories => "directories",
             About::Runs => "runs",
+            About::Explain => "explain",
             About::Serving => "serving",
+            About::Live => "live",
             About::Statements => "statements",
             About::Pins => "pins",
         }

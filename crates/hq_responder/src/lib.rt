@@ -6,4 +6,4 @@ mod responder;
 mod serving;
 
 pub use responder::EngineResponder;
-pub use serving::serve_by_secret;
+pub use serving::{Served, serve_by_secret};

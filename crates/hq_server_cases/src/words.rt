@@ -23,8 +23,16 @@ fn push_asked(alloc: Global, words: &[Txt], out: &mut Words) {
 
 fn push_command(command: &Command, out: &mut Words) {
     match command {
-        Command::Query { dir, headers } => push_request("query ", dir, headers, out),
+        Command::Query {
+            dir,
+            headers,
+            paged,
+        } => {
+            push_request("query ", dir, headers, out);
+            push_paged(*paged, out);
+        }
         Command::Sql { dir, headers } => push_request("sql ", dir, headers, out),
+        Command::Explain { dir, headers } => push_request("explain ", dir, headers, out),
         Command::Check { dir } => out.push_pair("check ", dir.as_str()),
         Command::Gen { n } => {
             out.push("gen ");
@@ -40,8 +48,21 @@ fn push_command(command: &Command, out: &mut Words) {
             connections,
             secret,
             unauthorized,
+            paged,
         } => {
-            push_serve(dir, *port, *connections, out);
+            push_port("serve ", dir, *port, *connections, out);
+            push_text(", secret '", secret, out);
+            push_text(", unauthorized '", unauthorized, out);
+            push_paged(*paged, out);
+        }
+        Command::Live {
+            dir,
+            port,
+            connections,
+            secret,
+            unauthorized,
+        } => {
+            push_port("live ", dir, *port, *connections, out);
             push_text(", secret '", secret, out);
             push_text(", unauthorized '", unauthorized, out);
         }
@@ -56,12 +77,18 @@ fn push_request(word: &str, dir: &Txt, headers: &Headers, out: &mut Words) {
     }
 }
 
-fn push_serve(dir: &Txt, port: u16, connections: u32, out: &mut Words) {
-    out.push_pair("serve ", dir.as_str());
+fn push_port(word: &str, dir: &Txt, port: u16, connections: u32, out: &mut Words) {
+    out.push_pair(word, dir.as_str());
     out.push(" at ");
     out.push_number(u64::from(port));
     out.push(" for ");
     out.push_number(u64::from(connections));
+}
+
+fn push_paged(paged: bool, out: &mut Words) {
+    if paged {
+        out.push(" in pages");
+    }
 }
 
 fn push_text(before: &str, text: &Option<Txt>, out: &mut Words) {

@@ -1,5 +1,6 @@
 //! What follows each message.
 ghost use Rattle.std.specs.Prelude.{◌≡◌, ◌≤◌, IfOk, OnOk, Option};
+ghost use Rattle.hq_live.specs.Asking.{KeepsFiles};
 ghost use Rattle.hq_live.specs.Runs.{Standing, standing};
 ghost use Rattle.hq_terms.specs.declared.session.Session.{Session as Caller};
 ghost use Rattle.hq_live.specs.declared.event.Event.TheVariants as event;
@@ -89,6 +90,7 @@ fn begin<A: Asker>(
         (talk_of kept once.old.items (standing (A.due live.old.asker) (A.next live.old.asker) (A.faults live.old.asker) live.old.subscriptions.items))
         (talk_of kept once.new.items (standing (A.due live.new.asker) (A.next live.new.asker) (A.faults live.new.asker) live.new.subscriptions.items))
         answered.texts.items answered.code) }
+    ensures files { KeepsFiles A.reads live.old.asker live.new.asker }
     ensures later { A.faults live.old.asker ≤ A.faults live.new.asker }
     ensures own { IsOwn who live.old.subscriptions.items → IsOwn who live.new.subscriptions.items }
 {
@@ -134,6 +136,7 @@ fn subscribe<A: Asker>(
         (talk_of talking.old.session talking.old.once.items (standing (A.due live.old.asker) (A.next live.old.asker) (A.faults live.old.asker) live.old.subscriptions.items))
         (talk_of talking.new.session talking.new.once.items (standing (A.due live.new.asker) (A.next live.new.asker) (A.faults live.new.asker) live.new.subscriptions.items))
         answered.texts.items answered.code) }
+    ensures files { KeepsFiles A.reads live.old.asker live.new.asker }
     ensures later { A.faults live.old.asker ≤ A.faults live.new.asker }
     ensures own { IsOwn who live.old.subscriptions.items → IsOwn who live.new.subscriptions.items }
 {
@@ -158,6 +161,7 @@ fn reload<A: Asker>(alloc: Global, live: &mut Live<A>, who: u32) -> Result<(), M
     ensures reloads { OnOk result (Reloads
         (standing (A.due live.old.asker) (A.next live.old.asker) (A.faults live.old.asker) live.old.subscriptions.items)
         (standing (A.due live.new.asker) (A.next live.new.asker) (A.faults live.new.asker) live.new.subscriptions.items)) }
+    ensures files { KeepsFiles A.reads live.old.asker live.new.asker }
     ensures later { A.faults live.old.asker ≤ A.faults live.new.asker }
     ensures own { IsOwn who live.old.subscriptions.items → IsOwn who live.new.subscriptions.items }
 {
@@ -179,6 +183,7 @@ fn ping<A: Asker>(
         (talk_of talking.old.session talking.old.once.items (standing (A.due live.old.asker) (A.next live.old.asker) (A.faults live.old.asker) live.old.subscriptions.items))
         (talk_of talking.new.session talking.new.once.items (standing (A.due live.new.asker) (A.next live.new.asker) (A.faults live.new.asker) live.new.subscriptions.items))
         answered.texts.items answered.code) }
+    ensures files { KeepsFiles A.reads live.old.asker live.new.asker }
     ensures later { A.faults live.old.asker ≤ A.faults live.new.asker }
     ensures own { IsOwn who live.old.subscriptions.items → IsOwn who live.new.subscriptions.items }
 {
@@ -215,6 +220,7 @@ fn complete<A: Asker>(
         (talk_of talking.old.session talking.old.once.items (standing (A.due live.old.asker) (A.next live.old.asker) (A.faults live.old.asker) live.old.subscriptions.items))
         (talk_of talking.new.session talking.new.once.items (standing (A.due live.new.asker) (A.next live.new.asker) (A.faults live.new.asker) live.new.subscriptions.items))
         answered.texts.items answered.code) }
+    ensures files { KeepsFiles A.reads live.old.asker live.new.asker }
     ensures later { A.faults live.old.asker ≤ A.faults live.new.asker }
     ensures own { IsOwn who live.old.subscriptions.items → IsOwn who live.new.subscriptions.items }
 {
@@ -240,6 +246,7 @@ pub fn answer<A: Asker, P: HookRule, F: Fn(&Headers) -> HookAnswer>(
         (talk_of talking.old.session talking.old.once.items (standing (A.due live.old.asker) (A.next live.old.asker) (A.faults live.old.asker) live.old.subscriptions.items))
         (talk_of talking.new.session talking.new.once.items (standing (A.due live.new.asker) (A.next live.new.asker) (A.faults live.new.asker) live.new.subscriptions.items))
         answered.texts.items answered.code) }
+    ensures files { KeepsFiles A.reads live.old.asker live.new.asker }
     ensures later { A.faults live.old.asker ≤ A.faults live.new.asker }
     ensures own { IsOwn who live.old.subscriptions.items → IsOwn who live.new.subscriptions.items }
 {

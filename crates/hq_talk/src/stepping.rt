@@ -1,5 +1,6 @@
 //! Events of one subscriber, as steps of the live queries.
 ghost use Rattle.std.specs.Prelude.{◌≡◌, ◌≤◌, true, false, IfOk, IfErr, OnErr, IsErrOf};
+ghost use Rattle.hq_live.specs.Asking.{KeepsFiles};
 ghost use Rattle.hq_live.specs.Steps.{IsRefusal, IsTooMany, is_repeated};
 ghost use Rattle.hq_live.specs.Runs.{Passes, Stays, standing};
 ghost use Rattle.hq_talk.specs.Talks.{IsOwn, IsOwnEvent};
@@ -24,6 +25,7 @@ pub fn step<A: Asker>(
     ensures stays { OnErr result (Stays
         (standing (A.due live.old.asker) (A.next live.old.asker) (A.faults live.old.asker) live.old.subscriptions.items)
         (standing (A.due live.new.asker) (A.next live.new.asker) (A.faults live.new.asker) live.new.subscriptions.items)) }
+    ensures files { KeepsFiles A.reads live.old.asker live.new.asker }
     ensures later { A.faults live.old.asker ≤ A.faults live.new.asker }
     ensures own { IsOwn who live.old.subscriptions.items → IsOwn who live.new.subscriptions.items }
 {

@@ -1,5 +1,6 @@
 ghost use Rattle.std.specs.Prelude.{◌≡◌, ◌≤◌, [], map, IfOk, OnOk, IsErrOf, Some};
 ghost use Rattle.hq_outside.specs.Causes.{Rose};
+ghost use Rattle.hq_live.specs.Asking.{KeepsFiles};
 ghost use Rattle.hq_live.specs.Runs.{standing};
 ghost use Rattle.hq_session.specs.Hook.{KeepsRule};
 ghost use Rattle.hq_messages.specs.Messages.{Sends};
@@ -59,6 +60,7 @@ fn take_turn<M: Messages, A: Asker, P: HookRule, F: Fn(&Headers) -> HookAnswer>(
         (link_of (M.left link.old) (M.sent link.old)) (link_of (M.left link.new) (M.sent link.new)) result }
     ensures failed { result ≡ Some TalkEnd.LinkFault → Rose (M.faults link.old) (M.faults link.new) }
     ensures later { M.faults link.old ≤ M.faults link.new }
+    ensures files { KeepsFiles A.reads live.old.asker live.new.asker }
     ensures asker_later { A.faults live.old.asker ≤ A.faults live.new.asker }
     ensures own { IsOwn who live.old.subscriptions.items → IsOwn who live.new.subscriptions.items }
 {
@@ -101,6 +103,7 @@ fn take_turns<M: Messages, A: Asker, P: HookRule, F: Fn(&Headers) -> HookAnswer>
         (link_of (M.left link.old) (M.sent link.old)) (link_of (M.left link.new) (M.sent link.new)) result }
     ensures failed { result ≡ TalkEnd.LinkFault → Rose (M.faults link.old) (M.faults link.new) }
     ensures later { M.faults link.old ≤ M.faults link.new }
+    ensures files { KeepsFiles A.reads live.old.asker live.new.asker }
     ensures asker_later { A.faults live.old.asker ≤ A.faults live.new.asker }
     ensures own { IsOwn who live.old.subscriptions.items → IsOwn who live.new.subscriptions.items }
 {
@@ -116,8 +119,9 @@ fn take_turns<M: Messages, A: Asker, P: HookRule, F: Fn(&Headers) -> HookAnswer>
 // Ends all subscriptions of a subscriber.
 fn leave<A: Asker>(alloc: Global, live: &mut Live<A>, who: u32)
     requires { IsOwn who live.old.subscriptions.items }
-    ensures { Leaves (standing (A.due live.old.asker) (A.next live.old.asker) (A.faults live.old.asker) live.old.subscriptions.items)
+    ensures leaves { Leaves (standing (A.due live.old.asker) (A.next live.old.asker) (A.faults live.old.asker) live.old.subscriptions.items)
         (standing (A.due live.new.asker) (A.next live.new.asker) (A.faults live.new.asker) live.new.subscriptions.items) }
+    ensures files { KeepsFiles A.reads live.old.asker live.new.asker }
 {
     match live.step(alloc, Event::Gone { who }) {
         Ok(_) | Err(_) => {}
@@ -146,9 +150,10 @@ pub fn talk<M: Messages, A: Asker, P: HookRule, F: Fn(&Headers) -> HookAnswer>(
     // No subscription is left.
     ensures none { live.new.subscriptions.items ≡ [] }
 
-    // A failed link is told only where its count rose, and no count falls.
+    // A failed link is told only where its count rose, and no count falls. Files that the asker reads from stay those of their folder.
     ensures failed { result ≡ TalkEnd.LinkFault → Rose (M.faults link.old) (M.faults link.new) }
     ensures later { M.faults link.old ≤ M.faults link.new }
+    ensures files { KeepsFiles A.reads live.old.asker live.new.asker }
     ensures asker_later { A.faults live.old.asker ≤ A.faults live.new.asker }
 {
     let mut talking = Talking {

@@ -1,5 +1,6 @@
 //! What subscriptions are sent, as texts; and the end of those that are over then.
 ghost use Rattle.std.specs.Prelude.{◌≡◌, ◌≤◌, ◌++◌, OnOk, not, bytes_eq, filter};
+ghost use Rattle.hq_live.specs.Asking.{KeepsFiles};
 ghost use Rattle.hq_live.specs.Steps.{is_of};
 ghost use Rattle.hq_talk.specs.Table.{is_once, is_over, texts_for, reply_texts, without, once_after, subscriptions_after, told_texts, told_once, told_subscriptions};
 ghost use Rattle.hq_talk.specs.Talks.{IsOwn};
@@ -90,6 +91,7 @@ fn end<A: Asker>(
     ensures subscriptions { OnOk result (live.new.subscriptions.items ≡ filter (λ s. not (is_of who id.now s)) live.old.subscriptions.items) }
     ensures due { A.due live.new.asker ≡ A.due live.old.asker }
     ensures next { A.next live.new.asker ≡ A.next live.old.asker }
+    ensures files { KeepsFiles A.reads live.old.asker live.new.asker }
     ensures later { A.faults live.old.asker ≤ A.faults live.new.asker }
     ensures own { IsOwn who live.old.subscriptions.items → IsOwn who live.new.subscriptions.items }
 {
@@ -121,6 +123,7 @@ fn tell<A: Asker>(
     ensures subscriptions { OnOk result (live.new.subscriptions.items ≡ subscriptions_after who once.old.items sent.now live.old.subscriptions.items) }
     ensures due { A.due live.new.asker ≡ A.due live.old.asker }
     ensures next { A.next live.new.asker ≡ A.next live.old.asker }
+    ensures files { KeepsFiles A.reads live.old.asker live.new.asker }
     ensures later { A.faults live.old.asker ≤ A.faults live.new.asker }
     ensures own { IsOwn who live.old.subscriptions.items → IsOwn who live.new.subscriptions.items }
 {
@@ -145,6 +148,7 @@ pub fn tell_all<A: Asker>(
     ensures subscriptions { OnOk result (live.new.subscriptions.items ≡ told_subscriptions who once.old.items sends.now live.old.subscriptions.items) }
     ensures due { A.due live.new.asker ≡ A.due live.old.asker }
     ensures next { A.next live.new.asker ≡ A.next live.old.asker }
+    ensures files { KeepsFiles A.reads live.old.asker live.new.asker }
     ensures later { A.faults live.old.asker ≤ A.faults live.new.asker }
     ensures own { IsOwn who live.old.subscriptions.items → IsOwn who live.new.subscriptions.items }
 {

@@ -7,8 +7,8 @@ use Rattle.clap.specs.Words.{Kinds, Row, Text, first_of, all_of, one_of}
 use Rattle.hq_session.specs.Fields.{header_in}
 use Rattle.hq_session.specs.declared.header.Header.{Header}
 use Rattle.hq_words.specs.declared.command.Command.{Command}
-use Rattle.hq_words.specs.declared.command.Command.TheVariants.{Query, Sql, Check, Serve, Gen, Show}
-use Rattle.hq_words.specs.Grammar.{request_faults, request_rows, check_faults, check_rows, serve_faults, serve_rows, gen_faults, gen_rows}
+use Rattle.hq_words.specs.declared.command.Command.TheVariants.{Query, Sql, Explain, Check, Serve, Live, Gen, Show}
+use Rattle.hq_words.specs.Grammar.{request_faults, request_rows, query_faults, query_rows, check_faults, check_rows, serve_faults, serve_rows, live_faults, live_rows, gen_faults, gen_rows}
 use Rattle.hq_words.specs.Pages.{page_named}
 
 -- the words are in the grammar
@@ -27,6 +27,14 @@ header_words_in rows = unwrap_or (all_of (codes "headers") rows) []
 -- the number of an option
 abbrev pub number_in : (id : Text) → List Row → Option ℕ
 number_in id rows = option_map (λ text. digits_value 10 (without_leading_plus text)) (one_of id rows)
+
+-- whether pages are asked for
+abbrev pub says_true : Option Text → Bool
+says_true None = false
+says_true (Some text) = bytes_eq text (codes "true")
+
+abbrev pub is_paged_in : List Row → Bool
+is_paged_in rows = says_true (first_of (codes "paged") rows)
 
 -- the headers of these words, where each is one
 abbrev pub headers_in : List Text → Option (List Header)
@@ -56,21 +64,40 @@ request_in rows = option_and_then (λ dir. option_map (λ headers. (dir, headers
 abbrev pub request_of : List Text → Option (Text × List Header)
 request_of words = cond (are_taken (request_faults words)) (request_in (request_rows words)) None
 
+abbrev pub query_in : List Row → Option Command
+query_in rows = option_map (λ r. Query r.0 r.1 (is_paged_in rows)) (request_in rows)
+
+abbrev pub query_of : List Text → Option Command
+query_of words = cond (are_taken (query_faults words)) (query_in (query_rows words)) None
+
 abbrev pub check_of : List Text → Option Command
 check_of words = cond (are_taken (check_faults words)) (option_map Check (dir_in (check_rows words))) None
 
 -- a command that serves, of its parts
-abbrev pub serve_with : (dir : Option Text) → (port connections : Option ℕ) → (secret unauthorized : Option (Option Text)) → Option Command
-serve_with dir port connections secret unauthorized =
-    option_and_then (λ d. option_and_then (λ p. option_and_then (λ n. option_and_then (λ s. option_map (λ u. Serve d p n s u) unauthorized) secret) connections) port) dir
+abbrev pub serve_with : (dir : Option Text) → (port connections : Option ℕ) → (secret unauthorized : Option (Option Text)) → (paged : Bool) → Option Command
+serve_with dir port connections secret unauthorized paged =
+    option_and_then (λ d. option_and_then (λ p. option_and_then (λ n. option_and_then (λ s. option_map (λ u. Serve d p n s u paged) unauthorized) secret) connections) port) dir
 
 abbrev pub serve_in : List Row → Option Command
 serve_in rows =
     serve_with (dir_in rows) (number_in (codes "port") rows) (number_in (codes "connections") rows)
-    (filled (first_of (codes "admin-secret") rows)) (filled (first_of (codes "unauthorized-role") rows))
+    (filled (first_of (codes "admin-secret") rows)) (filled (first_of (codes "unauthorized-role") rows)) (is_paged_in rows)
 
 abbrev pub serve_of : List Text → Option Command
 serve_of words = cond (are_taken (serve_faults words)) (serve_in (serve_rows words)) None
+
+-- a command that talks, of its parts
+abbrev pub live_with : (dir : Option Text) → (port connections : Option ℕ) → (secret unauthorized : Option (Option Text)) → Option Command
+live_with dir port connections secret unauthorized =
+    option_and_then (λ d. option_and_then (λ p. option_and_then (λ n. option_and_then (λ s. option_map (λ u. Live d p n s u) unauthorized) secret) connections) port) dir
+
+abbrev pub live_in : List Row → Option Command
+live_in rows =
+    live_with (dir_in rows) (number_in (codes "port") rows) (number_in (codes "connections") rows)
+    (filled (first_of (codes "admin-secret") rows)) (filled (first_of (codes "unauthorized-role") rows))
+
+abbrev pub live_of : List Text → Option Command
+live_of words = cond (are_taken (live_faults words)) (live_in (live_rows words)) None
 
 -- a command that generates so many authors, where they are few
 abbrev pub gen_with : ℕ → Option Command
@@ -90,11 +117,13 @@ page_of name (word ∷ words) = None
 -- the command of this name with these words
 abbrev pub command_named : (name : Text) → List Text → Option Command
 command_named name words =
-    cond (bytes_eq name (codes "query")) (option_map (λ r. Query r.0 r.1) (request_of words)) (
+    cond (bytes_eq name (codes "query")) (query_of words) (
     cond (bytes_eq name (codes "sql")) (option_map (λ r. Sql r.0 r.1) (request_of words)) (
+    cond (bytes_eq name (codes "explain")) (option_map (λ r. Explain r.0 r.1) (request_of words)) (
     cond (bytes_eq name (codes "check")) (check_of words) (
     cond (bytes_eq name (codes "serve")) (serve_of words) (
-    cond (bytes_eq name (codes "gen")) (gen_of words) (page_of name words)))))
+    cond (bytes_eq name (codes "live")) (live_of words) (
+    cond (bytes_eq name (codes "gen")) (gen_of words) (page_of name words)))))))
 
 -- the command that words ask for
 abbrev pub command_of : List Text → Option Command

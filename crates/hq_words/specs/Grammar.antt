@@ -3,7 +3,7 @@ use Rattle.std.specs.Prelude.{List, true, Some, pos, codes}
 use Rattle.clap.specs.Lexer.{usize_max}
 use Rattle.clap.specs.Words.{App, Kinds, Row, Rule, Shape, Text, fault_of, matches_of, new_app, new_rule, with_rule}
 use Rattle.clap.specs.Simple.{on_top}
-use Rattle.clap.specs.declared.builder.action.ArgAction.TheVariants.{Append}
+use Rattle.clap.specs.declared.builder.action.ArgAction.TheVariants.{Append, SetTrue}
 use Rattle.clap.specs.declared.builder.value_parser.ValueParser.TheVariants as vp
 
 -- DIR
@@ -30,6 +30,10 @@ secret_rule = record (new_rule (codes "admin-secret")) { long = Some (codes "adm
 abbrev pub unauthorized_rule : Rule
 unauthorized_rule = record (new_rule (codes "unauthorized-role")) { long = Some (codes "unauthorized-role") }
 
+-- [--paged]
+abbrev pub paged_rule : Rule
+paged_rule = record (new_rule (codes "paged")) { long = Some (codes "paged"); action = Some SetTrue }
+
 -- N, a whole number of 32 bits without a sign
 abbrev pub authors_rule : Rule
 authors_rule = record (new_rule (codes "authors")) { required = true; parser = Some (vp.Signed (pos 0) (pos 4294967295)) }
@@ -40,17 +44,25 @@ bare s = record s { no_binary_name = true; disable_help_flag = true; disable_ver
 abbrev pub bare_app : Text → App
 bare_app name = on_top bare (new_app name)
 
--- query DIR [HEADER]..., and sql DIR [HEADER]...
+-- sql DIR [HEADER]... and explain DIR [HEADER]...
 abbrev pub request_app : App
 request_app = with_rule (with_rule (bare_app (codes "request")) dir_rule) headers_rule
+
+-- query DIR [HEADER]... [--paged]
+abbrev pub query_app : App
+query_app = with_rule request_app paged_rule
 
 -- check DIR
 abbrev pub check_app : App
 check_app = with_rule (bare_app (codes "check")) dir_rule
 
--- serve DIR --port P --connections N [--admin-secret S] [--unauthorized-role R]
+-- serve DIR --port P --connections N [--admin-secret S] [--unauthorized-role R] [--paged]
 abbrev pub serve_app : App
-serve_app = with_rule (with_rule (with_rule (with_rule (with_rule (bare_app (codes "serve")) dir_rule) port_rule) connections_rule) secret_rule) unauthorized_rule
+serve_app = with_rule (with_rule (with_rule (with_rule (with_rule (with_rule (bare_app (codes "serve")) dir_rule) port_rule) connections_rule) secret_rule) unauthorized_rule) paged_rule
+
+-- live DIR --port P --connections N [--admin-secret S] [--unauthorized-role R]
+abbrev pub live_app : App
+live_app = with_rule (with_rule (with_rule (with_rule (with_rule (bare_app (codes "live")) dir_rule) port_rule) connections_rule) secret_rule) unauthorized_rule
 
 -- gen N
 abbrev pub gen_app : App
@@ -63,6 +75,12 @@ request_faults words = fault_of request_app words
 unfoldable pub request_rows : List Text → List Row
 request_rows words = matches_of request_app words
 
+unfoldable pub query_faults : List Text → Kinds
+query_faults words = fault_of query_app words
+
+unfoldable pub query_rows : List Text → List Row
+query_rows words = matches_of query_app words
+
 unfoldable pub check_faults : List Text → Kinds
 check_faults words = fault_of check_app words
 
@@ -74,6 +92,12 @@ serve_faults words = fault_of serve_app words
 
 unfoldable pub serve_rows : List Text → List Row
 serve_rows words = matches_of serve_app words
+
+unfoldable pub live_faults : List Text → Kinds
+live_faults words = fault_of live_app words
+
+unfoldable pub live_rows : List Text → List Row
+live_rows words = matches_of live_app words
 
 unfoldable pub gen_faults : List Text → Kinds
 gen_faults words = fault_of gen_app words

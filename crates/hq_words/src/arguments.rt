@@ -1,6 +1,6 @@
 ghost use Rattle.std.specs.Prelude.{◌≡◌, IfOk, false};
 ghost use Rattle.clap.specs.Words.{app_of, rule_of};
-ghost use Rattle.hq_words.specs.Grammar.{authors_rule, bare_app, check_app, connections_rule, dir_rule, gen_app, headers_rule, port_rule, request_app, secret_rule, serve_app, unauthorized_rule};
+ghost use Rattle.hq_words.specs.Grammar.{authors_rule, bare_app, check_app, connections_rule, dir_rule, gen_app, headers_rule, paged_rule, port_rule, live_app, query_app, request_app, secret_rule, serve_app, unauthorized_rule};
 
 use clap::{Arg, ArgAction, Command, value_parser};
 use std::alloc::{AllocError, Global};
@@ -61,6 +61,16 @@ fn unauthorized_arg<'a>(alloc: Global) -> Arg<'a>
     Arg::new(alloc, "unauthorized-role").long("unauthorized-role")
 }
 
+// [--paged]
+fn paged_arg<'a>(alloc: Global) -> Arg<'a>
+    ensures rule { rule_of result ≡ paged_rule }
+    ensures local { result.global ≡ false }
+{
+    Arg::new(alloc, "paged")
+        .long("paged")
+        .action(ArgAction::SetTrue)
+}
+
 // N
 fn authors_arg<'a>(alloc: Global) -> Arg<'a>
     ensures rule { rule_of result ≡ authors_rule }
@@ -90,6 +100,13 @@ pub fn request_command<'a>(alloc: Global) -> Result<Command<'a>, AllocError>
         .arg(headers_arg(alloc))
 }
 
+/// DIR [HEADER]... [--paged]
+pub fn query_command<'a>(alloc: Global) -> Result<Command<'a>, AllocError>
+    ensures { IfOk result (λ c. app_of c ≡ query_app) }
+{
+    request_command(alloc)?.arg(paged_arg(alloc))
+}
+
 /// DIR
 pub fn check_command<'a>(alloc: Global) -> Result<Command<'a>, AllocError>
     ensures { IfOk result (λ c. app_of c ≡ check_app) }
@@ -97,11 +114,24 @@ pub fn check_command<'a>(alloc: Global) -> Result<Command<'a>, AllocError>
     bare_command(alloc, "check").arg(dir_arg(alloc))
 }
 
-/// DIR --port P --connections N [--admin-secret S] [--unauthorized-role R]
+/// DIR --port P --connections N [--admin-secret S] [--unauthorized-role R] [--paged]
 pub fn serve_command<'a>(alloc: Global) -> Result<Command<'a>, AllocError>
     ensures { IfOk result (λ c. app_of c ≡ serve_app) }
 {
     bare_command(alloc, "serve")
+        .arg(dir_arg(alloc))?
+        .arg(port_arg(alloc))?
+        .arg(connections_arg(alloc))?
+        .arg(secret_arg(alloc))?
+        .arg(unauthorized_arg(alloc))?
+        .arg(paged_arg(alloc))
+}
+
+/// DIR --port P --connections N [--admin-secret S] [--unauthorized-role R]
+pub fn live_command<'a>(alloc: Global) -> Result<Command<'a>, AllocError>
+    ensures { IfOk result (λ c. app_of c ≡ live_app) }
+{
+    bare_command(alloc, "live")
         .arg(dir_arg(alloc))?
         .arg(port_arg(alloc))?
         .arg(connections_arg(alloc))?

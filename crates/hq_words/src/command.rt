@@ -1,10 +1,13 @@
 ghost use Rattle.std.specs.Prelude.{◌≡◌, option_map, ok_or, IfOk};
 ghost use Rattle.clap.specs.Words.{found_of, rows_of};
 ghost use Rattle.hq_base.specs.Due.{Gives};
-ghost use Rattle.hq_words.specs.Asked.{HasFewAuthors, check_of, command_named, command_of, gen_in, gen_of, gen_with, page_of, request_in, request_of, serve_in, serve_of};
+ghost use Rattle.hq_words.specs.Asked.{HasFewAuthors, check_of, command_named, command_of, gen_in, gen_of, gen_with, page_of, query_in, query_of, request_in, request_of, serve_in, serve_of};
 
-use crate::parse::{check_matches, gen_matches, request_matches, serve_matches};
-use crate::values::{authors_of, connections_of, filled, given_headers, port_of, text_of};
+use crate::living::live;
+use crate::parse::{check_matches, gen_matches, query_matches, request_matches, serve_matches};
+use crate::values::{
+    authors_of, connections_of, filled, given_headers, is_paged, port_of, text_of,
+};
 use crate::{Page, WordsRefusal};
 use clap::ArgMatches;
 use hq_base::Txt;
@@ -14,13 +17,19 @@ use std::alloc::Global;
 /// What words ask of the program.
 #[derive(Drop)]
 pub enum Command {
-    /// To answer a request over a directory, for the session of the headers.
+    /// To answer a request over a directory, for the session of the headers, and with its tables in pages where that is asked.
     Query {
         dir: Txt,
         headers: Headers,
+        paged: bool,
     },
     /// To write the statement that answers a request.
     Sql {
+        dir: Txt,
+        headers: Headers,
+    },
+    /// To tell a person of a request, or of a directory that is refused.
+    Explain {
         dir: Txt,
         headers: Headers,
     },
@@ -28,8 +37,17 @@ pub enum Command {
     Check {
         dir: Txt,
     },
-    /// To serve a directory at a port, for so many connections.
+    /// To serve a directory at a port, for so many connections, and with its tables in pages where that is asked.
     Serve {
+        dir: Txt,
+        port: u16,
+        connections: u32,
+        secret: Option<Txt>,
+        unauthorized: Option<Txt>,
+        paged: bool,
+    },
+    /// To talk of live queries over a directory at a port, with so many peers.
+    Live {
         dir: Txt,
         port: u16,
         connections: u32,
@@ -57,12 +75,34 @@ fn request_from(alloc: Global, matches: &ArgMatches<'_>) -> Result<(Txt, Headers
     Ok((dir, headers))
 }
 
-// The directory and the headers of the words behind `query` or `sql`.
+// The directory and the headers of the words behind `sql` or `explain`.
 fn request(alloc: Global, words: &[Txt]) -> Result<(Txt, Headers), WordsRefusal>
     ensures { Gives (λ request. request) WordsRefusal.Memory (ok_or (request_of words.now) WordsRefusal.BadWords) result }
 {
     match request_matches(alloc, words) {
         Ok(matches) => request_from(alloc, &matches),
+        Err(refusal) => Err(refusal),
+    }
+}
+
+// What is to be answered, as the matches say.
+fn query_from(alloc: Global, matches: &ArgMatches<'_>) -> Result<Command, WordsRefusal>
+    ensures { Gives (λ command. command) WordsRefusal.Memory (ok_or (query_in (rows_of (found_of matches.now))) WordsRefusal.BadWords) result }
+{
+    let (dir, headers) = request_from(alloc, matches)?;
+    Ok(Command::Query {
+        dir,
+        headers,
+        paged: is_paged(matches),
+    })
+}
+
+// What the words behind `query` ask.
+fn query(alloc: Global, words: &[Txt]) -> Result<Command, WordsRefusal>
+    ensures { Gives (λ command. command) WordsRefusal.Memory (ok_or (query_of words.now) WordsRefusal.BadWords) result }
+{
+    match query_matches(alloc, words) {
+        Ok(matches) => query_from(alloc, &matches),
         Err(refusal) => Err(refusal),
     }
 }
@@ -101,6 +141,7 @@ fn serve_from(alloc: Global, matches: &ArgMatches<'_>) -> Result<Command, WordsR
         connections,
         secret,
         unauthorized,
+        paged: is_paged(matches),
     })
 }
 
@@ -159,16 +200,18 @@ fn command_named(alloc: Global, name: &str, words: &[Txt]) -> Result<Command, Wo
     ensures { Gives (λ command. command) WordsRefusal.Memory (ok_or (command_named name.now words.now) WordsRefusal.BadWords) result }
 {
     match name {
-        "query" => {
-            let (dir, headers) = request(alloc, words)?;
-            Ok(Command::Query { dir, headers })
-        }
+        "query" => query(alloc, words),
         "sql" => {
             let (dir, headers) = request(alloc, words)?;
             Ok(Command::Sql { dir, headers })
         }
+        "explain" => {
+            let (dir, headers) = request(alloc, words)?;
+            Ok(Command::Explain { dir, headers })
+        }
         "check" => check(alloc, words),
         "serve" => serve(alloc, words),
+        "live" => live(alloc, words),
         "gen" => generate(alloc, words),
         _ => page(name, words),
     }

@@ -7,6 +7,7 @@
 
 mod arguments;
 mod command;
+mod living;
 mod page;
 mod parse;
 mod refusal;

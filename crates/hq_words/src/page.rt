@@ -12,15 +12,18 @@ pub enum Page {
 
 /// The commands with their words, a line each, and the statuses.
 pub const USAGE: &str = "\
-hq query DIR [HEADER]...    answers the request on the standard input over the directory, for the caller of the headers
+hq query DIR [HEADER]... [--paged]    answers the request on the standard input over the directory, for the caller of the headers
 hq sql DIR [HEADER]...      writes the text of SQL that query would ask
+hq explain DIR [HEADER]...  tells in words what is wrong with the request or the directory, and where, or what the request asks
 hq check DIR                reads the directory, and writes what it holds
-hq serve DIR --port P --connections N [--admin-secret S] [--unauthorized-role R]    serves N connections of HTTP at 127.0.0.1
+hq serve DIR --port P --connections N [--admin-secret S] [--unauthorized-role R] [--paged]    serves N connections of HTTP at 127.0.0.1
+hq live DIR --port P --connections N [--admin-secret S] [--unauthorized-role R]    talks of live queries over N WebSockets at 127.0.0.1
 hq gen N                    answers requests over a generated database of N authors
 hq help                     writes these lines
 hq --version                writes the version of the program, and of the kit with which it is proved
 
 A HEADER is one word, as \"X-Hasura-Role: user\"; without a role the caller is admin.
+With --paged the tables are kept in the file hq.pages of the directory instead of in memory.
 
 Status  0  done
         1  the request has a fault, which the reply tells
@@ -28,6 +31,7 @@ Status  0  done
         3  a file of the directory is absent, too large or refused
         4  a read failed, or the port could not be opened
         5  a write failed
+        6  the file of --paged failed while a request was answered
         7  out of memory
         8  the request is longer than 1,048,576 bytes
 ";

@@ -1,10 +1,12 @@
 ghost use Rattle.std.specs.Prelude.{◌≡◌, true};
 ghost use Rattle.clap.specs.Words.{app_of, fault_of, is_simple_and_free, matches_of};
-ghost use Rattle.hq_words.specs.Grammar.{check_faults, check_rows, gen_faults, gen_rows, request_faults, request_rows, serve_faults, serve_rows};
+ghost use Rattle.hq_words.specs.Grammar.{check_faults, check_rows, gen_faults, gen_rows, live_faults, live_rows, query_faults, query_rows, request_faults, request_rows, serve_faults, serve_rows};
 ghost use Rattle.hq_words.specs.Parsing.{Parses};
 
 use crate::WordsRefusal;
-use crate::arguments::{check_command, gen_command, request_command, serve_command};
+use crate::arguments::{
+    check_command, gen_command, live_command, query_command, request_command, serve_command,
+};
 use clap::error::ErrorKind;
 use clap::{ArgMatches, Command};
 use hq_base::Txt;
@@ -24,11 +26,21 @@ fn parse<'a>(command: Command<'a>, words: &'a [Txt]) -> Result<ArgMatches<'a>, W
     }
 }
 
-/// What the words behind `query` or `sql` say.
+/// What the words behind `sql` or `explain` say.
 pub fn request_matches<'a>(alloc: Global, words: &'a [Txt]) -> Result<ArgMatches<'a>, WordsRefusal>
     ensures { Parses (request_faults words.entry.now) (request_rows words.entry.now) result }
 {
     let Ok(command) = request_command(alloc) else {
+        return Err(WordsRefusal::Memory);
+    };
+    parse(command, words)
+}
+
+/// What the words behind `query` say.
+pub fn query_matches<'a>(alloc: Global, words: &'a [Txt]) -> Result<ArgMatches<'a>, WordsRefusal>
+    ensures { Parses (query_faults words.entry.now) (query_rows words.entry.now) result }
+{
+    let Ok(command) = query_command(alloc) else {
         return Err(WordsRefusal::Memory);
     };
     parse(command, words)
@@ -49,6 +61,16 @@ pub fn serve_matches<'a>(alloc: Global, words: &'a [Txt]) -> Result<ArgMatches<'
     ensures { Parses (serve_faults words.entry.now) (serve_rows words.entry.now) result }
 {
     let Ok(command) = serve_command(alloc) else {
+        return Err(WordsRefusal::Memory);
+    };
+    parse(command, words)
+}
+
+/// What the words behind `live` say.
+pub fn live_matches<'a>(alloc: Global, words: &'a [Txt]) -> Result<ArgMatches<'a>, WordsRefusal>
+    ensures { Parses (live_faults words.entry.now) (live_rows words.entry.now) result }
+{
+    let Ok(command) = live_command(alloc) else {
         return Err(WordsRefusal::Memory);
     };
     parse(command, words)

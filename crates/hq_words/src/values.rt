@@ -1,7 +1,7 @@
 ghost use Rattle.std.specs.Prelude.{◌≡◌, IfOk, IfSome, map, ok_or, codes};
 ghost use Rattle.clap.specs.Words.{first_of, found_of, rows_of};
 ghost use Rattle.hq_base.specs.Due.{Gives};
-ghost use Rattle.hq_words.specs.Asked.{filled, headers_of, header_words_in, number_in};
+ghost use Rattle.hq_words.specs.Asked.{filled, headers_of, header_words_in, is_paged_in, number_in};
 
 use crate::WordsRefusal;
 use clap::ArgMatches;
@@ -48,6 +48,16 @@ pub fn authors_of(matches: &ArgMatches<'_>) -> Option<u32>
     ensures { IfSome result (λ authors. number_in (codes "authors") (rows_of (found_of matches.now)) ≡ Some authors) }
 {
     matches.get_one::<u32>("authors")
+}
+
+/// Whether the words ask for pages.
+pub fn is_paged(matches: &ArgMatches<'_>) -> bool
+    ensures { result ≡ is_paged_in (rows_of (found_of matches.now)) }
+{
+    match matches.get_str("paged") {
+        Some(text) => text == "true",
+        None => false,
+    }
 }
 
 /// A text that is not empty, where it is given.

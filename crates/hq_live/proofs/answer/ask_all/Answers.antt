@@ -24,5 +24,6 @@ asking-preserved g c =
       so_far = subst All (sym c.in_ok-push.ensures.items) all;
       due = c.ask.ensures.due ∙ c.asking.invariant.due;
       next = c.ask.ensures.next ∙ c.asking.invariant.next;
+      files = λ folder count here. c.ask.ensures.files folder count (c.asking.invariant.files folder count here);
       later = omega (arith, c.asking.invariant.later, c.ask.ensures.later);
     }

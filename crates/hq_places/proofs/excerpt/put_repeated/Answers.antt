@@ -1,4 +1,4 @@
-use Rattle.std.proofs.Common.{ℕ, List, arith}
+use Rattle.std.proofs.Common.{arith}
 use Rattle.hq_places.proofs.Adding.{adds_nothing, adds_so, adds_then}
 use Rattle.hq_places.proofs.Repeated.{repeated_all, repeated_next, repeated_none}
 use Rattle.hq_places.proofs.excerpt.put_repeated.Goals as goal

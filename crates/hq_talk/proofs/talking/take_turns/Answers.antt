@@ -18,6 +18,7 @@ turns-preserved g c =
     record {
       ran = (r.0 ++ h.0 ∷ [], length-append r.0 (h.0 ∷ []) ∙ ap (λ n. n + 1) r.1, ran_more (g.P.HookRule.allows c.args.hook.now.rule) c.args.who first mid last a b e r.0 h.0 r.2 h.1);
       later = search rules;
+      files = λ folder count here. c.take_turn.ensures.files folder count (c.turns.invariant.files folder count here);
       asker_later = search rules;
       own = search rules;
     }

@@ -1,4 +1,5 @@
 use Rattle.std.proofs.Common.{◌≡◌, ◌≤◌, ◌++◌, drop}
+use Rattle.hq_live.specs.Asking.{KeepsFiles}
 use Rattle.hq_talk.specs.Table.{told_texts, told_once, told_subscriptions}
 use Rattle.hq_talk.specs.Talks.{IsOwn}
 use Rattle.hq_talk.proofs.told.tell_all.Given as goal
@@ -12,6 +13,7 @@ invariant-telling g l = record {
       ≡ told_subscriptions l.who l.fn.once.items l.sends l.fn.live.subscriptions.items;
   due : g.A.Asker.due l.live.asker ≡ g.A.Asker.due l.fn.live.asker;
   next : g.A.Asker.next l.live.asker ≡ g.A.Asker.next l.fn.live.asker;
+  files : KeepsFiles g.A.Asker.reads l.fn.live.asker l.live.asker;
   later : g.A.Asker.faults l.fn.live.asker ≤ g.A.Asker.faults l.live.asker;
   own : IsOwn l.who l.fn.live.subscriptions.items → IsOwn l.who l.live.subscriptions.items;
 }

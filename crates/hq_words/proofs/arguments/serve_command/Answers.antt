@@ -9,4 +9,5 @@ returns c =
     let two = c.in_ok-arg-2.ensures.shape c.port_arg.ensures.local ∙ ap₂ with_rule one c.port_arg.ensures.rule in
     let three = c.in_ok-arg-3.ensures.shape c.connections_arg.ensures.local ∙ ap₂ with_rule two c.connections_arg.ensures.rule in
     let four = c.in_ok-arg-4.ensures.shape c.secret_arg.ensures.local ∙ ap₂ with_rule three c.secret_arg.ensures.rule in
-    IfOk-weaker c.arg-5.result _ _ (λ m h. h.shape c.unauthorized_arg.ensures.local ∙ ap₂ with_rule four c.unauthorized_arg.ensures.rule) c.arg-5.ensures
+    let five = c.in_ok-arg-5.ensures.shape c.unauthorized_arg.ensures.local ∙ ap₂ with_rule four c.unauthorized_arg.ensures.rule in
+    IfOk-weaker c.arg-6.result _ _ (λ m h. h.shape c.paged_arg.ensures.local ∙ ap₂ with_rule five c.paged_arg.ensures.rule) c.arg-6.ensures

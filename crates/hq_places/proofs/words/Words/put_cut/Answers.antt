@@ -1,5 +1,4 @@
-use Rattle.std.proofs.Common.{◌≡◌, ◌∙◌, ℕ, List, subst, sym}
-use Rattle.hq_places.specs.Words.{Adds}
+use Rattle.std.proofs.Common.{◌∙◌, sym}
 use Rattle.hq_places.proofs.Adding.{adds_nothing, adds_then, adds_so}
 use Rattle.hq_places.proofs.Cuts.{shown_cut, shown_next, shown_none}
 use Rattle.hq_places.proofs.words.Words.put_cut.Goals as goal
