@@ -4,12 +4,13 @@ use Rattle.hq_outside.specs.Causes.{Rose}
 use Rattle.hq_words.specs.declared.command.Command.{Command}
 use Rattle.hq_words.specs.declared.command.Command.TheVariants.{Query, Sql, Explain, Check, Serve, Live, Gen, Show}
 use Rattle.hq_commands.specs.Ending.{Answer, Ends, NotDatabase, status_of, told_line}
-use Rattle.hq_commands.specs.Explaining.{Explains, explain_output}
+use Rattle.hq_explain_command.specs.Explaining.{Explains, explain_output}
 use Rattle.hq_commands.specs.Generating.{GenEnds}
-use Rattle.hq_commands.specs.Disks.{DiskFailed}
-use Rattle.hq_commands.specs.Output.{paged_output, query_output, sql_output}
+use Rattle.hq_paged_commands.specs.Disks.{DiskFailed, paged_output}
+use Rattle.hq_commands.specs.Output.{query_output, sql_output}
 use Rattle.hq_commands.specs.Check.{check_output}
-use Rattle.hq_commands.specs.Serving.{PagedServeEnds, ServeEnds}
+use Rattle.hq_serve_command.specs.Serving.{ServeEnds}
+use Rattle.hq_paged_commands.specs.Serving.{PagedServeEnds}
 use Rattle.hq_commands.specs.Showing.{page_output}
 use Rattle.hq_live_command.specs.Living.{LiveEnds}
 use Rattle.hq_commands.specs.declared.done.Done.TheVariants.{Faulty}

@@ -11,15 +11,15 @@ use crate::laws::outputs_agree;
 use crate::living::live_over;
 use crate::{Observed, Ran, World};
 use hq_base::Txt;
-use hq_commands::{
-    Done, Refusal, check, explain, generate_and_answer, query, query_on_disk, reply_to, serve,
-    serve_on_disk, show, sql, tell,
-};
+use hq_commands::{Done, Refusal, check, generate_and_answer, query, reply_to, show, sql, tell};
 use hq_db::SqlDb;
 use hq_engine::Engine;
+use hq_explain_command::explain;
 use hq_link::Database;
 use hq_messages::Hall;
 use hq_outside::{Disk, Door, Files, Sink, Source};
+use hq_paged_commands::{query_on_disk, serve_on_disk};
+use hq_serve_command::serve;
 use hq_session::{Headers, SecretRule};
 use hq_tables::Tables;
 use hq_terms::Session;

@@ -23,7 +23,7 @@ use Rattle.hq_engine.specs.declared.refusal.EngineRefusal.TheVariants as engine
 use Rattle.hq_request.specs.declared.refusal.RequestRefusal.{RequestRefusal}
 use Rattle.hq_request.specs.declared.refusal.RequestRefusal.TheVariants as request
 use Rattle.hq_commands.specs.Refusals.{of_input, of_engine}
-use Rattle.hq_commands.specs.Output.{done_by, known_data, reply_output, within_limit, request_output, engine_output, statement_output, told_rows}
+use Rattle.hq_commands.specs.Output.{done_by, known_data, reply_output, within_limit, request_output, engine_output, statement_output}
 use Rattle.hq_commands.specs.Ending.{Answer, Ends, NotDatabase, Output, TellsDatabase, Writes, WritesPrefix}
 use Rattle.hq_commands.specs.Answers.{Answers, AskedBy}
 use Rattle.hq_commands.specs.declared.done.Done.{Done}
@@ -124,13 +124,6 @@ pub cut_ends : (old new : Option (List ℕ)) (due : Result Output Refusal) (body
 cut_ends old new due body bytes is same h = (is.output, is.is, prefix_known old new is.output.bytes body is.bytes (subst (λ b. AppendsPrefix old new b) same h))
 
 -- ---- a directory that is loaded
-
--- rows on a disk are told alike where its bytes are told as they were before
-pub rows_same : (old new : Option (List ℕ)) (rows : List (List Row)) → is_some new ≡ is_some old → told_rows new rows ≡ told_rows old rows
-rows_same None None rows same = refl
-rows_same None (Some new) rows same = absurd cc
-rows_same (Some old) None rows same = absurd cc
-rows_same (Some old) (Some new) rows same = refl
 
 -- an answer by an engine of these contents is due over them
 pub over_contents : (engine : Engine) (session : Session) (database : Option (List (List Row))) (left : Option (List ℕ)) (tables : List Table) (meta : MetaTree) (rows : Option (List (List Row))) (old new : Option (List ℕ)) (before now : Counts) (answer : Answer)

@@ -1,4 +1,3 @@
 mod Endings
 mod Statings
-mod Servings
 mod Lines

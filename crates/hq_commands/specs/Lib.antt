@@ -4,8 +4,5 @@ pub mod Line
 pub mod Refusals
 pub mod Ending
 pub mod Check
-pub mod Serving
 pub mod Generating
 pub mod Showing
-pub mod Disks
-pub mod Explaining

@@ -59,15 +59,6 @@ abbrev pub query_output : (dir : List ℕ) → List Header → List File → (te
 query_output dir headers files text =
     contents_due dir files >>= λ c. request_output c.tables c.meta (session_of headers) (Some c.rows) text
 
--- rows that are put on a disk are told where its bytes are
-abbrev pub told_rows : (told : Option (List ℕ)) → List (List Row) → Option (List (List Row))
-told_rows told rows = option_map (λ bytes. rows) told
-
--- what is due for a query whose tables are put on a disk: where it tells its bytes, the same
-abbrev pub paged_output : (told : Option (List ℕ)) → (dir : List ℕ) → List Header → List File → (text : List ℕ) → Result Output Refusal
-paged_output told dir headers files text =
-    contents_due dir files >>= λ c. request_output c.tables c.meta (session_of headers) (told_rows told c.rows) text
-
 -- the text of SQL that is asked for what a body makes, and a line end; `none` where none is asked; the reply of a fault
 abbrev pub line_text : (text : List ℕ) → List ℕ
 line_text text = text ++ codes "\n"

@@ -13,8 +13,8 @@ use Rattle.hq_live_serve.specs.Talking.{ToldLink}
 use Rattle.hq_live_serve.specs.Serving.{ServesTalks}
 use Rattle.hq_loading.specs.Loading.{Contents}
 use Rattle.hq_asker.specs.Asker.{due_of, next_of}
-use Rattle.hq_commands.specs.Serving.{SeenDoor, OpensOver}
-use Rattle.hq_commands.proofs.Servings.{opens_weaker}
+use Rattle.hq_serve_command.specs.Serving.{SeenDoor, OpensOver}
+use Rattle.hq_serve_command.proofs.Servings.{opens_weaker}
 use Rattle.hq_live_command.specs.Living.{BeginsOver, TalksFrom, TalksOver}
 
 -- an asker over an instance of these contents begins over them

@@ -11,7 +11,7 @@ use Rattle.hq_live_laws.specs.Worlds.{due_over}
 use Rattle.hq_loading.specs.Loading.{Contents}
 use Rattle.hq_asker.specs.Asker.{next_of}
 use Rattle.hq_commands.specs.Ending.{Answer}
-use Rattle.hq_commands.specs.Serving.{SeenDoor, EndsOver}
+use Rattle.hq_serve_command.specs.Serving.{SeenDoor, EndsOver}
 
 -- Live queries as they begin over what a directory holds: the replies over its rows are due, each reload takes the rows of its table
 -- files where the readers accept them, and there is no subscription.

@@ -6,7 +6,7 @@ ghost use Rattle.hq_live.specs.Runs.{standing};
 ghost use Rattle.hq_asker.specs.Asker.{due_of, next_of, sum};
 ghost use Rattle.hq_commands.specs.Ending.{NotDatabase};
 ghost use Rattle.hq_live_command.specs.Living.{LiveEnds, TalksFrom, TalksOver};
-ghost use Rattle.hq_commands.specs.Serving.{OpensOver, answer_of, seen_door};
+ghost use Rattle.hq_serve_command.specs.Serving.{OpensOver, answer_of, seen_door};
 
 use hq_asker::EngineAsker;
 use hq_base::{Memory, Txt};

@@ -2,9 +2,9 @@ use Rattle.std.proofs.Common.{◌∙◌, ap, Err, Some, inl, refl}
 use Rattle.std.proofs.lemmas.Result.{err_from_is_err_and}
 use Rattle.hq_terms.specs.Meta.{meta_view}
 use Rattle.hq_loading.specs.Loading.{contents}
-use Rattle.hq_commands.specs.Serving.{ServesOver, seen_door}
-use Rattle.hq_commands.proofs.Servings.{door_same, link_tells, opened, over_same}
-use Rattle.hq_commands.proofs.serving.serve_loaded.Goals as goal
+use Rattle.hq_serve_command.specs.Serving.{ServesOver, seen_door}
+use Rattle.hq_serve_command.proofs.Servings.{door_same, link_tells, opened, over_same}
+use Rattle.hq_serve_command.proofs.serving.serve_loaded.Goals as goal
 
 pub returns-clause-opens : goal.returns-clause-opens
 returns-clause-opens g c =

@@ -1,7 +1,7 @@
 use Rattle.hq_terms.specs.Meta.{meta_view}
-use Rattle.hq_commands.specs.Output.{told_rows}
+use Rattle.hq_paged_commands.specs.Disks.{told_rows}
 use Rattle.hq_commands.proofs.Endings.{over_contents}
-use Rattle.hq_commands.proofs.paging.respond.Goals as goal
+use Rattle.hq_paged_commands.proofs.paging.respond.Goals as goal
 
 pub returns-in-Ok-clause-told : goal.returns-in-Ok-clause-told
 returns-in-Ok-clause-told g c =

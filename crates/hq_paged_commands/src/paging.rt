@@ -2,13 +2,13 @@
 ghost use Rattle.std.specs.Prelude.{◌≡◌, ◌≤◌, ◌⊎◌, IsErrOf, IfSome, IfErr};
 ghost use Rattle.hq_outside.specs.Causes.{Rose};
 ghost use Rattle.hq_terms.specs.Meta.{meta_view};
-ghost use Rattle.hq_commands.specs.Disks.{DiskFailed, DiskLater, seen_disk};
+ghost use Rattle.hq_paged_commands.specs.Disks.{DiskFailed, DiskLater, paged_output, seen_disk, told_rows};
 ghost use Rattle.hq_commands.specs.Ending.{Ends, Silent};
-ghost use Rattle.hq_commands.specs.Output.{paged_output, request_output, told_rows};
+ghost use Rattle.hq_commands.specs.Output.{request_output};
 
-use crate::caller::caller;
-use crate::{Done, Instance, Refusal, reply_to};
+use crate::instance::{disk_of, on_disk};
 use hq_base::{Memory, Txt};
+use hq_commands::{Done, Refusal, caller, reply_to};
 use hq_loading::{Loaded, load};
 use hq_outside::{Disk, Files, Sink, Source};
 use hq_session::Headers;
@@ -44,12 +44,12 @@ fn respond<X: Disk, S: Source, K: Sink>(
     ensures input_later { S.faults input.old ≤ S.faults input.new }
     ensures out_later { K.faults out.old ≤ K.faults out.new }
 {
-    match Instance::on_disk(alloc, loaded, dir, disk) {
+    match on_disk(alloc, loaded, dir, disk) {
         Ok(made) => {
             let mut made = made;
             let answer = reply_to(alloc, &made.engine, session, &mut made.db, input, out);
             OnDisk {
-                disk: made.into_disk(),
+                disk: disk_of(made),
                 answer,
             }
         }

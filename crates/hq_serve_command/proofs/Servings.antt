@@ -9,18 +9,14 @@ use Rattle.hq_loading.specs.Told.{GivesUnless}
 use Rattle.hq_loading.specs.declared.loaded.Loaded.{Loaded}
 use Rattle.hq_loading.specs.declared.refusal.LoadingRefusal.{LoadingRefusal}
 use Rattle.hq_loading.specs.declared.refusal.LoadingRefusal.TheVariants as loading
-use Rattle.hq_pages.specs.declared.refusal.PageRefusal.{PageRefusal}
-use Rattle.hq_pages.specs.declared.refusal.PageRefusal.TheVariants as pages
 use Rattle.hq_responder.specs.Due.{denies, gives}
 use Rattle.hq_serve.specs.Serving.{Told, Serves}
 use Rattle.hq_serve.specs.declared.serving.ServeRefusal.{ServeRefusal}
 use Rattle.hq_serve.specs.declared.serving.ServeRefusal.TheVariants as serve
 use Rattle.hq_session.specs.declared.secret.SecretRule.{SecretRule}
-use Rattle.hq_commands.specs.Disks.{SeenDisk}
 use Rattle.hq_commands.specs.Ending.{Answer}
-use Rattle.hq_commands.specs.Output.{told_rows}
-use Rattle.hq_commands.specs.Refusals.{contents_due, of_loading, of_pages, of_serving}
-use Rattle.hq_commands.specs.Serving.{SeenDoor, Untouched, answer_of, ServesFrom, ServesOnDisk, ServesTables, OpensOver, PagedServeEnds, ServesDirectory, EndsOver}
+use Rattle.hq_commands.specs.Refusals.{contents_due, of_loading}
+use Rattle.hq_serve_command.specs.Serving.{SeenDoor, Untouched, answer_of, ServesTables, OpensOver, ServesDirectory, EndsOver}
 use Rattle.hq_commands.specs.declared.refusal.Refusal.TheVariants as refusal
 
 -- what is due of the directory, by what its loading gives
@@ -67,11 +63,6 @@ module _ {L : Type 0} (before after : SeenDoor L) (old new : Option (List ℕ)) 
     load_refused loading.Failed a is h u = rw is (inl u)
     load_refused loading.Memory a is h u = rw is (inl u)
 
-    -- nor is one whose tables are not on the disk
-    pub pages_refused : (e : PageRefusal) (a : Answer) → a ≡ Err (of_pages e) → Untouched before after old new → EndsOver before after old new over files dir a
-    pages_refused pages.Failed a is u = rw is (inl u)
-    pages_refused pages.Memory a is u = rw is (inl u)
-
     module _ (held : Contents) (holds : IfSome files (λ fs. loading_due fs dir ≡ Ok held)) where
       -- one that is loaded is served as far as it goes
       directory : (result : Result (Unit {0}) ServeRefusal) → over held result → ServesDirectory before after old new over files dir result
@@ -102,30 +93,6 @@ door_same t rule n tables meta rows f f' a a1 a2 links links1 links2 old new res
     let at_count = subst (λ k. Serves (denies rule) (gives rule tables meta rows) t n k a2 links1 links2 f f' old new result) same_count s in
     subst (λ ls. Serves (denies rule) (gives rule tables meta rows) t n a a2 ls links2 f f' old new result) same_links at_count
 
--- the same over tables on a disk
-pub from_same : {L : Type 0} (t : Told L) (rule : SecretRule) (n : ℕ) (before after : SeenDoor L) (old new : Option (List ℕ)) (disk left : SeenDisk) (first : ℕ) (held : Contents) (ts : List Table) (m : MetaTree) (database : Option (List (List Row)))
-    (result : Result (Unit {0}) ServeRefusal) → ts ≡ held.tables → m ≡ held.meta → database ≡ told_rows disk.told held.rows → disk.faults ≤ first
-    → ServesFrom t rule n before after old new first left ts m database result → ServesOnDisk t rule n before after old new disk left held result
-from_same t rule n before after old new disk left first held ts m database result same_tables same_meta told begins s = record {
-  first = first;
-  begins = begins;
-  serves = record {
-    last = s.last;
-    serves = over_same t rule n before after old new first s.last held.tables ts held.meta m (told_rows disk.told held.rows) database result same_tables same_meta told s.serves;
-    disk = s.disk;
-  };
-}
-
 -- what a link tells
 abbrev pub link_tells : {L : Type 0} → (left written : L → Option (List ℕ)) → (read_faults write_faults : L → ℕ) → Told L
 link_tells left written read_faults write_faults = record { left = left; written = written; read_faults = read_faults; write_faults = write_faults }
-
--- how a run ends that serves over tables on a disk
-pub ends_on_disk : {L : Type 0} (t : Told L) (rule : SecretRule) (n : ℕ) (before after : SeenDoor L) (old new : Option (List ℕ)) (disk left : SeenDisk) (files : Option (List File)) (dir : List ℕ) (held : Contents)
-    (first : ℕ) (ts : List Table) (m : MetaTree) (database : Option (List (List Row))) (result : Result (Unit {0}) ServeRefusal) (a : Answer)
-    → IfSome files (λ fs. loading_due fs dir ≡ Ok held) → ts ≡ held.tables → m ≡ held.meta → database ≡ told_rows disk.told held.rows → disk.faults ≤ first → a ≡ answer_of result
-    → OpensOver before after old new (ServesFrom t rule n before after old new first left ts m database) result → PagedServeEnds t rule n before after old new disk left files dir a
-ends_on_disk t rule n before after old new disk left files dir held first ts m database result a holds same_tables same_meta told begins is s =
-    ends_as before after old new (ServesOnDisk t rule n before after old new disk left) files dir held holds result a is
-    (opens_weaker before after old new (ServesFrom t rule n before after old new first left ts m database) (ServesOnDisk t rule n before after old new disk left held) result
-    (λ r. from_same t rule n before after old new disk left first held ts m database r same_tables same_meta told begins) s)

@@ -4,13 +4,11 @@ ghost use Rattle.hq_outside.specs.Causes.{Rose};
 ghost use Rattle.hq_terms.specs.Meta.{meta_view};
 ghost use Rattle.hq_commands.specs.Ending.{NotDatabase, Silent};
 ghost use Rattle.hq_request.specs.Request.{request_due};
-ghost use Rattle.hq_commands.specs.Explaining.{Explains, SilentButOfFiles, accepted, at_fault, explain_output, explained, input_explained};
+ghost use Rattle.hq_explain_command.specs.Explaining.{Explains, SilentButOfFiles, accepted, at_fault, explain_output, explained, input_explained};
 
-use crate::caller::caller;
-use crate::reply::INPUT_LIMIT;
-use crate::{Done, Refusal};
 use hq_ask_tree::Ask;
 use hq_base::{Bytes, Memory, Txt};
+use hq_commands::{Done, INPUT_LIMIT, Refusal, caller};
 use hq_engine::{Engine, Stated};
 use hq_explain::{accepted_words, fault_front, fault_words};
 use hq_explain_files::{catalog_words, metadata_words, missing_words, table_words};

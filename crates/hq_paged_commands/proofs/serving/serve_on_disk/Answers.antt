@@ -1,9 +1,10 @@
 use Rattle.hq_terms.specs.Meta.{meta_view}
 use Rattle.hq_loading.specs.Loading.{loaded_view}
-use Rattle.hq_commands.specs.Disks.{seen_disk}
-use Rattle.hq_commands.specs.Serving.{seen_door}
-use Rattle.hq_commands.proofs.Servings.{ends_on_disk, link_tells}
-use Rattle.hq_commands.proofs.serving.serve_on_disk.Goals as goal
+use Rattle.hq_paged_commands.specs.Disks.{seen_disk}
+use Rattle.hq_serve_command.specs.Serving.{seen_door}
+use Rattle.hq_serve_command.proofs.Servings.{link_tells}
+use Rattle.hq_paged_commands.proofs.OnDisk.{ends_on_disk}
+use Rattle.hq_paged_commands.proofs.serving.serve_on_disk.Goals as goal
 
 pub returns-in-Ok-on_disk-clause-ends : goal.returns-in-Ok-on_disk-clause-ends
 returns-in-Ok-on_disk-clause-ends g c =

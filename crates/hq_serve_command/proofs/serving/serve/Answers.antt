@@ -1,10 +1,10 @@
 use Rattle.std.proofs.Common.{◌∙◌, ap, Err, Ok, refl}
 use Rattle.std.proofs.lemmas.Result.{err_from_is_err_and}
 use Rattle.hq_loading.specs.Loading.{loaded_view}
-use Rattle.hq_commands.specs.Serving.{ServesOver, seen_door}
+use Rattle.hq_serve_command.specs.Serving.{ServesOver, seen_door}
 use Rattle.hq_commands.specs.declared.done.Done.TheVariants.{Answered}
-use Rattle.hq_commands.proofs.Servings.{ends_as, link_tells, load_refused}
-use Rattle.hq_commands.proofs.serving.serve.Goals as goal
+use Rattle.hq_serve_command.proofs.Servings.{ends_as, link_tells, load_refused}
+use Rattle.hq_serve_command.proofs.serving.serve.Goals as goal
 
 pub returns-in_err-loaded-clause-ends : goal.returns-in_err-loaded-clause-ends
 returns-in_err-loaded-clause-ends g c =

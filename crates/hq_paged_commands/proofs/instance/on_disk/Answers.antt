@@ -1,6 +1,6 @@
 use Rattle.std.proofs.Common.{◌∙◌}
-use Rattle.hq_commands.proofs.Endings.{rows_same}
-use Rattle.hq_commands.proofs.instance.Instance+PagedTables+X.on_disk.Goals as goal
+use Rattle.hq_paged_commands.proofs.OnDisk.{rows_same}
+use Rattle.hq_paged_commands.proofs.instance.on_disk.Goals as goal
 
 pub returns-in-Ok-make-clause-rows : goal.returns-in-Ok-make-clause-rows
 returns-in-Ok-make-clause-rows g c =

@@ -10,9 +10,7 @@ use Rattle.hq_session.specs.declared.secret.SecretRule.{SecretRule}
 use Rattle.hq_terms.specs.Database.{Row}
 use Rattle.hq_terms.specs.Meta.{MetaTree}
 use Rattle.hq_terms.specs.declared.table.Table.{Table}
-use Rattle.hq_commands.specs.Disks.{SeenDisk}
 use Rattle.hq_commands.specs.Ending.{Answer}
-use Rattle.hq_commands.specs.Output.{told_rows}
 use Rattle.hq_commands.specs.Refusals.{contents_due, of_serving}
 use Rattle.hq_commands.specs.declared.done.Done.TheVariants.{Answered, Faulty}
 use Rattle.hq_commands.specs.declared.refusal.Refusal.{Refusal}
@@ -78,18 +76,3 @@ module _ {L : Type 0} (t : Told L) (rule : SecretRule) (connections : ℕ) (befo
 
   abbrev pub ServeEnds : Option (List File) → (dir : List ℕ) → Answer → Type 0
   ServeEnds files dir answer = EndsOver before after old new ServesOver files dir answer
-
-  -- over tables on a disk one does only where their count of faults rose. Where the disk tells its bytes, its own count is at least
-  -- as high as theirs in the end.
-  pub record ServesFrom (first : ℕ) (left : SeenDisk) (tables : List Table) (meta : MetaTree) (rows : Option (List (List Row))) (result : Result (Unit {0}) ServeRefusal) : Type 0 where
-    pub last : ℕ
-    pub serves : ServesTables first last tables meta rows result
-    pub disk : IfSome left.told (λ bytes. last ≤ left.faults)
-
-  pub record ServesOnDisk (disk left : SeenDisk) (held : Contents) (result : Result (Unit {0}) ServeRefusal) : Type 0 where
-    pub first : ℕ
-    pub begins : disk.faults ≤ first
-    pub serves : ServesFrom first left held.tables held.meta (told_rows disk.told held.rows) result
-
-  abbrev pub PagedServeEnds : (disk left : SeenDisk) → Option (List File) → (dir : List ℕ) → Answer → Type 0
-  PagedServeEnds disk left files dir answer = EndsOver before after old new (ServesOnDisk disk left) files dir answer

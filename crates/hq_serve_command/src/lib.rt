@@ -1,0 +1,6 @@
+//! The command `serve`: a directory served at a door.
+#![tactic(auto)]
+
+mod serving;
+
+pub use serving::serve;
