@@ -2,7 +2,7 @@
 //! itself; and how each command ends.
 #![tactic(auto)]
 
-mod caller;
+mod calling;
 mod checking;
 mod done;
 mod generating;
@@ -13,7 +13,7 @@ mod showing;
 mod stating;
 mod telling;
 
-pub use caller::caller;
+pub use calling::caller;
 pub use checking::check;
 pub use done::Done;
 pub use generating::generate_and_answer;

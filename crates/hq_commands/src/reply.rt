@@ -6,7 +6,7 @@ ghost use Rattle.hq_commands.specs.Ending.{Ends, NotDatabase, OfRequest, Silent,
 ghost use Rattle.hq_commands.specs.Answers.{Answers};
 ghost use Rattle.hq_commands.specs.Output.{done_by, query_output, request_output};
 
-use crate::caller::caller;
+use crate::calling::caller;
 use crate::{Done, Instance, Refusal};
 use hq_base::{Reply, Txt};
 use hq_engine::Engine;

@@ -5,7 +5,7 @@ ghost use Rattle.hq_terms.specs.Meta.{meta_view};
 ghost use Rattle.hq_commands.specs.Ending.{Ends, Silent, NotDatabase};
 ghost use Rattle.hq_commands.specs.Output.{line_text, sql_output, statement_output};
 
-use crate::caller::caller;
+use crate::calling::caller;
 use crate::reply::INPUT_LIMIT;
 use crate::{Done, Refusal};
 use hq_base::{Reply, Txt};
