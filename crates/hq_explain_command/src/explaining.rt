@@ -3,8 +3,7 @@ ghost use Rattle.std.specs.Prelude.{◌≡◌, ◌≢◌, ◌≤◌, ◌⊎◌, 
 ghost use Rattle.hq_outside.specs.Causes.{Rose};
 ghost use Rattle.hq_terms.specs.Meta.{meta_view};
 ghost use Rattle.hq_commands.specs.Ending.{NotDatabase, Silent};
-ghost use Rattle.hq_request.specs.Request.{request_due};
-ghost use Rattle.hq_explain_command.specs.Explaining.{Explains, SilentButOfFiles, accepted, at_fault, explain_output, explained, input_explained};
+ghost use Rattle.hq_explain_command.specs.Explaining.{Explains, SilentButOfFiles, accepted, at_fault, explain_output, input_explained};
 
 use hq_ask_tree::Ask;
 use hq_base::{Bytes, Memory, Txt};
@@ -80,7 +79,7 @@ fn explain_over<K: Sink>(
     out: &mut K,
 ) -> Result<Done, Refusal>
     requires { length body.now ≤ INPUT_LIMIT }
-    ensures told { Explains (K.written out.old) (K.written out.new) (explained body.now (request_due engine.now.catalog.tables (meta_view engine.now.meta) session.now body.now)) result }
+    ensures told { Explains (K.written out.old) (K.written out.new) (input_explained engine.now.catalog.tables (meta_view engine.now.meta) session.now body.now) result }
     ensures silent { Silent (K.written out.old) (K.written out.new) result }
     ensures read { result ≢ Err Refusal.ReadFailed }
     ensures write { IsErrOf result Refusal.WriteFailed → Rose (K.faults out.old) (K.faults out.new) }
@@ -97,6 +96,28 @@ fn explain_over<K: Sink>(
     }
 }
 
+// Reads a body, and tells of it.
+fn explain_to<S: Source, K: Sink>(
+    alloc: Global,
+    engine: &Engine,
+    session: &Session,
+    input: &mut S,
+    out: &mut K,
+) -> Result<Done, Refusal>
+    ensures told { IfSome (S.left input.old) (λ left. Explains (K.written out.old) (K.written out.new)
+        (input_explained engine.now.catalog.tables (meta_view engine.now.meta) session.now left) result) }
+    ensures silent { Silent (K.written out.old) (K.written out.new) result }
+    ensures read { IsErrOf result Refusal.ReadFailed → Rose (S.faults input.old) (S.faults input.new) }
+    ensures write { IsErrOf result Refusal.WriteFailed → Rose (K.faults out.old) (K.faults out.new) }
+    ensures failed { IfErr result NotDatabase }
+    ensures words { result ≢ Err Refusal.BadWords }
+    ensures input_later { S.faults input.old ≤ S.faults input.new }
+    ensures out_later { K.faults out.old ≤ K.faults out.new }
+{
+    let body = read_all(alloc, input, INPUT_LIMIT)?;
+    explain_over(alloc, engine, session, body.as_slice(), out)
+}
+
 // Tells of the body on the input, over what a directory holds.
 fn explain_loaded<S: Source, K: Sink>(
     alloc: Global,
@@ -105,7 +126,8 @@ fn explain_loaded<S: Source, K: Sink>(
     input: &mut S,
     out: &mut K,
 ) -> Result<Done, Refusal>
-    ensures told { IfSome (S.left input.old) (λ left. Explains (K.written out.old) (K.written out.new) (input_explained loaded.catalog.tables (meta_view loaded.meta) session.now left) result) }
+    ensures told { IfSome (S.left input.old) (λ left. Explains (K.written out.old) (K.written out.new)
+        (input_explained loaded.catalog.tables (meta_view loaded.meta) session.now left) result) }
     ensures silent { Silent (K.written out.old) (K.written out.new) result }
     ensures read { IsErrOf result Refusal.ReadFailed → Rose (S.faults input.old) (S.faults input.new) }
     ensures write { IsErrOf result Refusal.WriteFailed → Rose (K.faults out.old) (K.faults out.new) }
@@ -115,9 +137,8 @@ fn explain_loaded<S: Source, K: Sink>(
     ensures out_later { K.faults out.old ≤ K.faults out.new }
 {
     let Loaded { catalog, meta, .. } = loaded;
-    let body = read_all(alloc, input, INPUT_LIMIT)?;
     let engine = Engine::new(alloc, catalog, meta)?;
-    explain_over(alloc, &engine, session, body.as_slice(), out)
+    explain_to(alloc, &engine, session, input, out)
 }
 
 // The bytes of a file, None where they are not loaded again.

@@ -1,5 +1,5 @@
 use Rattle.std.proofs.Common.{◌∙◌}
-use Rattle.hq_paged_commands.proofs.OnDisk.{rows_same}
+use Rattle.hq_paged_commands.proofs.ServedOnDisk.{rows_same}
 use Rattle.hq_paged_commands.proofs.instance.on_disk.Goals as goal
 
 pub returns-in-Ok-make-clause-rows : goal.returns-in-Ok-make-clause-rows

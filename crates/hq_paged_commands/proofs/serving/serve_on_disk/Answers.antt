@@ -3,7 +3,7 @@ use Rattle.hq_loading.specs.Loading.{loaded_view}
 use Rattle.hq_paged_commands.specs.Disks.{seen_disk}
 use Rattle.hq_serve_command.specs.Serving.{seen_door}
 use Rattle.hq_serve_command.proofs.Servings.{link_tells}
-use Rattle.hq_paged_commands.proofs.OnDisk.{ends_on_disk}
+use Rattle.hq_paged_commands.proofs.ServedOnDisk.{ends_on_disk}
 use Rattle.hq_paged_commands.proofs.serving.serve_on_disk.Goals as goal
 
 pub returns-in-Ok-on_disk-clause-ends : goal.returns-in-Ok-on_disk-clause-ends
