@@ -1,16 +1,21 @@
 -- Serving over tables on a disk, by its parts.
-use Rattle.std.proofs.Common.{◌≡◌, ◌≤◌, ℕ, List, Option, Some, None, is_some, IfSome, Result, Ok, Err, refl, inl}
+use Rattle.std.proofs.Common.{◌≡◌, ◌≤◌, ℕ, List, Option, Some, None, is_some, IfSome, Result, Ok, Err, refl, subst, inl}
 use Rattle.hq_outside.specs.declared.files.File.{File}
 use Rattle.hq_terms.specs.Database.{Row}
-use Rattle.hq_terms.specs.Meta.{MetaTree}
+use Rattle.hq_terms.specs.Meta.{MetaTree, meta_view}
+use Rattle.hq_terms.specs.declared.session.Session.{Session}
 use Rattle.hq_terms.specs.declared.table.Table.{Table}
+use Rattle.hq_engine.specs.Asking.{Counts}
+use Rattle.hq_engine.specs.declared.engine.Engine.{Engine}
 use Rattle.hq_loading.specs.Loading.{Contents, loading_due}
 use Rattle.hq_pages.specs.declared.refusal.PageRefusal.{PageRefusal}
 use Rattle.hq_pages.specs.declared.refusal.PageRefusal.TheVariants as pages
 use Rattle.hq_serve.specs.Serving.{Told}
 use Rattle.hq_serve.specs.declared.serving.ServeRefusal.{ServeRefusal}
 use Rattle.hq_session.specs.declared.secret.SecretRule.{SecretRule}
-use Rattle.hq_commands.specs.Ending.{Answer}
+use Rattle.hq_commands.specs.Answers.{Answers}
+use Rattle.hq_commands.specs.Ending.{Answer, Ends}
+use Rattle.hq_commands.specs.Output.{request_output}
 use Rattle.hq_commands.specs.Refusals.{of_pages}
 use Rattle.hq_serve_command.specs.Serving.{SeenDoor, Untouched, answer_of, OpensOver, EndsOver}
 use Rattle.hq_serve_command.proofs.Servings.{ends_as, opens_weaker, over_same}
@@ -23,6 +28,16 @@ rows_same None None rows same = refl
 rows_same None (Some new) rows same = absurd cc
 rows_same (Some old) None rows same = absurd cc
 rows_same (Some old) (Some new) rows same = refl
+
+-- an answer over rows on a disk, by an engine of these contents, is due over them
+pub over_disk : (engine : Engine) (session : Session) (database : Option (List (List Row))) (left : Option (List ℕ)) (tables : List Table) (meta : MetaTree) (rows : Option (List (List Row))) (old new : Option (List ℕ)) (before now : Counts) (answer : Answer)
+    → engine.catalog.tables ≡ tables → meta_view engine.meta ≡ meta → database ≡ rows → IfSome left (λ text. Answers engine session database text old new before now answer)
+    → IfSome left (λ text. Ends old new (request_output tables meta session rows text) answer)
+over_disk engine session database None tables meta rows old new before now answer same_tables same_meta same_rows h = tt
+over_disk engine session database (Some text) tables meta rows old new before now answer same_tables same_meta same_rows h =
+    subst (λ (d : Option (List (List Row))). Ends old new (request_output tables meta session d text) answer) same_rows
+    (subst (λ (m : MetaTree). Ends old new (request_output tables m session database text) answer) same_meta
+    (subst (λ (ts : List Table). Ends old new (request_output ts (meta_view engine.meta) session database text) answer) same_tables h.ends))
 
 -- a directory whose tables are not on the disk is not served
 pub pages_refused : {L : Type 0} (before after : SeenDoor L) (old new : Option (List ℕ)) (over : Contents → Result (Unit {0}) ServeRefusal → Type 0) (files : Option (List File)) (dir : List ℕ) (e : PageRefusal) (a : Answer) → a ≡ Err (of_pages e) → Untouched before after old new → EndsOver before after old new over files dir a

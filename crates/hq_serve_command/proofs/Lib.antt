@@ -1,1 +1,1 @@
-mod Servings
+pub mod Servings
