@@ -7,7 +7,9 @@ use Rattle.hq_terms.specs.declared.table.Table.{Table}
 use Rattle.hq_session.specs.Secret.{AllowedBySecret}
 use Rattle.hq_session.specs.declared.secret.SecretRule.{SecretRule}
 use Rattle.hq_serve.specs.declared.serving.ServeRefusal.{ServeRefusal}
+use Rattle.hq_live.specs.Asking.{Due, Next}
 use Rattle.hq_live.specs.Runs.{Standing, standing}
+use Rattle.hq_live.specs.declared.event.Subscription.{Subscription}
 use Rattle.hq_live_laws.specs.Worlds.{due_over}
 use Rattle.hq_live_serve.specs.Talking.{ToldLink}
 use Rattle.hq_live_serve.specs.Serving.{ServesTalks}
@@ -43,3 +45,14 @@ module _ {L : Type 0} (t : ToldLink L) (rule : SecretRule) (n : ℕ) where
       let first : Standing = standing (due_of tables meta database) (next_of tables meta files dir) faults [] in
       opens_weaker a c old new (TalksFrom t rule n a c old new first) (TalksOver t rule n a c old new files dir held) result
       (λ r k. record { first = first; begins = begins_over held files dir tables meta database faults same_tables same_meta told; talks = k }) s
+
+-- talks by a rule are those by an equal one, and begin without a subscription
+pub held_talks : {L : Type 0} (t : ToldLink L) (rule r : SecretRule) (n : ℕ) (before after : SeenDoor L) (old new : Option (List ℕ)) (due : Due) (next : Next) (faults : ℕ) (subs : List Subscription) (last : Standing) (result : Result (Unit {0}) ServeRefusal)
+    → r ≡ rule → subs ≡ [] → ServesTalks (AllowedBySecret r) t n (standing due next faults subs) last before.accepted after.accepted before.links after.links old new result
+    → TalksFrom t rule n before after old new (standing due next faults []) result
+held_talks t rule r n before after old new due next faults subs last result same_rule none s = record {
+  last = last;
+  serves =
+      subst (λ (k : SecretRule). ServesTalks (AllowedBySecret k) t n (standing due next faults []) last before.accepted after.accepted before.links after.links old new result) same_rule
+      (subst (λ (ss : List Subscription). ServesTalks (AllowedBySecret r) t n (standing due next faults ss) last before.accepted after.accepted before.links after.links old new result) none s);
+}
