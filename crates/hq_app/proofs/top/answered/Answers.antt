@@ -13,3 +13,6 @@ returns-in-Ok-clause-runs g c = rw (asked (command_of c.args.words.now) _ _ c.in
 
 pub returns-in-Ok-clause-read : goal.returns-in-Ok-clause-read
 returns-in-Ok-clause-read g c = rw (asked (command_of c.args.words.now) _ _ c.in-Ok.ensures.asked) c.obey.ensures.read
+
+pub returns-in-Ok-clause-failed : goal.returns-in-Ok-clause-failed
+returns-in-Ok-clause-failed g c = rw (asked (command_of c.args.words.now) _ _ c.in-Ok.ensures.asked) c.obey.ensures.failed
