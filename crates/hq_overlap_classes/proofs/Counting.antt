@@ -4,6 +4,7 @@ use Rattle.std.specs.Prelude.{sum_by}
 use Rattle.std.specs.List.{All}
 use Rattle.std.specs.List.Sorted.{IsStrictlyIncreasing}
 use Rattle.std.proofs.lemmas.List.Elements.{All-nil, All-push, All-weaker}
+use Rattle.std.proofs.lemmas.List.Sums.{sum_by_push}
 use Rattle.hq_overlap_sets.specs.Sets.{SetTree}
 use Rattle.hq_overlap_classes.specs.Classes.{AtFault, MoreAtFault, size_at}
 use Rattle.hq_overlap_classes.specs.Noting.{AreFound}
@@ -27,22 +28,28 @@ none_more sets n sum x = record {
   enough = x.enough;
 }
 
+-- numbers behind the first one
+ascending_tail : (x : ℕ) (xs : List ℕ) → IsStrictlyIncreasing (x ∷ xs) → IsStrictlyIncreasing xs
+ascending_tail x xs up k h =
+    let e : suc k + 1 ≡ suc (k + 1) = omega arith in
+    subst (λ (m : ℕ). get_or xs k 0 < get_or (x ∷ xs) m 0) e (up (suc k) (omega (arith, h)))
+
 -- a greater number at the end
 ascending_push : (xs : List ℕ) (n : ℕ) → All (λ s. s < n) xs → IsStrictlyIncreasing xs → IsStrictlyIncreasing (xs ++ (n ∷ []))
 ascending_push [] n low up k h = absurd (omega arith)
 ascending_push (x ∷ []) n low up zero h = let first : x < n = low 0 0 (omega arith) in first
 ascending_push (x ∷ []) n low up (suc k) h = absurd (omega arith)
 ascending_push (x ∷ (y ∷ xs)) n low up zero h = up 0 (omega arith)
-ascending_push (x ∷ (y ∷ xs)) n low up (suc k) h = ascending_push (y ∷ xs) n (λ i d m. low (suc i) d (omega (arith, m))) (λ i m. up (suc i) (omega (arith, m))) k (omega (arith, h))
-
-sum_push : (f : ℕ → ℕ) (xs : List ℕ) (n : ℕ) → sum_by f (xs ++ (n ∷ [])) ≡ sum_by f xs + f n
-sum_push f [] n = omega arith
-sum_push f (x ∷ xs) n = let r = sum_push f xs n in omega (arith, r)
+ascending_push (x ∷ (y ∷ xs)) n low up (suc k) h =
+    let all = (y ∷ xs) ++ (n ∷ []) in
+    let e : suc (k + 1) ≡ suc k + 1 = omega arith in
+    subst (λ (m : ℕ). get_or all k 0 < get_or (x ∷ all) m 0) e
+    (ascending_push (y ∷ xs) n (λ i d m. low (suc i) d (omega (arith, m))) (ascending_tail x (y ∷ xs) up) k (omega (arith, h)))
 
 -- this set counts
 pub one_found : (sets : List SetTree) (n sum size new : ℕ) → AtFault sets n → size ≤ size_at sets n → new ≤ sum + size → AreFound sets n sum → AreFound sets (n + 1) new
 one_found sets n sum size new fault small low x =
-    let all = sum_push (size_at sets) x.found n in
+    let all = sum_by_push (size_at sets) x.found n in
     let before = x.enough in
     record {
       found = x.found ++ (n ∷ []);

@@ -2,6 +2,8 @@
 use Rattle.std.proofs.Common.{◌≡◌, ◌∙◌, ℕ, zero, suc, ◌+◌, ◌<◌, ◌≤◌, List, [], ◌∷◌, ◌++◌, length, get_or, set, map, Bool, true, false, cond, Option, Some, None, ◌⊎◌, inl, inr, sym, refl, ap, subst, arith}
 use Rattle.std.specs.Prelude.{slice_get, unwrap_or, is_some, not, replicate, Vec}
 use Rattle.std.specs.declared.alloc.Global.{Global}
+use Rattle.std.specs.HashMap.{HashMap}
+use Rattle.std.specs.HashMap as hash
 use Rattle.std.specs.List.{All, Contains}
 use Rattle.std.proofs.lemmas.Bool.{both_ways, not-true}
 use Rattle.std.proofs.lemmas.List.{length-append, length-map}
@@ -150,9 +152,23 @@ pub mark_by : {X : Type 0} (b : Bool) (x : X) (o : Option X) → is_some (cond b
 mark_by true x o h = inl refl
 mark_by false x o h = inr h
 
+-- an empty map has nothing
+pub nothing_noted : {K X S : Type 0} (m : HashMap K X S) (eq : K → K → Bool) (k : K) (x : X) → m.entries ≡ [] → hash.get eq m k ≡ Some x → ⊥
+nothing_noted m eq k x e h = let found = rw e at h in cc
+
+pub nothing_marked : {K X S : Type 0} (m : HashMap K X S) (eq : K → K → Bool) (k : K) → m.entries ≡ [] → is_some (hash.get eq m k) ≡ true → ⊥
+nothing_marked m eq k e h = let found = rw e at h in cc
+
 -- a field of a set stands in its class
 pub stands_in_class : (sets : List SetTree) (p : Partition) (c s : ℕ) (a : FieldTree) → IsPartition sets p → c ≡ class_of p s → Contains (fields_at sets s) a → IsOfClass sets c a
 stands_in_class sets p c s a sound e h = record { set = s; joined = subst (λ (m : ℕ). Joined sets m s) (sym e) (joined_class sets p.classes.items s sound.classes); stands = h }
+
+-- the classes of two sets of one class
+pub classes_joined : (sets : List SetTree) (p : Partition) (left right first second : ℕ) → IsPartition sets p → first ≡ class_of p left → second ≡ class_of p right → Joined sets left right → Joined sets first second
+classes_joined sets p left right first second sound e f joined =
+    let one : Joined sets first left = subst (λ (m : ℕ). Joined sets m left) (sym e) (joined_class sets p.classes.items left sound.classes) in
+    let two : Joined sets second right = subst (λ (m : ℕ). Joined sets m right) (sym f) (joined_class sets p.classes.items right sound.classes) in
+    class.through one (class.through joined (class.turned two))
 
 -- the sets below two fields of one class and key
 pub below_joined : (sets : List SetTree) (c : ℕ) (a b : FieldTree) → IsOfClass sets c a → IsOfClass sets c b → a.key ≡ b.key → Joined sets a.below b.below

@@ -3,12 +3,11 @@ use Rattle.std.proofs.Common.{◌≡◌, ◌∙◌, ℕ, zero, suc, ◌<◌, ◌
 use Rattle.std.specs.Prelude.{filter, Vec}
 use Rattle.std.specs.declared.alloc.Global.{Global}
 use Rattle.std.specs.List.{All, Contains, list_any, flat_map}
-use Rattle.std.proofs.lemmas.List.Elements.{All-contains}
+use Rattle.std.proofs.lemmas.List.Elements.{All-contains, Contains-append_cases}
 use Rattle.hq_gql_nodes.specs.Reach.{graph_view, has, inside, targets, within, reached}
 use Rattle.hq_overlap_sets.specs.Rows.{row_at}
 use Rattle.hq_overlap_sets.specs.Sets.{SetTree}
 use Rattle.hq_overlap_sets.proofs.Stepping.{all_from}
-use Rattle.hq_overlap_sets.proofs.RowLemmas.{split_member}
 use Rattle.hq_overlap_sets.proofs.Tests.{nat_same, no_member, any_found, any_passes, contains_cases, contains_first, contains_later, nat_itself}
 use Rattle.hq_overlap_classes.specs.Classes.{AtFault}
 use Rattle.hq_overlap_classes.specs.Noting.{AreEdges}
@@ -21,21 +20,10 @@ has_member xs q h = let r = any_found (nat_eq q) xs h in subst (Contains xs) (sy
 member_has : (xs : List ℕ) (q : ℕ) → Contains xs q → has xs q ≡ true
 member_has xs q h = any_passes (nat_eq q) xs q h (nat_itself q)
 
-split_any : {Y : Type 0} (xs ys : List Y) (y : Y) → Contains (xs ++ ys) y → Contains xs y ⊎ Contains ys y
-split_any [] ys y h = inr h
-split_any (x ∷ xs) ys y h =
-    (elim (contains_cases x (xs ++ ys) y h) [
-      | inl same ↦ inl (subst (Contains (x ∷ xs)) same (contains_first x xs))
-      | inr behind ↦ (elim (split_any xs ys y behind) [
-        | inl left ↦ inl (contains_later x xs y left)
-        | inr right ↦ inr right
-      ])
-    ])
-
 from_flat : {X Y : Type 0} (f : X → List Y) (xs : List X) (y : Y) → Contains (flat_map f xs) y → (x : X) × Contains xs x × Contains (f x) y
 from_flat f [] y h = absurd (no_member y h)
 from_flat f (x ∷ xs) y h =
-    (elim (split_any (f x) (flat_map f xs) y h) [
+    (elim (Contains-append_cases (f x) (flat_map f xs) y h) [
       | inl here ↦ (x, contains_first x xs, here)
       | inr later ↦ let r = from_flat f xs y later in (r.0, contains_later x xs r.0 r.1, r.2)
     ])
@@ -44,7 +32,7 @@ module _ (sets : List SetTree) (rows : List (Vec ℕ Global)) (starts : List ℕ
   within_fault : (n q : ℕ) → Contains (within n (graph_view rows) starts) q → AtFault sets q
   within_fault zero q h = All-contains (AtFault sets) starts q are (filter_from _ starts q h)
   within_fault (suc n) q h =
-      (elim (split_member (within n (graph_view rows) starts) (flat_map (targets (graph_view rows)) (within n (graph_view rows) starts)) q h) [
+      (elim (Contains-append_cases (within n (graph_view rows) starts) (flat_map (targets (graph_view rows)) (within n (graph_view rows) starts)) q h) [
         | inl before ↦ within_fault n q before
         | inr next ↦
             let x = from_flat (targets (graph_view rows)) (within n (graph_view rows) starts) q next in

@@ -315,7 +315,7 @@ module _ (s : SchemaTree) (d : Disputes) (c k : ℕ) (first e : Entry) where
       }
 
 -- what is kept counts no more
-short_by : {X : Type 0} (b : Bool) (x : X) (ys : List X) (n : ℕ) → length ys ≤ n → length (cond b (x ∷ ys) ys) ≤ n + 1
+short_by : {X : Type 0} (b : Bool) (x : X) (ys : List X) (n : ℕ) → length ys ≤ n → length (cond b (x ∷ ys) ys) ≤ suc n
 short_by true x ys n h = omega (arith, h)
 short_by false x ys n h = omega (arith, h)
 

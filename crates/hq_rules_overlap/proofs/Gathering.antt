@@ -20,9 +20,9 @@ pub of_none : (sets : List SetTree) → AreOf sets [] []
 of_none sets = record { only = All-nil (IsWithin sets []); all = λ a w. absurd (no_member w.set w.of_group) }
 
 -- the fields of one more set
-module _ (sets : List SetTree) (group : List ℕ) (i x : ℕ) (old new : List FieldTree) (h : i < length group) (is : x ≡ get_or group i x) (grown : new ≡ old ++ fields_at sets x) where
+module _ (sets : List SetTree) (group : List ℕ) (i x d : ℕ) (old new : List FieldTree) (h : i < length group) (is : x ≡ get_or group i d) (grown : new ≡ old ++ fields_at sets x) where
   its_group : take (i + 1) group ≡ take i group ++ (x ∷ [])
-  its_group = take_more group i x h ∙ ap (λ (y : ℕ). take i group ++ (y ∷ [])) (sym is)
+  its_group = take_more group i d h ∙ ap (λ (y : ℕ). take i group ++ (y ∷ [])) (sym is)
 
   in_more : (s : ℕ) → Contains (take i group) s → Contains (take (i + 1) group) s
   in_more s m = subst (λ (ys : List ℕ). Contains ys s) (sym its_group) (Contains-append_left (take i group) (x ∷ []) s m)

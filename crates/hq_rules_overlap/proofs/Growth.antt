@@ -42,9 +42,9 @@ pub grows_nothing : (old : List ℕ) → Grows [] old old
 grows_nothing old = record { more = []; is = sym (nothing_more old); only = All-nil (Contains []); has = All-nil (Contains old) }
 
 -- one more is added
-pub grows_more : (xs : List ℕ) (i x : ℕ) (a b c : List ℕ) → i < length xs → x ≡ get_or xs i x → Grows (take i xs) a b → Grows (x ∷ []) b c → Grows (take (i + 1) xs) a c
-grows_more xs i x a b c h is p q =
-    let grown : take (i + 1) xs ≡ take i xs ++ (x ∷ []) = take_more xs i x h ∙ ap (λ (y : ℕ). take i xs ++ (y ∷ [])) (sym is) in
+pub grows_more : (xs : List ℕ) (i x d : ℕ) (a b c : List ℕ) → i < length xs → x ≡ get_or xs i d → Grows (take i xs) a b → Grows (x ∷ []) b c → Grows (take (i + 1) xs) a c
+grows_more xs i x d a b c h is p q =
+    let grown : take (i + 1) xs ≡ take i xs ++ (x ∷ []) = take_more xs i d h ∙ ap (λ (y : ℕ). take i xs ++ (y ∷ [])) (sym is) in
     let kept = λ (s : ℕ) (m : Contains b s). subst (λ (ys : List ℕ). Contains ys s) (sym q.is) (Contains-append_left b q.more s m) in
     record {
       more = p.more ++ q.more;

@@ -17,11 +17,11 @@ mark_set (m ∷ marks) (suc n) (suc s) h =
       | inr same ↦ inr (ap suc same)
     ])
 
-pub marks_more : (ns : List ℕ) (i x : ℕ) (start old new : List Bool) → i < length ns → x ≡ get_or ns i x
+pub marks_more : (ns : List ℕ) (i x d : ℕ) (start old new : List Bool) → i < length ns → x ≡ get_or ns i d
     → ((s : ℕ) → is_marked new s ≡ true → (is_marked old s ≡ true) ⊎ (x ≡ s)) → ((s : ℕ) → is_marked old s ≡ true → (is_marked start s ≡ true) ⊎ Contains (take i ns) s)
     → (s : ℕ) → is_marked new s ≡ true → (is_marked start s ≡ true) ⊎ Contains (take (i + 1) ns) s
-marks_more ns i x start old new h is now before s m =
-    let grown : take (i + 1) ns ≡ take i ns ++ (x ∷ []) = take_more ns i x h ∙ ap (λ (y : ℕ). take i ns ++ (y ∷ [])) (sym is) in
+marks_more ns i x d start old new h is now before s m =
+    let grown : take (i + 1) ns ≡ take i ns ++ (x ∷ []) = take_more ns i d h ∙ ap (λ (y : ℕ). take i ns ++ (y ∷ [])) (sym is) in
     (elim (now s m) [
       | inl earlier ↦
           (elim (before s earlier) [

@@ -10,6 +10,10 @@ use Rattle.hq_overlap_sets.proofs.FieldTests.{violates_by}
 use Rattle.hq_overlap_sets.proofs.Least.{low_left, low_right, at_if_true, at_if_low}
 use Rattle.hq_rules_overlap.specs.Groups.{IsMet, is_at_most}
 
+-- no conflict was found yet
+pub none_found : (sets : List SetTree) → AreConflicts sets None
+none_found sets p h = absurd (cc)
+
 pub known_low : (o : Option ℕ) (n : ℕ) → is_at_most o n ≡ true → AtMost o n
 known_low None n h = absurd (cc)
 known_low (Some p) n h = leb-true p n h

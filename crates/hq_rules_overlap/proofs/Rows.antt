@@ -6,7 +6,7 @@ use Rattle.std.specs.Borrow.{Bor}
 use Rattle.std.specs.HashMap.{HashMap}
 use Rattle.std.specs.List.{All, Contains}
 use Rattle.std.proofs.lemmas.Bool.{cases_lt}
-use Rattle.std.proofs.lemmas.List.{length-map}
+use Rattle.std.proofs.lemmas.List.{length-map, get_or_default}
 use Rattle.std.proofs.lemmas.List.Elements.{All-contains, Contains-get_or}
 use Rattle.std.proofs.lemmas.Option.{slice_get_within}
 use Rattle.hq_gql_nodes.specs.Reach.{graph_view}
@@ -52,14 +52,9 @@ below_both sets fields at s t met x y =
     let m = met x.field y.field x.stands y.stands in
     subst (λ (u : ℕ). Together sets u t) x.is (subst (λ (u : ℕ). Together sets x.field.below u) y.is (walk.below m.together m.first m.second key))
 
-row_default : (rows : List (List ℕ)) (i : ℕ) (d : List ℕ) → i < length rows → get_or rows i d ≡ get_or rows i []
-row_default [] i d h = absurd (omega arith)
-row_default (x ∷ xs) zero d h = refl
-row_default (x ∷ xs) (suc i) d h = row_default xs i d (omega arith)
-
 pub rows_together : (sets : List SetTree) (fields : List FieldTree) (rows : List (Vec ℕ Global)) → AreMet sets fields → AreBelow fields rows → All (AreTogether sets) (graph_view rows)
 rows_together sets fields rows met below i d h =
-    subst (AreTogether sets) (sym (row_default (graph_view rows) i d h)) (λ s t a b. below_both sets fields i s t met (below i s a) (below i t b))
+    subst (AreTogether sets) (sym (get_or_default (graph_view rows) i d [] h)) (λ s t a b. below_both sets fields i s t met (below i s a) (below i t b))
 
 -- no row has a number yet
 pub none_below : (fields : List FieldTree) (rows : List (Vec ℕ Global)) → ((c s : ℕ) → Contains (row_at rows c) s → ⊥) → AreBelow fields rows

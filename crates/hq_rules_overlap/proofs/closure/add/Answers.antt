@@ -6,4 +6,4 @@ pub returns-then-stands : goal.returns-then-stands
 returns-then-stands c = adds_nothing c.args.list.now.items c.args.number (c.stands.ensures c.if-stands.true)
 
 pub returns : goal.returns
-returns c = adds_one c.args.list.now.items c.push.new.list.items c.args.number c.in_ok-push.ensures.items
+returns c = adds_one c.args.list.now.items c.push.new.self.items c.args.number c.in_ok-push.ensures.items

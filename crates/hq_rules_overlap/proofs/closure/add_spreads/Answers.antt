@@ -11,7 +11,7 @@ use Rattle.hq_rules_overlap.proofs.closure.add_spreads.Goals as goal
 pub returns-in-Some : goal.returns-in-Some
 returns-in-Some c =
     let spreads = ap spreads_in (set_here c.args.arena.now c.args.set c.in-Some.found.now (sym c.in-Some.ensures)) in
-    subst (λ (ns : List ℕ). OnOk c.add_all.result (Grows ns c.args.group.now.items c.add_all.new.group.items)) (c.deref.ensures.value ∙ sym spreads) c.add_all.ensures
+    subst (λ (ns : List ℕ). OnOk c.add_all.result (Grows ns c.args.group.now.items c.add_all.new.list.items)) (c.deref.ensures.value ∙ sym spreads) c.add_all.ensures
 
 pub returns-in-None : goal.returns-in-None
 returns-in-None c =

@@ -7,6 +7,7 @@ use Rattle.hq_overlap_sets.specs.Sets.{arena_view}
 use Rattle.hq_rules_overlap.specs.Exploring.{is_marked}
 use Rattle.hq_rules_overlap.specs.Groups.{AreTogether}
 use Rattle.hq_rules_overlap.proofs.Marks.{none_set}
+use Rattle.hq_rules_overlap.proofs.Places.{none_found}
 use Rattle.hq_rules_overlap.proofs.groups.start.Goals as goal
 
 pub returns : goal.returns
@@ -15,7 +16,7 @@ returns c =
     let none = ap graph_view c.new.ensures in
     record {
       sound = record {
-        best = λ p h. absurd (cc);
+        best = none_found sets;
         together = subst (All (AreTogether sets)) (sym none) (All-nil (AreTogether sets));
         covered = λ s m. absurd (none_set c.in_ok-covered.covered.items _ s c.in_ok-covered.ensures.items m);
       };

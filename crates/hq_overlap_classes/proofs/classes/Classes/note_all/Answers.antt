@@ -8,7 +8,7 @@ pub note_set-requires-clause-pending : goal.note_set-requires-clause-pending
 note_set-requires-clause-pending c = c.loop-number.invariant.pending
 
 pub push_spreads-requires : goal.push_spreads-requires
-push_spreads-requires c = c.in_ok-note_set.ensures.pending
+push_spreads-requires c = record { pending = c.in_ok-note_set.ensures.pending }
 
 pub loop-number-init : goal.loop-number-init
 loop-number-init c = record { sound = c.requires.sound; pending = c.requires.pending }

@@ -14,6 +14,6 @@ returns c =
     record {
       classes = c.rename.ensures.classes;
       members = subst (λ ms. AreMembers sets ms.items) (sym c.rename.ensures.members)
-          (members_moved sets c.args.self.now.members.items c.extend_row.new.self.items c.clear_row.new.self.items c.args.into c.args.moved.now
+          (members_moved sets c.args.self.now.members.items c.extend_row.new.rows.items c.clear_row.new.rows.items c.args.into c.args.moved.now
           c.in_ok-extend_row.ensures c.clear_row.ensures c.requires.moved c.requires.sound.members);
     }

@@ -17,5 +17,5 @@ loop-number-init c =
 
 pub loop-number-preserved : goal.loop-number-preserved
 loop-number-preserved c =
-    partition_push (arena_view c.args.arena.now) c.loop-number.partition c.push.new.partition c.loop-number.number c.loop-number.invariant.classes c.loop-number.invariant.members
+    partition_push (arena_view c.args.arena.now) c.loop-number.partition c.push.new.self c.loop-number.number c.loop-number.invariant.classes c.loop-number.invariant.members
     c.in_ok-push.ensures.classes c.in_ok-push.ensures.members c.loop-number.invariant.sound
