@@ -99,7 +99,8 @@ impl Groups {
     {
         let heads = heads_of(alloc, entries)?;
         self.found.look(alloc, arena, entries, &heads)?;
-        let Some(rows) = rows_of(alloc, arena, entries, &heads.keys)? else {
+        let found = rows_of(alloc, arena, entries, &heads.keys)?;
+        let Some(rows) = found else {
             return Ok(false);
         };
         self.lists.add_all(alloc, arena, &rows)?;

@@ -102,7 +102,7 @@ impl Lists {
         ensures grown { OnOk result (Continues (graph_view self.old.rows.items) (graph_view self.new.rows.items)) }
         ensures kept { OnOk result (IsKept (graph_view self.new.rows.items) list.now) }
     {
-        if list.len() == 0 {
+        if list.is_empty() {
             return Ok(());
         }
         self.add(alloc, arena, list)

@@ -1,5 +1,5 @@
 -- No list, and no mark that is set.
-use Rattle.std.proofs.Common.{◌≡◌, ◌∙◌, ap, sym, subst, length, List, ℕ, Bool, true, false, replicate, arith}
+use Rattle.std.proofs.Common.{rules, ◌≡◌, ◌∙◌, ap, sym, subst, length, List, ℕ, Bool, true, false, replicate, arith}
 use Rattle.std.specs.List.{All}
 use Rattle.std.proofs.lemmas.List.Elements.{All-nil}
 use Rattle.hq_gql_nodes.specs.Reach.{graph_view}
@@ -18,7 +18,7 @@ returns c =
       sound = record {
         best = none_found sets;
         together = subst (All (AreTogether sets)) (sym none) (All-nil (AreTogether sets));
-        covered = λ s m. absurd (none_set c.in_ok-covered.covered.items _ s c.in_ok-covered.ensures.items m);
+        covered = λ s m. absurd (none_set c.in_ok-covered.covered.items _ s (c.in_ok-covered.ensures.items_if_clones_equal (λ y e. search rules)) m);
       };
       explored = λ k list h e. absurd (omega (arith, h));
       all = ap length none;

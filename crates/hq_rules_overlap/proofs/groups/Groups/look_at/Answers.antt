@@ -9,8 +9,8 @@ use Rattle.hq_rules_overlap.proofs.groups.Groups.look_at.Goals as goal
 pub look_at_fields-requires-clause-sound : goal.look_at_fields-requires-clause-sound
 look_at_fields-requires-clause-sound c = sound_same (arena_view c.args.arena.now) c.args.self.now c.spend.new.self c.spend.ensures.lists c.spend.ensures.covered c.spend.ensures.found c.requires.sound
 
-pub returns-then-not_spend-clause-best : goal.returns-then-not_spend-clause-best
-returns-then-not_spend-clause-best c = (sound_same (arena_view c.args.arena.now) c.args.self.now c.spend.new.self c.spend.ensures.lists c.spend.ensures.covered c.spend.ensures.found c.requires.sound).best
+pub returns-then-not-spend-clause-best : goal.returns-then-not-spend-clause-best
+returns-then-not-spend-clause-best c = (sound_same (arena_view c.args.arena.now) c.args.self.now c.spend.new.self c.spend.ensures.lists c.spend.ensures.covered c.spend.ensures.found c.requires.sound).best
 
 pub returns-clause-looked : goal.returns-clause-looked
 returns-clause-looked c =

@@ -2,8 +2,8 @@
 use Rattle.std.proofs.Common.{rules, refl}
 use Rattle.hq_rules_overlap.proofs.groups.Groups.search.Goals as goal
 
-pub cover_all-2-requires : goal.cover_all-2-requires
-cover_all-2-requires c = c.in_ok-going.ensures.end (search rules)
+pub cover_all-requires-2 : goal.cover_all-requires-2
+cover_all-requires-2 c = c.in_ok-going.ensures.end (search rules)
 
 pub returns-then-not-going : goal.returns-then-not-going
 returns-then-not-going c = c.in_ok-going.ensures.best

@@ -17,11 +17,13 @@ add-requires-clause-list c = alone_together (arena_view c.args.arena.now) c.args
 
 pub run-requires-clause-sound : goal.run-requires-clause-sound
 run-requires-clause-sound c =
-    more_sound (arena_view c.args.arena.now) c.args.self.now _ c.in_ok-add.ensures.grown refl refl c.in_ok-add.ensures.lists c.requires.end.sound
+    let p = c.args.self.now in
+    more_sound (arena_view c.args.arena.now) p (record p { lists = c.add.new.self }) c.in_ok-add.ensures.grown refl refl c.in_ok-add.ensures.lists c.requires.end.sound
 
 pub run-requires-clause-explored : goal.run-requires-clause-explored
 run-requires-clause-explored c =
-    more_explored (arena_view c.args.arena.now) c.args.self.now _ c.in_ok-add.ensures.grown refl refl c.requires.end.all c.requires.end.explored
+    let p = c.args.self.now in
+    more_explored (arena_view c.args.arena.now) p (record p { lists = c.add.new.self }) c.in_ok-add.ensures.grown refl refl c.requires.end.all c.requires.end.explored
 
 pub run-requires-clause-inside : goal.run-requires-clause-inside
 run-requires-clause-inside c = more_inside (lists_of c.args.self.now) (graph_view c.add.new.self.rows.items) c.args.self.now.done c.in_ok-add.ensures.grown c.requires.end.all
