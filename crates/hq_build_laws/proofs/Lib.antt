@@ -1,0 +1,3 @@
+mod Items
+mod BuildingSteps
+mod Reaching

@@ -1,0 +1,5 @@
+//! A law of typed requests.
+#![tactic(auto)]
+
+/// Nothing yet.
+pub fn nothing() {}
