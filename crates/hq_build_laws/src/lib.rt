@@ -1,5 +1,9 @@
-//! A law of typed requests.
+//! The law of building: what is built of a document that violates no rule, with variables that are coerced, is refused by the limits
+//! of a request, by session variables, and by what arguments ask for alone.
 #![tactic(auto)]
 
-/// Nothing yet.
-pub fn nothing() {}
+mod builds;
+mod faults;
+
+pub use builds::valid_builds;
+pub use faults::valid_faults;
