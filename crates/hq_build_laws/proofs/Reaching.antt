@@ -27,11 +27,11 @@ missing (x ∷ xs) ys = by (has ys x) refl (missing xs ys)
 -- a place that is not among others is none of them
 none_of : (q : ℕ) (xs : List ℕ) → has xs q ≡ false → Each (λ y. nat_eq q y ≡ false) xs
 none_of q [] h = tt
-none_of q (x ∷ xs) h = by (nat_eq q x) refl h (λ g. none_of q xs g)
+none_of q (x ∷ xs) h = by (nat_eq q x) refl h
   where
-    by : (b : Bool) → nat_eq q x ≡ b → (b || has xs q) ≡ false → (has xs q ≡ false → Each (λ y. nat_eq q y ≡ false) xs) → Each (λ y. nat_eq q y ≡ false) (x ∷ xs)
-    by true is h again = absurd cc
-    by false is h again = (is, again h)
+    by : (b : Bool) → nat_eq q x ≡ b → (b || has xs q) ≡ false → Each (λ y. nat_eq q y ≡ false) (x ∷ xs)
+    by true is h = absurd cc
+    by false is h = (is, none_of q xs h)
 
 module _ (g : Graph) (starts : List ℕ) where
   within_below : (n q : ℕ) → has (within n g starts) q ≡ true → q < length g
@@ -62,7 +62,6 @@ module _ (g : Graph) (starts : List ℕ) where
       ])
 
   stage : (n : ℕ) → Closed n ⊎ Many n
-  unfolding IsDistinct
   stage zero = by (inside g starts) refl
     where
       by : (xs : List ℕ) → inside g starts ≡ xs → Closed zero ⊎ Many zero

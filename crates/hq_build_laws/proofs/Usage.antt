@@ -284,7 +284,8 @@ required_used (value_node v place) u p e at strict = by v.value e
 
     by : (w : ValueTree) → use_in v.at place w ≡ Some u → required_in place w ≡ Some u.name
     by (variable name) e =
-        let same : record { name = name; at = v.at; place = place } ≡ u = cc in
+        let made : UseTree (List ℕ) = record { name = name; at = v.at; place = place } in
+        let same : made ≡ u = (let both : Some made ≡ Some u = e in cc) in
         of_variable name place refl (ap (λ (x : UseTree (List ℕ)). x.name) same) (ap (λ (x : UseTree (List ℕ)). x.place) same ∙ at)
     by w e = absurd cc
 required_used n u p e at strict = absurd cc

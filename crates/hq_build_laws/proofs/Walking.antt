@@ -252,13 +252,13 @@ module _ (tables : List Table) (m : MetaTree) (metadata_fits : fits tables m ≡
   -- what stands below a field that leads to such a type
   below_looks : (t : ℕ) (def : FieldTree) (under : CollectedTrees) → LooksAt def.ty → is_complete R def (is_empty under) ≡ true
       → (At types (base def.ty) type.Introspection → IsBuilding (looks_due c (base def.ty) t under)) → IsBuilding (looks_due c (base def.ty) t under)
-  below_looks t def no_collected looks complete step = tt
-  below_looks t def (collected k h under others) looks complete step = by (looked_at looks.0 looks.2)
+  below_looks t def no_collected leads complete step = tt
+  below_looks t def (collected k h under others) leads complete step = by (looked_at leads.0 leads.2)
     where
-      by : At types (fixed_place looks.0) type.Introspection ⊎ (object_at R (fixed_place looks.0) ≡ None) → IsBuilding (looks_due c (base def.ty) t (collected k h under others))
-      by (inl at) = step (subst (λ p. At types p type.Introspection) (sym looks.1) at)
+      by : At types (fixed_place leads.0) type.Introspection ⊎ (object_at R (fixed_place leads.0) ≡ None) → IsBuilding (looks_due c (base def.ty) t (collected k h under others))
+      by (inl at) = step (subst (λ p. At types p type.Introspection) (sym leads.1) at)
       by (inr none) =
-          let no : object_at R (base def.ty) ≡ None = ap (object_at R) looks.1 ∙ none in
+          let no : object_at R (base def.ty) ≡ None = ap (object_at R) leads.1 ∙ none in
           let false_is : (false || is_some (object_at R (base def.ty))) ≡ true = complete in
           let clash : (false || is_some None) ≡ true = subst (λ (o : Option ℕ). (false || is_some o) ≡ true) no false_is in
           absurd cc
@@ -456,7 +456,7 @@ module _ (tables : List Table) (m : MetaTree) (metadata_fits : fits tables m ≡
 
     -- the fields of introspection
     looks_below : LooksAt f.def.ty → IsBuilding (looks_due c (base f.def.ty) t under)
-    looks_below looks = below_looks t f.def under looks f.complete (λ there. looks_building under (base f.def.ty) t there below)
+    looks_below leads = below_looks t f.def under leads f.complete (λ there. looks_building under (base f.def.ty) t there below)
 
     schema_wanted : f.def ≡ schema_field → Wanted origin.Schema
     schema_wanted is = (tt, λ x e. mapped_building (λ (fs : IntrospectionTrees). introspect (look h.name None false fs)) (looks_due c (base f.def.ty) t under) (looks_below (subst (λ (x : FieldTree). LooksAt x.ty) (sym is) (fixed.Schema, refl, refl))))
