@@ -217,13 +217,13 @@ module _ (tables : List Table) (m : MetaTree) (metadata_fits : fits tables m ≡
   abbrev c : Context
   c = record { vars = vars; schema = R; tables = s }
 
-  abbrev Fine : NodeTree → Type 0
-  Fine n = Good R d reach vars n
+  abbrev FineHere : NodeTree → Type 0
+  FineHere n = Good R d reach vars n
 
   module _ (xs : List ArgumentTree) where
     -- ---- where its definition is this one
 
-    flag_lawful : (args : List ArgTree) → Each Fine (arguments_nodes R (Some args) xs) → (name : List ℕ) → ((x : ArgTree) → arg_in args name ≡ Some x → x.ty ≡ fixed boolean) → Lawful (flag_due (given_named c args xs name))
+    flag_lawful : (args : List ArgTree) → Each FineHere (arguments_nodes R (Some args) xs) → (name : List ℕ) → ((x : ArgTree) → arg_in args name ≡ Some x → x.ty ≡ fixed boolean) → Lawful (flag_due (given_named c args xs name))
     flag_lawful args nodes name typed = by (given_named c args xs name) refl
       where
         some : (o : Option Bool) → is_some o ≡ true → Lawful (ok_or o (Rule ValuesOfCorrectType))
@@ -238,7 +238,7 @@ module _ (tables : List Table) (m : MetaTree) (metadata_fits : fits tables m ≡
             some (bool_in g.value) (flag_is g.value g_is.0.not_null (scalar_is R ty.Boolean (scalar_at tables m metadata_fits role schemed shaped vars ty.Boolean) (fixed boolean) refl refl g.value of))
 
     -- the name of a type, which is required
-    pub text_lawful : Each Fine (arguments_nodes R (Some type_field.args) xs) → lacks_any xs type_field.args ≡ false → Lawful (text_due (given_named c type_field.args xs (codes "name")))
+    pub text_lawful : Each FineHere (arguments_nodes R (Some type_field.args) xs) → lacks_any xs type_field.args ≡ false → Lawful (text_due (given_named c type_field.args xs (codes "name")))
     text_lawful nodes lacking =
         let x : ArgTree = arg (codes "name") (non_null (fixed string)) stands.TypeName in
         let lacks_not : lacks xs x ≡ false = (or_parts (lacks xs x) false lacking).0 in
@@ -259,7 +259,7 @@ module _ (tables : List Table) (m : MetaTree) (metadata_fits : fits tables m ≡
             let here : arg_in type_field.args x.name ≡ Some (arg (codes "name") (non_null (fixed string)) stands.TypeName) = ap (arg_in type_field.args) (same_text x.name (codes "name") named_so) in
             subst (λ (o : Option Given). Lawful (text_due o)) (sym (ap (option_and_then (λ a. given c a x)) here ∙ e)) (some (str_in g.value) h)
 
-    rows_of_lawful : (args : List ArgTree) → Each Fine (arguments_nodes R (Some args) xs) → (name : List ℕ) → ((x : ArgTree) → arg_in args name ≡ Some x → x.ty ≡ fixed int) → Lawful (rows_due (given_named c args xs name))
+    rows_of_lawful : (args : List ArgTree) → Each FineHere (arguments_nodes R (Some args) xs) → (name : List ℕ) → ((x : ArgTree) → arg_in args name ≡ Some x → x.ty ≡ fixed int) → Lawful (rows_due (given_named c args xs name))
     rows_of_lawful args nodes name typed = by (given_named c args xs name) refl
       where
         by : (o : Option Given) → given_named c args xs name ≡ o → Lawful (rows_due o)
@@ -271,7 +271,7 @@ module _ (tables : List Table) (m : MetaTree) (metadata_fits : fits tables m ≡
 
     -- ---- a list of rows of table u
 
-    module _ (u first : ℕ) (fit : Each (ArgFits types (list_target (Some u))) (list_args first)) (nodes : Each Fine (arguments_nodes R (Some (list_args first)) xs)) where
+    module _ (u first : ℕ) (fit : Each (ArgFits types (list_target (Some u))) (list_args first)) (nodes : Each FineHere (arguments_nodes R (Some (list_args first)) xs)) where
       given_here : (name : List ℕ) (x : ArgTree) → arg_in (list_args first) name ≡ Some x → (g : Given) → given_named c (list_args first) xs name ≡ Some g → GivenIs R g × (g.arg ≡ x)
       given_here name x known g is =
           let g_is = given_is R d reach vars (list_args first) xs nodes c refl name g is in
@@ -333,14 +333,14 @@ module _ (tables : List Table) (m : MetaTree) (metadata_fits : fits tables m ≡
           then_lawful _ (distinct_due c sorts (given_named c (list_args first) xs (codes "distinct_on"))) (distinct_lawful sorts) (λ distinct _. tt)))))
 
     -- the same of arguments that are those of a list
-    pub list_lawful : (u : ℕ) (args : List ArgTree) → ((first : ℕ) × (args ≡ list_args first)) → Each (ArgFits types (list_target (Some u))) args → Each Fine (arguments_nodes R (Some args) xs) → Lawful (list_due c args xs u)
+    pub list_lawful : (u : ℕ) (args : List ArgTree) → ((first : ℕ) × (args ≡ list_args first)) → Each (ArgFits types (list_target (Some u))) args → Each FineHere (arguments_nodes R (Some args) xs) → Lawful (list_due c args xs u)
     list_lawful u args is fit nodes =
         subst (λ (l : List ArgTree). Lawful (list_due c l xs u)) (sym is.1)
-        (all_lawful u is.0 (subst (Each (ArgFits types (list_target (Some u)))) is.1 fit) (subst (λ (l : List ArgTree). Each Fine (arguments_nodes R (Some l) xs)) is.1 nodes))
+        (all_lawful u is.0 (subst (Each (ArgFits types (list_target (Some u)))) is.1 fit) (subst (λ (l : List ArgTree). Each FineHere (arguments_nodes R (Some l) xs)) is.1 nodes))
 
     -- ---- count
 
-    count_here : (u first : ℕ) → Each (ArgFits types (count_target u)) (count_args first) → Each Fine (arguments_nodes R (Some (count_args first)) xs) → Lawful (count_due c (count_args first) xs)
+    count_here : (u first : ℕ) → Each (ArgFits types (count_target u)) (count_args first) → Each FineHere (arguments_nodes R (Some (count_args first)) xs) → Lawful (count_due c (count_args first) xs)
     unfolding count_args
     count_here u first fit nodes =
         then_lawful _ (counted_due c (given_named c (count_args first) xs (codes "columns"))) (by (given_named c (count_args first) xs (codes "columns")) refl) (λ column _.
@@ -360,14 +360,14 @@ module _ (tables : List Table) (m : MetaTree) (metadata_fits : fits tables m ≡
             let same : g.arg ≡ arg (codes "columns") (items (part first Columns)) stands.Columns = (let both : Some g.arg ≡ Some (arg (codes "columns") (items (part first Columns)) stands.Columns) = sym g_is.1 in cc) in
             of_arg g.arg g.value same g_is.0.not_null g_is.0.of
 
-    pub count_lawful : (u : ℕ) (args : List ArgTree) → ((first : ℕ) × (args ≡ count_args first)) → Each (ArgFits types (count_target u)) args → Each Fine (arguments_nodes R (Some args) xs) → Lawful (count_due c args xs)
+    pub count_lawful : (u : ℕ) (args : List ArgTree) → ((first : ℕ) × (args ≡ count_args first)) → Each (ArgFits types (count_target u)) args → Each FineHere (arguments_nodes R (Some args) xs) → Lawful (count_due c args xs)
     count_lawful u args is fit nodes =
         subst (λ (l : List ArgTree). Lawful (count_due c l xs)) (sym is.1)
-        (count_here u is.0 (subst (Each (ArgFits types (count_target u))) is.1 fit) (subst (λ (l : List ArgTree). Each Fine (arguments_nodes R (Some l) xs)) is.1 nodes))
+        (count_here u is.0 (subst (Each (ArgFits types (count_target u))) is.1 fit) (subst (λ (l : List ArgTree). Each FineHere (arguments_nodes R (Some l) xs)) is.1 nodes))
 
     -- ---- introspection
 
-    pub introspection_lawful : (args : List ArgTree) → Each (λ (x : ArgTree). x.ty ≡ fixed boolean) args → Each Fine (arguments_nodes R (Some args) xs) → Lawful (introspection_due c args xs)
+    pub introspection_lawful : (args : List ArgTree) → Each (λ (x : ArgTree). x.ty ≡ fixed boolean) args → Each FineHere (arguments_nodes R (Some args) xs) → Lawful (introspection_due c args xs)
     introspection_lawful [] typed nodes = tt
     introspection_lawful (x ∷ args) typed nodes =
         mapped_lawful deprecated (flag_due (given_named c (x ∷ args) xs (codes "includeDeprecated")))
@@ -379,7 +379,7 @@ module _ (tables : List Table) (m : MetaTree) (metadata_fits : fits tables m ≡
     lacks_none [] h = tt
     lacks_none (x ∷ args) h = let both = or_parts (lacks xs x) (lacks_any xs args) h in (both.0, lacks_none args both.1)
 
-    part_lawful : (u : ℕ) (args : List ArgTree) → all_names_differ (map (λ (y : ArgTree). y.name) args) ≡ true → Each Fine (arguments_nodes R (Some args) xs) → lacks_any xs args ≡ false
+    part_lawful : (u : ℕ) (args : List ArgTree) → all_names_differ (map (λ (y : ArgTree). y.name) args) ≡ true → Each FineHere (arguments_nodes R (Some args) xs) → lacks_any xs args ≡ false
         → (k : ℕ) → KeyArg tables m role u args k → Lawful (part_due c args xs u k)
     part_lawful u args differ nodes lacking k h =
         let x : ArgTree = h.own in
@@ -393,7 +393,7 @@ module _ (tables : List Table) (m : MetaTree) (metadata_fits : fits tables m ≡
         let value = key_lawful q g.0.value g.3.not_null (scalar_is R q (scalar_at tables m metadata_fits role schemed shaped vars q) (non_null (fixed (Scalar q))) refl refl g.0.value of) in
         subst (λ (o : Option Given). Lawful (and_then (λ (g : Given). key_value q g.value) (ok_or o (Rule RequiredArguments)))) (sym there) value
 
-    pub keys_lawful : (u : ℕ) (args : List ArgTree) → Each (KeyArg tables m role u args) (table s u).key → all_names_differ (map (λ (y : ArgTree). y.name) args) ≡ true → Each Fine (arguments_nodes R (Some args) xs)
+    pub keys_lawful : (u : ℕ) (args : List ArgTree) → Each (KeyArg tables m role u args) (table s u).key → all_names_differ (map (λ (y : ArgTree). y.name) args) ≡ true → Each FineHere (arguments_nodes R (Some args) xs)
         → lacks_any xs args ≡ false → Lawful (key_due c args xs u)
     keys_lawful u args keys differ nodes lacking =
         each_lawful (part_due c args xs u) (table s u).key (each_weaken (KeyArg tables m role u args) (λ k. Lawful (part_due c args xs u k)) (λ k h. part_lawful u args differ nodes lacking k h) (table s u).key keys)

@@ -177,7 +177,8 @@ module _ (s : SchemaTree) (d : DocumentTree) (reach : List ℕ) (vars : List Var
     spread_are u t x h =
         let q = not_none (places x.name) (at_if_none (is_none (places x.name)) x.at (h.nodes.0.holds.doc doc_rule.KnownFragmentNames)) in
         let r = found_at (is_fragment_named x.name) 0 d q.0 q.1 in
-        let there : slice_get d q.0 ≡ Some r.1 = ap (slice_get d) r.2 ∙ r.3 in
+        let place : q.0 ≡ r.0 = omega (arith, r.2) in
+        let there : slice_get d q.0 ≡ Some r.1 = ap (slice_get d) place ∙ r.3 in
         let other : are_other (Some t) (type_of_fragment s d places x.name) ≡ false = at_if_none (are_other (Some t) (type_of_fragment s d places x.name)) x.at (h.nodes.0.holds.doc doc_rule.PossibleFragmentSpreads) in
         let found : option_and_then (slice_get d) (places x.name) ≡ Some r.1 = ap (option_and_then (slice_get d)) q.1 ∙ there in
         let type : are_other (Some t) (type_of_condition s (condition_of r.1)) ≡ false = ap (λ (o : Option DefinitionTree). are_other (Some t) (type_of_condition s (option_and_then condition_of o))) (sym found) ∙ other in

@@ -140,15 +140,15 @@ module _ (tables : List Table) (m : MetaTree) (metadata_fits : fits tables m ≡
         by (obj ms) h = absurd (no_column_object h.0 (subst (λ x. input_at R x ≡ Some h.0) place h.1))
 
     pub columns_lawful : (j : JsonTree) → coercion.is_null j ≡ false → IsOf R (list_of (non_null (named p))) j → Lawful (columns_due c p j)
-    columns_lawful j no h = each_lawful (column_due c p) (items_in j) (by j no h)
+    columns_lawful j never h = each_lawful (column_due c p) (items_in j) (by j never h)
       where
         by : (j : JsonTree) → coercion.is_null j ≡ false → IsOf R (list_of (non_null (named p))) j → Each (λ i. Lawful (column_due c p i)) (items_in j)
-        by null no h = absurd cc
-        by (bool b) no h = (column_lawful (bool b) h, tt)
-        by (int n) no h = (column_lawful (int n) h, tt)
-        by (str x) no h = (column_lawful (str x) h, tt)
-        by (arr js) no h = let same : non_null (named p) ≡ h.0 = (let both : Some (non_null (named p)) ≡ Some h.0 = h.1 in cc) in each_column js (non_null (named p)) refl refl refl (subst (λ q. AreOf R q js) (sym same) h.2)
-        by (obj ms) no h = absurd (no_column_object h.0 h.1)
+        by null never h = absurd cc
+        by (bool b) never h = (column_lawful (bool b) h, tt)
+        by (int n) never h = (column_lawful (int n) h, tt)
+        by (str x) never h = (column_lawful (str x) h, tt)
+        by (arr js) never h = let same : non_null (named p) ≡ h.0 = (let both : Some (non_null (named p)) ≡ Some h.0 = h.1 in cc) in each_column js (non_null (named p)) refl refl refl (subst (λ q. AreOf R q js) (sym same) h.2)
+        by (obj ms) never h = absurd (no_column_object h.0 h.1)
 
   -- distinct columns that do not match the sorts, and two columns of a count
   pub matched_lawful : (sorts : List SortKey) (cs : List ℕ) → Lawful (matched sorts cs)

@@ -129,28 +129,28 @@ truth_lawful (obj ms) h = let no : false ≡ true = h refl in absurd cc
 
 -- a truth value, a text, and a number of rows, where there is no null
 pub flag_is : (j : JsonTree) → coercion.is_null j ≡ false → ScalarOrNull ty.Boolean j → is_some (bool_in j) ≡ true
-flag_is null no h = absurd cc
-flag_is (bool b) no h = refl
-flag_is (int n) no h = absurd (let q : false ≡ true = h refl in cc)
-flag_is (str x) no h = absurd (let q : false ≡ true = h refl in cc)
-flag_is (arr js) no h = absurd (let q : false ≡ true = h refl in cc)
-flag_is (obj ms) no h = absurd (let q : false ≡ true = h refl in cc)
+flag_is null never h = absurd cc
+flag_is (bool b) never h = refl
+flag_is (int n) never h = absurd (let q : false ≡ true = h refl in cc)
+flag_is (str x) never h = absurd (let q : false ≡ true = h refl in cc)
+flag_is (arr js) never h = absurd (let q : false ≡ true = h refl in cc)
+flag_is (obj ms) never h = absurd (let q : false ≡ true = h refl in cc)
 
 pub text_is : (j : JsonTree) → coercion.is_null j ≡ false → ScalarOrNull ty.Text j → is_some (str_in j) ≡ true
-text_is null no h = absurd cc
-text_is (bool b) no h = absurd (let q : false ≡ true = h refl in cc)
-text_is (int n) no h = absurd (let q : false ≡ true = h refl in cc)
-text_is (str x) no h = refl
-text_is (arr js) no h = absurd (let q : false ≡ true = h refl in cc)
-text_is (obj ms) no h = absurd (let q : false ≡ true = h refl in cc)
+text_is null never h = absurd cc
+text_is (bool b) never h = absurd (let q : false ≡ true = h refl in cc)
+text_is (int n) never h = absurd (let q : false ≡ true = h refl in cc)
+text_is (str x) never h = refl
+text_is (arr js) never h = absurd (let q : false ≡ true = h refl in cc)
+text_is (obj ms) never h = absurd (let q : false ≡ true = h refl in cc)
 
 pub rows_lawful : (j : JsonTree) → coercion.is_null j ≡ false → ScalarOrNull ty.Integer j → Lawful (rows_in j)
-rows_lawful null no h = absurd cc
-rows_lawful (bool b) no h = absurd (let q : false ≡ true = h refl in cc)
-rows_lawful (str x) no h = absurd (let q : false ≡ true = h refl in cc)
-rows_lawful (arr js) no h = absurd (let q : false ≡ true = h refl in cc)
-rows_lawful (obj ms) no h = absurd (let q : false ≡ true = h refl in cc)
-rows_lawful (int n) no h = by (int_fits ty.Integer n) (h refl)
+rows_lawful null never h = absurd cc
+rows_lawful (bool b) never h = absurd (let q : false ≡ true = h refl in cc)
+rows_lawful (str x) never h = absurd (let q : false ≡ true = h refl in cc)
+rows_lawful (arr js) never h = absurd (let q : false ≡ true = h refl in cc)
+rows_lawful (obj ms) never h = absurd (let q : false ≡ true = h refl in cc)
+rows_lawful (int n) never h = by (int_fits ty.Integer n) (h refl)
   where
     signed : (k : ℤ) → Lawful (not_negative k)
     signed (pos k) = tt
@@ -161,7 +161,7 @@ rows_lawful (int n) no h = by (int_fits ty.Integer n) (h refl)
     by false e = absurd cc
 
 pub key_lawful : (t : Ty) (j : JsonTree) → coercion.is_null j ≡ false → ScalarOrNull t j → Lawful (key_value t j)
-key_lawful t j no h = by (constant_in t j) (h no)
+key_lawful t j never h = by (constant_in t j) (h never)
   where
     by : (o : Option Val) → is_some o ≡ true → Lawful (ok_or o (Rule ValuesOfCorrectType))
     by None e = absurd cc

@@ -22,6 +22,7 @@ use Rattle.hq_gql_nodes.proofs.Grown.{or_split}
 use Rattle.hq_rules_reach.specs.Spreads.{least_below, place_at, least_at}
 use Rattle.hq_rules_reach.specs.Uses.{UseTree, use_in, use_of, uses_of, all_uses, uses_at}
 use Rattle.hq_rules_reach.specs.Variables.{variable_named, nullable, are_compatible, has_default, is_allowed, undefined_use, is_wrong_type, wrong_use, undefined_in, wrong_in, in_operation}
+use Rattle.hq_coerce.specs.Coercion.{coerced}
 use Rattle.hq_coerce.specs.Coercion as coercion
 use Rattle.hq_coerce.specs.Due.{refused, default_value, given_value, checked_value, value_due, value_if_known, variable_due, with_value, values_due}
 use Rattle.hq_coerce.specs.Required.{required_in, required_of, required_names, required_at, is_required}
@@ -116,13 +117,13 @@ others_differ own name before vs same h =
     (each_unmap (λ (n : NameTree). list_any (λ x. bytes_eq x n.name) (own ∷ before) ≡ false) variable_name vs (unrepeated (own ∷ before) (map variable_name vs) h))
   where
     other : (v : VarDefTree) → bytes_eq own v.name ≡ false → bytes_eq v.name name ≡ false
-    other v no = by (bytes_eq v.name name) refl
+    other v differs = by (bytes_eq v.name name) refl
       where
         by : (b : Bool) → bytes_eq v.name name ≡ b → b ≡ false
         by false is = refl
         by true is =
             let equal : own ≡ v.name = same_text own name same ∙ sym (same_text v.name name is) in
-            let yes : true ≡ false = sym (equal_texts own v.name equal) ∙ no in
+            let yes : true ≡ false = sym (equal_texts own v.name equal) ∙ differs in
             absurd cc
 
 -- ---- the value of a variable
@@ -157,15 +158,15 @@ module _ (s : SchemaTree) (plain : NoDefaults s) where
     given : is_non_null p.ty ≡ true → p.default_false ≡ false → is_some o ≡ true
 
   without_null : (q : TypeRefTree) (x : JsonTree) → is_non_null q ≡ true → coercion.is_null x ≡ false → IsOf s (nullable q) x → IsOf s q x
-  without_null (named t) x is no h = absurd cc
-  without_null (list_of q) x is no h = absurd cc
-  without_null (non_null q) x is no h = strict_is s q x no h
+  without_null (named t) x is never h = absurd cc
+  without_null (list_of q) x is never h = absurd cc
+  without_null (non_null q) x is never h = strict_is s q x never h
 
   module _ (required default : Bool) (r : TypeRefTree) (p : PlaceTree) (given : Option JsonTree) (strict : is_non_null p.ty ≡ true → required ≡ true) (has : default ≡ true → is_some given ≡ true) where
     -- where the types go together as they are
     plainly : (o : Option JsonTree) → IsValue required r given o → are_compatible r p.ty ≡ true → (is_non_null p.ty ≡ true → is_non_null r ≡ true) → AtPlace p o
     plainly o (absent out none loose) goes both = record { typed = λ j e. let no : None ≡ Some j = sym out ∙ e in absurd cc; given = λ is d. let no : true ≡ false = sym (both is) ∙ loose in absurd cc }
-    plainly o (present x out h no) goes both = record {
+    plainly o (present x out h never) goes both = record {
       typed = λ j e. let same : x ≡ j = (let both : Some x ≡ Some j = sym out ∙ e in cc) in subst (IsOf s p.ty) same (compatible_is s x r p.ty goes h);
       given = λ is d. ap is_some out;
     }
@@ -180,8 +181,8 @@ module _ (s : SchemaTree) (plain : NoDefaults s) where
         or_false : (b : Bool) → (b || false) ≡ true → b ≡ true
         or_false true h = refl
         or_false false h = absurd cc
-    by_default o (present x out h no) is one goes = record {
-      typed = λ j e. let same : x ≡ j = (let both : Some x ≡ Some j = sym out ∙ e in cc) in subst (IsOf s p.ty) same (without_null p.ty x is (no (strict is)) (compatible_is s x r (nullable p.ty) goes h));
+    by_default o (present x out h never) is one goes = record {
+      typed = λ j e. let same : x ≡ j = (let both : Some x ≡ Some j = sym out ∙ e in cc) in subst (IsOf s p.ty) same (without_null p.ty x is (never (strict is)) (compatible_is s x r (nullable p.ty) goes h));
       given = λ _ d. ap is_some out;
     }
 
@@ -279,8 +280,8 @@ required_used : (n : NodeTree) (u : UseTree (List ℕ)) (p : PlaceTree) → use_
 required_used (value_node v place) u p e at strict = by v.value e
   where
     of_variable : (name : List ℕ) (o : Option PlaceTree) → place ≡ o → name ≡ u.name → o ≡ Some p → required_in o (variable name) ≡ Some u.name
-    of_variable name None is named at = absurd cc
-    of_variable name (Some q) is named at = let same : p ≡ q = (let both : Some q ≡ Some p = at in cc) in rw (subst (λ (x : PlaceTree). coercion.is_non_null x.ty ≡ true) same strict) (ap Some named)
+    of_variable name None is same_name at = absurd cc
+    of_variable name (Some q) is same_name at = let same : p ≡ q = (let both : Some q ≡ Some p = at in cc) in rw (subst (λ (x : PlaceTree). coercion.is_non_null x.ty ≡ true) same strict) (ap Some same_name)
 
     by : (w : ValueTree) → use_in v.at place w ≡ Some u → required_in place w ≡ Some u.name
     by (variable name) e =
@@ -318,10 +319,10 @@ module _ (s : SchemaTree) (plain : NoDefaults s) (d : DocumentTree) (of_doc : Do
   unique = each_at (λ x. repeated_variable x ≡ None) d op (operation o) here (least_none repeated_variable d of_doc.names)
 
   has_value : (v : VarDefTree) → (has_default v.default ≡ true → is_some (default_value v.default) ≡ true) → has_default v.default ≡ true → is_some (given_value given v) ≡ true
-  has_value v writes yes = by (lookup (λ n. bytes_eq n v.name) given)
+  has_value v writes there = by (lookup (λ n. bytes_eq n v.name) given)
     where
       by : (o : Option JsonTree) → is_some (option_or o (default_value v.default)) ≡ true
-      by None = writes yes
+      by None = writes there
       by (Some j) = refl
 
   -- a use of a variable whose type goes with its place
@@ -331,7 +332,7 @@ module _ (s : SchemaTree) (plain : NoDefaults s) (d : DocumentTree) (of_doc : Do
       let k = not_none (variable_named o.vars u.name) (at_if_none (is_none (variable_named o.vars u.name)) u.at defined) in
       let r = found_at (λ (w : VarDefTree). bytes_eq w.name u.name) 0 o.vars k.0 k.1 in
       let v : VarDefTree = r.1 in
-      let there : option_and_then (slice_get o.vars) (variable_named o.vars u.name) ≡ Some v = ap (option_and_then (slice_get o.vars)) k.1 ∙ (ap (slice_get o.vars) r.2 ∙ r.3) in
+      let there : option_and_then (slice_get o.vars) (variable_named o.vars u.name) ≡ Some v = ap (option_and_then (slice_get o.vars)) k.1 ∙ (ap (slice_get o.vars) (let place : k.0 ≡ r.0 = omega (arith, r.2) in place) ∙ r.3) in
       let test : at_if (is_wrong_type (resolved s v.ty) (has_default v.default) u.place) u.at ≡ None =
       ap (option_and_then (λ (w : VarDefTree). at_if (is_wrong_type (resolved s w.ty) (has_default w.default) u.place) u.at)) (sym there) ∙ allowed in
       let right : is_wrong_type (resolved s v.ty) (has_default v.default) (Some p) ≡ false =
@@ -342,10 +343,10 @@ module _ (s : SchemaTree) (plain : NoDefaults s) (d : DocumentTree) (of_doc : Do
     where
       by : (v : VarDefTree) → u.name ≡ v.name → (t : Option TypeRefTree) → is_wrong_type t (has_default v.default) (Some p) ≡ false
           → value_if_known s v.at (is_required s d op v.name) t (given_value given v) ≡ Ok (var_value vars u.name) → (has_default v.default ≡ true → is_some (default_value v.default) ≡ true) → VarFits s vars u.name p
-      by v named None right value writes = absurd cc
-      by v named (Some r) right value writes =
+      by v same_name None right value writes = absurd cc
+      by v same_name (Some r) right value writes =
           let is = value_is s plain v.at (is_required s d op v.name) r (given_value given v) (var_value vars u.name) value in
-          let fits = at_place s plain (is_required s d op v.name) (has_default v.default) r p (given_value given v) (λ yes. ap (is_required s d op) (sym named) ∙ strict (non_null_same p.ty ∙ yes)) (has_value v writes)
+          let fits = at_place s plain (is_required s d op v.name) (has_default v.default) r p (given_value given v) (λ yes. ap (is_required s d op) (sym same_name) ∙ strict (non_null_same p.ty ∙ yes)) (has_value v writes)
           (var_value vars u.name) is (not_false (is_allowed r (has_default v.default) p) right) in
           record { typed = fits.typed; given = fits.given }
 

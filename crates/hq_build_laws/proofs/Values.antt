@@ -70,7 +70,7 @@ lists_not_null (non_null r) j h = lists_not_null r j h
 
 in_lists_is : (s : SchemaTree) (r : TypeRefTree) (j : JsonTree) → IsFlat s (base r) j → IsOf s r (in_lists r j)
 in_lists_is s (named t) j h = h.of_base (named t) refl
-in_lists_is s (list_of r) j h = (r, refl, in_lists_is s r j h, tt)
+in_lists_is s (list_of r) j h = (r, refl, (in_lists_is s r j h, tt))
 in_lists_is s (non_null r) j h = strict_is s r (in_lists r j) (lists_not_null r j h.not_null) (in_lists_is s r j h)
 
 -- a constant as JSON is a constant of its type
