@@ -317,7 +317,7 @@ module _ (s : SchemaTree) (d : DocumentTree) (reach : List ℕ) (vars : List Var
             let later : selections_under fs ≡ [] = under_none is fs all.1 in
             ap (λ xs. xs ++ selections_under fs) mine ∙ later
 
-        field_sound : (empty : Bool) → is_complete s def empty ≡ true → SoundField t g.first.0 empty
+        abbrev field_sound : (empty : Bool) → is_complete s def empty ≡ true → SoundField t g.first.0 empty
         field_sound empty complete =
             let f : text.FieldTree = g.first in
             let x = h.0.1.2 in

@@ -12,10 +12,12 @@ use Rattle.hq_gql_nodes.specs.Least.{earlier, at_if, least_of}
 use Rattle.hq_gql_nodes.specs.Nodes.{NodeTree, PartTree, part_of, definition_nodes, document_parts}
 use Rattle.hq_rules_overlap.specs.Places.{overlap_place}
 use Rattle.hq_rules_reach.specs.Uses.{all_uses}
-use Rattle.hq_rules_reach.specs.Variables.{no_undefined_variables, variables_in_allowed_position}
-use Rattle.hq_rules_doc.specs.First.{first_doc_fault}
+use Rattle.hq_rules_reach.specs.Variables.{no_undefined_variables, no_unused_variables, variables_in_allowed_position}
+use Rattle.hq_gql_tree.specs.declared.rule.RuleId.TheVariants as number
+use Rattle.hq_rules_reach.specs.Spreads.{no_unused_fragments, no_fragment_cycles}
+use Rattle.hq_rules_doc.specs.First.{operation_fault, fragment_fault, directive_fault, variable_fault, first_doc_fault}
 use Rattle.hq_rules_doc.specs.NodeRules as doc
-use Rattle.hq_rules_doc.specs.Operations.{unique_variable_names}
+use Rattle.hq_rules_doc.specs.Operations.{unique_fragment_names, unique_variable_names}
 use Rattle.hq_rules_doc.specs.declared.rules.NodeRule.{NodeRule as DocRule}
 use Rattle.hq_rules_doc.specs.declared.rules.NodeRule.TheVariants as doc_rule
 use Rattle.hq_rules_fields.specs.First.{first_field_fault}
@@ -68,24 +70,24 @@ pub record FieldsHold (s : SchemaTree) (d : DocumentTree) : Type 0 where
 
 pub doc_holds : (s : SchemaTree) (d : DocumentTree) → first_doc_fault s d ≡ None → DocHolds s d
 doc_holds s d h =
-    let a = or_parts _ _ h in
-    let b = or_parts _ _ a.1 in
-    let c = or_parts _ _ b.1 in
-    let f1 = later_parts _ _ _ b.0 in
-    let f2 = later_parts _ _ _ f1.1 in
-    let f3 = later_parts _ _ _ f2.1 in
-    let f4 = later_parts _ _ _ f3.1 in
-    let f5 = later_parts _ _ _ f4.1 in
-    let f6 = later_parts _ _ _ f5.1 in
-    let f7 = later_parts _ _ _ f6.1 in
-    let d1 = later_parts _ _ _ c.0 in
-    let d2 = later_parts _ _ _ d1.1 in
-    let d3 = later_parts _ _ _ d2.1 in
-    let v1 = later_parts _ _ _ c.1 in
-    let v2 = later_parts _ _ _ v1.1 in
-    let v3 = later_parts _ _ _ v2.1 in
-    let v4 = later_parts _ _ _ v3.1 in
-    let v5 = later_parts _ _ _ v4.1 in
+    let a = or_parts (operation_fault d (fragment_named d)) (option_or (fragment_fault s d (fragment_named d) (document_parts s d) (graph_of (fragment_named d) (document_parts s d))) (option_or (directive_fault s d (fragment_named d) (document_parts s d)) (variable_fault s d (fragment_named d) (document_parts s d) (graph_of (fragment_named d) (document_parts s d))))) h in
+    let b = or_parts (fragment_fault s d (fragment_named d) (document_parts s d) (graph_of (fragment_named d) (document_parts s d))) (option_or (directive_fault s d (fragment_named d) (document_parts s d)) (variable_fault s d (fragment_named d) (document_parts s d) (graph_of (fragment_named d) (document_parts s d)))) a.1 in
+    let c = or_parts (directive_fault s d (fragment_named d) (document_parts s d)) (variable_fault s d (fragment_named d) (document_parts s d) (graph_of (fragment_named d) (document_parts s d))) b.1 in
+    let f1 = later_parts number.FragmentNameUniqueness (unique_fragment_names d) (or_later number.FragmentSpreadTypeExistence (doc.rule_place doc_rule.KnownTypeNames s d (fragment_named d) (document_parts s d)) (or_later number.FragmentsOnCompositeTypes (doc.rule_place doc_rule.FragmentsOnCompositeTypes s d (fragment_named d) (document_parts s d)) (or_later number.FragmentsMustBeUsed (no_unused_fragments d (document_parts s d)) (or_later number.FragmentSpreadTargetDefined (doc.rule_place doc_rule.KnownFragmentNames s d (fragment_named d) (document_parts s d)) (or_later number.FragmentSpreadsMustNotFormCycles (no_fragment_cycles (graph_of (fragment_named d) (document_parts s d)) d) (or_later number.FragmentSpreadIsPossible (doc.rule_place doc_rule.PossibleFragmentSpreads s d (fragment_named d) (document_parts s d)) None)))))) b.0 in
+    let f2 = later_parts number.FragmentSpreadTypeExistence (doc.rule_place doc_rule.KnownTypeNames s d (fragment_named d) (document_parts s d)) (or_later number.FragmentsOnCompositeTypes (doc.rule_place doc_rule.FragmentsOnCompositeTypes s d (fragment_named d) (document_parts s d)) (or_later number.FragmentsMustBeUsed (no_unused_fragments d (document_parts s d)) (or_later number.FragmentSpreadTargetDefined (doc.rule_place doc_rule.KnownFragmentNames s d (fragment_named d) (document_parts s d)) (or_later number.FragmentSpreadsMustNotFormCycles (no_fragment_cycles (graph_of (fragment_named d) (document_parts s d)) d) (or_later number.FragmentSpreadIsPossible (doc.rule_place doc_rule.PossibleFragmentSpreads s d (fragment_named d) (document_parts s d)) None))))) f1.1 in
+    let f3 = later_parts number.FragmentsOnCompositeTypes (doc.rule_place doc_rule.FragmentsOnCompositeTypes s d (fragment_named d) (document_parts s d)) (or_later number.FragmentsMustBeUsed (no_unused_fragments d (document_parts s d)) (or_later number.FragmentSpreadTargetDefined (doc.rule_place doc_rule.KnownFragmentNames s d (fragment_named d) (document_parts s d)) (or_later number.FragmentSpreadsMustNotFormCycles (no_fragment_cycles (graph_of (fragment_named d) (document_parts s d)) d) (or_later number.FragmentSpreadIsPossible (doc.rule_place doc_rule.PossibleFragmentSpreads s d (fragment_named d) (document_parts s d)) None)))) f2.1 in
+    let f4 = later_parts number.FragmentsMustBeUsed (no_unused_fragments d (document_parts s d)) (or_later number.FragmentSpreadTargetDefined (doc.rule_place doc_rule.KnownFragmentNames s d (fragment_named d) (document_parts s d)) (or_later number.FragmentSpreadsMustNotFormCycles (no_fragment_cycles (graph_of (fragment_named d) (document_parts s d)) d) (or_later number.FragmentSpreadIsPossible (doc.rule_place doc_rule.PossibleFragmentSpreads s d (fragment_named d) (document_parts s d)) None))) f3.1 in
+    let f5 = later_parts number.FragmentSpreadTargetDefined (doc.rule_place doc_rule.KnownFragmentNames s d (fragment_named d) (document_parts s d)) (or_later number.FragmentSpreadsMustNotFormCycles (no_fragment_cycles (graph_of (fragment_named d) (document_parts s d)) d) (or_later number.FragmentSpreadIsPossible (doc.rule_place doc_rule.PossibleFragmentSpreads s d (fragment_named d) (document_parts s d)) None)) f4.1 in
+    let f6 = later_parts number.FragmentSpreadsMustNotFormCycles (no_fragment_cycles (graph_of (fragment_named d) (document_parts s d)) d) (or_later number.FragmentSpreadIsPossible (doc.rule_place doc_rule.PossibleFragmentSpreads s d (fragment_named d) (document_parts s d)) None) f5.1 in
+    let f7 = later_parts number.FragmentSpreadIsPossible (doc.rule_place doc_rule.PossibleFragmentSpreads s d (fragment_named d) (document_parts s d)) None f6.1 in
+    let d1 = later_parts number.DirectivesAreDefined (doc.rule_place doc_rule.KnownDirectives s d (fragment_named d) (document_parts s d)) (or_later number.DirectivesAreInValidLocations (doc.rule_place doc_rule.DirectivesInLocations s d (fragment_named d) (document_parts s d)) (or_later number.DirectivesAreUniquePerLocation (doc.rule_place doc_rule.UniqueDirectives s d (fragment_named d) (document_parts s d)) None)) c.0 in
+    let d2 = later_parts number.DirectivesAreInValidLocations (doc.rule_place doc_rule.DirectivesInLocations s d (fragment_named d) (document_parts s d)) (or_later number.DirectivesAreUniquePerLocation (doc.rule_place doc_rule.UniqueDirectives s d (fragment_named d) (document_parts s d)) None) d1.1 in
+    let d3 = later_parts number.DirectivesAreUniquePerLocation (doc.rule_place doc_rule.UniqueDirectives s d (fragment_named d) (document_parts s d)) None d2.1 in
+    let v1 = later_parts number.VariableUniqueness (unique_variable_names d) (or_later number.VariablesAreInputTypes (doc.rule_place doc_rule.VariablesAreInputTypes s d (fragment_named d) (document_parts s d)) (or_later number.AllVariableUsesDefined (no_undefined_variables (graph_of (fragment_named d) (document_parts s d)) (all_uses (document_parts s d)) d) (or_later number.AllVariablesUsed (no_unused_variables (graph_of (fragment_named d) (document_parts s d)) (all_uses (document_parts s d)) d) (or_later number.AllVariableUsagesAreAllowed (variables_in_allowed_position s (graph_of (fragment_named d) (document_parts s d)) (all_uses (document_parts s d)) d) None)))) c.1 in
+    let v2 = later_parts number.VariablesAreInputTypes (doc.rule_place doc_rule.VariablesAreInputTypes s d (fragment_named d) (document_parts s d)) (or_later number.AllVariableUsesDefined (no_undefined_variables (graph_of (fragment_named d) (document_parts s d)) (all_uses (document_parts s d)) d) (or_later number.AllVariablesUsed (no_unused_variables (graph_of (fragment_named d) (document_parts s d)) (all_uses (document_parts s d)) d) (or_later number.AllVariableUsagesAreAllowed (variables_in_allowed_position s (graph_of (fragment_named d) (document_parts s d)) (all_uses (document_parts s d)) d) None))) v1.1 in
+    let v3 = later_parts number.AllVariableUsesDefined (no_undefined_variables (graph_of (fragment_named d) (document_parts s d)) (all_uses (document_parts s d)) d) (or_later number.AllVariablesUsed (no_unused_variables (graph_of (fragment_named d) (document_parts s d)) (all_uses (document_parts s d)) d) (or_later number.AllVariableUsagesAreAllowed (variables_in_allowed_position s (graph_of (fragment_named d) (document_parts s d)) (all_uses (document_parts s d)) d) None)) v2.1 in
+    let v4 = later_parts number.AllVariablesUsed (no_unused_variables (graph_of (fragment_named d) (document_parts s d)) (all_uses (document_parts s d)) d) (or_later number.AllVariableUsagesAreAllowed (variables_in_allowed_position s (graph_of (fragment_named d) (document_parts s d)) (all_uses (document_parts s d)) d) None) v3.1 in
+    let v5 = later_parts number.AllVariableUsagesAreAllowed (variables_in_allowed_position s (graph_of (fragment_named d) (document_parts s d)) (all_uses (document_parts s d)) d) None v4.1 in
     record { node = node f2.0 f3.0 f5.0 f7.0 d1.0 d2.0 d3.0 v2.0; names = v1.0; defined = v3.0; allowed = v5.0 }
   where
     node : DocRuleHolds s d doc_rule.KnownTypeNames → DocRuleHolds s d doc_rule.FragmentsOnCompositeTypes → DocRuleHolds s d doc_rule.KnownFragmentNames → DocRuleHolds s d doc_rule.PossibleFragmentSpreads
