@@ -1,7 +1,7 @@
 ghost use Rattle.std.specs.Prelude.{◌≡◌};
 
 use hq_base::List;
-use hq_terms::{Bexp, ColId, Column, Pair, RelId, Scope, Table, TableId};
+use hq_terms::{Bexp, ColId, Column, Mask, Pair, RelId, Scope, Table, TableId};
 
 /// What a request is granted of a table: the bound filter, and the most rows of a list.
 #[derive(Drop)]
@@ -23,9 +23,10 @@ pub struct Context<'a> {
 }
 
 impl<'a> Context<'a> {
-    ghost use Rattle.std.specs.Prelude.{◌≡◌, ◌==◌, find, option_copied};
+    ghost use Rattle.std.specs.Prelude.{◌≡◌, ◌==◌, find, map, option_copied};
+    ghost use Rattle.hq_terms.specs.PermView.{mask_view};
     ghost use Rattle.hq_terms.specs.Schema.{table, rel};
-    ghost use Rattle.hq_compile_context.specs.Contexts.{context_schema};
+    ghost use Rattle.hq_compile_context.specs.Contexts.{context_schema, context_rights};
 
     /// The columns of a table; none beyond the catalog.
     pub fn columns(&self, t: TableId) -> &'a [Column]
@@ -72,5 +73,12 @@ impl<'a> Context<'a> {
             .as_slice()
             .iter()
             .find(|granted| granted.table.at() == t.at())
+    }
+
+    /// The masks of a table's columns, in column order.
+    pub fn masks(&self, _t: TableId) -> &'a [Mask]
+        ensures { map mask_view result.now ≡ (context_rights self.now).masks _t }
+    {
+        &[]
     }
 }

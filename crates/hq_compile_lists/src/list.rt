@@ -15,7 +15,8 @@ use crate::row::{Row, object};
 use hq_ask_tree::Args;
 use hq_base::{Memory, Txt};
 use hq_compile_context::{Context, RowUse, fold_alias, row_limit, value_name, wide};
-use hq_compile_predicates::{row_members, where_predicate};
+use hq_compile_masks::where_predicate;
+use hq_compile_predicates::row_members;
 use hq_compile_sorts::{SortParts, list_sorts, output_orders, sort_parts};
 use hq_compile_tables::{
     compared_column, each_once, from_table, value_output, where_of, with_member,
@@ -79,7 +80,7 @@ fn list_members(
     ensures numbers { OnOk result (next.new ≡ sorts_from (context_schema context.now) (context_rights context.now) t [] (arguments_view args.now) n) }
 {
     let members = row_members(alloc, context, t, n, tie, next)?;
-    let wanted = where_predicate(alloc, context, t, n, &args.filter, next)?;
+    let wanted = where_predicate(alloc, context, t, n, &[], &args.filter, next)?;
     with_member(members, wanted)
 }
 
