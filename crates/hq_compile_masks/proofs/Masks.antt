@@ -1,7 +1,9 @@
 -- What the code keeps of masks is how their columns are looked at.
-use Rattle.std.proofs.Common.{◌≡◌, ℕ, ◌+◌, List, [], ◌∷◌, ◌++◌, Bool, true, false, cond, ◌==◌, refl, ap, arith}
+use Rattle.std.proofs.Common.{◌≡◌, ◌∙◌, ℕ, ◌+◌, List, [], ◌∷◌, ◌++◌, Bool, true, false, cond, ◌==◌, refl, sym, ap, arith}
+use Rattle.std.proofs.lemmas.List.{append-nil}
 use Rattle.hq_terms.specs.Permission.{Mask}
 use Rattle.hq_terms.specs.Schema.{Schema, table}
+use Rattle.hq_sql_tree.specs.Tree.{JoinTree}
 use Rattle.hq_compiled.specs.Looks.{Place, is_used}
 use Rattle.hq_compiled.specs.Masks.{value_place, mask_numbers, mask_joins, mask_look}
 use Rattle.hq_compiled.specs.Predicates.{own_numbers}
@@ -56,3 +58,26 @@ module _ (cs : List ℕ) (s : Schema) (t p : ℕ) where
       let go : (b : Bool) → mask_numbers (cond b (m ∷ rest) rest) s t ≡ mask_numbers (cond b (m ∷ []) []) s t + mask_numbers rest s t =
       elim [ true ↦ omega arith | false ↦ refl ] in
       go (is_used m.column cs)
+
+  -- ---- one mask, which is added where its column is used
+
+  module _ (m : Mask) (n : ℕ) where
+    pub joins_if : (old new : List JoinTree) → is_used m.column cs ≡ true → new ≡ old ++ mask_joins (m ∷ []) s t p n → new ≡ old ++ mask_joins (used_of cs (m ∷ [])) s t p n
+    joins_if old new e is = is ∙ ap (λ (b : Bool). old ++ mask_joins (cond b (m ∷ []) []) s t p n) (sym e)
+
+    pub places_if : (old new : List MaskPlace) → is_used m.column cs ≡ true → new ≡ old ++ mask_places (m ∷ []) s t n → new ≡ old ++ mask_places (used_of cs (m ∷ [])) s t n
+    places_if old new e is = is ∙ ap (λ (b : Bool). old ++ mask_places (cond b (m ∷ []) []) s t n) (sym e)
+
+    pub numbers_if : (new : ℕ) → is_used m.column cs ≡ true → new ≡ n + mask_numbers (m ∷ []) s t → new ≡ n + mask_numbers (used_of cs (m ∷ [])) s t
+    numbers_if new e is = is ∙ ap (λ (b : Bool). n + mask_numbers (cond b (m ∷ []) []) s t) (sym e)
+
+    pub no_joins : (old : List JoinTree) → is_used m.column cs ≡ false → old ≡ old ++ mask_joins (used_of cs (m ∷ [])) s t p n
+    no_joins old e = sym (append-nil old) ∙ ap (λ (b : Bool). old ++ mask_joins (cond b (m ∷ []) []) s t p n) (sym e)
+
+    pub no_places : (old : List MaskPlace) → is_used m.column cs ≡ false → old ≡ old ++ mask_places (used_of cs (m ∷ [])) s t n
+    no_places old e = sym (append-nil old) ∙ ap (λ (b : Bool). old ++ mask_places (cond b (m ∷ []) []) s t n) (sym e)
+
+    pub no_numbers : is_used m.column cs ≡ false → n ≡ n + mask_numbers (used_of cs (m ∷ [])) s t
+    no_numbers e =
+        let none : n ≡ n + 0 = omega arith in
+        none ∙ ap (λ (b : Bool). n + mask_numbers (cond b (m ∷ []) []) s t) (sym e)

@@ -76,7 +76,34 @@ fn mask_join(
     one_join(alloc, select, n)
 }
 
-// Adds the join of a mask at the alias of number p, where its column is used.
+// Adds the join of a mask at the alias of number p.
+fn add_mask(
+    alloc: Global,
+    context: &Context,
+    t: TableId,
+    p: u64,
+    mask: &Mask,
+    next: &mut u64,
+    parts: &mut MaskParts,
+) -> Result<(), Memory>
+    ensures joins { let ms = mask_view mask.now ∷ [] in
+        OnOk result (map join_view parts.new.joins.items ≡ map join_view parts.old.joins.items ++ mask_joins ms (context_schema context.now) t p next.old) }
+    ensures places { let ms = mask_view mask.now ∷ [] in
+        OnOk result (parts.new.places ≡ parts.old.places ++ mask_places ms (context_schema context.now) t next.old) }
+    ensures numbers { let ms = mask_view mask.now ∷ [] in
+        OnOk result (next.new ≡ next.old + mask_numbers ms (context_schema context.now) t) }
+{
+    parts.places.push(MaskPlace {
+        col: mask.col,
+        number: *next,
+    })?;
+    parts
+        .joins
+        .push(mask_join(alloc, context, t, p, mask, next)?)?;
+    Ok(())
+}
+
+// Adds it where its column is used.
 fn push_mask(
     alloc: Global,
     context: &Context,
@@ -94,17 +121,11 @@ fn push_mask(
     ensures numbers { let ms = used_of used.now (mask_view mask.now ∷ []) in
         OnOk result (next.new ≡ next.old + mask_numbers ms (context_schema context.now) t) }
 {
-    if !is_used(mask.col, used) {
-        return Ok(());
+    if is_used(mask.col, used) {
+        add_mask(alloc, context, t, p, mask, next, parts)
+    } else {
+        Ok(())
     }
-    parts.places.push(MaskPlace {
-        col: mask.col,
-        number: *next,
-    })?;
-    parts
-        .joins
-        .push(mask_join(alloc, context, t, p, mask, next)?)?;
-    Ok(())
 }
 
 /// The joins of the masks of table t at the alias of number p, of those whose columns are used.

@@ -1,4 +1,4 @@
-use Rattle.std.proofs.Common.{◌∙◌, ℕ, ◌+◌, ◌++◌, List, [], ◌∷◌, map, drop, sym, ap}
+use Rattle.std.proofs.Common.{◌≡◌, ◌∙◌, ℕ, ◌+◌, ◌++◌, List, [], ◌∷◌, map, drop, sym, ap, arith}
 use Rattle.std.proofs.lemmas.List.{append-nil, at_drop_all}
 use Rattle.hq_terms.specs.PermView.{mask_view}
 use Rattle.hq_terms.specs.Permission.{Mask as MaskTree}
@@ -69,3 +69,12 @@ returns-clause-looks c =
     ∙ ap (λ (n : ℕ). mask_places (used_masks g t cs) s t n) c.requires in
     ap (λ (ps : List MaskPlace). look_in ps (table s t).columns p) all ∙ places_are_look (used_masks g t cs) s t p (p + 1)
 
+pub returns-clause-numbers : goal.returns-clause-numbers
+returns-clause-numbers c =
+    let s = context_schema c.args.context.now in
+    let t = c.args.t in
+    let cs = c.args.used.now in
+    let next = c.loop-mask.next in
+    let none : next ≡ next + 0 = omega arith in
+    none ∙ sym (at_drop_all (λ (ms : List Mask). next + mask_numbers (used_of cs (map mask_view ms)) s t) c.masks-mask-items.result.now c.loop-mask.mask-index c.loop-mask-test.false)
+    ∙ c.loop-mask.invariant.numbers ∙ ap (λ (ms : List MaskTree). c.args.next.now + mask_numbers (used_of cs ms) s t) c.masks-mask-items.ensures
