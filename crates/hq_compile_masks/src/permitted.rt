@@ -66,5 +66,14 @@ pub fn where_predicate(
         IfOk result (λ p. pred_view p ≡ predicate (bexp_view wanted.now) s (where_mode s (context_rights context.now)) look t number next.old) }
     ensures numbers { OnOk result (next.new ≡ next.old + where_numbers (bexp_view wanted.now) (context_schema context.now) (context_rights context.now) t) }
 {
-    predicate_of(alloc, context, &PermittedRows, t, number, places, wanted, next)
+    predicate_of(
+        alloc,
+        context,
+        &PermittedRows,
+        t,
+        number,
+        places,
+        wanted,
+        next,
+    )
 }

@@ -201,9 +201,7 @@ fn predicates<C: Counted>(
 {
     let mut preds = Vec::new(alloc);
     for bexp in bexps {
-        preds.push(predicate_of(
-            alloc, context, counted, t, p, places, bexp, next,
-        )?)?;
+        preds.push(predicate_of(alloc, context, counted, t, p, places, bexp, next)?)?;
     }
     Ok(preds)
 }

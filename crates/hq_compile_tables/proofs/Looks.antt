@@ -14,6 +14,6 @@ found_look [] columns p c = refl
 found_look (x ∷ xs) columns p c =
     let later = found_look xs columns p c in
     let go : (b : Bool) → cond b (value_place x.number) (look_in xs columns p c)
-        ≡ unwrap_or (option_map (λ y. value_place y.number) (cond b (Some x) (find (λ y. y.col == c) xs))) (own_look columns p c) =
+    ≡ unwrap_or (option_map (λ y. value_place y.number) (cond b (Some x) (find (λ y. y.col == c) xs))) (own_look columns p c) =
     elim [ true ↦ refl | false ↦ later ] in
     go (x.col == c)

@@ -14,7 +14,9 @@ pub use condition::{
     column_test, columns_test, comparison, first_member, joined_by_and, joined_by_or, literal,
     negation, where_of, with_member,
 };
-pub use shown::{MaskPlace, MaskPlaceList, Shown, compared_shown, shown_at, shown_column, table_shown};
+pub use shown::{
+    MaskPlace, MaskPlaceList, Shown, compared_shown, shown_at, shown_column, table_shown,
+};
 pub use table::{
     exists_where, first_row, first_select, from_table, key_orders, link, one_join, value_output,
 };

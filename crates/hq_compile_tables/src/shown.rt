@@ -57,12 +57,7 @@ fn place_of(places: &[MaskPlace], column: ColId) -> Option<&MaskPlace>
 }
 
 /// A column as it is shown, with COLLATE "C" or without.
-pub fn shown_at(
-    alloc: Global,
-    shown: &Shown,
-    column: ColId,
-    collate: bool,
-) -> Result<Expr, Memory>
+pub fn shown_at(alloc: Global, shown: &Shown, column: ColId, collate: bool) -> Result<Expr, Memory>
     ensures { IfOk result (λ e. expr_view e ≡ tree.column (look_of shown.now column).alias (look_of shown.now column).name collate) }
 {
     match place_of(shown.places, column) {
