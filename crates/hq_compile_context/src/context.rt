@@ -1,15 +1,17 @@
 ghost use Rattle.std.specs.Prelude.{◌≡◌};
 
 use hq_base::List;
-use hq_terms::{Bexp, ColId, Column, Mask, Pair, RelId, Scope, Table, TableId};
+use hq_terms::{Bexp, ColId, Column, Mask, MaskList, Pair, RelId, Scope, Table, TableId};
 
-/// What a request is granted of a table: the bound filter, and the most rows of a list.
+/// What a request is granted of a table: the bound filter, the most rows of a list, and the bound masks.
 #[derive(Drop)]
 pub struct Granted {
     pub table: TableId,
     pub filter: Bexp,
     /// In rows.
     pub limit: Option<u64>,
+    /// In column order.
+    pub masks: MaskList,
 }
 
 /// What a request is granted.
@@ -75,10 +77,13 @@ impl<'a> Context<'a> {
             .find(|granted| granted.table.at() == t.at())
     }
 
-    /// The masks of a table's columns, in column order.
-    pub fn masks(&self, _t: TableId) -> &'a [Mask]
-        ensures { map mask_view result.now ≡ (context_rights self.now).masks _t }
+    /// The masks of a table's columns, in column order; none where nothing is granted of the table.
+    pub fn masks(&self, t: TableId) -> &'a [Mask]
+        ensures { map mask_view result.now ≡ (context_rights self.now).masks t }
     {
-        &[]
+        match self.granted(t) {
+            Some(granted) => granted.masks.as_slice(),
+            None => &[],
+        }
     }
 }

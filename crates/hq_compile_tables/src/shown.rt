@@ -5,7 +5,7 @@ ghost use Rattle.hq_sql_tree.specs.Tree as tree;
 ghost use Rattle.hq_sql_tree.specs.View.{expr_view};
 ghost use Rattle.hq_compiled.specs.Looks.{cell_at, compared_at, tested_at};
 ghost use Rattle.hq_compile_context.specs.Contexts.{context_schema};
-ghost use Rattle.hq_compile_tables.specs.Shown.{look_of};
+ghost use Rattle.hq_compile_tables.specs.Shown.{look_in, look_of};
 
 use crate::columns::{column_at, compares, is_text, value_at};
 use hq_base::{List, Memory};
@@ -64,6 +64,23 @@ pub fn shown_at(alloc: Global, shown: &Shown, column: ColId, collate: bool) -> R
         Some(place) => value_at(alloc, place.number, collate),
         None => column_at(alloc, shown.columns, shown.number, column, collate),
     }
+}
+
+/// A column of table t at the alias of this number, some of whose columns joins show, with COLLATE "C" or without.
+pub fn table_column(
+    alloc: Global,
+    context: &Context,
+    t: TableId,
+    number: u64,
+    places: &[MaskPlace],
+    column: ColId,
+    collate: bool,
+) -> Result<Expr, Memory>
+    ensures { let place = look_in places.now (table (context_schema context.now) t).columns number column in
+        IfOk result (λ e. expr_view e ≡ tree.column place.alias place.name collate) }
+{
+    let shown = table_shown(context, t, number, places);
+    shown_at(alloc, &shown, column, collate)
 }
 
 /// A column as it is shown.

@@ -1,5 +1,5 @@
 //! Selects of one table: its rows, links to them, the order of its key, and the first row in that order.
-ghost use Rattle.std.specs.Prelude.{◌≡◌, ◌∷◌, [], IfOk, map, Some, None, true, false};
+ghost use Rattle.std.specs.Prelude.{◌≡◌, ◌++◌, ◌∷◌, [], IfOk, map, Some, None, true, false};
 ghost use Rattle.hq_terms.specs.Schema.{table, rel};
 ghost use Rattle.hq_terms.specs.declared.op.Op.TheVariants.{Eq};
 ghost use Rattle.hq_terms.specs.declared.test.Test.TheVariants.{Compare};
@@ -290,4 +290,12 @@ pub fn one_join(alloc: Global, select: Select, number: u64) -> Result<Join, Memo
     let select = Box::new(alloc, select)?;
     let alias = join_alias(alloc, number)?;
     Ok(Join { select, alias })
+}
+
+/// Joins, and others behind them.
+pub fn both_joins(mut joins: JoinList, mut more: JoinList) -> Result<JoinList, Memory>
+    ensures { IfOk result (λ all. map join_view all.items ≡ map join_view joins.items ++ map join_view more.items) }
+{
+    joins.append(&mut more)?;
+    Ok(joins)
 }
