@@ -148,9 +148,9 @@ fn is_plain(distinct: &ExprList, joins: &JoinList, order: &OrderList) -> bool
     distinct.is_empty() && joins.is_empty() && order.is_empty()
 }
 
-// Two selects of outputs over one FROM and a WHERE, and nothing else.
+/// Whether two selects are the same: of outputs over one FROM and a WHERE, and nothing else.
 #[cycle(same)]
-fn same_select(a: &Select, b: &Select) -> bool
+pub fn same_select(a: &Select, b: &Select) -> bool
     ensures view { result ≡ true → select_view a.now ≡ select_view b.now }
     ensures weight { result ≡ true → select_weight a.now ≡ select_weight b.now }
 {

@@ -3,7 +3,10 @@ pub mod RowsIn
 pub mod Asked
 pub mod Looked
 pub mod Knowing
+pub mod Backward
 pub mod Blocks
+pub mod Linked
+pub mod KeySets
 pub mod InOrder
 pub mod Enough
 pub mod Tops

@@ -9,6 +9,9 @@ pub mod Weight
 pub mod Resolved
 pub mod Equations
 pub mod Positions
+pub mod KeyCells
+pub mod KeySets
+pub mod Links
 pub mod Ordered
 pub mod Known
 pub mod Pages

@@ -46,7 +46,7 @@ pub(crate) fn is_column(expr: &Expr, alias: &Txt, name: &Txt) -> bool
 }
 
 // Whether an expression is a column of an alias around the scan, or a literal.
-fn is_outer(expr: &Expr, alias: &Txt, joins: &[Join]) -> bool
+pub(crate) fn is_outer(expr: &Expr, alias: &Txt, joins: &[Join]) -> bool
     ensures { result ≡ is_outer alias.now (joins_of (map join_view joins.now)) (expr_view expr.now) }
 {
     match expr {
@@ -57,7 +57,7 @@ fn is_outer(expr: &Expr, alias: &Txt, joins: &[Join]) -> bool
 }
 
 // What a test asks its value to equal.
-fn equal_to<'d>(test: Test, operands: &'d ExprList) -> Option<&'d Expr>
+pub(crate) fn equal_to<'d>(test: Test, operands: &'d ExprList) -> Option<&'d Expr>
     ensures { IfSome result (λ e. IsEquation test (map expr_view operands.now.items) (expr_view e.now)) }
 {
     match (test, operands.as_slice()) {
@@ -138,7 +138,7 @@ fn key_cell<'d>(cell: Cell<'d>) -> KeyCell<'d>
 }
 
 // The cell of an expression, as one of a key, where it is known without evaluating a join.
-fn outer_cell<'d>(
+pub(crate) fn outer_cell<'d>(
     alloc: Global,
     expr: &'d Expr,
     scope: &Scope<'_, 'd>,
@@ -158,7 +158,7 @@ fn outer_cell<'d>(
 }
 
 // The place of the first column of this name.
-fn first_named(columns: &[Column], name: &Txt) -> Option<usize>
+pub(crate) fn first_named(columns: &[Column], name: &Txt) -> Option<usize>
     ensures { result ≡ position (λ c. bytes_eq c.name name.now) columns.now }
 {
     columns.iter().position(|column| column.name == *name)

@@ -4,7 +4,9 @@
 
 pub mod cells;
 mod equations;
+pub mod key_set;
 pub mod known;
+pub mod links;
 mod mentions;
 pub mod ordered;
 pub mod pages;

@@ -117,6 +117,9 @@ pub fn any_row<'s, 'd>(
     requires lighter { IfSome known (λ k. 1 + lent_weight k.now.rest.items ≤ filter_weight filter.now) }
     ensures { IfOk result (λ b. b ≡ has_items (kept_from (source_view source.entry) alias.now joins.now filter.now world.now scope.now)) }
 {
+    if !world.work.step() {
+        return Err(Memory);
+    }
     let looked = looked_at(
         alloc,
         source,

@@ -14,6 +14,7 @@ use crate::scans::any_row;
 use crate::values::{value, values};
 use hq_base::Memory;
 use hq_sql_cells::test_truth;
+use hq_sql_rows::key_set::known_row;
 use hq_sql_rows::known::known_of;
 use hq_sql_rows::pinned::Pinned;
 use hq_sql_rows::scope::{Group, Scope, alias_of, source_of};
@@ -154,7 +155,7 @@ pub fn all_hold<'d>(
     Ok(true)
 }
 
-// Whether a select has a row. Without LIMIT and OFFSET it ends at the first row that is kept.
+// Whether a select has a row. Where its keys are known they tell it; without LIMIT and OFFSET it ends at the first row that is kept.
 #[cycle(eval)]
 fn exists<'d>(
     alloc: Global,
@@ -164,6 +165,9 @@ fn exists<'d>(
 ) -> Result<bool, Memory>
     ensures { IfOk result (λ b. b ≡ has_rows (rows_of (select_view select.now) (world_of world.now) (names_of scope.now world.now))) }
 {
+    if let Some(has) = known_row(alloc, select, world, scope)? {
+        return Ok(has);
+    }
     match select {
         Select::Fold { .. } => Ok(true),
         Select::Rows {
