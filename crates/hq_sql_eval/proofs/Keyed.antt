@@ -16,11 +16,12 @@ use Rattle.hq_sql_tree.specs.declared.select.Pred.{Pred}
 use Rattle.hq_sql_tree.specs.Meaning.{NamedRow, Scope, World, has_rows, joined, kept, named_row, nothing, rows_of, with_alias}
 use Rattle.hq_sql_tree.specs.Tree as tree
 use Rattle.hq_sql_tree.specs.Tree.{ExprTree, FromTree, JoinTrees, OrderTree, OutTree, PredTree, SelectTree, no_join}
-use Rattle.hq_sql_rows.specs.KeySets.{IsKeySet, KeepsKeys, chosen, keeps_key, link_keys}
-use Rattle.hq_sql_rows.specs.Links.{AreLinks}
+use Rattle.hq_sql_rows.specs.KeySets.{IsKeySet, keeps_key, link_keys}
+use Rattle.hq_sql_scans.specs.ChosenKeys.{KeepsKeys, chosen}
+use Rattle.hq_sql_scans.specs.Links.{AreLinks}
 use Rattle.hq_sql_rows.specs.Sources.{alias_in, has_items, rows_given}
 use Rattle.hq_sql_rows.specs.declared.pinned.KeySet.{KeySet}
-use Rattle.hq_sql_rows.proofs.KeySets.{items_filter}
+use Rattle.hq_sql_scans.proofs.KeySets.{items_filter}
 use Rattle.hq_sql_eval.specs.Filtered.{Filters}
 use Rattle.hq_sql_eval.specs.Narrowed.{keeps_one, narrowed}
 use Rattle.hq_sql_eval.proofs.Learned.{map_same, table_has}

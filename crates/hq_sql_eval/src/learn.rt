@@ -18,9 +18,9 @@ ghost use Rattle.hq_sql_rows.specs.View.{names_of, source_view, world_of};
 
 use hq_base::{Memory, Txt};
 use hq_sql_closed::{Names, split};
-use hq_sql_rows::key_set::{has_row, key_set, key_set_of};
+use hq_sql_scans::key_set::{has_row, key_set, key_set_of};
 use hq_sql_rows::known::known_of;
-use hq_sql_rows::links::links_of;
+use hq_sql_scans::links::links_of;
 use hq_sql_rows::pinned::{KeySet, Known, Pinned};
 use hq_sql_rows::scope::{Scope, Source, alias_of, count, row_at, source_of};
 use hq_sql_rows::stored::Stored;

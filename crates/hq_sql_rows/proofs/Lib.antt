@@ -1,14 +1,6 @@
 pub mod NamedCells
 pub mod RowsIn
 pub mod Asked
-pub mod Looked
 pub mod Knowing
-pub mod Backward
-pub mod Blocks
-pub mod Linked
-pub mod KeySets
-pub mod InOrder
-pub mod Enough
-pub mod Tops
 pub mod Loops
 pub mod Besides

@@ -8,10 +8,6 @@ pub mod Keys
 pub mod Weight
 pub mod Resolved
 pub mod Equations
-pub mod Positions
 pub mod KeyCells
 pub mod KeySets
-pub mod Links
-pub mod Ordered
 pub mod Known
-pub mod Pages

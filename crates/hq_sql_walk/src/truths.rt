@@ -14,7 +14,7 @@ use crate::scans::any_row;
 use crate::values::{value, values};
 use hq_base::Memory;
 use hq_sql_cells::test_truth;
-use hq_sql_rows::key_set::known_row;
+use hq_sql_scans::key_set::known_row;
 use hq_sql_rows::known::known_of;
 use hq_sql_rows::pinned::Pinned;
 use hq_sql_rows::scope::{Group, Scope, alias_of, source_of};
