@@ -8,4 +8,4 @@ mod same;
 
 pub use closed::{Names, is_closed};
 pub use parts::split;
-pub use same::{same_from, same_pred, same_select};
+pub use same::{same_from, same_pred};

@@ -148,9 +148,9 @@ fn is_plain(distinct: &ExprList, joins: &JoinList, order: &OrderList) -> bool
     distinct.is_empty() && joins.is_empty() && order.is_empty()
 }
 
-/// Whether two selects are the same: of outputs over one FROM and a WHERE, and nothing else.
+// Two selects of outputs over one FROM and a WHERE, and nothing else.
 #[cycle(same)]
-pub fn same_select(a: &Select, b: &Select) -> bool
+fn same_select(a: &Select, b: &Select) -> bool
     ensures view { result ≡ true → select_view a.now ≡ select_view b.now }
     ensures weight { result ≡ true → select_weight a.now ≡ select_weight b.now }
 {

@@ -6,7 +6,7 @@ ghost use Rattle.hq_sql_closed.specs.Conjuncts.{all_kept, lent_views, lent_weigh
 ghost use Rattle.hq_sql_closed.specs.Split.{kept_one};
 ghost use Rattle.hq_sql_closed.specs.Weight.{filter_weight};
 ghost use Rattle.hq_sql_tree.specs.Meaning.{has_rows, nothing, rows_of, with_alias};
-ghost use Rattle.hq_sql_tree.specs.Tree.{joins_of};
+ghost use Rattle.hq_sql_tree.specs.Tree.{exists, joins_of};
 ghost use Rattle.hq_sql_tree.specs.View.{filter_view, from_view, join_view, pred_view, select_view};
 ghost use Rattle.hq_sql_rows.specs.KeySets.{IsKeySet, keeps_key};
 ghost use Rattle.hq_sql_rows.specs.Known.{IsKnown, IsRight};
@@ -216,26 +216,8 @@ fn narrowed_keyed<'s, 'd>(
     Ok(Some(truths))
 }
 
-// The same of an EXISTS of which keys are known, or that stands over a table without pages; None of any other one.
-fn narrowed_exists<'s, 'd>(
-    alloc: Global,
-    before: &[bool],
-    source: Source<'s, 'd>,
-    alias: &'d Txt,
-    select: &'d Select,
-    world: &Pinned<'d>,
-) -> Result<Option<Vec<bool>>, Memory>
-    requires { length before.now ≡ length (source_view source) }
-    ensures { IfOk result (λ found. IfSome found (λ truths. truths.items ≡ narrowed before.now (map (λ row. has_rows (rows_of (select_view select.now) (world_of world.now) (with_alias nothing alias.now row))) (source_view source.entry)))) }
-{
-    match key_set_of(world, select) {
-        Some(set) => narrowed_keyed(alloc, before, source, alias, set, world),
-        None => narrowed_by(alloc, before, source, alias, select, world),
-    }
-}
-
-// The same of any condition.
-fn narrowed<'s, 'd>(
+// The same of a condition of which no keys are known.
+fn narrowed_plainly<'s, 'd>(
     alloc: Global,
     before: &[bool],
     source: Source<'s, 'd>,
@@ -247,11 +229,32 @@ fn narrowed<'s, 'd>(
     ensures { IfOk result (λ truths. truths.items ≡ narrowed before.now (map (λ row. kept_one (pred_view pred.now) (world_of world.now) (with_alias nothing alias.now row)) (source_view source.entry))) }
 {
     if let Pred::Exists(select) = pred {
-        if let Some(truths) = narrowed_exists(alloc, before, source, alias, select, world)? {
+        if let Some(truths) = narrowed_by(alloc, before, source, alias, select, world)? {
             return Ok(truths);
         }
     }
     narrowed_each(alloc, before, source, alias, pred, world)
+}
+
+// The same of any condition.
+#[tactic(auto, using(crate::proofs::Keyed::keyed_rows))]
+fn narrowed<'s, 'd>(
+    alloc: Global,
+    before: &[bool],
+    source: Source<'s, 'd>,
+    alias: &'d Txt,
+    pred: &'d Pred,
+    world: &Pinned<'d>,
+) -> Result<Vec<bool>, Memory>
+    requires { length before.now ≡ length (source_view source) }
+    ensures { IfOk result (λ truths. truths.items ≡ narrowed before.now (map (λ row. kept_one (pred_view pred.now) (world_of world.now) (with_alias nothing alias.now row)) (source_view source.entry))) }
+{
+    if let Some(set) = key_set_of(world, pred) {
+        if let Some(truths) = narrowed_keyed(alloc, before, source, alias, set, world)? {
+            return Ok(truths);
+        }
+    }
+    narrowed_plainly(alloc, before, source, alias, pred, world)
 }
 
 // At which rows these are all true, whatever else is in scope.
@@ -301,11 +304,11 @@ pub fn learned<'d>(
     }))
 }
 
-// The keys of a select that has a row exactly where this WHERE keeps one of these rows; None where it asks more of what is around them
+// The keys of a condition that is true exactly where this WHERE keeps one of these rows; None where it asks more of what is around them
 // than that columns equal it.
 fn keys_over<'d>(
     alloc: Global,
-    select: &'d Select,
+    pred: &'d Pred,
     stored: &'d Stored<'d>,
     rows: &Rows,
     alias: &'d Txt,
@@ -313,8 +316,8 @@ fn keys_over<'d>(
     world: &Pinned<'d>,
 ) -> Result<Option<KeySet<'d>>, Memory>
     requires lent { rows_lent stored.now.rows ≡ rows.now }
-    requires filters { Filters (world_of world.now) (select_view select.now) stored.now.table.now.columns rows.now alias.now (pred_view filter.now) }
-    ensures { IfOk result (λ found. IfSome found (λ s. IsKeySet (world_of world.now) (select_view s.select.now) s)) }
+    requires filters { Filters (world_of world.now) (pred_view pred.now) stored.now.table.now.columns rows.now alias.now (pred_view filter.now) }
+    ensures { IfOk result (λ found. IfSome found (λ s. IsKeySet (world_of world.now) (pred_view s.pred.now) s)) }
 {
     let outer = Names::Nothing;
     let names = Names::Named {
@@ -333,7 +336,7 @@ fn keys_over<'d>(
     }
     let set = key_set(
         alloc,
-        select,
+        pred,
         rows,
         &truths,
         &links.columns,
@@ -349,14 +352,15 @@ fn has_no_join(joins: &JoinList) -> bool
     joins.is_empty()
 }
 
-/// The keys of the rows of a select; None of another one than of rows of a table without joins and pages, whose WHERE asks no more of
-/// what is around it than that columns equal it.
-pub fn learned_keys<'d>(
+// The keys of the rows of a select, where a condition says that it has one.
+fn keys_of<'d>(
     alloc: Global,
+    pred: &'d Pred,
     select: &'d Select,
     world: &Pinned<'d>,
 ) -> Result<Option<KeySet<'d>>, Memory>
-    ensures { IfOk result (λ found. IfSome found (λ s. IsKeySet (world_of world.now) (select_view s.select.now) s)) }
+    requires { pred_view pred.now ≡ exists (select_view select.now) }
+    ensures { IfOk result (λ found. IfSome found (λ s. IsKeySet (world_of world.now) (pred_view s.pred.now) s)) }
 {
     let Select::Rows {
         from,
@@ -379,7 +383,23 @@ pub fn learned_keys<'d>(
         return Ok(None);
     };
     match stored.rows {
-        Some(rows) => keys_over(alloc, select, stored, rows, alias, filter, world),
+        Some(rows) => keys_over(alloc, pred, stored, rows, alias, filter, world),
         None => Ok(None),
+    }
+}
+
+/// The keys of the rows of an EXISTS; None of another one than of rows of a table without joins and pages, whose WHERE asks no more of
+/// what is around it than that columns equal it.
+pub fn learned_keys<'d>(
+    alloc: Global,
+    pred: &'d Pred,
+    world: &Pinned<'d>,
+) -> Result<Option<KeySet<'d>>, Memory>
+    ensures { IfOk result (λ found. IfSome found (λ s. IsKeySet (world_of world.now) (pred_view s.pred.now) s)) }
+{
+    match pred {
+        Pred::Exists(select) => keys_of(alloc, pred, select, world),
+        Pred::True | Pred::False | Pred::Test { .. } | Pred::Not(_) | Pred::And(_) | Pred::Or(_) =>
+            Ok(None),
     }
 }

@@ -92,7 +92,7 @@ fn remember_pred<'d>(alloc: Global, pred: &'d Pred, world: &mut Pinned<'d>) -> R
         Pred::And(preds) | Pred::Or(preds) => remember_preds(alloc, preds, world),
         Pred::Exists(select) => {
             remember(alloc, select, world)?;
-            learn(alloc, select, world)
+            learn(alloc, pred, select, world)
         }
         Pred::True | Pred::False | Pred::Test { .. } => Ok(()),
     }
@@ -113,10 +113,15 @@ fn remember_preds<'d>(
 }
 
 // Learns the keys of an EXISTS, or of its WHERE.
-fn learn<'d>(alloc: Global, select: &'d Select, world: &mut Pinned<'d>) -> Result<(), Memory>
+fn learn<'d>(
+    alloc: Global,
+    pred: &'d Pred,
+    select: &'d Select,
+    world: &mut Pinned<'d>,
+) -> Result<(), Memory>
     ensures { world.new.tables ≡ world.old.tables }
 {
-    match learned_keys(alloc, select, &*world)? {
+    match learned_keys(alloc, pred, &*world)? {
         Some(set) => world.add_set(set),
         None => learn_filter(alloc, select, world),
     }

@@ -57,7 +57,8 @@ and_yes Unknown Yes e = cc
 and_yes Unknown No e = cc
 and_yes Unknown Unknown e = cc
 
-all_member : (ps : List Pred) (i : ℕ) (d : Pred) (w : World) (m : Names) → i < length ps → all_true (preds_of (map pred_view ps)) w m ≡ Yes → truth_at (pred_view (get_or ps i d)) w m ≡ Yes
+-- where an And is true, each member is
+pub all_member : (ps : List Pred) (i : ℕ) (d : Pred) (w : World) (m : Names) → i < length ps → all_true (preds_of (map pred_view ps)) w m ≡ Yes → truth_at (pred_view (get_or ps i d)) w m ≡ Yes
 all_member [] i d w m lt e = absurd (omega arith)
 all_member (p ∷ ps) zero d w m lt e = (and_yes (truth_at (pred_view p) w m) (all_true (preds_of (map pred_view ps)) w m) e).0
 all_member (p ∷ ps) (suc i) d w m lt e = all_member ps i d w m (omega arith) (and_yes (truth_at (pred_view p) w m) (all_true (preds_of (map pred_view ps)) w m) e).1

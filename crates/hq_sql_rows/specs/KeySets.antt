@@ -4,9 +4,10 @@ use Rattle.std.specs.Borrow.{Bor}
 use Rattle.hq_base.specs.Cells.{CellTree}
 use Rattle.hq_index.specs.Grids.{rows_in}
 use Rattle.hq_index.specs.Indexes.{IsOver, columns_of, rows_with}
+use Rattle.hq_terms.specs.Logic.{truth_of}
 use Rattle.hq_sql_tree.specs.declared.expr.Expr.{Expr}
-use Rattle.hq_sql_tree.specs.Meaning.{Scope as Names, World, has_rows, rows_of, value}
-use Rattle.hq_sql_tree.specs.Tree.{SelectTree}
+use Rattle.hq_sql_tree.specs.Meaning.{Scope as Names, World, truth_at, value}
+use Rattle.hq_sql_tree.specs.Tree.{PredTree}
 use Rattle.hq_sql_tree.specs.View.{expr_view}
 use Rattle.hq_sql_rows.specs.KeyCells.{key_cell}
 use Rattle.hq_sql_rows.specs.Sources.{has_items}
@@ -20,7 +21,7 @@ link_keys es names = map (λ e. key_cell (value (expr_view e.now) [] names)) es
 abbrev pub keeps_key : KeySet → Names → Bool
 keeps_key s names = has_items (rows_with (columns_of s.index) (link_keys s.links.items names) (rows_in s.grid))
 
--- a select has a row exactly where one of the keys is that of the scope
-pub record IsKeySet (w : World) (select : SelectTree) (s : KeySet) : Type 0 where
+-- a condition is true exactly where one of the keys is that of the scope, and false elsewhere
+pub record IsKeySet (w : World) (p : PredTree) (s : KeySet) : Type 0 where
   pub over : IsOver (rows_in s.grid) s.index
-  pub has : (names : Names) → has_rows (rows_of select w names) ≡ keeps_key s names
+  pub has : (names : Names) → truth_at p w names ≡ truth_of (keeps_key s names)

@@ -1,6 +1,6 @@
 //! The tables that a statement is evaluated over, and what is known of conditions over them.
 ghost use Rattle.std.specs.Prelude.{◌≡◌, ◌<◌, ℕ, length, slice_index_or};
-ghost use Rattle.hq_sql_tree.specs.View.{select_view};
+ghost use Rattle.hq_sql_tree.specs.View.{pred_view};
 ghost use Rattle.hq_sql_rows.specs.KeySets.{IsKeySet};
 ghost use Rattle.hq_sql_rows.specs.Known.{IsRight};
 ghost use Rattle.hq_sql_rows.specs.Pins.{world_in};
@@ -11,7 +11,7 @@ use crate::stored::Stored;
 use crate::work::Work;
 use hq_base::Memory;
 use hq_index::{Grid, Index};
-use hq_sql_tree::{Expr, From, Pred, Select};
+use hq_sql_tree::{Expr, From, Pred};
 use std::alloc::Global;
 
 /// Of a condition over the rows of a table: at which of them the conjuncts that mention no other alias are all true, and the other
@@ -28,7 +28,7 @@ pub struct Known<'d> {
 /// with an index over them.
 #[derive(Drop)]
 pub struct KeySet<'d> {
-    pub select: &'d Select,
+    pub pred: &'d Pred,
     pub links: Vec<&'d Expr>,
     pub grid: Grid,
     pub index: Index,
@@ -42,7 +42,7 @@ pub struct Pinned<'d> {
     pub known: Vec<Known<'d>>,
     pub sets: Vec<KeySet<'d>>,
     ghost right: { (i : ℕ) (d : Known) → i < length known.items → IsRight (world_in tables.now) (slice_index_or known.items i d) },
-    ghost keyed: { (i : ℕ) (d : KeySet) → i < length sets.items → IsKeySet (world_in tables.now) (select_view (slice_index_or sets.items i d).select.now) (slice_index_or sets.items i d) },
+    ghost keyed: { (i : ℕ) (d : KeySet) → i < length sets.items → IsKeySet (world_in tables.now) (pred_view (slice_index_or sets.items i d).pred.now) (slice_index_or sets.items i d) },
 }
 
 impl<'d> Pinned<'d> {
@@ -69,7 +69,7 @@ impl<'d> Pinned<'d> {
 
     /// Knows the keys of one EXISTS more.
     pub fn add_set(&mut self, set: KeySet<'d>) -> Result<(), Memory>
-        requires { IsKeySet (world_in self.old.tables.now) (select_view set.select.now) set }
+        requires { IsKeySet (world_in self.old.tables.now) (pred_view set.pred.now) set }
         ensures { self.new.tables ≡ self.old.tables }
     {
         self.sets.push(set)?;

@@ -12,13 +12,14 @@ use Rattle.hq_base.specs.declared.value.Val.{Val}
 use Rattle.hq_base.specs.declared.value.Val.TheVariants as val
 use Rattle.hq_base.proofs.Lists.{filter_map_of}
 use Rattle.hq_terms.specs.Database.{Row}
+use Rattle.hq_terms.specs.Logic.{truth_of}
 use Rattle.hq_index.specs.Chunks.{chunked}
 use Rattle.hq_index.specs.Grids.{rows_in}
 use Rattle.hq_index.specs.Indexes.{IsOver, columns_of, counted, rows_with}
 use Rattle.hq_index.proofs.Chunked.{chunked_flat, length-chunked, length-flat}
 use Rattle.hq_index.specs.Keys.{cell_in, key_in, keys_cmp, has_null, has_key}
 use Rattle.hq_sql_tree.specs.Meaning.{Scope as Names, World, value}
-use Rattle.hq_sql_tree.specs.Tree.{SelectTree}
+use Rattle.hq_sql_tree.specs.Tree.{PredTree}
 use Rattle.hq_sql_tree.specs.View.{expr_view}
 use Rattle.hq_sql_tree.specs.declared.expr.Expr.{Expr}
 use Rattle.hq_sql_rows.specs.Equations.{key_cell}
@@ -30,9 +31,9 @@ use Rattle.hq_sql_rows.specs.declared.pinned.KeySet.{KeySet}
 use Rattle.hq_sql_rows.specs.declared.scope.Scope.{Scope}
 use Rattle.hq_sql_scans.proofs.Looked.{counted_all}
 
--- what is known of a select is known of the same one
-pub same_set : (w : World) (select other : SelectTree) (s : KeySet) → select ≡ other → IsKeySet w select s → IsKeySet w other s
-same_set w select other s e h = subst (λ t. IsKeySet w t s) e h
+-- what is known of a condition is known of the same one
+pub same_set : (w : World) (p other : PredTree) (s : KeySet) → p ≡ other → IsKeySet w p s → IsKeySet w other s
+same_set w p other s e h = subst (λ t. IsKeySet w t s) e h
 
 -- ---- the key of a scope
 
@@ -111,7 +112,8 @@ gathers_other columns bs rows i values count lt long is h =
 
 -- ---- keys among rows
 
-items_told : (ns : List ℕ) → not (length ns == 0) ≡ has_items ns
+-- whether there are items, by their number
+pub items_told : (ns : List ℕ) → not (length ns == 0) ≡ has_items ns
 items_told [] = refl
 items_told (n ∷ ns) = ap not (ne_eqb (suc (length ns)) 0 (λ j. absurd (omega (arith, j))))
 
@@ -127,7 +129,8 @@ key_picked columns row =
     ap f zero_more ∙ ap cell_of (get_or-map (λ c. get_or row c val.Null) columns i 0 val.Null within) ∙ sym (get_or-map (cell_in row) columns i 0 null within) in
     ap (λ n. map f (counted 0 n)) (sym long) ∙ counted_all xs f 0 null same
 
-items_map : {A B : Type 0} (f : A → B) (xs : List A) → has_items (map f xs) ≡ has_items xs
+-- as many items stand behind a map
+pub items_map : {A B : Type 0} (f : A → B) (xs : List A) → has_items (map f xs) ≡ has_items xs
 items_map f [] = refl
 items_map f (x ∷ xs) = refl
 
@@ -181,16 +184,16 @@ grid_few columns bs rows i values count width g h lt is =
     let few = h.few in
     omega (arith, long, few, lt)
 
--- the keys with their index are those of the select
-pub set_is : (w : World) (select : SelectTree) (rows : List Row) (bs : List Bool) (columns : List ℕ) (links : List (Bor Expr)) (s : KeySet) → KeepsKeys w select rows bs columns links → s.links.items ≡ links → IsOver (rows_in s.grid) s.index
-    → columns_of s.index ≡ counted 0 (length columns) → rows_in s.grid ≡ map (picked columns) (chosen bs rows) → IsKeySet w select s
-set_is w select rows bs columns links s keeps same over own is =
+-- the keys with their index are those of the condition
+pub set_is : (w : World) (p : PredTree) (rows : List Row) (bs : List Bool) (columns : List ℕ) (links : List (Bor Expr)) (s : KeySet) → KeepsKeys w p rows bs columns links → s.links.items ≡ links → IsOver (rows_in s.grid) s.index
+    → columns_of s.index ≡ counted 0 (length columns) → rows_in s.grid ≡ map (picked columns) (chosen bs rows) → IsKeySet w p s
+set_is w p rows bs columns links s keeps same over own is =
     record {
       over = over;
       has = λ n.
-          keeps.keeps n ∙ keys_among columns (link_keys links n) (chosen bs rows)
+          keeps.keeps n ∙ ap truth_of (keys_among columns (link_keys links n) (chosen bs rows)
           ∙ ap₂ (λ cs g. has_items (rows_with cs (link_keys links n) g)) (sym own) (sym is)
-          ∙ ap (λ ls. has_items (rows_with (columns_of s.index) (link_keys ls n) (rows_in s.grid))) (sym same);
+          ∙ ap (λ ls. has_items (rows_with (columns_of s.index) (link_keys ls n) (rows_in s.grid))) (sym same));
     }
 
 -- whether one of the keys is that of a scope, as a look-up tells it

@@ -39,7 +39,7 @@ is_true_of true = refl
 is_true_of false = refl
 
 -- a stored cell equals a cell exactly where that is its key
-equal_cell : (v : Val) (x : CellTree) → is_true (equal (cell_of v) x) ≡ has_cell (cell_of v) (key_cell x)
+pub equal_cell : (v : Val) (x : CellTree) → is_true (equal (cell_of v) x) ≡ has_cell (cell_of v) (key_cell x)
 equal_cell val.Null null = refl
 equal_cell val.Null (int m) = refl
 equal_cell val.Null (text t) = refl
@@ -65,7 +65,7 @@ equal_cell (val.Bool false) (bool false) = refl
 equal_cell (val.Bool a) (json j) = refl
 
 -- the sides of an equation may be swapped
-equal_swapped : (a b : CellTree) → is_true (equal a b) ≡ is_true (equal b a)
+pub equal_swapped : (a b : CellTree) → is_true (equal a b) ≡ is_true (equal b a)
 equal_swapped a b =
     let go : (x y : Bool) → is_true (equal a b) ≡ x → is_true (equal b a) ≡ y → x ≡ y =
     elim [
@@ -115,7 +115,8 @@ link_right columns alias own e t es at equates is outer =
 
 -- ---- keys, cell by cell
 
-abbrev keys_like : (columns : List ℕ) → List CellTree → Row → Bool
+-- a row has a key where it has each cell of it
+abbrev pub keys_like : (columns : List ℕ) → List CellTree → Row → Bool
 keys_like (c ∷ cs) (k ∷ ks) row = has_cell (cell_in row c) k && keys_like cs ks row
 keys_like [] [] row = true
 keys_like [] (k ∷ ks) row = false
@@ -130,7 +131,7 @@ and_false : (b : Bool) → (b && false) ≡ false
 and_false true = refl
 and_false false = refl
 
-and_true : (b : Bool) → (b && true) ≡ b
+pub and_true : (b : Bool) → (b && true) ≡ b
 and_true true = refl
 and_true false = refl
 
@@ -145,7 +146,7 @@ and_regroup : (a b c : Bool) → ((a && b) && c) ≡ (a && (b && c))
 and_regroup true b c = refl
 and_regroup false b c = refl
 
-key_like : (cs : List ℕ) (ks : List CellTree) (row : Row) → length cs ≡ length ks → has_key cs ks row ≡ keys_like cs ks row
+pub key_like : (cs : List ℕ) (ks : List CellTree) (row : Row) → length cs ≡ length ks → has_key cs ks row ≡ keys_like cs ks row
 key_like [] [] row e = refl
 key_like [] (k ∷ ks) row e = cc
 key_like (c ∷ cs) [] row e = cc

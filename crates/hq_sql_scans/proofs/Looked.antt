@@ -84,7 +84,8 @@ joined_keeps (tree.join s a js) w start =
 
 -- ---- the rows of a key
 
-none_kept : (keeps : Names → Bool) (ms : List Names) → Each (λ m. keeps m ≡ true → ⊥) ms → filter keeps ms ≡ []
+-- nothing is kept where nothing may be
+pub none_kept : (keeps : Names → Bool) (ms : List Names) → Each (λ m. keeps m ≡ true → ⊥) ms → filter keeps ms ≡ []
 none_kept keeps [] h = refl
 none_kept keeps (m ∷ ms) h =
     let go : (b : Bool) → keeps m ≡ b → cond b (m ∷ filter keeps ms) (filter keeps ms) ≡ [] = elim [ true ↦ λ e. absurd (h.0 e) | false ↦ λ e. none_kept keeps ms h.1 ] in
@@ -98,7 +99,7 @@ module _ (js : JoinTrees) (w : World) (n : Names) (a : List ℕ) (keeps : Names 
       ∙ filter-append keeps (joined js w (with_alias n a r)) (flat_map (joined js w) (map (with_alias n a) rs))
 
   -- places that give nothing may be left out
-  left_out : (f : ℕ → NamedRow) (q : ℕ → Bool) → ((p : ℕ) → q p ≡ false → filter keeps (joined js w (with_alias n a (f p))) ≡ []) → (ps : List ℕ) → kept_of js w n a keeps (map f (filter q ps)) ≡ kept_of js w n a keeps (map f ps)
+  pub left_out : (f : ℕ → NamedRow) (q : ℕ → Bool) → ((p : ℕ) → q p ≡ false → filter keeps (joined js w (with_alias n a (f p))) ≡ []) → (ps : List ℕ) → kept_of js w n a keeps (map f (filter q ps)) ≡ kept_of js w n a keeps (map f ps)
   left_out f q none [] = refl
   left_out f q none (p ∷ ps) =
       let later = left_out f q none ps in

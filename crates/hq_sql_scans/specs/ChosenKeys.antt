@@ -6,9 +6,10 @@ use Rattle.hq_base.specs.declared.value.Val.{Val}
 use Rattle.hq_base.specs.declared.value.Val.TheVariants as val
 use Rattle.hq_terms.specs.Database.{Row}
 use Rattle.hq_index.specs.Keys.{has_key}
+use Rattle.hq_terms.specs.Logic.{truth_of}
 use Rattle.hq_sql_tree.specs.declared.expr.Expr.{Expr}
-use Rattle.hq_sql_tree.specs.Meaning.{Scope as Names, World, has_rows, rows_of}
-use Rattle.hq_sql_tree.specs.Tree.{SelectTree}
+use Rattle.hq_sql_tree.specs.Meaning.{Scope as Names, World, truth_at}
+use Rattle.hq_sql_tree.specs.Tree.{PredTree}
 use Rattle.hq_sql_rows.specs.KeySets.{link_keys}
 
 -- the cells of a row in columns
@@ -27,7 +28,7 @@ pub record Gathers (columns : List ℕ) (truths : List Bool) (rows : List Row) (
   pub number : count ≡ length (chosen (take so_far truths) (take so_far rows))
   pub few : count ≤ so_far
 
--- a select has a row exactly where one of these rows that is chosen has the key of the scope in these columns
-pub record KeepsKeys (w : World) (select : SelectTree) (rows : List Row) (truths : List Bool) (columns : List ℕ) (links : List (Bor Expr)) : Type 0 where
+-- a condition is true exactly where one of these rows that is chosen has the key of the scope in these columns, and false elsewhere
+pub record KeepsKeys (w : World) (p : PredTree) (rows : List Row) (truths : List Bool) (columns : List ℕ) (links : List (Bor Expr)) : Type 0 where
   pub whole : length truths ≡ length rows
-  pub keeps : (names : Names) → has_rows (rows_of select w names) ≡ list_any (has_key columns (link_keys links names)) (chosen truths rows)
+  pub keeps : (names : Names) → truth_at p w names ≡ truth_of (list_any (has_key columns (link_keys links names)) (chosen truths rows))

@@ -4,31 +4,32 @@ ghost use Rattle.hq_base.specs.declared.value.Val.TheVariants as val;
 ghost use Rattle.hq_index.specs.Grids.{rows_in};
 ghost use Rattle.hq_index.specs.Indexes.{IsOver, counted};
 ghost use Rattle.hq_index.specs.Keys.{cell_view as key_view};
-ghost use Rattle.hq_sql_tree.specs.Meaning.{World, has_rows, rows_of};
-ghost use Rattle.hq_sql_tree.specs.View.{select_view};
+ghost use Rattle.hq_terms.specs.Logic.{truth_of};
+ghost use Rattle.hq_sql_tree.specs.Meaning.{World, truth_at};
+ghost use Rattle.hq_sql_tree.specs.View.{pred_view};
 ghost use Rattle.hq_sql_rows.specs.KeySets.{IsKeySet, keeps_key, link_keys};
 ghost use Rattle.hq_sql_scans.specs.ChosenKeys.{Gathers, KeepsKeys, chosen, picked};
 ghost use Rattle.hq_sql_rows.specs.View.{names_of, scope_of, world_of};
 
 use hq_base::{Memory, Val};
 use hq_index::{Grid, Index, KeyCell};
-use hq_sql_closed::same_select;
+use hq_sql_closed::same_pred;
 use hq_sql_rows::equations::outer_cell;
 use hq_sql_rows::pinned::{KeySet, Pinned};
 use hq_sql_rows::scope::Scope;
-use hq_sql_tree::{Expr, Select};
+use hq_sql_tree::{Expr, Pred};
 use hq_tables::Rows;
 use hq_terms::ColId;
 use std::alloc::Global;
 use std::cell::Cell;
 
-/// The keys that are known of a select.
+/// The keys that are known of a condition.
 #[tactic(auto, using(crate::proofs::KeySets::same_set))]
-pub fn key_set_of<'m, 'd>(world: &'m Pinned<'d>, select: &Select) -> Option<&'m KeySet<'d>>
-    ensures { IfSome result (λ s. IsKeySet (world_of world.now) (select_view select.now) s.now) }
+pub fn key_set_of<'m, 'd>(world: &'m Pinned<'d>, pred: &Pred) -> Option<&'m KeySet<'d>>
+    ensures { IfSome result (λ s. IsKeySet (world_of world.now) (pred_view pred.now) s.now) }
 {
     for set in &world.sets {
-        if same_select(set.select, select) {
+        if same_pred(set.pred, pred) {
             return Some(set);
         }
     }
@@ -72,17 +73,17 @@ pub fn has_row<'d>(
     Ok(Some(!found.rows.is_empty()))
 }
 
-/// Whether a select has a row, where the keys of its rows are known; None where they are not, or that of the scope is not known
-/// without evaluating a join.
+/// Whether a condition is true, where keys are known of it; None where none are, or that of the scope is not known without evaluating
+/// a join.
 pub fn known_row<'d>(
     alloc: Global,
-    select: &Select,
+    pred: &Pred,
     world: &Pinned<'d>,
     scope: &Scope<'_, 'd>,
 ) -> Result<Option<bool>, Memory>
-    ensures { IfOk result (λ found. IfSome found (λ b. b ≡ has_rows (rows_of (select_view select.now) (world_of world.now) (names_of scope.now world.now)))) }
+    ensures { IfOk result (λ found. IfSome found (λ b. truth_of b ≡ truth_at (pred_view pred.now) (world_of world.now) (names_of scope.now world.now))) }
 {
-    match key_set_of(world, select) {
+    match key_set_of(world, pred) {
         Some(set) => has_row(alloc, set, &world.work.looked, scope),
         None => Ok(None),
     }
@@ -193,26 +194,26 @@ fn first_columns(alloc: Global, width: usize) -> Result<Vec<ColId>, Memory>
     Ok(all)
 }
 
-/// The keys of a select that has a row exactly where one of these rows of a table is chosen and has the key of the links.
+/// The keys of a condition that is true exactly where one of these rows of a table is chosen and has the key of the links.
 pub fn key_set<'d>(
     alloc: Global,
-    select: &'d Select,
+    pred: &'d Pred,
     rows: &Rows,
     truths: &[bool],
     columns: &[ColId],
     links: Vec<&'d Expr>,
     world: &Pinned<'d>,
 ) -> Result<KeySet<'d>, Memory>
-    requires keeps { KeepsKeys (world_of world.now) (select_view select.now) rows.now truths.now columns.now links.items }
+    requires keeps { KeepsKeys (world_of world.now) (pred_view pred.now) rows.now truths.now columns.now links.items }
     requires few { length truths.now < 2 ^ 31 }
-    ensures { IfOk result (λ s. IsKeySet (world_of world.now) (select_view s.select.now) s) }
+    ensures { IfOk result (λ s. IsKeySet (world_of world.now) (pred_view s.pred.now) s) }
 {
     let grid = key_grid(alloc, rows, truths, columns)?;
     let width = columns.len();
     let own = first_columns(alloc, width)?;
     let index = Index::build(alloc, &grid, own)?;
     Ok(KeySet {
-        select,
+        pred,
         links,
         grid,
         index,

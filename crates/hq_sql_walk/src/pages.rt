@@ -13,13 +13,13 @@ use crate::values::{keys, values};
 use hq_base::{Memory, Txt};
 use hq_sql_cells::{Kept, paged};
 use hq_sql_rows::cells::arranged;
-use hq_sql_scans::ordered::{Looked, ordered_at};
-use hq_sql_scans::pages::{enough, enough_sorted};
 use hq_sql_rows::pinned::Pinned;
 use hq_sql_rows::place::{Place, with_more};
-use hq_sql_scans::positions::{Positions, number_of};
 use hq_sql_rows::scope::{Scope, Source, row_at};
 use hq_sql_rows::stages::{Parts, Stage};
+use hq_sql_scans::ordered::{Looked, ordered_at};
+use hq_sql_scans::pages::{enough, enough_sorted};
+use hq_sql_scans::positions::{Positions, number_of};
 use hq_sql_tree::{ExprList, Join, OrderList, Pred};
 use std::alloc::Global;
 

@@ -15,12 +15,12 @@ ghost use Rattle.hq_sql_walk.specs.Selected.{Continues, kept_from};
 use crate::joins::gather;
 use crate::truths::all_hold;
 use hq_base::{Memory, Txt};
-use hq_sql_scans::pages::has_enough;
 use hq_sql_rows::pinned::{Known, Pinned};
 use hq_sql_rows::place::{Place, add_places};
-use hq_sql_scans::positions::{Positions, looked_at, number_of, position_at};
 use hq_sql_rows::scope::{Scope, Source, row_at};
 use hq_sql_rows::stages::Stage;
+use hq_sql_scans::pages::has_enough;
+use hq_sql_scans::positions::{Positions, looked_at, number_of, position_at};
 use hq_sql_tree::{Join, Pred};
 use std::alloc::Global;
 

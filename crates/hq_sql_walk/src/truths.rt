@@ -14,12 +14,12 @@ use crate::scans::any_row;
 use crate::values::{value, values};
 use hq_base::Memory;
 use hq_sql_cells::test_truth;
-use hq_sql_scans::key_set::known_row;
 use hq_sql_rows::known::known_of;
 use hq_sql_rows::pinned::Pinned;
 use hq_sql_rows::scope::{Group, Scope, alias_of, source_of};
 use hq_sql_rows::single::is_whole;
 use hq_sql_rows::stages::{Parts, stages};
+use hq_sql_scans::key_set::known_row;
 use hq_sql_tree::{Expr, ExprList, Pred, PredList, Select};
 use hq_terms::{Test, Truth};
 use std::alloc::Global;
@@ -41,7 +41,7 @@ pub fn kept<'d>(
     }
 }
 
-/// The truth of a condition. Of an AND what costs little is tried first.
+/// The truth of a condition. Of an AND what costs little is tried first, and of an EXISTS keys tell it, where they are known.
 #[cycle(eval)]
 pub fn truth<'d>(
     alloc: Global,
@@ -66,7 +66,10 @@ pub fn truth<'d>(
             all_true(alloc, preds, Cost::Rows, nested, world, scope)
         }
         Pred::Or(preds) => any_true(alloc, preds, world, scope),
-        Pred::Exists(select) => Ok(Truth::of(exists(alloc, select, world, scope)?)),
+        Pred::Exists(select) => match known_row(alloc, pred, world, scope)? {
+            Some(has) => Ok(Truth::of(has)),
+            None => Ok(Truth::of(exists(alloc, select, world, scope)?)),
+        },
     }
 }
 
@@ -155,7 +158,7 @@ pub fn all_hold<'d>(
     Ok(true)
 }
 
-// Whether a select has a row. Where its keys are known they tell it; without LIMIT and OFFSET it ends at the first row that is kept.
+// Whether a select has a row. Without LIMIT and OFFSET it ends at the first row that is kept.
 #[cycle(eval)]
 fn exists<'d>(
     alloc: Global,
@@ -165,9 +168,6 @@ fn exists<'d>(
 ) -> Result<bool, Memory>
     ensures { IfOk result (λ b. b ≡ has_rows (rows_of (select_view select.now) (world_of world.now) (names_of scope.now world.now))) }
 {
-    if let Some(has) = known_row(alloc, select, world, scope)? {
-        return Ok(has);
-    }
     match select {
         Select::Fold { .. } => Ok(true),
         Select::Rows {
