@@ -42,6 +42,7 @@ fn stored_rows<'d, T: Tables>(
 }
 
 // The tables of the catalog, each with its rows where the statement takes rows from it.
+#[tactic(auto, using(crate::proofs::Stored::table_at))]
 fn stored<'d, T: Tables>(
     alloc: Global,
     select: &Select,
