@@ -17,16 +17,18 @@ ghost use Rattle.hq_sql_rows.specs.Sources.{alias_in, rows_given};
 ghost use Rattle.hq_sql_rows.specs.View.{names_of, source_view, world_of};
 
 use hq_base::{Memory, Txt};
+use hq_index::Index;
 use hq_sql_closed::{Names, split};
-use hq_sql_scans::key_set::{has_row, key_set, key_set_of};
 use hq_sql_rows::known::known_of;
-use hq_sql_scans::links::links_of;
 use hq_sql_rows::pinned::{KeySet, Known, Pinned};
 use hq_sql_rows::scope::{Scope, Source, alias_of, count, row_at, source_of};
 use hq_sql_rows::stored::Stored;
+use hq_sql_scans::key_set::{has_row, key_set, key_set_of};
+use hq_sql_scans::links::links_of;
 use hq_sql_tree::{From, Join, JoinList, Pred, Select};
 use hq_sql_walk::{any_row, truth};
 use hq_tables::Rows;
+use hq_terms::ColId;
 use std::alloc::Global;
 
 // Whether a condition is true too, where others were before.
@@ -304,8 +306,31 @@ pub fn learned<'d>(
     }))
 }
 
+// Whether an index is over this one column.
+fn is_over(index: &Index, columns: &[ColId]) -> bool {
+    match (index.columns(), columns) {
+        ([own], [column]) => own.at() == column.at(),
+        _ => false,
+    }
+}
+
+// Whether an index over the rows finds what has a key in these columns.
+fn has_index(stored: &Stored<'_>, rows: &Rows, columns: &[ColId]) -> bool {
+    for index in rows.indexes() {
+        if is_over(index, columns) {
+            return true;
+        }
+    }
+    for index in &stored.more {
+        if is_over(index, columns) {
+            return true;
+        }
+    }
+    false
+}
+
 // The keys of a condition that is true exactly where this WHERE keeps one of these rows; None where it asks more of what is around them
-// than that columns equal it.
+// than that columns equal it, or an index finds the row that it asks for.
 fn keys_over<'d>(
     alloc: Global,
     pred: &'d Pred,
@@ -330,6 +355,9 @@ fn keys_over<'d>(
     let Some(links) = links_of(alloc, &rest, stored.table.columns.as_slice(), alias)? else {
         return Ok(None);
     };
+    if closed.is_empty() && has_index(stored, rows, &links.columns) {
+        return Ok(None);
+    }
     let truths = truths_over(alloc, Source::Stored(stored), alias, &closed, world)?;
     if truths.len() != rows.len() {
         return Ok(None);

@@ -128,11 +128,7 @@ fn learn<'d>(
 }
 
 // Learns of the WHERE of an EXISTS, where another one stands in it.
-fn learn_filter<'d>(
-    alloc: Global,
-    select: &'d Select,
-    world: &mut Pinned<'d>,
-) -> Result<(), Memory>
+fn learn_filter<'d>(alloc: Global, select: &'d Select, world: &mut Pinned<'d>) -> Result<(), Memory>
     ensures { world.new.tables ≡ world.old.tables }
 {
     let Select::Rows {
