@@ -24,11 +24,10 @@ use hq_sql_rows::pinned::{KeySet, Known, Pinned};
 use hq_sql_rows::scope::{Scope, Source, alias_of, count, row_at, source_of};
 use hq_sql_rows::stored::Stored;
 use hq_sql_scans::key_set::{has_row, key_set, key_set_of};
-use hq_sql_scans::links::links_of;
+use hq_sql_scans::links::{LinkList, links_of};
 use hq_sql_tree::{From, Join, JoinList, Pred, Select};
 use hq_sql_walk::{any_row, truth};
 use hq_tables::Rows;
-use hq_terms::ColId;
 use std::alloc::Global;
 
 // Whether a condition is true too, where others were before.
@@ -306,23 +305,23 @@ pub fn learned<'d>(
     }))
 }
 
-// Whether an index is over this one column.
-fn is_over(index: &Index, columns: &[ColId]) -> bool {
-    match (index.columns(), columns) {
+// Whether an index is over the one column of these links.
+fn is_over(index: &Index, links: &LinkList<'_>) -> bool {
+    match (index.columns(), links.columns.as_slice()) {
         ([own], [column]) => own.at() == column.at(),
         _ => false,
     }
 }
 
-// Whether an index over the rows finds what has a key in these columns.
-fn has_index(stored: &Stored<'_>, rows: &Rows, columns: &[ColId]) -> bool {
+// Whether an index over the rows finds those that have the key of these links.
+fn has_index(stored: &Stored<'_>, rows: &Rows, links: &LinkList<'_>) -> bool {
     for index in rows.indexes() {
-        if is_over(index, columns) {
+        if is_over(index, links) {
             return true;
         }
     }
     for index in &stored.more {
-        if is_over(index, columns) {
+        if is_over(index, links) {
             return true;
         }
     }
@@ -355,7 +354,7 @@ fn keys_over<'d>(
     let Some(links) = links_of(alloc, &rest, stored.table.columns.as_slice(), alias)? else {
         return Ok(None);
     };
-    if closed.is_empty() && has_index(stored, rows, &links.columns) {
+    if closed.is_empty() && has_index(stored, rows, &links) {
         return Ok(None);
     }
     let truths = truths_over(alloc, Source::Stored(stored), alias, &closed, world)?;

@@ -16,7 +16,7 @@ loop-position-preserved c =
     let lt : i < length before = omega (arith, c.loop-position-test.true) in
     let within : i < length rows = omega (arith, lt, c.requires.long) in
     let row : row_view c.row_at.result ≡ get_or rows i [] = c.row_at.ensures ∙ sym (row_in_is c.args.source i within) in
-    let told : c.in-Some.truth ≡ (get_or before i false && f (row_view c.row_at.result)) = rw c.in-Some.is at c.in_ok-keyed.ensures in
+    let told : c.in-Some.truth ≡ (get_or before i false && f (row_view c.row_at.result)) = rw c.in-Some.is at c.in_ok-truth.ensures in
     subst (λ l. l ≡ narrowed (take (i + 1) before) (take (i + 1) (map f rows))) (sym c.in_ok-push-in-Some.ensures.items)
     (narrowed_step f rows before c.loop-position.truths.items i c.in-Some.truth c.requires.long lt c.loop-position.invariant (told ∙ ap (λ r. get_or before i false && f r) row))
 
