@@ -392,12 +392,15 @@ fn keys_of<'d>(
     let Select::Rows {
         from,
         joins,
-        filter: Some(filter),
+        filter,
         limit: None,
         offset: None,
         ..
     } = select
     else {
+        return Ok(None);
+    };
+    let Some(filter) = filter else {
         return Ok(None);
     };
     let From::Table { alias, .. } = from else {
