@@ -12,6 +12,7 @@ use crate::scans::scan_from;
 use crate::values::{keys, values};
 use hq_base::{Memory, Txt};
 use hq_sql_cells::{Kept, paged};
+use hq_sql_constants::{sifted, with_places};
 use hq_sql_rows::cells::arranged;
 use hq_sql_rows::pinned::Pinned;
 use hq_sql_rows::place::{Place, with_more};
@@ -53,17 +54,26 @@ pub fn page<'s, 'd>(
     )?;
     let filter = parts.filter;
     match looked {
-        Looked::Arranged(at) => page_front(
-            alloc, source, alias, joins, stages, filter, at, limit, offset, world, scope,
-        ),
-        Looked::Unsorted(at) => match enough_sorted(parts.distinct, limit, offset) {
-            Some(bound) => page_top(
-                alloc, source, alias, joins, stages, parts, at, bound, limit, offset, world, scope,
-            ),
-            None => page_sorted(
-                alloc, source, alias, joins, stages, parts, at, limit, offset, world, scope,
-            ),
-        },
+        Looked::Arranged(all) => {
+            let left = sifted(alloc, source, alias, joins, filter, all)?;
+            let at = with_places(all, &left);
+            page_front(
+                alloc, source, alias, joins, stages, filter, at, limit, offset, world, scope,
+            )
+        }
+        Looked::Unsorted(all) => {
+            let left = sifted(alloc, source, alias, joins, filter, all)?;
+            let at = with_places(all, &left);
+            match enough_sorted(parts.distinct, limit, offset) {
+                Some(bound) => page_top(
+                    alloc, source, alias, joins, stages, parts, at, bound, limit, offset, world,
+                    scope,
+                ),
+                None => page_sorted(
+                    alloc, source, alias, joins, stages, parts, at, limit, offset, world, scope,
+                ),
+            }
+        }
     }
 }
 
@@ -76,7 +86,7 @@ fn page_front<'s, 'd>(
     joins: &'d [Join],
     stages: &[Stage],
     filter: &'d Option<Pred>,
-    positions: Positions<'d>,
+    positions: Positions<'_>,
     limit: Option<u64>,
     offset: Option<u64>,
     world: &Pinned<'d>,
@@ -102,7 +112,7 @@ fn page_top<'s, 'd>(
     joins: &'d [Join],
     stages: &[Stage],
     parts: Parts<'d>,
-    positions: Positions<'d>,
+    positions: Positions<'_>,
     bound: usize,
     limit: Option<u64>,
     offset: Option<u64>,
@@ -150,7 +160,7 @@ pub fn page_sorted<'s, 'd>(
     joins: &'d [Join],
     stages: &[Stage],
     parts: Parts<'d>,
-    positions: Positions<'d>,
+    positions: Positions<'_>,
     limit: Option<u64>,
     offset: Option<u64>,
     world: &Pinned<'d>,
