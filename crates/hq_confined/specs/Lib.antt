@@ -6,3 +6,4 @@ pub mod Uses
 pub mod Faults
 pub mod Ready
 pub mod Laws
+pub mod MeansLaws
