@@ -9,3 +9,4 @@ pub mod Places
 pub mod Steps
 mod Worked
 pub mod Together
+pub mod Permitting

@@ -33,7 +33,7 @@ pub use catalog::Catalog;
 pub use constant::{constant_in, read_as, read_operand, read_pattern, whole_value};
 pub use copy::{TryCopy, copy_list};
 pub use ids::{ColId, ColList, RelId, TableId, has_column};
-pub use laws::masks_add_no_fault;
+pub use laws::{masks_add_no_fault, permissions_fit};
 pub use meta::{
     Inherited, InheritedList, Meta, Pair, PairList, Perm, PermList, Rel, RelList, RootNames,
     Tracked, TrackedList, TxtList,
