@@ -14,7 +14,8 @@ ghost use Rattle.hq_bound.specs.Bound.{mask_due, of_table, bound_due, bounds_due
 use crate::fields::touched_tables;
 use hq_ask_tree::{AskFields, Bound, BoundList};
 use hq_base::List;
-use hq_terms::{Bexp, BindRefusal, Mask, MaskList, PermView, Role, Scope, Session, TableId};
+use hq_binding::bind;
+use hq_terms::{BindRefusal, Mask, MaskList, PermView, Role, Scope, Session, TableId};
 use std::alloc::Global;
 
 fn bound_mask(
@@ -26,9 +27,7 @@ fn bound_mask(
 ) -> Result<Mask, BindRefusal>
     ensures { Gives mask_view refusal.Memory (mask_due (mask_view mask.now) (scope_schema scope.now) session.now.vars t) result }
 {
-    let shown = mask
-        .shown
-        .bind(alloc, session, scope.catalog, scope.meta, t)?;
+    let shown = bind(alloc, &mask.shown, session, scope.catalog, scope.meta, t)?;
     Ok(Mask {
         col: mask.col,
         shown,
@@ -62,9 +61,7 @@ fn bound_permission(
 ) -> Result<Bound, BindRefusal>
     ensures { Gives bound_view refusal.Memory (mapped (of_table t) (bound_permission (permission_view view.now) (scope_schema scope.now) session.now.vars t)) result }
 {
-    let filter = view
-        .filter
-        .bind(alloc, session, scope.catalog, scope.meta, t)?;
+    let filter = bind(alloc, &view.filter, session, scope.catalog, scope.meta, t)?;
     let masks = bound_masks(alloc, scope, session, t, &view.masks)?;
     Ok(Bound {
         table: t,

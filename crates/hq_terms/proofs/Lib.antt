@@ -3,7 +3,6 @@ pub mod CellOrders
 mod Lists
 pub mod Joining
 pub mod Names
-pub mod ListsRead
 pub mod Fitting
 pub mod Places
 pub mod Steps

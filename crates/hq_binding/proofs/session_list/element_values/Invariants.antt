@@ -2,7 +2,7 @@ use Rattle.std.proofs.Common.{◌≡◌, ◌++◌, drop, map}
 use Rattle.std.specs.Prelude.{option_map}
 use Rattle.hq_terms.specs.SessionLists.{element_values}
 use Rattle.hq_terms.specs.declared.bexp.Operand.TheVariants.{Const}
-use Rattle.hq_terms.proofs.session_list.element_values.Given as goal
+use Rattle.hq_binding.proofs.session_list.element_values.Given as goal
 
 -- the values so far stand before those of the rest
 abbrev pub invariant-loop-element : goal.invariant-loop-element

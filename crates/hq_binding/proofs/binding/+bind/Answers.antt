@@ -8,7 +8,7 @@ use Rattle.hq_terms.specs.declared.bexp.Bexp.{Bexp}
 use Rattle.hq_terms.specs.declared.bind.BindRefusal.{BindRefusal}
 use Rattle.hq_terms.specs.declared.bind.BindRefusal.TheVariants.{Memory}
 use Rattle.hq_terms.proofs.Steps.{read_more, read_refused}
-use Rattle.hq_terms.proofs.binding.+bind.Goals as goal
+use Rattle.hq_binding.proofs.binding.+bind.Goals as goal
 
 -- an item is bound, and the loop goes on behind it
 pub bind_bexps-loop-bexp-preserved : goal.bind_bexps-loop-bexp-preserved

@@ -1,9 +1,9 @@
 -- How a session list is read byte by byte.
 use Rattle.std.specs.Prelude.{◌≡◌, ℕ, List, [], ◌∷◌, ◌++◌, Option, Some, None, option_map}
 use Rattle.hq_terms.specs.SessionLists.{elements_from}
-use Rattle.hq_terms.specs.declared.session_list.Next.{Next}
-use Rattle.hq_terms.specs.declared.session_list.Next.TheVariants.{On, Over, Wrong}
-use Rattle.hq_terms.specs.declared.session_list.Reader.{Reader}
+use Rattle.hq_binding.specs.declared.session_list.Next.{Next}
+use Rattle.hq_binding.specs.declared.session_list.Next.TheVariants.{On, Over, Wrong}
+use Rattle.hq_binding.specs.declared.session_list.Reader.{Reader}
 
 -- the elements of a list whose front a reader has read and of which this is left
 abbrev pub read_on : Reader → List ℕ → Option (List (List ℕ))

@@ -6,14 +6,14 @@ use Rattle.hq_base.proofs.Loops.{next_item}
 use Rattle.hq_base.specs.declared.value.Ty.{Ty}
 use Rattle.hq_base.specs.declared.value.Val.{Val}
 use Rattle.hq_terms.specs.SessionLists.{elements_from, element_value, element_values}
-use Rattle.hq_terms.specs.SessionReading.{read_on, if_over, Follows}
+use Rattle.hq_binding.specs.SessionReading.{read_on, if_over, Follows}
 use Rattle.hq_terms.specs.Tests.{Test}
 use Rattle.hq_terms.specs.declared.bexp.Operand.{Operand}
 use Rattle.hq_terms.specs.declared.bexp.Operand.TheVariants.{Const}
-use Rattle.hq_terms.specs.declared.session_list.Next.{Next}
-use Rattle.hq_terms.specs.declared.session_list.Next.TheVariants.{On, Over, Wrong}
+use Rattle.hq_binding.specs.declared.session_list.Next.{Next}
+use Rattle.hq_binding.specs.declared.session_list.Next.TheVariants.{On, Over, Wrong}
 use Rattle.hq_terms.specs.declared.session_list.Place.TheVariants.{Before}
-use Rattle.hq_terms.specs.declared.session_list.Reader.{Reader}
+use Rattle.hq_binding.specs.declared.session_list.Reader.{Reader}
 
 -- nothing before a list leaves it as it is
 pub mapped_itself : {A : Type 0} (o : Option (List A)) → option_map (λ xs. [] ++ xs) o ≡ o

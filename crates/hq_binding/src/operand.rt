@@ -4,11 +4,11 @@ ghost use Rattle.hq_terms.specs.Binding.{variable, constant, constants_of, bound
 ghost use Rattle.hq_terms.specs.Tests.{reads};
 ghost use Rattle.hq_terms.specs.declared.bind.BindRefusal.TheVariants as refusal;
 
-use crate::constant::read_operand;
-use crate::copy::TryCopy;
 use crate::session_list::{list_want, listed_values};
-use crate::{BindRefusal, Operand, OperandList, Operands, Session, Test, Want};
 use hq_base::{List, Txt, Ty};
+use hq_terms::{
+    BindRefusal, Operand, OperandList, Operands, Session, Test, TryCopy, Want, read_operand,
+};
 use std::alloc::Global;
 
 // The refusal of a variable whose text is not what is wanted.

@@ -8,25 +8,23 @@ ghost use Rattle.hq_terms.specs.Scope.{scope_schema};
 ghost use Rattle.hq_terms.specs.declared.bind.BindRefusal.TheVariants as refusal;
 
 use crate::operand::bind_operands;
-use crate::{Bexp, BexpList, BindRefusal, Catalog, Meta, Scope, Session, TableId};
+use hq_terms::{Bexp, BexpList, BindRefusal, Catalog, Meta, Scope, Session, TableId};
 use std::alloc::Global;
 
-impl Bexp {
-    /// The expression over the table `t` for a session: each session name replaced by the session's text, read as the
-    /// column's type (Hasura, session variables). At the first operand from the left without a value: NoVariable where
-    /// the session lacks the name, BadVariable where its text cannot be read.
-    pub fn bind(
-        &self,
-        alloc: Global,
-        session: &Session,
-        catalog: &Catalog,
-        meta: &Meta,
-        t: TableId,
-    ) -> Result<Bexp, BindRefusal>
-        ensures { Gives bexp_view refusal.Memory (bound (bexp_view self.now) (schema_of catalog.now.tables (meta_view meta.now)) session.now.vars t) result }
-    {
-        bind_bexp(alloc, session, &Scope { catalog, meta }, t, self)
-    }
+/// The expression over the table `t` for a session: each session name replaced by the session's text, read as the
+/// column's type, or in place of a list by what it lists (Hasura, session variables). At the first operand from the left without a
+/// value: NoVariable where the session lacks the name, BadVariable where its text cannot be read.
+pub fn bind(
+    alloc: Global,
+    bexp: &Bexp,
+    session: &Session,
+    catalog: &Catalog,
+    meta: &Meta,
+    t: TableId,
+) -> Result<Bexp, BindRefusal>
+    ensures { Gives bexp_view refusal.Memory (bound (bexp_view bexp.now) (schema_of catalog.now.tables (meta_view meta.now)) session.now.vars t) result }
+{
+    bind_bexp(alloc, session, &Scope { catalog, meta }, t, bexp)
 }
 
 #[cycle(bind)]

@@ -3,7 +3,7 @@ use Rattle.hq_base.specs.Due.{mapped}
 use Rattle.hq_terms.specs.Bexp.{bexp_view, bexps_of}
 use Rattle.hq_terms.specs.Binding.{bound_all}
 use Rattle.hq_terms.specs.Scope.{scope_schema}
-use Rattle.hq_terms.proofs.binding.+bind.Given as goal
+use Rattle.hq_binding.proofs.binding.+bind.Given as goal
 
 abbrev pub invariant-bind_bexps-loop-bexp : goal.invariant-bind_bexps-loop-bexp
 invariant-bind_bexps-loop-bexp l =

@@ -1,7 +1,7 @@
 use Rattle.std.proofs.Common.{◌∙◌, ap, sym}
 use Rattle.hq_terms.specs.SessionLists.{element_value}
-use Rattle.hq_terms.proofs.ListsRead.{values_end, values_more, values_all}
-use Rattle.hq_terms.proofs.session_list.element_values.Goals as goal
+use Rattle.hq_binding.proofs.ListsRead.{values_end, values_more, values_all}
+use Rattle.hq_binding.proofs.session_list.element_values.Goals as goal
 
 -- an element that is no value
 pub returns-in_default : goal.returns-in_default

@@ -2,7 +2,7 @@ use Rattle.std.proofs.Common.{◌≡◌, ◌++◌, drop}
 use Rattle.hq_base.specs.Due.{mapped}
 use Rattle.hq_terms.specs.Binding.{bound_each}
 use Rattle.hq_terms.specs.Tests.{reads}
-use Rattle.hq_terms.proofs.operand.bind_each.Given as goal
+use Rattle.hq_binding.proofs.operand.bind_each.Given as goal
 
 abbrev pub invariant-loop-operand : goal.invariant-loop-operand
 invariant-loop-operand l =

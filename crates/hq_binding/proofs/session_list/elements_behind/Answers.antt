@@ -1,7 +1,7 @@
 use Rattle.std.proofs.Common.{◌∙◌}
-use Rattle.hq_terms.proofs.ListsRead.{reads_first, reads_on, reads_last, reads_more, reads_wrong}
-use Rattle.hq_terms.proofs.session_list.elements_behind.Goals as goal
-use Rattle.hq_terms.proofs.session_list.elements_behind.Goals.{then-at-bytes, else-at-bytes}
+use Rattle.hq_binding.proofs.ListsRead.{reads_first, reads_on, reads_last, reads_more, reads_wrong}
+use Rattle.hq_binding.proofs.session_list.elements_behind.Goals as goal
+use Rattle.hq_binding.proofs.session_list.elements_behind.Goals.{then-at-bytes, else-at-bytes}
 
 -- nothing is read
 pub loop-at-init : goal.loop-at-init

@@ -2,7 +2,7 @@ use Rattle.std.proofs.Common.{refl}
 use Rattle.hq_terms.specs.Binding.{bound_operand, bound_each}
 use Rattle.hq_terms.specs.Tests.{reads}
 use Rattle.hq_terms.proofs.Steps.{read_more}
-use Rattle.hq_terms.proofs.operand.bind_each.Goals as goal
+use Rattle.hq_binding.proofs.operand.bind_each.Goals as goal
 
 -- an operand is bound, and the loop goes on behind it
 pub loop-operand-preserved : goal.loop-operand-preserved
