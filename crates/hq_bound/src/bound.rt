@@ -15,7 +15,7 @@ use crate::fields::touched_tables;
 use hq_ask_tree::{AskFields, Bound, BoundList};
 use hq_base::List;
 use hq_binding::bind;
-use hq_terms::{BindRefusal, Mask, MaskList, PermView, Role, Scope, Session, TableId};
+use hq_terms::{Bexp, BindRefusal, Mask, MaskList, PermView, Role, Scope, Session, TableId};
 use std::alloc::Global;
 
 fn bound_mask(
