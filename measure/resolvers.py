@@ -44,6 +44,36 @@ def entries_of(metadata):
     return (metadata if metadata["version"] == 2 else metadata["sources"][0])["tables"]
 
 
+def sets_of(metadata):
+    """The inherited roles of an export, each with its set."""
+    metadata = metadata.get("metadata", metadata)
+    return {i["role_name"]: i["role_set"] for i in metadata.get("inherited_roles", [])}
+
+
+def is_free_name(name):
+    return re.fullmatch("[A-Za-z_][A-Za-z_0-9]*", name) is not None and not name.startswith("__")
+
+
+def combined(columns, permissions):
+    """What several permissions on a table permit together; `masks` has for a column that one of them lacks when its cells are shown."""
+    either = lambda ps: ps[0]["filter"] if len(ps) == 1 else {"_or": [p["filter"] for p in ps]}
+    shown = [c for c in columns if any(c in p["columns"] for p in permissions)]
+    limits = [p.get("limit") for p in permissions]
+    return {"columns": shown, "filter": either(permissions), "limit": None if None in limits else max(limits),
+            "allow_aggregations": any(p.get("allow_aggregations") for p in permissions),
+            "masks": {c: either([p for p in permissions if c in p["columns"]]) for c in shown if any(c not in p["columns"] for p in permissions)}}
+
+
+def inherit(model, sets):
+    """Gives each role of `sets` that has no permission on a table what the roles of its set have together, each counted once."""
+    for t in model:
+        own = dict(t.perms)
+        for role, roles in sets.items():
+            permissions = [own[r] for r in dict.fromkeys(roles) if r in own]
+            if permissions and role not in own:
+                t.perms[role] = combined(t.kinds, permissions)
+
+
 def pairs_of(t, by_key, using):
     """The remote table of a relationship and the pairs of columns that link."""
     if "manual_configuration" in using:
@@ -60,7 +90,8 @@ def pairs_of(t, by_key, using):
 def read_model(directory):
     """The tracked tables of a directory, whose metadata has the forms that the examples have."""
     catalog = {table_key(t): t for t in json.load(open(f"{directory}/catalog.json", encoding="utf-8"))["tables"]}
-    entries = entries_of(json.load(open(f"{directory}/metadata.json", encoding="utf-8")))
+    metadata = json.load(open(f"{directory}/metadata.json", encoding="utf-8"))
+    entries = entries_of(metadata)
     model = [Table(at, catalog[table_key(e["table"])]) for at, e in enumerate(entries)]
     by_key = {table_key(t.catalog): t for t in model}
     for t, entry in zip(model, entries):
@@ -74,7 +105,10 @@ def read_model(directory):
                 t.rels[r["name"]] = (kind, *pairs_of(t, by_key, r["using"]), r["using"])
         for p in entry.get("select_permissions", []):
             given = p["permission"]["columns"]
-            t.perms[p["role"]] = {**p["permission"], "columns": [c for c in t.kinds if given == "*" or c in given]}
+            columns = [c for c in t.kinds if (given == "*" or c in given) and is_free_name(t.names[c])]
+            if columns:
+                t.perms[p["role"]] = {**p["permission"], "columns": columns}
+    inherit(model, sets_of(metadata))
     return model
 
 
@@ -161,7 +195,7 @@ class World:
     """A database as the session of `role` and `variables` sees it; the names of variables are in small letters."""
 
     def __init__(self, model, rows, role, variables):
-        self.model, self.role, self.variables, self.views, self.links = model, role, variables, {}, {}
+        self.model, self.role, self.variables, self.views, self.links, self.shows = model, role, variables, {}, {}, {}
         self.rows = [sorted(of, key=lambda r, t=t: [order_of(r[k]) for k in t.catalog["primary_key"]]) for t, of in zip(model, rows)]
 
     def permitted(self, t):
@@ -170,6 +204,16 @@ class World:
             allows = lambda r: self.role == "admin" or self.holds(t, r, t.perms[self.role]["filter"], True) is True
             self.views[t.at] = [r for r in self.rows[t.at] if allows(r)] if sees(t, self.role) else []
         return self.views[t.at]
+
+    def cell(self, t, row, column):
+        """The cell of a permitted row as the session sees it: None where its column is masked and the mask is not true."""
+        mask = t.perms[self.role].get("masks", {}).get(column) if self.role != "admin" else None
+        if mask is None:
+            return row[column]
+        at = (t.at, id(row), column)
+        if at not in self.shows:
+            self.shows[at] = self.holds(t, row, mask, True) is True
+        return row[column] if self.shows[at] else None
 
     def related(self, rel, row, all_rows):
         """The rows that a relationship links to a row: of all rows, or of those that the session may see."""
@@ -194,7 +238,7 @@ class World:
         return listed(self.variables[value.lower()]) if in_filter and isinstance(value, str) else value
 
     def test(self, t, row, column, op, value, in_filter):
-        kind, cell = t.kinds[column], row[column]
+        kind, cell = t.kinds[column], row[column] if in_filter else self.cell(t, row, column)
         if in_filter and op in COLUMN_OPERATORS:
             return None if None in (cell, row[value]) else compares(COLUMN_OPERATORS[op], compare(cell, row[value]))
         if op == "_is_null":
@@ -236,7 +280,7 @@ class World:
             if not of:
                 return None
             t, row = t.rels[name][1], of[0]
-        return row[column]
+        return self.cell(t, row, column)
 
     def selected(self, t, rows, args, limited):
         rows = [r for r in rows if self.holds(t, r, args.get("where", {}), False) is True]
@@ -256,7 +300,7 @@ class World:
         if args.get("distinct"):
             seen, kept = set(), []
             for r in rows:
-                group = tuple(r[c] for c in args["distinct"])
+                group = tuple(self.cell(t, r, c) for c in args["distinct"])
                 if group not in seen:
                     seen.add(group)
                     kept.append(r)
@@ -271,7 +315,7 @@ class World:
         out = {}
         for key, kind, *rest in fields:
             if kind == "column":
-                out[key] = row[rest[0]]
+                out[key] = self.cell(t, row, rest[0])
             elif kind == "typename":
                 out[key] = t.name
             elif kind == "object":
@@ -302,13 +346,13 @@ class World:
             return f"{t.name}_aggregate_fields"
         if kind == "count":
             column, distinct = rest
-            cells = [r[column] for r in rows] if column else rows
+            cells = [self.cell(t, r, column) for r in rows] if column else rows
             if column:
                 cells = [c for c in cells if c is not None]
                 cells = set(cells) if distinct else cells
             return len(cells)
         out = {}
         for key, column in rest[0]:
-            cells = [r[column] for r in rows if r[column] is not None]
+            cells = [c for c in (self.cell(t, r, column) for r in rows) if c is not None]
             out[key] = None if not cells else sum(cells) if kind == "sum" else (min if kind == "min" else max)(cells, key=order_of)
         return out

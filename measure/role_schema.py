@@ -8,7 +8,7 @@ import json
 
 from graphql import build_schema
 
-from resolvers import entries_of
+from resolvers import combined, entries_of, is_free_name, sets_of
 
 SCALARS = {"integer": "Int", "bigint": "bigint", "text": "String", "boolean": "Boolean"}
 ANY_OPERATORS = ["_eq", "_gt", "_gte", "_in", "_is_null", "_lt", "_lte", "_neq", "_nin"]
@@ -24,7 +24,7 @@ def table_key(table):
 class Table:
     """A tracked table with its names, as one role sees it."""
 
-    def __init__(self, entry, catalog, role):
+    def __init__(self, entry, catalog, role, sets):
         self.key = table_key(entry["table"])
         self.catalog = catalog[self.key]
         configuration = entry.get("configuration") or {}
@@ -33,7 +33,7 @@ class Table:
         self.roots = self.root_names(configuration.get("custom_root_fields") or {})
         self.column_names = self.names_of_columns(configuration)
         self.relationships = self.relations(entry)
-        self.seen, self.aggregates, self.columns = self.permission(entry, role)
+        self.seen, self.aggregates, self.columns, self.masked = self.permission(entry, role, sets)
 
     def root_names(self, given):
         def root(name, derived):
@@ -53,23 +53,22 @@ class Table:
         own = [(r, False) for r in entry.get("object_relationships", [])]
         return own + [(r, True) for r in entry.get("array_relationships", [])]
 
-    def permission(self, entry, role):
-        every = [c["name"] for c in self.catalog["columns"]]
+    def permission(self, entry, role, sets):
+        """Whether the role sees the table, whether it may aggregate it, its columns, and those that show at some rows only."""
+        every = [c["name"] for c in self.catalog["columns"] if is_free_name(self.column_names[c["name"]])]
         if role == "admin":
-            return True, True, self.named(every)
-        for given in entry.get("select_permissions", []):
-            if given["role"] == role:
-                permission = given["permission"]
-                columns = every if permission["columns"] == "*" else [c for c in every if c in permission["columns"]]
-                return True, permission.get("allow_aggregations", False), self.named(columns)
-        return False, False, []
+            return True, True, every, []
+        own = {p["role"]: self.own(every, p["permission"]) for p in entry.get("select_permissions", [])}
+        given = [own[r] for r in ([role] if own.get(role) else dict.fromkeys(sets.get(role, []))) if own.get(r)]
+        if not given:
+            return False, False, [], []
+        together = combined(every, given)
+        return True, together["allow_aggregations"], together["columns"], list(together["masks"])
 
-    def named(self, columns):
-        """The columns whose name is one of GraphQL and does not begin with two underscores."""
-        def fits(name):
-            plain = name.replace("_", "a")
-            return plain.isascii() and plain.isalnum() and not plain[0].isdigit() and not name.startswith("__")
-        return [c for c in columns if fits(self.column_names[c])]
+    def own(self, every, permission):
+        """A permission with the columns that have a name of GraphQL; none where no column has."""
+        columns = [c for c in every if permission["columns"] == "*" or c in permission["columns"]]
+        return {**permission, "columns": columns} if columns else None
 
     def column(self, name):
         return next(c for c in self.catalog["columns"] if c["name"] == name)
@@ -78,7 +77,7 @@ class Table:
         return SCALARS[self.column(name)["type"]]
 
     def is_nullable(self, name):
-        return self.column(name).get("nullable", True) and name not in self.catalog["primary_key"]
+        return name in self.masked or self.column(name).get("nullable", True) and name not in self.catalog["primary_key"]
 
     def remote(self, relationship):
         using = relationship["using"]
@@ -155,9 +154,10 @@ def root_fields(table):
 def due_schema(directory, role):
     """The schema of a role, written in GraphQL's own language."""
     catalog = json.loads((directory / "catalog.json").read_text())
-    entries = entries_of(json.loads((directory / "metadata.json").read_text()))
+    metadata = json.loads((directory / "metadata.json").read_text())
+    entries = entries_of(metadata)
     by_key = {(t["schema"], t["name"]): t for t in catalog["tables"]}
-    tables = [Table(e, by_key, role) for e in entries]
+    tables = [Table(e, by_key, role, sets_of(metadata)) for e in entries]
     seen = {t.key: t for t in tables if t.seen}
     roots = [f for t in seen.values() for f in root_fields(t)] or ["no_queries_available: String!"]
     parts = ["schema { query: query_root }", "scalar bigint", block("enum", "order_by", DIRECTIONS)]

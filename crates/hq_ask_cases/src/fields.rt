@@ -7,7 +7,7 @@ use hq_ask_tree::{
 };
 use hq_base::{Txt, Val};
 use hq_case::{Words, push_bexp, push_value};
-use hq_terms::{ColId, RelId, TableId};
+use hq_terms::{Bexp, ColId, RelId, TableId};
 
 // The key of the field at a place, behind what parts it from the one before.
 fn push_key(at: usize, key: &Txt, words: &mut Words) {
@@ -181,16 +181,28 @@ fn push_parts(parts: &AggParts, words: &mut Words) {
     words.push("}");
 }
 
-fn push_bound(bound: &[Bound], words: &mut Words) {
-    for one in bound {
-        push_at("; t", one.table.at(), words);
-        words.push(" where ");
-        push_bexp(&one.filter, words);
+// Adds the rows at which a place has something to show.
+fn push_shown(kind: &str, place: usize, shown: &Bexp, words: &mut Words) {
+    push_at(kind, place, words);
+    words.push(" where ");
+    push_bexp(shown, words);
+}
+
+fn push_bound(one: &Bound, words: &mut Words) {
+    push_shown("; t", one.table.at(), &one.filter, words);
+    for mask in &one.masks {
+        push_shown(", c", mask.col.at(), &mask.shown, words);
     }
 }
 
-/// Adds a typed request: its fields, and each touched table with its bound filter.
+fn push_all_bound(bound: &[Bound], words: &mut Words) {
+    for one in bound {
+        push_bound(one, words);
+    }
+}
+
+/// Adds a typed request: its fields, and each touched table with its bound filter and masks.
 pub fn push_ask(ask: &Ask, words: &mut Words) {
     push_fields("{", &ask.fields, words);
-    push_bound(ask.bound.as_slice(), words);
+    push_all_bound(ask.bound.as_slice(), words);
 }

@@ -1,22 +1,17 @@
 -- What a role may use is there, where the metadata fits the catalog.
-use Rattle.std.proofs.Common.{◌≡◌, ℕ, suc, zero, ◌+◌, ◌<◌, List, [], ◌∷◌, length, filter, find, Bool, true, false, cond, ◌==◌, ◌&&◌, nat_lt, Option, Some, None, is_some, refl, sym, ap, subst, ◌∙◌, arith}
+use Rattle.std.proofs.Common.{◌≡◌, ℕ, suc, zero, List, [], ◌∷◌, length, find, Bool, true, false, cond, ◌==◌, ◌&&◌, nat_lt, Option, Some, None, is_some, refl, sym, ap, subst, ◌∙◌}
 use Rattle.std.specs.List.{list_any, list_all}
-use Rattle.std.specs.Prelude.{bytes_eq, option_map, option_and_then, slice_get, slice_index_or, unwrap_or}
-use Rattle.std.proofs.lemmas.Bool.{and_parts, eqb-true, false≢true}
-use Rattle.std.proofs.lemmas.Option.{slice_get-get_or, get_or_from_slice_get}
-use Rattle.hq_base.specs.Lists.{Each}
-use Rattle.hq_base.proofs.Lists.{each_weaken}
-use Rattle.hq_terms.specs.Bexp.{always}
+use Rattle.std.specs.Prelude.{option_map, slice_get, slice_index_or, unwrap_or}
+use Rattle.std.proofs.lemmas.Bool.{and_parts, eqb-true, false≢true, lt-ltb}
+use Rattle.std.proofs.lemmas.Option.{get_or_from_slice_get}
 use Rattle.hq_terms.specs.Filters.{column_ty}
 use Rattle.hq_terms.specs.Fits.{fits, fits_rel, fits_tracked}
-use Rattle.hq_terms.specs.Meta.{MetaTree, TrackedTree, PermTree, tracked_table}
-use Rattle.hq_terms.specs.Names.{is_free_name}
-use Rattle.hq_terms.specs.Permission.{Permission, permission_in, with_columns, told_permission, own_permission, permissions_of, either, permits, filters_of, limit_of, some_aggregate, masks_for, columns_of_any, combined, set_of, or_inherited, named_from, named_columns}
-use Rattle.hq_terms.specs.Schema.{Schema, schema_of, table, rel, no_rel, no_column}
-use Rattle.hq_terms.specs.declared.meta.Inherited.{Inherited}
+use Rattle.hq_terms.specs.Laws.{HasColumn, PermissionsFit}
+use Rattle.hq_terms.specs.Meta.{MetaTree, TrackedTree, tracked_table}
+use Rattle.hq_terms.specs.Permission.{Permission, permission}
+use Rattle.hq_terms.specs.Schema.{Schema, schema_of, table, rel, no_rel}
 use Rattle.hq_terms.specs.declared.meta.Rel.{Rel}
 use Rattle.hq_terms.specs.declared.role.Role.{Role}
-use Rattle.hq_terms.specs.declared.role.Role.TheVariants.{Admin, Named}
 use Rattle.hq_terms.specs.declared.table.Table.{Table}
 use Rattle.hq_terms.proofs.Places.{table_present, table_absent}
 use Rattle.hq_ask_tree.specs.Allowed.{allowed_to, existing, permitted_columns}
@@ -41,57 +36,6 @@ all_at q (y ∷ ys) (suc i) x all is = all_at q ys i x (and_parts (q y) (list_al
 true_both : {a b : Bool} → a ≡ true → b ≡ true → (a && b) ≡ true
 true_both g h = rw (g, h) refl
 
-each_filter : {A : Type 0} (P : A → Type 0) (p : A → Bool) (xs : List A) → Each P xs → Each P (filter p xs)
-each_filter P p [] h = tt
-each_filter P p (x ∷ xs) h =
-    let later = each_filter P p xs h.1 in
-    let by : (b : Bool) → Each P (cond b (x ∷ filter p xs) (filter p xs)) = elim [ true ↦ (h.0, later) | false ↦ later ] in
-    by (p x)
-
--- ---- columns
-
--- a column that may stand in a schema has a name
-named_within : (k : ℕ) (ns : List (List ℕ)) → Each (λ c. c < k + length ns) (named_from k ns)
-named_within k [] = tt
-named_within k (n ∷ ns) =
-    let later : Each (λ c. c < k + length (n ∷ ns)) (named_from (suc k) ns) =
-    each_weaken (λ c. c < suc k + length ns) (λ c. c < k + length (n ∷ ns)) (λ c h. omega arith) (named_from (suc k) ns) (named_within (suc k) ns) in
-    let here : k < k + length (n ∷ ns) = omega arith in
-    let by : (b : Bool) → Each (λ c. c < k + length (n ∷ ns)) (cond b (k ∷ named_from (suc k) ns) (named_from (suc k) ns)) = elim [ true ↦ (here, later) | false ↦ later ] in
-    by (is_free_name n)
-
-abbrev Within : TrackedTree → ℕ → Type 0
-Within k c = c < length k.column_names
-
-all_within : (k : TrackedTree) → Each (Within k) (named_columns k)
-all_within k = each_weaken (λ c. c < 0 + length k.column_names) (Within k) (λ c h. omega arith) (named_columns k) (named_within 0 k.column_names)
-
-with_within : (k : TrackedTree) (p : Permission) (cs : List ℕ) → Each (Within k) cs → Each (Within k) (permitted_columns (with_columns p cs))
-with_within k p [] h = tt
-with_within k p (c ∷ cs) h = h
-
-told_within : (k : TrackedTree) (o : Option PermTree) → Each (Within k) (permitted_columns (option_and_then (told_permission k) o))
-told_within k None = tt
-told_within k (Some p) = with_within k (record { columns = []; filter = p.filter; limit = p.limit; aggregations = p.aggregations; masks = [] }) _ (each_filter (Within k) (λ c. list_any (λ d. d == c) p.cols) (named_columns k) (all_within k))
-
-combined_within : (k : TrackedTree) (ps : List Permission) → Each (Within k) (permitted_columns (combined k ps))
-combined_within k ps =
-    with_within k (record {
-      columns = [];
-      filter = either (filters_of ps);
-      limit = limit_of ps;
-      aggregations = some_aggregate ps;
-      masks = masks_for ps (columns_of_any k ps);
-    }) _ (each_filter (Within k) (λ c. list_any (permits c) ps) (named_columns k) (all_within k))
-
-inherited_within : (o : Option Permission) (k : TrackedTree) (rs : List (List ℕ)) → Each (Within k) (permitted_columns o) → Each (Within k) (permitted_columns (or_inherited o k rs))
-inherited_within None k rs h = combined_within k (permissions_of k rs)
-inherited_within (Some p) k rs h = h
-
-permitted_within : (role : Role) (is : List Inherited) (k : TrackedTree) → Each (Within k) (permitted_columns (permission_in role is k))
-permitted_within Admin is k = with_within k (record { columns = []; filter = always; limit = None; aggregations = true; masks = [] }) _ (all_within k)
-permitted_within (Named name) is k = inherited_within (own_permission k name) k (set_of is name) (told_within k (find (λ p. bytes_eq p.role name) k.perms))
-
 -- ---- what fits
 
 module _ (tables : List Table) (m : MetaTree) (fit : fits tables m ≡ true) where
@@ -104,36 +48,24 @@ module _ (tables : List Table) (m : MetaTree) (fit : fits tables m ≡ true) whe
       let both = found (λ j. j.table == t) (fits_tracked s m) m.tracked k all is in
       (eqb-true k.table t both.0, both.1)
 
-  -- of an entry that fits: its table is in the catalog, it has a name for each column, and its relationships fit
-  parts : (k : TrackedTree) → fits_tracked s m k ≡ true → (nat_lt k.table (length s) ≡ true) × ((length k.column_names == length (table s k.table).columns) ≡ true) × (list_all (fits_rel s m k.table) k.rels ≡ true)
-  parts k h =
-      let rels = and_parts _ _ (and_parts _ _ (and_parts _ _ (and_parts _ _ h).0).0).0 in
-      let names = and_parts _ _ (and_parts _ _ rels.0).0 in
-      ((and_parts _ _ names.0).0, names.1, rels.1)
+  -- the relationships of an entry that fits
+  rels_of : (k : TrackedTree) → fits_tracked s m k ≡ true → list_all (fits_rel s m k.table) k.rels ≡ true
+  rels_of k h = (and_parts _ _ (and_parts _ _ (and_parts _ _ (and_parts _ _ h).0).0).0).1
 
-  column_there : (role : Role) (t c : ℕ) → (allowed_to role m s).column t c ≡ true → (existing m s).column t c ≡ true
-  column_there role t c h =
-      let columns : Option TrackedTree → List ℕ = λ o. permitted_columns (option_and_then (permission_in role m.inherited) o) in
-      let by : (o : Option TrackedTree) → tracked_table m t ≡ o → list_any (λ d. d == c) (columns o) ≡ true → is_some (column_ty s t c) ≡ true =
-      elim [
-        | None ↦ λ is g. absurd (false≢true g)
-        | Some k ↦ λ is g.
-            let e = entry t k is in
-            let p = parts k e.1 in
-            let short : c < length k.column_names = holds_among (Within k) (permitted_columns (permission_in role m.inherited k)) c (permitted_within role m.inherited k) g in
-            let long : length k.column_names ≡ length (table s k.table).columns = eqb-true _ _ p.1 in
-            let within : c < length (table s k.table).columns = omega arith in
-            subst (λ u. is_some (column_ty s u c) ≡ true) e.0 (ap (λ o. is_some (option_map (λ d. d.ty) o)) (slice_get-get_or (table s k.table).columns c no_column within))
-      ] in
-      by (tracked_table m t) refl h
+  -- ---- what a role may see
 
-  -- ---- tables
+  module _ (role : Role) (permitted : (t : ℕ) → PermissionsFit tables m role t) where
+    column_there : (t c : ℕ) → (allowed_to role m s).column t c ≡ true → (existing m s).column t c ≡ true
+    column_there t c h =
+        let by : (o : Option Permission) → permission role m t ≡ o → list_any (λ d. d == c) (permitted_columns o) ≡ true → is_some (column_ty s t c) ≡ true =
+        elim [ None ↦ λ is g. absurd (false≢true g) | Some p ↦ λ is g. holds_among (HasColumn s t) p.columns c (permitted t fit p is).columns g ] in
+        by (permission role m t) refl h
 
-  rows_there : (role : Role) (t : ℕ) → (allowed_to role m s).rows t ≡ true → (existing m s).rows t ≡ true
-  rows_there role t h =
-      let by : (o : Option TrackedTree) → tracked_table m t ≡ o → is_some (option_and_then (permission_in role m.inherited) o) ≡ true → nat_lt t (length s) ≡ true =
-      elim [ None ↦ λ is g. absurd (false≢true g) | Some k ↦ λ is g. let e = entry t k is in subst (λ u. nat_lt u (length s) ≡ true) e.0 (parts k e.1).0 ] in
-      by (tracked_table m t) refl h
+    rows_there : (t : ℕ) → (allowed_to role m s).rows t ≡ true → (existing m s).rows t ≡ true
+    rows_there t h =
+        let by : (o : Option Permission) → permission role m t ≡ o → is_some o ≡ true → nat_lt t (length s) ≡ true =
+        elim [ None ↦ λ is g. absurd (false≢true g) | Some p ↦ λ is g. lt-ltb t (length s) (permitted t fit p is).there ] in
+        by (permission role m t) refl h
 
   -- ---- relationships
 
@@ -149,7 +81,7 @@ module _ (tables : List Table) (m : MetaTree) (fit : fits tables m ≡ true) whe
               | None ↦ λ at g. absurd (false≢true g)
               | Some q ↦ λ at g.
                   let same : rel s t r ≡ q = ap (λ l. slice_index_or l r no_rel) e ∙ get_or_from_slice_get k.rels r q no_rel at in
-                  subst (λ z. fits_rel s m t z ≡ true) (sym same) (subst (λ u. fits_rel s m u q ≡ true) f.0 (all_at (fits_rel s m k.table) k.rels r q (parts k f.1).2 at))
+                  subst (λ z. fits_rel s m t z ≡ true) (sym same) (subst (λ u. fits_rel s m u q ≡ true) f.0 (all_at (fits_rel s m k.table) k.rels r q (rels_of k f.1) at))
             ] in
             there (slice_get k.rels r) refl (sym (ap (λ l. is_some (slice_get l r)) e) ∙ h)
       ] in
@@ -160,10 +92,11 @@ module _ (tables : List Table) (m : MetaTree) (fit : fits tables m ≡ true) whe
       ] in
       by (slice_get tables t) refl
 
-  relationship_there : (role : Role) (t r : ℕ) → (allowed_to role m s).relationship t r ≡ true → (existing m s).relationship t r ≡ true
-  relationship_there role t r h =
-      let both = and_parts _ _ h in
-      true_both (rel_fits t r both.0) (rows_there role (rel s t r).remote both.1)
+  module _ (role : Role) (permitted : (t : ℕ) → PermissionsFit tables m role t) where
+    relationship_there : (t r : ℕ) → (allowed_to role m s).relationship t r ≡ true → (existing m s).relationship t r ≡ true
+    relationship_there t r h =
+        let both = and_parts _ _ h in
+        true_both (rel_fits t r both.0) (rows_there role permitted (rel s t r).remote both.1)
 
-  pub permitted_there : (role : Role) → Wider (allowed_to role m s) (existing m s)
-  permitted_there role = record { column = column_there role; relationship = relationship_there role; rows = rows_there role; aggregates = λ t h. refl }
+    pub permitted_there : Wider (allowed_to role m s) (existing m s)
+    permitted_there = record { column = column_there role permitted; relationship = relationship_there; rows = rows_there role permitted; aggregates = λ t h. refl }

@@ -1,8 +1,9 @@
 -- A typed request, without where it lies in memory, and what it grants.
-use Rattle.std.specs.Prelude.{ℕ, List, [], map, find, Option, option_map, option_and_then, ◌==◌}
+use Rattle.std.specs.Prelude.{ℕ, List, map, find, Option, option_map, option_and_then, ◌==◌}
 use Rattle.hq_terms.specs.Bexp.{BexpTree, bexp_view}
 use Rattle.hq_terms.specs.Grants.{Grants}
 use Rattle.hq_terms.specs.Meta.{MetaTree}
+use Rattle.hq_terms.specs.PermView.{mask_view}
 use Rattle.hq_terms.specs.Permission.{Mask, Permission, permission}
 use Rattle.hq_terms.specs.Schema.{Schema, numbered}
 use Rattle.hq_terms.specs.declared.role.Role.{Role}
@@ -22,9 +23,9 @@ pub record AskTree : Type 0 where
   pub fields : FieldTrees
   pub bound : List BoundTree
 
--- what a touched table is seen as: no column has a mask
+-- what a touched table is seen as
 abbrev pub bound_view : Bound → BoundTree
-bound_view b = record { table = b.table; filter = bexp_view b.filter; masks = [] }
+bound_view b = record { table = b.table; filter = bexp_view b.filter; masks = map mask_view b.masks.items }
 
 -- what a typed request is seen as
 abbrev pub ask_view : Ask → AskTree

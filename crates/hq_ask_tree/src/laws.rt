@@ -10,6 +10,8 @@ ghost use Rattle.hq_ask_tree.specs.Fields.{FieldTrees};
 ghost use Rattle.hq_ask_tree.specs.Laws.{TouchedDecide, GrantsDecide, UsesPermitted, UsesExisting};
 ghost use Rattle.hq_ask_tree.specs.Request.{AskTree};
 
+use hq_terms::permissions_fit;
+
 /// What a request gives depends on what is granted of the tables that it touches alone. So a request of a session gives for
 /// what it grants itself what it gives for all that the session is granted.
 pub fn touched_tables_decide()
@@ -22,4 +24,6 @@ pub fn touched_tables_decide()
 pub fn requests_use_permitted()
     ensures permitted { (tables : Items CatalogTable) (m : MetaTree) (a : AskTree) → UsesPermitted tables m a }
     ensures existing { (tables : Items CatalogTable) (m : MetaTree) (a : AskTree) → UsesExisting tables m a }
-{}
+{
+    permissions_fit();
+}

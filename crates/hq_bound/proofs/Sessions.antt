@@ -1,105 +1,104 @@
 -- The touched tables that are bound for a session.
 use Rattle.std.proofs.Common.{◌≡◌, ◌∙◌, refl, sym, ap, subst, ℕ, List, [], ◌∷◌, map, length, Bool, true, false, cond, ◌||◌, Option, Some, None, Result, Ok, Err}
-use Rattle.std.specs.Prelude.{◌==◌, find, filter, option_map, option_and_then, bytes_eq}
+use Rattle.std.specs.Prelude.{◌==◌, find, is_ok, option_map, option_and_then}
 use Rattle.std.specs.Result.{result_ok}
 use Rattle.std.specs.List.{list_any}
 use Rattle.std.proofs.lemmas.Bool.{eq-eqb, eqb-true, false≢true}
 use Rattle.hq_base.specs.Due.{mapped, and_then}
 use Rattle.hq_base.specs.Lists.{Each}
 use Rattle.hq_base.proofs.Lists.{each_weaken}
-use Rattle.hq_terms.specs.Bexp.{BexpTree, always}
+use Rattle.hq_terms.specs.Bexp.{BexpTree}
 use Rattle.hq_terms.specs.Binding.{bound, bound_masks, bound_permission}
-use Rattle.hq_terms.specs.Meta.{MetaTree, TrackedTree, PermTree, tracked_table}
-use Rattle.hq_terms.specs.Permission.{Permission, permission, permission_in, told_permission, with_columns, named_columns, role_of}
+use Rattle.hq_terms.specs.Laws.{MasksBind}
+use Rattle.hq_terms.specs.Meta.{MetaTree}
+use Rattle.hq_terms.specs.Permission.{Mask, Permission, permission, role_of}
 use Rattle.hq_terms.specs.Schema.{Schema, schema_of}
 use Rattle.hq_terms.specs.declared.bind.BindRefusal.{BindRefusal}
 use Rattle.hq_terms.specs.declared.role.Role.{Role}
-use Rattle.hq_terms.specs.declared.role.Role.TheVariants.{Admin, Named}
 use Rattle.hq_terms.specs.declared.session.Session.{Session}
 use Rattle.hq_terms.specs.declared.session.Var.{Var}
 use Rattle.hq_terms.specs.declared.table.Table.{Table}
-use Rattle.hq_terms.proofs.Together.{own_alone}
 use Rattle.hq_ask_tree.specs.Sessions.{session_grant}
 use Rattle.hq_ask_tree.specs.Touched.{touched}
 use Rattle.hq_ask_tree.specs.Fields.{FieldTrees}
 use Rattle.hq_ask_tree.specs.Request.{BoundTree, with_bound, bound_table, grant_in}
-use Rattle.hq_bound.specs.Bound.{filter_of, filter_due, with_filter, bounds_due}
-use Rattle.hq_bound.specs.Laws.{request_of, BoundForSession}
+use Rattle.hq_bound.specs.Bound.{of_table, bound_of, bound_due, bounds_due}
+use Rattle.hq_bound.specs.Laws.{request_of, BoundForSession, FiltersRefuse}
 
--- a permission has no masks
-columns_masks : (p q : Permission) (cs : List ℕ) → p.masks ≡ [] → with_columns p cs ≡ Some q → q.masks ≡ []
-columns_masks p q [] none is = cc
-columns_masks p q (c ∷ cs) none is = let same : record p { columns = c ∷ cs } ≡ q = cc in subst (λ (x : Permission). x.masks ≡ []) same none
-
-told_masks : (k : TrackedTree) (o : Option PermTree) (q : Permission) → option_and_then (told_permission k) o ≡ Some q → q.masks ≡ []
-told_masks k None q is = cc
-told_masks k (Some p) q is =
-    columns_masks (record { columns = []; filter = p.filter; limit = p.limit; aggregations = p.aggregations; masks = [] }) q
-    (filter (λ c. list_any (λ d. d == c) p.cols) (named_columns k)) refl is
-
-role_masks : (role : Role) (k : TrackedTree) (q : Permission) → permission_in role [] k ≡ Some q → q.masks ≡ []
-role_masks Admin k q is = columns_masks (record { columns = []; filter = always; limit = None; aggregations = true; masks = [] }) q (named_columns k) refl is
-role_masks (Named name) k q is = told_masks k (find (λ p. bytes_eq p.role name) k.perms) q (sym (own_alone name k) ∙ is)
-
-permission_masks : (role : Role) (m : MetaTree) (t : ℕ) (q : Permission) → m.inherited ≡ [] → permission role m t ≡ Some q → q.masks ≡ []
-permission_masks role m t q none is = by (tracked_table m t) is
+-- what is bound of a permission is the permission with what is bound of its filter and masks
+bound_parts : (p q : Permission) (s : Schema) (vars : List Var) (t : ℕ) → bound_permission p s vars t ≡ Ok q → with_bound p (of_table t q) ≡ q
+bound_parts p q s vars t is = by (bound p.filter s vars t) (bound_masks p.masks s vars t) is
   where
-    by : (o : Option TrackedTree) → option_and_then (permission_in role m.inherited) o ≡ Some q → q.masks ≡ []
-    by None h = cc
-    by (Some k) h = role_masks role k q (ap (λ roles. permission_in role roles k) (sym none) ∙ h)
+    by : (r : Result BexpTree BindRefusal) (ms : Result (List Mask) BindRefusal)
+        → and_then (λ f. mapped (λ ks. record p { filter = f; masks = ks }) ms) r ≡ Ok q → with_bound p (of_table t q) ≡ q
+    by (Ok f) (Ok ks) e = let same : record p { filter = f; masks = ks } ≡ q = cc in subst (λ (x : Permission). with_bound p (of_table t x) ≡ x) same refl
+    by (Ok f) (Err x) e = cc
+    by (Err x) ms e = cc
 
-module _ (role : Role) (m : MetaTree) (s : Schema) (vars : List Var) (alone : m.inherited ≡ []) where
+module _ (role : Role) (m : MetaTree) (s : Schema) (vars : List Var) where
   -- an entry is what is due for its table
   abbrev Due : BoundTree → Type 0
-  Due b = (filter_due role m s vars b.table ≡ Ok b.filter) × (b.masks ≡ [])
+  Due b = bound_due role m s vars b.table ≡ Ok b
+
+  -- what is due for a table is an entry of it
+  due_table : (t : ℕ) (b : BoundTree) → bound_due role m s vars t ≡ Ok b → b.table ≡ t
+  due_table t b is = by (permission role m t) is
+    where
+      bound_in : (r : Result Permission BindRefusal) → mapped (of_table t) r ≡ Ok b → b.table ≡ t
+      bound_in (Ok q) e = let same : of_table t q ≡ b = cc in sym (ap (λ (x : BoundTree). x.table) same)
+      bound_in (Err x) e = cc
+
+      by : (o : Option Permission) → bound_of o s vars t ≡ Ok b → b.table ≡ t
+      by None e = ap (λ (r : Result BoundTree BindRefusal). table_in r) (sym e)
+        where
+          table_in : Result BoundTree BindRefusal → ℕ
+          table_in (Ok x) = x.table
+          table_in (Err x) = t
+      by (Some p) e = bound_in (bound_permission p s vars t) e
 
   -- the entries are those of the tables, each what is due
   entries : (ts : List ℕ) (bs : List BoundTree) → bounds_due role m s vars ts ≡ Ok bs → (map (λ b. b.table) bs ≡ ts) × Each Due bs
   entries [] bs is = let none : [] ≡ bs = cc in subst (λ (xs : List BoundTree). (map (λ b. b.table) xs ≡ []) × Each Due xs) none (refl, tt)
-  entries (t ∷ ts) bs is = by (filter_due role m s vars t) (bounds_due role m s vars ts) refl (λ more e. entries ts more e) is
+  entries (t ∷ ts) bs is = by (bound_due role m s vars t) (bounds_due role m s vars ts) refl (λ more e. entries ts more e) is
     where
-      by : (r : Result BexpTree BindRefusal) (rest : Result (List BoundTree) BindRefusal) → filter_due role m s vars t ≡ r
+      by : (r : Result BoundTree BindRefusal) (rest : Result (List BoundTree) BindRefusal) → bound_due role m s vars t ≡ r
           → ((more : List BoundTree) → rest ≡ Ok more → (map (λ b. b.table) more ≡ ts) × Each Due more)
-          → and_then (λ b. mapped (λ more. b ∷ more) rest) (mapped (with_filter t) r) ≡ Ok bs → (map (λ b. b.table) bs ≡ t ∷ ts) × Each Due bs
-      by (Ok f) (Ok more) e1 later e =
-          let same : with_filter t f ∷ more ≡ bs = cc in
+          → and_then (λ b. mapped (λ more. b ∷ more) rest) r ≡ Ok bs → (map (λ b. b.table) bs ≡ t ∷ ts) × Each Due bs
+      by (Ok b) (Ok more) e1 later e =
+          let same : b ∷ more ≡ bs = cc in
+          let at : b.table ≡ t = due_table t b e1 in
           subst (λ (xs : List BoundTree). (map (λ b. b.table) xs ≡ t ∷ ts) × Each Due xs) same
-          (ap (λ xs. t ∷ xs) (later more refl).0, ((e1, refl), (later more refl).1))
-      by (Ok f) (Err x) e1 later e = cc
+          (ap (λ u. u ∷ map (λ b. b.table) more) at ∙ ap (λ xs. t ∷ xs) (later more refl).0, (ap (bound_due role m s vars) at ∙ e1, (later more refl).1))
+      by (Ok b) (Err x) e1 later e = cc
       by (Err x) rest e1 later e = cc
 
   -- an entry is found for a table of theirs, and is what is due for it
   abbrev Found : ℕ → List BoundTree → Type 0
-  Found t bs = (b : BoundTree) × ((find (λ c. c.table == t) bs ≡ Some b) × ((filter_due role m s vars t ≡ Ok b.filter) × (b.masks ≡ [])))
+  Found t bs = (b : BoundTree) × ((find (λ c. c.table == t) bs ≡ Some b) × (bound_due role m s vars t ≡ Ok b))
 
   found : (t : ℕ) (bs : List BoundTree) → Each Due bs → list_any (λ c. c.table == t) bs ≡ true → Found t bs
   found t [] h among = absurd (false≢true among)
   found t (b ∷ bs) h among =
       let go : (x : Bool) → (b.table == t) ≡ x → (x || list_any (λ c. c.table == t) bs) ≡ true
-      → (d : BoundTree) × ((cond x (Some b) (find (λ c. c.table == t) bs) ≡ Some d) × ((filter_due role m s vars t ≡ Ok d.filter) × (d.masks ≡ []))) = elim [
-        | true ↦ λ e g. (b, (refl, (subst (λ u. filter_due role m s vars u ≡ Ok b.filter) (eqb-true b.table t e) h.0.0, h.0.1)))
+      → (d : BoundTree) × ((cond x (Some b) (find (λ c. c.table == t) bs) ≡ Some d) × (bound_due role m s vars t ≡ Ok d)) = elim [
+        | true ↦ λ e g. (b, (refl, subst (λ u. bound_due role m s vars u ≡ Ok b) (eqb-true b.table t e) h.0))
         | false ↦ λ e g. found t bs h.1 g
       ] in
       go (b.table == t) refl among
 
   -- what an entry grants is what is due
-  granted : (fs : FieldTrees) (all : List BoundTree) (t : ℕ) → Found t all
+  granted : (all : List BoundTree) (t : ℕ) → Found t all
       → option_and_then (λ p. option_map (with_bound p) (bound_table all t)) (permission role m t) ≡ option_and_then (λ p. result_ok (bound_permission p s vars t)) (permission role m t)
-  granted fs all t h = by (permission role m t) refl
+  granted all t h = by (permission role m t) refl
     where
-      some : (p : Permission) → permission role m t ≡ Some p → option_map (with_bound p) (find (λ c. c.table == t) all) ≡ result_ok (bound_permission p s vars t)
-      some p is =
-          let masks : p.masks ≡ [] = permission_masks role m t p alone is in
-          let filter : bound p.filter s vars t ≡ Ok (h.0).filter = sym (ap (λ o. filter_of o s vars t) is) ∙ h.1.1.0 in
-          let right : bound_permission p s vars t ≡ Ok (record p { filter = (h.0).filter; masks = [] }) =
-          ap (and_then (λ f. mapped (λ ms. record p { filter = f; masks = ms }) (bound_masks p.masks s vars t))) filter
-          ∙ ap (λ ms. mapped (λ ms. record p { filter = (h.0).filter; masks = ms }) (bound_masks ms s vars t)) masks in
-          ap (option_map (with_bound p)) h.1.0 ∙ ap (λ ms. Some (record p { filter = (h.0).filter; masks = ms })) h.1.1.1 ∙ sym (ap result_ok right)
+      bound_in : (p : Permission) (r : Result Permission BindRefusal) → bound_permission p s vars t ≡ r → mapped (of_table t) r ≡ Ok (h.0) → Some (with_bound p (h.0)) ≡ result_ok r
+      bound_in p (Ok q) is e = let same : of_table t q ≡ h.0 = cc in ap (λ (b : BoundTree). Some (with_bound p b)) (sym same) ∙ ap Some (bound_parts p q s vars t is)
+      bound_in p (Err x) is e = cc
 
       by : (o : Option Permission) → permission role m t ≡ o
           → option_and_then (λ p. option_map (with_bound p) (bound_table all t)) o ≡ option_and_then (λ p. result_ok (bound_permission p s vars t)) o
       by None e = refl
-      by (Some p) e = some p e
+      by (Some p) e = ap (option_map (with_bound p)) h.1.0 ∙ bound_in p (bound_permission p s vars t) refl (sym (ap (λ o. bound_of o s vars t) e) ∙ h.1.1)
 
 -- each entry is among the entries
 among_all : (bs : List BoundTree) → Each (λ b. list_any (λ c. c.table == b.table) bs ≡ true) bs
@@ -112,15 +111,25 @@ among_all (b ∷ bs) =
     )
 
 pub bound_for_session : (tables : List Table) (m : MetaTree) (session : Session) (fs : FieldTrees) → BoundForSession tables m session fs
-bound_for_session tables m session fs alone bs is =
+bound_for_session tables m session fs bs is =
     let s : Schema = schema_of tables m in
     let role : Role = role_of session.role in
-    let all = entries role m s session.vars alone (touched fs s (length tables)) bs is in
+    let all = entries role m s session.vars (touched fs s (length tables)) bs is in
     record {
       touches = all.0;
       is_for = record {
         role = refl;
         bound = each_weaken (λ b. list_any (λ c. c.table == b.table) bs ≡ true) (λ b. grant_in (request_of session fs bs) m b.table ≡ session_grant session m s b.table)
-            (λ b h. granted role m s session.vars alone fs bs b.table (found role m s session.vars alone b.table bs all.1 h)) bs (among_all bs);
+            (λ b h. granted role m s session.vars bs b.table (found role m s session.vars b.table bs all.1 h)) bs (among_all bs);
       };
     }
+
+-- the fault of a table is that of its filter
+pub filter_refuses : (role : Role) (m : MetaTree) (s : Schema) (vars : List Var) (t : ℕ) → MasksBind role m s vars t → FiltersRefuse role m s vars t
+filter_refuses role m s vars t bind p e at due = by (bound p.filter s vars t) (bound_masks p.masks s vars t) (bind p at) (sym (ap (λ o. bound_of o s vars t) at) ∙ due)
+  where
+    by : (r : Result BexpTree BindRefusal) (ms : Result (List Mask) BindRefusal) → (is_ok r ≡ true → is_ok ms ≡ true)
+        → mapped (of_table t) (and_then (λ f. mapped (λ ks. record p { filter = f; masks = ks }) ms) r) ≡ Err e → r ≡ Err e
+    by (Ok f) (Ok ks) h g = cc
+    by (Ok f) (Err x) h g = absurd (false≢true (h refl))
+    by (Err x) ms h g = let same : x ≡ e = cc in ap Err same

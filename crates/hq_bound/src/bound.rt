@@ -1,39 +1,76 @@
-//! Filters of permissions, bound for a session.
+//! Permissions, bound for a session.
 ghost use Rattle.std.specs.Prelude.{◌≡◌, map, length};
-ghost use Rattle.hq_base.specs.Due.{Gives};
-ghost use Rattle.hq_terms.specs.Bexp.{bexp_view};
+ghost use Rattle.hq_base.specs.Due.{Gives, mapped};
+ghost use Rattle.hq_terms.specs.Binding.{bound_masks, bound_permission};
 ghost use Rattle.hq_terms.specs.Meta.{meta_view};
+ghost use Rattle.hq_terms.specs.PermView.{mask_view, permission_view};
 ghost use Rattle.hq_terms.specs.Scope.{scope_schema};
 ghost use Rattle.hq_terms.specs.declared.bind.BindRefusal.TheVariants as refusal;
 ghost use Rattle.hq_ask_tree.specs.Fields.{fields_of, keyed_field_view};
 ghost use Rattle.hq_ask_tree.specs.Request.{bound_view};
 ghost use Rattle.hq_ask_tree.specs.Touched.{touched};
-ghost use Rattle.hq_bound.specs.Bound.{filter_due, bound_due, bounds_due};
+ghost use Rattle.hq_bound.specs.Bound.{mask_due, of_table, bound_due, bounds_due};
 
 use crate::fields::touched_tables;
 use hq_ask_tree::{AskFields, Bound, BoundList};
 use hq_base::List;
-use hq_terms::{Bexp, BindRefusal, Role, Scope, Session, TableId};
+use hq_binding::bind;
+use hq_terms::{Bexp, BindRefusal, Mask, MaskList, PermView, Role, Scope, Session, TableId};
 use std::alloc::Global;
 
-// The bound filter of the role's permission on a table.
-fn bound_filter(
+fn bound_mask(
     alloc: Global,
-    role: &Role,
     scope: &Scope<'_>,
     session: &Session,
     t: TableId,
-) -> Result<Bexp, BindRefusal>
-    ensures { Gives bexp_view refusal.Memory (filter_due role.now (meta_view scope.now.meta.now) (scope_schema scope.now) session.now.vars t) result }
+    mask: &Mask,
+) -> Result<Mask, BindRefusal>
+    ensures { Gives mask_view refusal.Memory (mask_due (mask_view mask.now) (scope_schema scope.now) session.now.vars t) result }
 {
-    match scope.meta.perm(alloc, role, t)? {
-        Some(view) => view
-            .filter
-            .bind(alloc, session, scope.catalog, scope.meta, t),
-        None => Ok(Bexp::Or(Vec::new(alloc))),
-    }
+    let shown = bind(alloc, &mask.shown, session, scope.catalog, scope.meta, t)?;
+    Ok(Mask {
+        col: mask.col,
+        shown,
+    })
 }
 
+fn bound_masks(
+    alloc: Global,
+    scope: &Scope<'_>,
+    session: &Session,
+    t: TableId,
+    masks: &[Mask],
+) -> Result<MaskList, BindRefusal>
+    ensures { Gives (λ ms. map mask_view ms.items) refusal.Memory (bound_masks (map mask_view masks.now) (scope_schema scope.now) session.now.vars t) result }
+{
+    let mut bound = Vec::new(alloc);
+    for mask in masks {
+        let one = bound_mask(alloc, scope, session, t, mask)?;
+        bound.push(one)?;
+    }
+    Ok(bound)
+}
+
+// A permission on a table: its filter, and then its masks.
+fn bound_permission(
+    alloc: Global,
+    scope: &Scope<'_>,
+    session: &Session,
+    t: TableId,
+    view: &PermView,
+) -> Result<Bound, BindRefusal>
+    ensures { Gives bound_view refusal.Memory (mapped (of_table t) (bound_permission (permission_view view.now) (scope_schema scope.now) session.now.vars t)) result }
+{
+    let filter = bind(alloc, &view.filter, session, scope.catalog, scope.meta, t)?;
+    let masks = bound_masks(alloc, scope, session, t, &view.masks)?;
+    Ok(Bound {
+        table: t,
+        filter,
+        masks,
+    })
+}
+
+// A table with the role's permission on it; no row where there is none.
 fn bound_table(
     alloc: Global,
     role: &Role,
@@ -43,8 +80,14 @@ fn bound_table(
 ) -> Result<Bound, BindRefusal>
     ensures { Gives bound_view refusal.Memory (bound_due role.now (meta_view scope.now.meta.now) (scope_schema scope.now) session.now.vars t) result }
 {
-    let filter = bound_filter(alloc, role, scope, session, t)?;
-    Ok(Bound { table: t, filter })
+    match scope.meta.perm(alloc, role, t)? {
+        Some(view) => bound_permission(alloc, scope, session, t, &view),
+        None => Ok(Bound {
+            table: t,
+            filter: Bexp::Or(Vec::new(alloc)),
+            masks: Vec::new(alloc),
+        }),
+    }
 }
 
 fn bound_each(
@@ -64,8 +107,8 @@ fn bound_each(
     Ok(bound)
 }
 
-/// The tables that root fields touch, each with the bound filter of the role's permission; or the fault of the first operand
-/// that has no value, of the first such table.
+/// The tables that root fields touch, each with the bound filter and masks of the role's permission; or the fault of the first
+/// operand that has no value, of the first such table.
 pub fn bound_tables(
     alloc: Global,
     role: &Role,

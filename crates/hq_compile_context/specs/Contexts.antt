@@ -1,18 +1,19 @@
 -- What a context stands for.
-use Rattle.std.specs.Prelude.{List, [], find, ◌==◌, option_map, option_and_then, unwrap_or}
+use Rattle.std.specs.Prelude.{List, [], find, map, ◌==◌, option_map, option_and_then, unwrap_or}
 use Rattle.hq_terms.specs.Bexp.{bexp_view, never}
+use Rattle.hq_terms.specs.PermView.{mask_view}
 use Rattle.hq_terms.specs.Schema.{Schema}
 use Rattle.hq_terms.specs.Scope.{scope_schema}
 use Rattle.hq_compiled.specs.Rights.{Rights}
 use Rattle.hq_compile_context.specs.declared.context.Granted.{Granted}
 use Rattle.hq_compile_context.specs.declared.context.Context.{Context}
 
--- what these entries grant: nothing of a table without one; no column has a mask
+-- what these entries grant: nothing of a table without one
 abbrev pub rights_in : List Granted → Rights
 rights_in gs = record {
   filter = λ t. unwrap_or (option_map (λ g. bexp_view g.filter) (find (λ g. g.table == t) gs)) never;
   limit = λ t. option_and_then (λ g. g.limit) (find (λ g. g.table == t) gs);
-  masks = λ t. [];
+  masks = λ t. unwrap_or (option_map (λ g. map mask_view g.masks.items) (find (λ g. g.table == t) gs)) [];
 }
 
 -- the schema of its catalog and metadata

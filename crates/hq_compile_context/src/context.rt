@@ -1,15 +1,17 @@
 ghost use Rattle.std.specs.Prelude.{◌≡◌};
 
 use hq_base::List;
-use hq_terms::{Bexp, ColId, Column, Pair, RelId, Scope, Table, TableId};
+use hq_terms::{Bexp, ColId, Column, Mask, MaskList, Pair, RelId, Scope, Table, TableId};
 
-/// What a request is granted of a table: the bound filter, and the most rows of a list.
+/// What a request is granted of a table: the bound filter, the most rows of a list, and the bound masks.
 #[derive(Drop)]
 pub struct Granted {
     pub table: TableId,
     pub filter: Bexp,
     /// In rows.
     pub limit: Option<u64>,
+    /// In column order.
+    pub masks: MaskList,
 }
 
 /// What a request is granted.
@@ -23,9 +25,10 @@ pub struct Context<'a> {
 }
 
 impl<'a> Context<'a> {
-    ghost use Rattle.std.specs.Prelude.{◌≡◌, ◌==◌, find, option_copied};
+    ghost use Rattle.std.specs.Prelude.{◌≡◌, ◌==◌, find, map, option_copied};
+    ghost use Rattle.hq_terms.specs.PermView.{mask_view};
     ghost use Rattle.hq_terms.specs.Schema.{table, rel};
-    ghost use Rattle.hq_compile_context.specs.Contexts.{context_schema};
+    ghost use Rattle.hq_compile_context.specs.Contexts.{context_schema, context_rights};
 
     /// The columns of a table; none beyond the catalog.
     pub fn columns(&self, t: TableId) -> &'a [Column]
@@ -72,5 +75,15 @@ impl<'a> Context<'a> {
             .as_slice()
             .iter()
             .find(|granted| granted.table.at() == t.at())
+    }
+
+    /// The masks of a table's columns, in column order; none where nothing is granted of the table.
+    pub fn masks(&self, t: TableId) -> &'a [Mask]
+        ensures { map mask_view result.now ≡ (context_rights self.now).masks t }
+    {
+        match self.granted(t) {
+            Some(granted) => granted.masks.as_slice(),
+            None => &[],
+        }
     }
 }

@@ -4,7 +4,9 @@
 mod list;
 mod row;
 mod start;
+mod used;
 
 pub use list::{ListBody, fold, list_body, list_rows, list_select};
 pub use row::{Row, empty_row, no_row, object, one_row};
-pub use start::{FirstRow, ListStart, key_row, list_table, list_tie, remote_row};
+pub use start::{ListStart, key_row, list_table, list_tie};
+pub use used::{add_each, list_used};

@@ -1,85 +1,97 @@
 //! The select of a list: the array of its rows' objects in order.
-ghost use Rattle.std.specs.Prelude.{◌≡◌, ◌+◌, ◌++◌, ◌∷◌, [], IfOk, OnOk, map, false};
+ghost use Rattle.std.specs.Prelude.{◌≡◌, ◌+◌, ◌∷◌, [], ℕ, List, IfOk, OnOk, map, false};
+ghost use Rattle.hq_terms.specs.Bexp.{bexp_view};
 ghost use Rattle.hq_terms.specs.Schema.{table};
+ghost use Rattle.hq_terms.specs.Selected.{smaller};
 ghost use Rattle.hq_ask_tree.specs.Arguments.{arguments_view};
 ghost use Rattle.hq_sql_tree.specs.Tree as tree;
-ghost use Rattle.hq_sql_tree.specs.View.{expr_view, order_view, out_view, select_view, join_view, pred_view};
-ghost use Rattle.hq_compiled.specs.Looks.{own_look};
-ghost use Rattle.hq_compiled.specs.Lists.{list_sorts, distinct_columns, sorts_from, children_from};
+ghost use Rattle.hq_sql_tree.specs.Tree.{PredTree};
+ghost use Rattle.hq_sql_tree.specs.View.{expr_view, order_view, out_view, pair_view, select_view, join_view, pred_view};
+ghost use Rattle.hq_compiled.specs.Conditions.{with_member};
+ghost use Rattle.hq_compiled.specs.Lists.{once, list_sorts, distinct_columns, where_numbers, children_from, list_select};
+ghost use Rattle.hq_compiled.specs.Masks.{filter_numbers, filter_predicate, where_mode};
 ghost use Rattle.hq_compiled.specs.Names.{fold_alias, value_name};
-ghost use Rattle.hq_compiled.specs.Sorts.{sorts_numbers, output_orders};
+ghost use Rattle.hq_compiled.specs.Predicates.{predicate};
+ghost use Rattle.hq_compiled.specs.Sorts.{sorts_numbers, sorts_joins, orders, key_outputs, output_orders};
 ghost use Rattle.hq_compile_context.specs.Contexts.{context_schema, context_rights};
-ghost use Rattle.hq_compile_lists.specs.Bodies.{body_view, body_tree, parts_view, parts_tree, distinct_tree, members_tree, array_tree, row_view, rows_tree, object_rows_tree, list_tree};
+ghost use Rattle.hq_compile_tables.specs.Shown.{look_in, look_of};
+ghost use Rattle.hq_compile_lists.specs.Bodies.{IsBody, rows_of};
+ghost use Rattle.hq_compile_lists.specs.Starts.{start_tie};
 
 use crate::row::{Row, object};
+use crate::start::{ListStart, list_tie};
 use hq_ask_tree::Args;
 use hq_base::{Memory, Txt};
 use hq_compile_context::{Context, RowUse, fold_alias, row_limit, value_name, wide};
-use hq_compile_predicates::{row_members, where_predicate};
+use hq_compile_masks::{mask_parts, where_predicate};
+use hq_compile_predicates::{MaskParts, row_members};
 use hq_compile_sorts::{SortParts, list_sorts, output_orders, sort_parts};
 use hq_compile_tables::{
-    compared_column, each_once, from_table, value_output, where_of, with_member,
+    MaskPlace, Shown, both_joins, compared_shown, each_once, from_table, table_shown, value_output,
+    where_of, with_member,
 };
-use hq_sql_tree::{Agg, Expr, ExprList, JoinList, OrderList, Out, OutList, Pred, PredList, Select};
-use hq_terms::{ColId, Column, TableId};
+use hq_sql_tree::{Agg, Expr, ExprList, JoinList, OrderList, Out, OutList, PredList, Select};
+use hq_terms::{ColId, TableId};
 use std::alloc::Global;
 
 /// What stands in the select of a list's rows beside its outputs and the joins of its children.
 #[derive(Drop)]
 pub struct ListBody {
     pub distinct: ExprList,
+    pub masks: MaskParts,
     /// The members of WHERE.
     pub members: PredList,
     pub sorts: SortParts,
 }
 
 // The columns of DISTINCT ON.
-fn distinct_columns(
-    alloc: Global,
-    columns: &[Column],
-    number: u64,
-    distinct: &[ColId],
-) -> Result<ExprList, Memory>
-    ensures { IfOk result (λ es. map expr_view es.items ≡ distinct_columns columns.now (own_look columns.now number) distinct.now) }
+fn distinct_columns(alloc: Global, shown: &Shown, distinct: &[ColId]) -> Result<ExprList, Memory>
+    ensures { IfOk result (λ es. map expr_view es.items ≡ distinct_columns shown.now.columns.now (look_of shown.now) distinct.now) }
 {
     let mut exprs = Vec::new(alloc);
     for column in distinct {
-        exprs.push(compared_column(alloc, columns, number, *column)?)?;
+        exprs.push(compared_shown(alloc, shown, *column)?)?;
     }
     Ok(exprs)
 }
 
-// DISTINCT ON of a list of rows of table t at the alias of number n.
+// DISTINCT ON of a list of rows of table t at the alias of number n, behind the joins of masks.
 fn list_distinct(
     alloc: Global,
     context: &Context,
     t: TableId,
     n: u64,
+    places: &[MaskPlace],
     args: &Args,
 ) -> Result<ExprList, Memory>
-    ensures { IfOk result (λ es. map expr_view es.items ≡ distinct_tree (context_schema context.now) t (arguments_view args.now) n) }
+    ensures { let columns = (table (context_schema context.now) t).columns in
+        IfOk result (λ es. map expr_view es.items ≡ distinct_columns columns (look_in places.now columns n) (once (arguments_view args.now)).distinct) }
 {
     let once = each_once(alloc, args.distinct.as_slice())?;
-    distinct_columns(alloc, context.columns(t), n, once.as_slice())
+    let shown = table_shown(context, t, n, places);
+    distinct_columns(alloc, &shown, once.as_slice())
 }
 
-// The members of WHERE of a list of rows of table t at the alias of number n.
+// The members of WHERE of a list of rows of table t at the alias of number n, behind the joins of masks.
 fn list_members(
     alloc: Global,
     context: &Context,
+    start: &ListStart,
     t: TableId,
     n: u64,
-    tie: Pred,
-    args: &Args,
+    places: &[MaskPlace],
     next: &mut u64,
 ) -> Result<PredList, Memory>
-    requires { next.old ≡ n + 1 }
     ensures members { let s = context_schema context.now in let g = context_rights context.now in
-        IfOk result (λ all. map pred_view all.items ≡ members_tree s g t (arguments_view args.now) n (pred_view tie)) }
-    ensures numbers { OnOk result (next.new ≡ sorts_from (context_schema context.now) (context_rights context.now) t [] (arguments_view args.now) n) }
+        let look = look_in places.now (table s t).columns n in
+        let wanted = predicate (bexp_view start.now.args.now.filter) s (where_mode s g) look t n (next.old + filter_numbers s g t) in
+        IfOk result (λ all. map pred_view all.items ≡ with_member (start_tie s start.now n) (with_member (filter_predicate s g t n next.old) (with_member wanted []))) }
+    ensures numbers { let s = context_schema context.now in let g = context_rights context.now in
+        OnOk result (next.new ≡ next.old + filter_numbers s g t + where_numbers (bexp_view start.now.args.now.filter) s g t) }
 {
+    let tie = list_tie(alloc, context, start, n)?;
     let members = row_members(alloc, context, t, n, tie, next)?;
-    let wanted = where_predicate(alloc, context, t, n, &args.filter, next)?;
+    let wanted = where_predicate(alloc, context, t, n, places, &start.args.filter, next)?;
     with_member(members, wanted)
 }
 
@@ -89,49 +101,52 @@ fn list_parts(
     context: &Context,
     t: TableId,
     n: u64,
+    places: &[MaskPlace],
     args: &Args,
     next: &mut u64,
 ) -> Result<SortParts, Memory>
-    ensures parts { let s = context_schema context.now in let g = context_rights context.now in
-        IfOk result (λ parts. parts_view parts ≡ parts_tree s g t (arguments_view args.now) n next.old) }
+    ensures joins { let s = context_schema context.now in let g = context_rights context.now in
+        IfOk result (λ parts. map join_view parts.joins.items ≡ sorts_joins (list_sorts s t (arguments_view args.now)) s g t n next.old) }
+    ensures orders { let s = context_schema context.now in let g = context_rights context.now in
+        let look = look_in places.now (table s t).columns n in
+        IfOk result (λ parts. map order_view parts.orders.items ≡ orders (list_sorts s t (arguments_view args.now)) s g look t n next.old) }
+    ensures outputs { let s = context_schema context.now in let g = context_rights context.now in
+        let look = look_in places.now (table s t).columns n in
+        IfOk result (λ parts. map out_view parts.outputs.items ≡ key_outputs (list_sorts s t (arguments_view args.now)) s g look t n next.old 0) }
     ensures numbers { let s = context_schema context.now in
         OnOk result (next.new ≡ next.old + sorts_numbers (list_sorts s t (arguments_view args.now)) s (context_rights context.now) t) }
 {
     let sorts = list_sorts(alloc, context, t, args)?;
-    sort_parts(alloc, context, t, n, sorts.as_slice(), next)
+    sort_parts(alloc, context, t, n, places, sorts.as_slice(), next)
 }
 
-/// The body of a list of rows of table t at the alias of number n.
+/// The body of a list of rows of table t at the alias of number n, whose rows use these columns.
 pub fn list_body(
     alloc: Global,
     context: &Context,
+    start: &ListStart,
     t: TableId,
     n: u64,
-    tie: Pred,
-    args: &Args,
+    used: &[ColId],
     next: &mut u64,
 ) -> Result<ListBody, Memory>
     requires { next.old ≡ n + 1 }
-    ensures body { let s = context_schema context.now in let g = context_rights context.now in
-        IfOk result (λ body. body_view body ≡ body_tree s g t (arguments_view args.now) n (pred_view tie)) }
-    ensures numbers { OnOk result (next.new ≡ children_from (context_schema context.now) (context_rights context.now) t [] (arguments_view args.now) n) }
+    ensures body { let s = context_schema context.now in let a = arguments_view start.now.args.now in
+        IfOk result (λ body. IsBody s (context_rights context.now) t used.now a n (start_tie s start.now n) body) }
+    ensures numbers { let a = arguments_view start.now.args.now in
+        OnOk result (next.new ≡ children_from (context_schema context.now) (context_rights context.now) t used.now a n) }
 {
-    let members = list_members(alloc, context, t, n, tie, args, next)?;
-    let distinct = list_distinct(alloc, context, t, n, args)?;
-    let sorts = list_parts(alloc, context, t, n, args, next)?;
+    let masks = mask_parts(alloc, context, t, n, used, next)?;
+    let places = masks.places.as_slice();
+    let members = list_members(alloc, context, start, t, n, places, next)?;
+    let distinct = list_distinct(alloc, context, t, n, places, start.args)?;
+    let sorts = list_parts(alloc, context, t, n, places, start.args, next)?;
     Ok(ListBody {
         distinct,
+        masks,
         members,
         sorts,
     })
-}
-
-// The sort keys' joins and then those of children.
-fn all_joins(mut sorts: JoinList, mut children: JoinList) -> Result<JoinList, Memory>
-    ensures { IfOk result (λ joins. map join_view joins.items ≡ map join_view sorts.items ++ map join_view children.items) }
-{
-    sorts.append(&mut children)?;
-    Ok(sorts)
 }
 
 /// The rows of a list, with these outputs.
@@ -146,14 +161,16 @@ pub fn list_rows(
     limit: Option<u64>,
     offset: Option<u32>,
 ) -> Result<Select, Memory>
-    ensures { IfOk result (λ select. select_view select ≡ rows_tree (context_schema context.now) t n (body_view body) (map out_view outs.items) (map join_view children.items) limit offset) }
+    ensures { IfOk result (λ select. select_view select ≡ rows_of (context_schema context.now) t n body limit (map out_view outs.items) (map join_view children.items) offset) }
 {
     let ListBody {
         distinct,
+        masks,
         members,
         sorts,
     } = body;
-    let joins = all_joins(sorts.joins, children)?;
+    let joins = both_joins(sorts.joins, children)?;
+    let joins = both_joins(masks.joins, joins)?;
     let from = from_table(alloc, context, t, n)?;
     Ok(Select::Rows {
         distinct,
@@ -233,7 +250,8 @@ fn list_output(
     n: u64,
     args: &Args,
 ) -> Result<Out, Memory>
-    ensures { IfOk result (λ out. out_view out ≡ array_tree (context_schema context.now) t (arguments_view args.now) n) }
+    ensures { let s = context_schema context.now in let order = tree.orders_of (output_orders (list_sorts s t (arguments_view args.now)) s t n 0) in
+        IfOk result (λ out. out_view out ≡ record { value = tree.aggregate (tree.json_agg (tree.column (fold_alias n) value_name false) order); name = value_name }) }
 {
     let order = list_orders(alloc, context, t, n, args)?;
     array_output(alloc, n, order)
@@ -249,8 +267,9 @@ fn object_rows(
     mut body: ListBody,
     row: Row,
 ) -> Result<Select, Memory>
-    ensures { IfOk result (λ select. select_view select ≡
-        object_rows_tree (context_schema context.now) (context_rights context.now) t (arguments_view args.now) n (body_view body) (row_view row)) }
+    ensures { let outs = record { value = tree.object (tree.pairs_of (map pair_view row.pairs.items)); name = value_name } ∷ map out_view body.sorts.outputs.items in
+        let limit = smaller args.now.limit ((context_rights context.now).limit t) in
+        IfOk result (λ select. select_view select ≡ rows_of (context_schema context.now) t n body limit outs (map join_view row.joins.items) args.now.offset) }
 {
     let outs = row_outputs(alloc, object(row.pairs), &mut body.sorts.outputs)?;
     let limit = row_limit(context, t, RowUse::List, args.limit);
@@ -277,8 +296,9 @@ pub fn list_select(
     body: ListBody,
     row: Row,
 ) -> Result<Select, Memory>
-    ensures { IfOk result (λ select. select_view select ≡
-        list_tree (context_schema context.now) (context_rights context.now) t (arguments_view args.now) n (body_view body) (row_view row)) }
+    ensures { let s = context_schema context.now in let g = context_rights context.now in let a = arguments_view args.now in
+        (used : List ℕ) (tie : PredTree) → IsBody s g t used a n tie body →
+        IfOk result (λ select. select_view select ≡ list_select s g t used a n tie (map pair_view row.pairs.items) (map join_view row.joins.items)) }
 {
     let rows = object_rows(alloc, context, t, n, args, body, row)?;
     let rows = Box::new(alloc, rows)?;

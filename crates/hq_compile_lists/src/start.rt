@@ -1,69 +1,36 @@
 //! Where the rows of a field begin.
-ghost use Rattle.std.specs.Prelude.{◌≡◌, ◌+◌, ◌∷◌, [], IfOk, OnOk, map, IfErr};
-ghost use Rattle.hq_terms.specs.Schema.{table, rel};
+ghost use Rattle.std.specs.Prelude.{◌≡◌, ◌+◌, ◌∷◌, [], IfOk, OnOk, map};
+ghost use Rattle.hq_terms.specs.Schema.{table};
 ghost use Rattle.hq_terms.specs.declared.op.Op.TheVariants.{Eq};
 ghost use Rattle.hq_terms.specs.declared.test.Test.TheVariants.{Compare};
-ghost use Rattle.hq_ask_tree.specs.Fields.{origin_of};
-ghost use Rattle.hq_ask_tree.specs.Resolve.{origin_table};
 ghost use Rattle.hq_sql_tree.specs.Tree as tree;
-ghost use Rattle.hq_sql_tree.specs.View.{pred_view};
-ghost use Rattle.hq_compiled.specs.Conditions.{literal, joined_by_and};
-ghost use Rattle.hq_compiled.specs.Fields.{key_members, origin_tie};
-ghost use Rattle.hq_compiled.specs.Looks.{own_look, compared_at};
-ghost use Rattle.hq_compiled.specs.Predicates.{link};
-ghost use Rattle.hq_compile_context.specs.Contexts.{context_schema};
-ghost use Rattle.hq_compile_lists.specs.Starts.{start_origin, start_table, start_tie};
+ghost use Rattle.hq_sql_tree.specs.View.{join_view, pred_view};
+ghost use Rattle.hq_compiled.specs.Conditions.{literal, joined_by_and, with_member};
+ghost use Rattle.hq_compiled.specs.Fields.{key_members};
+ghost use Rattle.hq_compiled.specs.Looks.{compared_at};
+ghost use Rattle.hq_compiled.specs.Masks.{masks, shown_look, filter_numbers, filter_predicate};
+ghost use Rattle.hq_compiled.specs.Selects.{filter_from, behind_filter};
+ghost use Rattle.hq_compile_context.specs.Contexts.{context_schema, context_rights};
+ghost use Rattle.hq_compile_tables.specs.Shown.{look_in, look_of};
+ghost use Rattle.hq_compile_lists.specs.Starts.{start_table, start_tie};
 
 use hq_ask_tree::Args;
 use hq_base::{Memory, Val};
 use hq_compile_context::{Context, take_number};
-use hq_compile_tables::{compared_column, comparison, joined_by_and, link, literal};
+use hq_compile_masks::{FirstRow, mask_parts};
+use hq_compile_predicates::row_members;
+use hq_compile_tables::{
+    MaskPlace, Shown, compared_shown, comparison, joined_by_and, link, literal, table_shown,
+};
 use hq_sql_tree::{Pred, PredList};
-use hq_terms::{ColId, Column, Op, RelId, TableId};
+use hq_terms::{ColId, Op, RelId, TableId};
 use std::alloc::Global;
 
-/// A table whose first row is asked for, its number, and what ties the row to what stands around.
-#[derive(Drop)]
-pub struct FirstRow {
-    pub table: TableId,
-    pub number: u64,
-    pub tie: Pred,
-}
-
-/// The first row behind a relationship of table t, whose row stands at the alias of number p.
-pub fn remote_row(
-    alloc: Global,
-    context: &Context,
-    t: TableId,
-    p: u64,
-    r: RelId,
-    next: &mut u64,
-) -> Result<FirstRow, Memory>
-    ensures table { IfOk result (λ first. first.table ≡ (rel (context_schema context.now) t r).remote) }
-    ensures number { IfOk result (λ first. first.number ≡ next.old) }
-    ensures tie { IfOk result (λ first. pred_view first.tie ≡ link (context_schema context.now) t (rel (context_schema context.now) t r) p next.old) }
-    ensures numbers { OnOk result (next.new ≡ next.old + 1) }
-{
-    let number = take_number(next)?;
-    let tie = link(alloc, context, t, r, p, number)?;
-    Ok(FirstRow {
-        table: context.remote(t, r),
-        number,
-        tie,
-    })
-}
-
 // A column of a key equals a value.
-fn key_member(
-    alloc: Global,
-    columns: &[Column],
-    number: u64,
-    column: ColId,
-    value: &Val,
-) -> Result<Pred, Memory>
-    ensures { IfOk result (λ p. pred_view p ≡ tree.test (compared_at columns.now (own_look columns.now number column) column) (Compare Eq) (literal value.now ∷ [])) }
+fn key_member(alloc: Global, shown: &Shown, column: ColId, value: &Val) -> Result<Pred, Memory>
+    ensures { IfOk result (λ p. pred_view p ≡ tree.test (compared_at shown.now.columns.now (look_of shown.now column) column) (Compare Eq) (literal value.now ∷ [])) }
 {
-    let left = compared_column(alloc, columns, number, column)?;
+    let left = compared_shown(alloc, shown, column)?;
     let right = literal(alloc, value)?;
     comparison(alloc, left, Op::Eq, right)
 }
@@ -71,44 +38,73 @@ fn key_member(
 // The columns of a key equal these values.
 fn key_members(
     alloc: Global,
-    columns: &[Column],
-    number: u64,
+    shown: &Shown,
     key: &[ColId],
     values: &[Val],
 ) -> Result<PredList, Memory>
-    ensures { IfOk result (λ preds. map pred_view preds.items ≡ key_members columns.now (own_look columns.now number) key.now values.now) }
+    ensures { IfOk result (λ preds. map pred_view preds.items ≡ key_members shown.now.columns.now (look_of shown.now) key.now values.now) }
 {
     let mut preds = Vec::new(alloc);
     for (i, column) in key.iter().enumerate() {
         match values.get(i) {
-            Some(value) => preds.push(key_member(alloc, columns, number, *column, value)?)?,
+            Some(value) => preds.push(key_member(alloc, shown, *column, value)?)?,
             None => return Ok(preds),
         }
     }
     Ok(preds)
 }
 
-/// The row of a table whose key has these values.
+// What the row of table t at the alias of number n, behind the joins of masks, meets: its key has these values; and the filter.
+fn keyed_members(
+    alloc: Global,
+    context: &Context,
+    t: TableId,
+    n: u64,
+    places: &[MaskPlace],
+    key: &[Val],
+    next: &mut u64,
+) -> Result<PredList, Memory>
+    ensures members { let s = context_schema context.now in let g = context_rights context.now in
+        let columns = (table s t).columns in let tie = joined_by_and (key_members columns (look_in places.now columns n) (table s t).key key.now) in
+        IfOk result (λ all. map pred_view all.items ≡ with_member tie (with_member (filter_predicate s g t n next.old) [])) }
+    ensures numbers { let s = context_schema context.now in let g = context_rights context.now in
+        OnOk result (next.new ≡ next.old + filter_numbers s g t) }
+{
+    let shown = table_shown(context, t, n, places);
+    let tie = joined_by_and(key_members(alloc, &shown, context.key(t), key)?);
+    row_members(alloc, context, t, n, tie, next)
+}
+
+/// The row of a table whose key has these values; these of its columns are used.
 pub fn key_row(
     alloc: Global,
     context: &Context,
     t: TableId,
     key: &[Val],
+    used: &[ColId],
     next: &mut u64,
 ) -> Result<FirstRow, Memory>
     ensures table { IfOk result (λ first. first.table ≡ t) }
     ensures number { IfOk result (λ first. first.number ≡ next.old) }
-    ensures tie { let s = context_schema context.now in
-        IfOk result (λ first. pred_view first.tie ≡ joined_by_and (key_members (table s t).columns (own_look (table s t).columns next.old) (table s t).key key.now)) }
-    ensures numbers { OnOk result (next.new ≡ next.old + 1) }
+    ensures joins { let s = context_schema context.now in let g = context_rights context.now in
+        IfOk result (λ first. map join_view first.masks.joins.items ≡ masks s g t used.now next.old) }
+    ensures looks { let s = context_schema context.now in let g = context_rights context.now in
+        IfOk result (λ first. look_in first.masks.places (table s t).columns next.old ≡ shown_look s g t used.now next.old) }
+    ensures members { let s = context_schema context.now in let g = context_rights context.now in
+        let n = next.old in let filter = filter_predicate s g t n (filter_from s g t used.now n) in
+        let tie = joined_by_and (key_members (table s t).columns (shown_look s g t used.now n) (table s t).key key.now) in
+        IfOk result (λ first. map pred_view first.members.items ≡ with_member tie (with_member filter [])) }
+    ensures numbers { OnOk result (next.new ≡ behind_filter (context_schema context.now) (context_rights context.now) t used.now next.old) }
 {
     let number = take_number(next)?;
-    let columns = context.columns(t);
-    let members = key_members(alloc, columns, number, context.key(t), key)?;
+    let masks = mask_parts(alloc, context, t, number, used, next)?;
+    let places = masks.places.as_slice();
+    let members = keyed_members(alloc, context, t, number, places, key, next)?;
     Ok(FirstRow {
         table: t,
         number,
-        tie: joined_by_and(members),
+        masks,
+        members,
     })
 }
 

@@ -1,6 +1,8 @@
-//! Boolean expressions as conditions: the filter of a permission, and the `where` of a request.
+//! Boolean expressions as conditions: the filter of a permission, and the form of the `where` of a request.
 #![tactic(auto)]
 
+mod counted;
 mod predicate;
 
-pub use predicate::{filter_predicate, row_members, where_predicate};
+pub use counted::{AllRows, Counted, MaskParts};
+pub use predicate::{filter_predicate, own_predicate, predicate_of, row_members};

@@ -1,124 +1,55 @@
 //! Boolean expressions as conditions.
 ghost use Rattle.std.specs.Prelude.{◌≡◌, ◌+◌, ◌++◌, [], IfOk, OnOk, map};
-ghost use Rattle.hq_terms.specs.Schema.{rel};
+ghost use Rattle.hq_terms.specs.Schema.{table, rel};
 ghost use Rattle.hq_terms.specs.Bexp.{bexp_view, bexps_of, exists_in, through};
 ghost use Rattle.hq_sql_tree.specs.Tree as tree;
-ghost use Rattle.hq_sql_tree.specs.View.{pred_view};
+ghost use Rattle.hq_sql_tree.specs.View.{join_view, pred_view};
 ghost use Rattle.hq_compiled.specs.Conditions.{with_member, where_of};
-ghost use Rattle.hq_compiled.specs.Predicates.{link, numbers, numbers_all};
-ghost use Rattle.hq_compiled.specs.Masks.{filter_numbers, filter_predicate, where_mode};
+ghost use Rattle.hq_compiled.specs.Looks.{own_look};
+ghost use Rattle.hq_compiled.specs.Predicates.{columns_in, numbers, numbers_all, counted_rows, inner_from, predicate, predicates, own_predicate, own_numbers};
+ghost use Rattle.hq_compiled.specs.Masks.{filter_numbers, filter_predicate};
 ghost use Rattle.hq_compile_context.specs.Contexts.{context_schema, context_rights};
 ghost use Rattle.hq_compile_tables.specs.Selects.{exists_where};
-ghost use Rattle.hq_compile_predicates.specs.Unmasked.{unmasked, own_predicate, own_predicates, row_of};
+ghost use Rattle.hq_compile_tables.specs.Shown.{look_in};
 
+use crate::counted::{AllRows, Counted};
 use hq_base::Memory;
 use hq_compile_context::{Context, take_number};
 use hq_compile_tables::{
-    column_test, columns_test, exists_where, first_member, joined_by_and, joined_by_or, link,
-    negation, with_member,
+    MaskPlace, column_test, columns_test, exists_where, first_member, joined_by_and, joined_by_or,
+    link, negation, table_shown, with_member,
 };
-use hq_sql_tree::{Pred, PredList};
+use hq_sql_tree::{JoinList, Pred, PredList};
 use hq_terms::{Bexp, BexpList, RelId, TableId};
 use std::alloc::Global;
 
-/// Which rows of a remote table count inside a condition: those at which a further condition holds.
-trait Counted {
-    ghost use Rattle.std.specs.Prelude.{◌≡◌, ◌+◌, ℕ, IfOk, OnOk};
-    ghost use Rattle.hq_terms.specs.Schema.{Schema};
-    ghost use Rattle.hq_sql_tree.specs.Tree.{PredTree};
-    ghost use Rattle.hq_sql_tree.specs.View.{pred_view};
-    ghost use Rattle.hq_compiled.specs.Rights.{Rights};
-    ghost use Rattle.hq_compile_context.specs.Contexts.{context_schema, context_rights};
-
-    /// How many numbers the condition over a table takes.
-    ghost more: { Schema → Rights → ℕ → ℕ };
-
-    /// The condition on rows of a table at the alias of a number; its own numbers begin at the second one.
-    ghost guard: { Schema → Rights → ℕ → ℕ → ℕ → PredTree };
-
-    /// The condition on rows of this table at the alias of this number.
-    fn condition(
-        &self,
-        alloc: Global,
-        context: &Context,
-        table: TableId,
-        number: u64,
-        next: &mut u64,
-    ) -> Result<Pred, Memory>
-        ensures predicate { IfOk result (λ p. pred_view p ≡ guard (context_schema context.now) (context_rights context.now) table number next.old) }
-        ensures numbers { OnOk result (next.new ≡ next.old + more (context_schema context.now) (context_rights context.now) table) };
-}
-
-// All rows: inside the filter of a permission.
-struct AllRows;
-
-impl Counted for AllRows {
-    ghost use Rattle.hq_sql_tree.specs.Tree as tree;
-
-    ghost more = { λ s g u. 0 };
-
-    ghost guard = { λ s g u n from. tree.always };
-
-    fn condition(
-        &self,
-        _alloc: Global,
-        _context: &Context,
-        _table: TableId,
-        _number: u64,
-        _next: &mut u64,
-    ) -> Result<Pred, Memory> {
-        Ok(Pred::True)
-    }
-}
-
-// The permitted rows: inside the `where` of a request.
-struct PermittedRows;
-
-impl Counted for PermittedRows {
-    ghost use Rattle.hq_compiled.specs.Masks.{filter_numbers, filter_predicate};
-
-    ghost more = { λ s g u. filter_numbers s g u };
-
-    ghost guard = { λ s g u n from. filter_predicate s g u n from };
-
-    fn condition(
-        &self,
-        alloc: Global,
-        context: &Context,
-        table: TableId,
-        number: u64,
-        next: &mut u64,
-    ) -> Result<Pred, Memory> {
-        filter_predicate(alloc, context, table, number, next)
-    }
-}
-
-// An expression over table t, whose rows stand at the alias of number p.
+/// An expression over table t, whose rows stand at the alias of number p and are looked at behind the joins of masks.
 #[cycle(predicate)]
-fn predicate<C: Counted>(
+pub fn predicate_of<C: Counted>(
     alloc: Global,
     context: &Context,
     counted: &C,
     t: TableId,
     p: u64,
+    places: &[MaskPlace],
     bexp: &Bexp,
     next: &mut u64,
 ) -> Result<Pred, Memory>
-    ensures predicate { let s = context_schema context.now in let g = context_rights context.now in
-        IfOk result (λ pred. pred_view pred ≡ own_predicate (bexp_view bexp.now) s (unmasked (C.more s g) (C.guard s g) s) t p next.old) }
-    ensures numbers { let s = context_schema context.now in let g = context_rights context.now in
-        OnOk result (next.new ≡ next.old + numbers (bexp_view bexp.now) s (unmasked (C.more s g) (C.guard s g) s) t) }
+    ensures predicate { let s = context_schema context.now in let m = C.mode s (context_rights context.now) in
+        IfOk result (λ pred. pred_view pred ≡ predicate (bexp_view bexp.now) s m (look_in places.now (table s t).columns p) t p next.old) }
+    ensures numbers { let s = context_schema context.now in
+        OnOk result (next.new ≡ next.old + numbers (bexp_view bexp.now) s (C.mode s (context_rights context.now)) t) }
 {
     match bexp {
         Bexp::True => Ok(Pred::True),
         Bexp::And(bexps) => Ok(joined_by_and(predicates(
-            alloc, context, counted, t, p, bexps, next,
+            alloc, context, counted, t, p, places, bexps, next,
         )?)),
         Bexp::Or(bexps) => Ok(joined_by_or(predicates(
-            alloc, context, counted, t, p, bexps, next,
+            alloc, context, counted, t, p, places, bexps, next,
         )?)),
         Bexp::Not(inner) => {
-            let inner = predicate(alloc, context, counted, t, p, inner, next)?;
+            let inner = predicate_of(alloc, context, counted, t, p, places, inner, next)?;
             negation(alloc, inner)
         }
         Bexp::Test {
@@ -128,8 +59,7 @@ fn predicate<C: Counted>(
             negated,
         } => column_test(
             alloc,
-            context.columns(t),
-            p,
+            &table_shown(context, t, p, places),
             *col,
             *test,
             operands,
@@ -139,9 +69,13 @@ fn predicate<C: Counted>(
             remote_row(alloc, context, counted, t, p, *rel, inner, next)
         }
         Bexp::Exists { table, inner } => some_row(alloc, context, counted, *table, inner, next),
-        Bexp::Columns { left, op, right } => {
-            columns_test(alloc, context.columns(t), p, *left, *op, *right)
-        }
+        Bexp::Columns { left, op, right } => columns_test(
+            alloc,
+            &table_shown(context, t, p, places),
+            *left,
+            *op,
+            *right,
+        ),
     }
 }
 
@@ -157,16 +91,15 @@ fn remote_row<C: Counted>(
     inner: &Bexp,
     next: &mut u64,
 ) -> Result<Pred, Memory>
-    ensures predicate { let s = context_schema context.now in let g = context_rights context.now in
-        IfOk result (λ pred. pred_view pred ≡ own_predicate (through r (bexp_view inner.now)) s (unmasked (C.more s g) (C.guard s g) s) t p next.old) }
-    ensures numbers { let s = context_schema context.now in let g = context_rights context.now in
-        OnOk result (next.new ≡ next.old + numbers (through r (bexp_view inner.now)) s (unmasked (C.more s g) (C.guard s g) s) t) }
+    ensures predicate { let s = context_schema context.now in let m = C.mode s (context_rights context.now) in
+        IfOk result (λ pred. pred_view pred ≡ predicate (through r (bexp_view inner.now)) s m (own_look (table s t).columns p) t p next.old) }
+    ensures numbers { let s = context_schema context.now in
+        OnOk result (next.new ≡ next.old + numbers (through r (bexp_view inner.now)) s (C.mode s (context_rights context.now)) t) }
 {
     let n = take_number(next)?;
     let remote = context.remote(t, r);
-    let members = remote_members(alloc, context, counted, t, p, r, n, next)?;
-    let inner = predicate(alloc, context, counted, remote, n, inner, next)?;
-    remote_exists(alloc, context, remote, n, members, inner)
+    let link = link(alloc, context, t, r, p, n)?;
+    counted_row(alloc, context, counted, remote, n, link, inner, next)
 }
 
 // Some row of table u counts and meets the inner expression.
@@ -179,53 +112,75 @@ fn some_row<C: Counted>(
     inner: &Bexp,
     next: &mut u64,
 ) -> Result<Pred, Memory>
-    ensures predicate { let s = context_schema context.now in let g = context_rights context.now in
-        IfOk result (λ pred. pred_view pred ≡ row_of s (unmasked (C.more s g) (C.guard s g) s) u (bexp_view inner.now) next.old) }
-    ensures numbers { let s = context_schema context.now in let g = context_rights context.now in
-        OnOk result (next.new ≡ next.old + numbers (exists_in u (bexp_view inner.now)) s (unmasked (C.more s g) (C.guard s g) s) 0) }
+    ensures predicate { let s = context_schema context.now in let m = C.mode s (context_rights context.now) in
+        IfOk result (λ pred. pred_view pred ≡ predicate (exists_in u (bexp_view inner.now)) s m (own_look [] 0) 0 0 next.old) }
+    ensures numbers { let s = context_schema context.now in
+        OnOk result (next.new ≡ next.old + numbers (exists_in u (bexp_view inner.now)) s (C.mode s (context_rights context.now)) 0) }
 {
     let n = take_number(next)?;
-    let guard = counted.condition(alloc, context, u, n, next)?;
-    let members = first_member(alloc, guard)?;
-    let inner = predicate(alloc, context, counted, u, n, inner, next)?;
-    remote_exists(alloc, context, u, n, members, inner)
+    counted_row(alloc, context, counted, u, n, Pred::True, inner, next)
 }
 
-// What a remote row at the alias of number n meets beside the inner expression: the link, and that it counts.
-fn remote_members<C: Counted>(
+// Some row of table u at the alias of number n is tied to what stands around, counts and meets the inner expression.
+#[cycle(predicate)]
+fn counted_row<C: Counted>(
     alloc: Global,
     context: &Context,
     counted: &C,
-    t: TableId,
-    p: u64,
-    r: RelId,
+    u: TableId,
     n: u64,
+    tie: Pred,
+    inner: &Bexp,
+    next: &mut u64,
+) -> Result<Pred, Memory>
+    requires { next.old ≡ n + 1 }
+    ensures predicate { let s = context_schema context.now in let m = C.mode s (context_rights context.now) in
+        let b = bexp_view inner.now in let cs = columns_in b in
+        IfOk result (λ pred. pred_view pred ≡ tree.exists (counted_rows s m u n cs (pred_view tie) (predicate b s m (m.look u cs n) u n (inner_from m u cs n)))) }
+    ensures numbers { let s = context_schema context.now in let m = C.mode s (context_rights context.now) in
+        let b = bexp_view inner.now in OnOk result (next.new ≡ next.old + (m.extra u (columns_in b) + m.more u + numbers b s m u)) }
+{
+    let members = first_member(alloc, tie)?;
+    let parts = counted.masks(alloc, context, u, n, inner, next)?;
+    let members = with_guard(alloc, context, counted, u, n, members, next)?;
+    let places = parts.places.as_slice();
+    let inner = predicate_of(alloc, context, counted, u, n, places, inner, next)?;
+    some_exists(alloc, context, u, n, parts.joins, members, inner)
+}
+
+// The members of a WHERE, and that rows of table u at the alias of number n count.
+fn with_guard<C: Counted>(
+    alloc: Global,
+    context: &Context,
+    counted: &C,
+    u: TableId,
+    n: u64,
+    members: PredList,
     next: &mut u64,
 ) -> Result<PredList, Memory>
-    ensures members { let s = context_schema context.now in let g = context_rights context.now in
-        IfOk result (λ all. map pred_view all.items ≡ with_member (link s t (rel s t r) p n) (with_member (C.guard s g (rel s t r).remote n next.old) [])) }
-    ensures numbers { let s = context_schema context.now in OnOk result (next.new ≡ next.old + C.more s (context_rights context.now) (rel s t r).remote) }
+    ensures members { let m = C.mode (context_schema context.now) (context_rights context.now) in
+        IfOk result (λ all. map pred_view all.items ≡ map pred_view members.items ++ with_member (m.guard u n next.old) []) }
+    ensures numbers { let m = C.mode (context_schema context.now) (context_rights context.now) in OnOk result (next.new ≡ next.old + m.more u) }
 {
-    let link = link(alloc, context, t, r, p, n)?;
-    let members = first_member(alloc, link)?;
-    let guard = counted.condition(alloc, context, context.remote(t, r), n, next)?;
+    let guard = counted.condition(alloc, context, u, n, next)?;
     with_member(members, guard)
 }
 
-// Whether table u has a row at the alias of number n that meets these members and one more.
-fn remote_exists(
+// Whether table u has a row at the alias of number n, behind these joins, that meets these members and one more.
+fn some_exists(
     alloc: Global,
     context: &Context,
     u: TableId,
     n: u64,
+    joins: JoinList,
     members: PredList,
     inner: Pred,
 ) -> Result<Pred, Memory>
-    ensures { IfOk result (λ pred. pred_view pred ≡
-        exists_where (context_schema context.now) u n (where_of (map pred_view members.items ++ with_member (pred_view inner) []))) }
+    ensures { IfOk result (λ pred. pred_view pred ≡ exists_where (context_schema context.now) u n (map join_view joins.items)
+        (where_of (map pred_view members.items ++ with_member (pred_view inner) []))) }
 {
     let members = with_member(members, inner)?;
-    exists_where(alloc, context, u, n, members)
+    exists_where(alloc, context, u, n, joins, members)
 }
 
 #[cycle(predicate)]
@@ -235,19 +190,35 @@ fn predicates<C: Counted>(
     counted: &C,
     t: TableId,
     p: u64,
+    places: &[MaskPlace],
     bexps: &BexpList,
     next: &mut u64,
 ) -> Result<PredList, Memory>
-    ensures predicates { let s = context_schema context.now in let g = context_rights context.now in
-        IfOk result (λ preds. map pred_view preds.items ≡ own_predicates (bexps_of (map bexp_view bexps.now.items)) s (unmasked (C.more s g) (C.guard s g) s) t p next.old) }
-    ensures numbers { let s = context_schema context.now in let g = context_rights context.now in
-        OnOk result (next.new ≡ next.old + numbers_all (bexps_of (map bexp_view bexps.now.items)) s (unmasked (C.more s g) (C.guard s g) s) t) }
+    ensures predicates { let s = context_schema context.now in let m = C.mode s (context_rights context.now) in let bs = bexps_of (map bexp_view bexps.now.items) in
+        IfOk result (λ preds. map pred_view preds.items ≡ predicates bs s m (look_in places.now (table s t).columns p) t p next.old) }
+    ensures numbers { let s = context_schema context.now in let bs = bexps_of (map bexp_view bexps.now.items) in
+        OnOk result (next.new ≡ next.old + numbers_all bs s (C.mode s (context_rights context.now)) t) }
 {
     let mut preds = Vec::new(alloc);
     for bexp in bexps {
-        preds.push(predicate(alloc, context, counted, t, p, bexp, next)?)?;
+        preds.push(predicate_of(alloc, context, counted, t, p, places, bexp, next)?)?;
     }
     Ok(preds)
+}
+
+/// A filter or a mask of a table at the alias of this number: all remote rows count, with their own cells.
+pub fn own_predicate(
+    alloc: Global,
+    context: &Context,
+    t: TableId,
+    number: u64,
+    bexp: &Bexp,
+    next: &mut u64,
+) -> Result<Pred, Memory>
+    ensures predicate { IfOk result (λ p. pred_view p ≡ own_predicate (bexp_view bexp.now) (context_schema context.now) t number next.old) }
+    ensures numbers { OnOk result (next.new ≡ next.old + own_numbers (bexp_view bexp.now) (context_schema context.now) t) }
+{
+    predicate_of(alloc, context, &AllRows, t, number, &[], bexp, next)
 }
 
 /// The filter of a table at the alias of this number: never true where nothing is granted of the table.
@@ -262,7 +233,7 @@ pub fn filter_predicate(
     ensures numbers { OnOk result (next.new ≡ next.old + filter_numbers (context_schema context.now) (context_rights context.now) t) }
 {
     match context.granted(t) {
-        Some(granted) => predicate(alloc, context, &AllRows, t, number, &granted.filter, next),
+        Some(granted) => own_predicate(alloc, context, t, number, &granted.filter, next),
         None => negation(alloc, Pred::True),
     }
 }
@@ -283,21 +254,4 @@ pub fn row_members(
     let members = first_member(alloc, tie)?;
     let filter = filter_predicate(alloc, context, t, number, next)?;
     with_member(members, filter)
-}
-
-/// The `where` of a list of rows of a table at the alias of this number: the permitted remote rows count.
-pub fn where_predicate(
-    alloc: Global,
-    context: &Context,
-    t: TableId,
-    number: u64,
-    wanted: &Bexp,
-    next: &mut u64,
-) -> Result<Pred, Memory>
-    ensures predicate { let s = context_schema context.now in let g = context_rights context.now in
-        IfOk result (λ p. pred_view p ≡ own_predicate (bexp_view wanted.now) s (where_mode s g) t number next.old) }
-    ensures numbers { let s = context_schema context.now in let g = context_rights context.now in
-        OnOk result (next.new ≡ next.old + numbers (bexp_view wanted.now) s (where_mode s g) t) }
-{
-    predicate(alloc, context, &PermittedRows, t, number, wanted, next)
 }

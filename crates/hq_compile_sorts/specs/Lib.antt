@@ -1,2 +1,1 @@
 pub mod RowSorts
-pub mod SortSteps

@@ -3,6 +3,8 @@
 
 mod order;
 mod sorts;
+mod used;
 
 pub use order::{SortParts, output_orders, sort_parts};
 pub use sorts::{RowSort, RowSortList, list_sorts};
+pub use used::add_used_sorts;

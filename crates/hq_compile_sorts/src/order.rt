@@ -2,21 +2,27 @@
 ghost use Rattle.std.specs.Prelude.{◌≡◌, ◌+◌, ◌++◌, ◌∷◌, [], IfOk, OnOk, map, false};
 ghost use Rattle.hq_terms.specs.Schema.{table};
 ghost use Rattle.hq_sql_tree.specs.Tree as tree;
-ghost use Rattle.hq_sql_tree.specs.View.{expr_view, order_view, out_view, join_view};
-ghost use Rattle.hq_compiled.specs.Looks.{own_look, is_text_column, cell_at};
+ghost use Rattle.hq_sql_tree.specs.View.{expr_view, order_view, out_view, join_view, pred_view};
+ghost use Rattle.hq_compiled.specs.Conditions.{where_of};
+ghost use Rattle.hq_compiled.specs.Looks.{is_text_column, cell_at};
 ghost use Rattle.hq_compiled.specs.Masks.{value_output};
-ghost use Rattle.hq_compiled.specs.Names.{fold_alias, key_name};
+ghost use Rattle.hq_compiled.specs.Names.{fold_alias, join_alias, key_name};
 ghost use Rattle.hq_compiled.specs.Sorts.{end_of, is_text_sort, sort_place, sort_numbers, sort_joins, sorts_numbers, sorts_joins, orders, key_outputs, output_orders};
 ghost use Rattle.hq_compile_context.specs.Contexts.{context_schema, context_rights};
+ghost use Rattle.hq_compile_tables.specs.Selects.{first_row};
+ghost use Rattle.hq_compile_tables.specs.Shown.{look_in};
 ghost use Rattle.hq_compile_sorts.specs.RowSorts.{row_sort_view};
-ghost use Rattle.hq_compile_sorts.specs.SortSteps.{step_view, step_tree, step_join, after_step};
 
 use crate::sorts::RowSort;
+use crate::used::last_used;
 use hq_base::Memory;
-use hq_compile_context::{Context, fold_alias, key_name, take_number};
-use hq_compile_predicates::row_members;
-use hq_compile_tables::{column_at, first_row, is_text, link, one_join, value_at, value_output};
-use hq_sql_tree::{Expr, JoinList, Order, OrderList, Out, OutList, PredList};
+use hq_compile_context::{Context, fold_alias, key_name};
+use hq_compile_masks::{FirstRow, remote_row};
+use hq_compile_tables::{
+    MaskPlace, both_joins, column_at, first_row, is_text, one_join, table_column, value_at,
+    value_output,
+};
+use hq_sql_tree::{Expr, JoinList, Order, OrderList, Out, OutList};
 use hq_terms::{ColId, RelId, TableId};
 use std::alloc::Global;
 
@@ -31,98 +37,80 @@ fn end_of(context: &Context, t: TableId, through: &[RelId]) -> TableId
     end
 }
 
-// The cell of a sort key for a row of table t at the alias of number p; n is the number of its join.
+// The cell of a sort key for a row of table t at the alias of number p, behind the joins of masks; n is the number of its join.
 fn sort_column(
     alloc: Global,
     context: &Context,
     t: TableId,
     p: u64,
+    places: &[MaskPlace],
     own: bool,
     through: &[RelId],
     n: u64,
     column: ColId,
     collate: bool,
 ) -> Result<Expr, Memory>
-    ensures { let s = context_schema context.now in let place = sort_place own through.now s (own_look (table s t).columns p) t p n column in
+    ensures { let s = context_schema context.now in let place = sort_place own through.now s (look_in places.now (table s t).columns p) t p n column in
         IfOk result (λ e. expr_view e ≡ tree.column place.alias place.name collate) }
 {
     if own {
         return column_at(alloc, context.columns(t), p, column, collate);
     }
     match through {
-        [] => column_at(alloc, context.columns(t), p, column, collate),
+        [] => table_column(alloc, context, t, p, places, column, collate),
         [_, ..] => value_at(alloc, n, collate),
     }
 }
 
-// The first relationship of a sort key: its table and number, what its row meets, and the output of the cell that is passed on.
-#[derive(Drop)]
-struct SortStep {
-    table: TableId,
-    number: u64,
-    members: PredList,
-    outs: OutList,
-}
-
-// The output of the cell of a sort key for a row of table t at the alias of number p; n is the number of the next join.
+// The output of the cell of a sort key at the end of relationships, for a first row; n is the number of the next join.
 fn step_output(
     alloc: Global,
     context: &Context,
-    t: TableId,
-    p: u64,
+    first: &FirstRow,
     rest: &[RelId],
     n: u64,
     column: ColId,
 ) -> Result<OutList, Memory>
-    ensures { let s = context_schema context.now in
-        IfOk result (λ outs. map out_view outs.items ≡ value_output (cell_at (sort_place false rest.now s (own_look (table s t).columns p) t p n column))) }
+    ensures { let s = context_schema context.now in let u = first.now.table in let p = first.now.number in
+        let look = look_in first.now.masks.places (table s u).columns p in
+        IfOk result (λ outs. map out_view outs.items ≡ value_output (cell_at (sort_place false rest.now s look u p n column))) }
 {
-    let value = sort_column(alloc, context, t, p, false, rest, n, column, false)?;
+    let places = first.masks.places.as_slice();
+    let value = sort_column(
+        alloc,
+        context,
+        first.table,
+        first.number,
+        places,
+        false,
+        rest,
+        n,
+        column,
+        false,
+    )?;
     value_output(alloc, value)
 }
 
-fn sort_step(
-    alloc: Global,
-    context: &Context,
-    t: TableId,
-    p: u64,
-    r: RelId,
-    rest: &[RelId],
-    column: ColId,
-    next: &mut u64,
-) -> Result<SortStep, Memory>
-    ensures step { IfOk result (λ step. step_view step ≡ step_tree (context_schema context.now) (context_rights context.now) t p r rest.now next.old column) }
-    ensures numbers { OnOk result (next.new ≡ after_step (context_schema context.now) (context_rights context.now) t r next.old) }
-{
-    let number = take_number(next)?;
-    let table = context.remote(t, r);
-    let link = link(alloc, context, t, r, p, number)?;
-    let members = row_members(alloc, context, table, number, link, next)?;
-    let outs = step_output(alloc, context, table, number, rest, *next, column)?;
-    Ok(SortStep {
-        table,
-        number,
-        members,
-        outs,
-    })
-}
-
-// The join of such a relationship, with those of the next ones inside it.
+// The join of such a row, with those of its masks and of the next relationships inside it.
 fn step_joins(
     alloc: Global,
     context: &Context,
-    step: SortStep,
+    first: FirstRow,
+    outs: OutList,
     inner: JoinList,
 ) -> Result<JoinList, Memory>
-    ensures { IfOk result (λ joins. map join_view joins.items ≡ step_join (context_schema context.now) (step_view step) (map join_view inner.items) ∷ []) }
+    ensures { let s = context_schema context.now in let all = map join_view first.masks.joins.items ++ map join_view inner.items in
+        let select = first_row s first.table first.number (map out_view outs.items) all (where_of (map pred_view first.members.items)) in
+        IfOk result (λ joins. map join_view joins.items ≡ record { select = select; alias = join_alias first.number } ∷ []) }
 {
-    let SortStep {
+    let FirstRow {
         table,
         number,
+        masks,
         members,
-        outs,
-    } = step;
-    let select = first_row(alloc, context, table, number, members, outs, inner)?;
+    } = first;
+    let all = both_joins(masks.joins, inner)?;
+    let select = first_row(alloc, context, table, number, members, outs, all)?;
     let join = one_join(alloc, select, number)?;
     let mut joins = Vec::new(alloc);
     joins.push(join)?;
@@ -145,9 +133,19 @@ fn sort_joins(
     match through {
         [] => Ok(Vec::new(alloc)),
         [r, rest @ ..] => {
-            let step = sort_step(alloc, context, t, p, *r, rest, column, next)?;
-            let inner = sort_joins(alloc, context, step.table, step.number, rest, column, next)?;
-            step_joins(alloc, context, step, inner)
+            let used = last_used(alloc, rest, column)?;
+            let first = remote_row(alloc, context, t, p, *r, used.as_slice(), next)?;
+            let outs = step_output(alloc, context, &first, rest, *next, column)?;
+            let inner = sort_joins(
+                alloc,
+                context,
+                first.table,
+                first.number,
+                rest,
+                column,
+                next,
+            )?;
+            step_joins(alloc, context, first, outs, inner)
         }
     }
 }
@@ -169,11 +167,12 @@ fn row_order(
     context: &Context,
     t: TableId,
     p: u64,
+    places: &[MaskPlace],
     sort: &RowSort,
     n: u64,
 ) -> Result<Order, Memory>
     ensures { let s = context_schema context.now in
-        IfOk result (λ order. order_view order ∷ [] ≡ orders (row_sort_view sort.now ∷ []) s (context_rights context.now) (own_look (table s t).columns p) t p n) }
+        IfOk result (λ order. order_view order ∷ [] ≡ orders (row_sort_view sort.now ∷ []) s (context_rights context.now) (look_in places.now (table s t).columns p) t p n) }
 {
     let end = end_of(context, t, sort.through.as_slice());
     let collate = is_text(context.columns(end), sort.column);
@@ -182,6 +181,7 @@ fn row_order(
         context,
         t,
         p,
+        places,
         sort.own,
         sort.through.as_slice(),
         n,
@@ -201,18 +201,20 @@ fn row_output(
     context: &Context,
     t: TableId,
     p: u64,
+    places: &[MaskPlace],
     sort: &RowSort,
     n: u64,
     i: u64,
 ) -> Result<Out, Memory>
     ensures { let s = context_schema context.now in
-        IfOk result (λ out. out_view out ∷ [] ≡ key_outputs (row_sort_view sort.now ∷ []) s (context_rights context.now) (own_look (table s t).columns p) t p n i) }
+        IfOk result (λ out. out_view out ∷ [] ≡ key_outputs (row_sort_view sort.now ∷ []) s (context_rights context.now) (look_in places.now (table s t).columns p) t p n i) }
 {
     let value = sort_column(
         alloc,
         context,
         t,
         p,
+        places,
         sort.own,
         sort.through.as_slice(),
         n,
@@ -229,6 +231,7 @@ fn push_sort(
     context: &Context,
     t: TableId,
     p: u64,
+    places: &[MaskPlace],
     sort: &RowSort,
     i: u64,
     next: &mut u64,
@@ -237,17 +240,17 @@ fn push_sort(
     ensures joins { let s = context_schema context.now in let g = context_rights context.now in
         OnOk result (map join_view parts.new.joins.items ≡ map join_view parts.old.joins.items ++ sort_joins sort.now.through s g t p next.old sort.now.column) }
     ensures orders { let s = context_schema context.now in let g = context_rights context.now in
-        OnOk result (map order_view parts.new.orders.items ≡ map order_view parts.old.orders.items ++ orders (row_sort_view sort.now ∷ []) s g (own_look (table s t).columns p) t p next.old) }
+        OnOk result (map order_view parts.new.orders.items ≡ map order_view parts.old.orders.items ++ orders (row_sort_view sort.now ∷ []) s g (look_in places.now (table s t).columns p) t p next.old) }
     ensures outputs { let s = context_schema context.now in let g = context_rights context.now in
-        OnOk result (map out_view parts.new.outputs.items ≡ map out_view parts.old.outputs.items ++ key_outputs (row_sort_view sort.now ∷ []) s g (own_look (table s t).columns p) t p next.old i) }
+        OnOk result (map out_view parts.new.outputs.items ≡ map out_view parts.old.outputs.items ++ key_outputs (row_sort_view sort.now ∷ []) s g (look_in places.now (table s t).columns p) t p next.old i) }
     ensures numbers { OnOk result (next.new ≡ next.old + sort_numbers sort.now.through (context_schema context.now) (context_rights context.now) t sort.now.column) }
 {
     parts
         .orders
-        .push(row_order(alloc, context, t, p, sort, *next)?)?;
+        .push(row_order(alloc, context, t, p, places, sort, *next)?)?;
     parts
         .outputs
-        .push(row_output(alloc, context, t, p, sort, *next, i)?)?;
+        .push(row_output(alloc, context, t, p, places, sort, *next, i)?)?;
     let mut joins = sort_joins(
         alloc,
         context,
@@ -261,21 +264,22 @@ fn push_sort(
     Ok(())
 }
 
-/// What sort keys of rows of table t put into their select, at the alias of number p.
+/// What sort keys of rows of table t put into their select, at the alias of number p and behind the joins of masks.
 pub fn sort_parts(
     alloc: Global,
     context: &Context,
     t: TableId,
     p: u64,
+    places: &[MaskPlace],
     sorts: &[RowSort],
     next: &mut u64,
 ) -> Result<SortParts, Memory>
     ensures joins { let s = context_schema context.now in let g = context_rights context.now in
         IfOk result (λ parts. map join_view parts.joins.items ≡ sorts_joins (map row_sort_view sorts.now) s g t p next.old) }
     ensures orders { let s = context_schema context.now in let g = context_rights context.now in
-        IfOk result (λ parts. map order_view parts.orders.items ≡ orders (map row_sort_view sorts.now) s g (own_look (table s t).columns p) t p next.old) }
+        IfOk result (λ parts. map order_view parts.orders.items ≡ orders (map row_sort_view sorts.now) s g (look_in places.now (table s t).columns p) t p next.old) }
     ensures outputs { let s = context_schema context.now in let g = context_rights context.now in
-        IfOk result (λ parts. map out_view parts.outputs.items ≡ key_outputs (map row_sort_view sorts.now) s g (own_look (table s t).columns p) t p next.old 0) }
+        IfOk result (λ parts. map out_view parts.outputs.items ≡ key_outputs (map row_sort_view sorts.now) s g (look_in places.now (table s t).columns p) t p next.old 0) }
     ensures numbers { OnOk result (next.new ≡ next.old + sorts_numbers (map row_sort_view sorts.now) (context_schema context.now) (context_rights context.now) t) }
 {
     let mut parts = SortParts {
@@ -284,7 +288,9 @@ pub fn sort_parts(
         outputs: Vec::new(alloc),
     };
     for (i, sort) in sorts.iter().enumerate() {
-        push_sort(alloc, context, t, p, sort, i as u64, next, &mut parts)?;
+        push_sort(
+            alloc, context, t, p, places, sort, i as u64, next, &mut parts,
+        )?;
     }
     Ok(parts)
 }

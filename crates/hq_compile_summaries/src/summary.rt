@@ -4,13 +4,13 @@ ghost use Rattle.hq_terms.specs.Schema.{table};
 ghost use Rattle.hq_ask_tree.specs.Arguments.{arguments_view};
 ghost use Rattle.hq_sql_tree.specs.Tree as tree;
 ghost use Rattle.hq_sql_tree.specs.View.{expr_view, pair_view, out_view, select_view};
-ghost use Rattle.hq_compiled.specs.Looks.{own_look};
 ghost use Rattle.hq_compiled.specs.Names.{fold_alias, value_name, needed_name, unit_name};
-ghost use Rattle.hq_compiled.specs.Aggregates.{needed, needed_cell, taken_value, taken_pairs, count_value, summary_value, summary_pairs, needed_columns, needed_outputs, summary_numbers, plain_select};
-ghost use Rattle.hq_compiled.specs.Lists.{children_from};
+ghost use Rattle.hq_compiled.specs.Aggregates.{needed, needed_cell, taken_value, taken_pairs, count_value, summary_value, summary_pairs, needed_columns, needed_outputs, summary_used, summary_numbers, folded_select, plain_select, summary_select};
+ghost use Rattle.hq_compiled.specs.Lists.{list_used, list_rows, children_from};
+ghost use Rattle.hq_compiled.specs.Masks.{shown_look};
 ghost use Rattle.hq_compile_context.specs.Contexts.{context_schema, context_rights};
+ghost use Rattle.hq_compile_tables.specs.Shown.{look_of};
 ghost use Rattle.hq_compile_lists.specs.Starts.{start_tie};
-ghost use Rattle.hq_compile_summaries.specs.SummaryTrees.{needed_rows_tree, folded_tree, summary_tree};
 
 use crate::needs::{needed, place_of, some_aggregate};
 use hq_ask_tree::{AggCol, AggField, KeyedAggCol, KeyedAggField};
@@ -18,8 +18,8 @@ use hq_base::{Aggregate, Memory};
 use hq_compile_context::{
     Context, RowUse, fold_alias, needed_name, row_limit, unit_name, value_name,
 };
-use hq_compile_lists::{ListStart, fold, list_body, list_rows, list_tie, object, one_row};
-use hq_compile_tables::{is_text, own_column};
+use hq_compile_lists::{ListStart, fold, list_body, list_rows, list_used, object, one_row};
+use hq_compile_tables::{Shown, is_text, shown_column, table_shown};
 use hq_sql_tree::{Agg, Expr, ExprPair, ExprPairList, Out, OutList, Select};
 use hq_terms::{ColId, Column, TableId};
 use std::alloc::Global;
@@ -198,32 +198,21 @@ fn summary_pairs(
     Ok(pairs)
 }
 
-fn needed_output(
-    alloc: Global,
-    columns: &[Column],
-    n: u64,
-    column: ColId,
-    i: u64,
-) -> Result<Out, Memory>
-    ensures { IfOk result (λ out. out_view out ∷ [] ≡ needed_columns (own_look columns.now n) (column ∷ []) i) }
+fn needed_output(alloc: Global, shown: &Shown, column: ColId, i: u64) -> Result<Out, Memory>
+    ensures { IfOk result (λ out. out_view out ∷ [] ≡ needed_columns (look_of shown.now) (column ∷ []) i) }
 {
-    let value = own_column(alloc, columns, n, column)?;
+    let value = shown_column(alloc, shown, column)?;
     let name = needed_name(alloc, i)?;
     Ok(Out { value, name })
 }
 
 // The needed columns as outputs, numbered from 0.
-fn needed_columns(
-    alloc: Global,
-    columns: &[Column],
-    n: u64,
-    needed: &[ColId],
-) -> Result<OutList, Memory>
-    ensures { IfOk result (λ outs. map out_view outs.items ≡ needed_columns (own_look columns.now n) needed.now 0) }
+fn needed_columns(alloc: Global, shown: &Shown, needed: &[ColId]) -> Result<OutList, Memory>
+    ensures { IfOk result (λ outs. map out_view outs.items ≡ needed_columns (look_of shown.now) needed.now 0) }
 {
     let mut outs = Vec::new(alloc);
     for (i, column) in needed.iter().enumerate() {
-        outs.push(needed_output(alloc, columns, n, *column, i as u64)?)?;
+        outs.push(needed_output(alloc, shown, *column, i as u64)?)?;
     }
     Ok(outs)
 }
@@ -241,17 +230,12 @@ fn unit_output(alloc: Global) -> Result<OutList, Memory>
     Ok(outs)
 }
 
-fn needed_outputs(
-    alloc: Global,
-    columns: &[Column],
-    n: u64,
-    needed: &[ColId],
-) -> Result<OutList, Memory>
-    ensures { IfOk result (λ outs. map out_view outs.items ≡ needed_outputs (own_look columns.now n) needed.now) }
+fn needed_outputs(alloc: Global, shown: &Shown, needed: &[ColId]) -> Result<OutList, Memory>
+    ensures { IfOk result (λ outs. map out_view outs.items ≡ needed_outputs (look_of shown.now) needed.now) }
 {
     match needed {
         [] => unit_output(alloc),
-        [_, ..] => needed_columns(alloc, columns, n, needed),
+        [_, ..] => needed_columns(alloc, shown, needed),
     }
 }
 
@@ -266,13 +250,16 @@ fn needed_rows(
     next: &mut u64,
 ) -> Result<Select, Memory>
     requires { next.old ≡ n + 1 }
-    ensures select { let s = context_schema context.now in let a = arguments_view start.now.args.now in
-        IfOk result (λ select. select_view select ≡ needed_rows_tree s (context_rights context.now) t a n (start_tie s start.now n) needed.now) }
-    ensures numbers { OnOk result (next.new ≡ children_from (context_schema context.now) (context_rights context.now) t [] (arguments_view start.now.args.now) n) }
+    ensures select { let s = context_schema context.now in let g = context_rights context.now in let a = arguments_view start.now.args.now in
+        let cs = list_used s t a needed.now in let outs = needed_outputs (shown_look s g t cs n) needed.now in
+        IfOk result (λ select. select_view select ≡ list_rows s g t cs a n (start_tie s start.now n) a.limit outs []) }
+    ensures numbers { let s = context_schema context.now in let a = arguments_view start.now.args.now in
+        OnOk result (next.new ≡ children_from s (context_rights context.now) t (list_used s t a needed.now) a n) }
 {
-    let outs = needed_outputs(alloc, context.columns(t), n, needed)?;
-    let tie = list_tie(alloc, context, start, n)?;
-    let body = list_body(alloc, context, t, n, tie, start.args, next)?;
+    let used = list_used(alloc, context, t, start.args, needed)?;
+    let body = list_body(alloc, context, start, t, n, used.as_slice(), next)?;
+    let shown = table_shown(context, t, n, body.masks.places.as_slice());
+    let outs = needed_outputs(alloc, &shown, needed)?;
     let limit = row_limit(context, t, RowUse::Aggregate, start.args.limit);
     let offset = start.args.offset;
     list_rows(
@@ -318,8 +305,9 @@ fn folded_select(
 ) -> Result<Select, Memory>
     requires { next.old ≡ n + 1 }
     ensures select { let s = context_schema context.now in let a = arguments_view start.now.args.now in
-        IfOk result (λ select. select_view select ≡ folded_tree fields.now s (context_rights context.now) t a n (start_tie s start.now n)) }
-    ensures numbers { OnOk result (next.new ≡ children_from (context_schema context.now) (context_rights context.now) t [] (arguments_view start.now.args.now) n) }
+        IfOk result (λ select. select_view select ≡ folded_select fields.now s (context_rights context.now) t a n (start_tie s start.now n)) }
+    ensures numbers { let s = context_schema context.now in let a = arguments_view start.now.args.now in
+        OnOk result (next.new ≡ children_from s (context_rights context.now) t (summary_used s t a fields.now) a n) }
 {
     let needs = needed(alloc, fields)?;
     let rows = needed_rows(alloc, context, start, t, n, needs.as_slice(), next)?;
@@ -356,7 +344,7 @@ pub fn summary_select(
 ) -> Result<Select, Memory>
     requires { next.old ≡ n + 1 }
     ensures select { let s = context_schema context.now in let a = arguments_view start.now.args.now in
-        IfOk result (λ select. select_view select ≡ summary_tree fields.now s (context_rights context.now) t a n (start_tie s start.now n)) }
+        IfOk result (λ select. select_view select ≡ summary_select fields.now s (context_rights context.now) t a n (start_tie s start.now n)) }
     ensures numbers { OnOk result (next.new ≡ n + summary_numbers fields.now (context_schema context.now) (context_rights context.now) t (arguments_view start.now.args.now)) }
 {
     if some_aggregate(fields) {

@@ -1,1 +1,2 @@
 pub mod Selects
+pub mod Shown

@@ -2,7 +2,7 @@
 ghost use Rattle.std.specs.Prelude.{◌≡◌, [], IfOk, OnOk, false};
 ghost use Rattle.hq_sql_tree.specs.Tree as tree;
 ghost use Rattle.hq_sql_tree.specs.View.{expr_view};
-ghost use Rattle.hq_compiled.specs.Looks.{name_of, is_text_column, own_look, cell_at, compared_at, compares, tested_at, is_used, add_new, add_all};
+ghost use Rattle.hq_compiled.specs.Looks.{name_of, is_text_column, own_look, cell_at, compared_at, compares, is_used, add_new, add_all};
 ghost use Rattle.hq_compiled.specs.Masks.{value_place};
 
 use hq_base::{List, Memory, Txt, Ty};
@@ -75,25 +75,11 @@ pub fn compared_column(
     column_at(alloc, columns, number, column, collate)
 }
 
-// Whether a test compares the value that it looks at.
-fn compares(test: Test) -> bool
+/// Whether a test compares the value that it looks at.
+pub(crate) fn compares(test: Test) -> bool
     ensures { result ≡ compares test }
 {
     !matches!(test, Test::IsNull)
-}
-
-/// The same column, as a test looks at it.
-pub(crate) fn tested_column(
-    alloc: Global,
-    columns: &[Column],
-    number: u64,
-    column: ColId,
-    test: Test,
-) -> Result<Expr, Memory>
-    ensures { IfOk result (λ e. expr_view e ≡ tested_at columns.now (own_look columns.now number column) column test) }
-{
-    let collate = compares(test) && is_text(columns, column);
-    column_at(alloc, columns, number, column, collate)
 }
 
 /// The value that the join of this number gives, with COLLATE "C" or without.
@@ -116,7 +102,8 @@ pub fn value_column(alloc: Global, number: u64) -> Result<Expr, Memory>
     value_at(alloc, number, false)
 }
 
-fn is_used(column: ColId, columns: &[ColId]) -> bool
+/// Whether a column is among these.
+pub fn is_used(column: ColId, columns: &[ColId]) -> bool
     ensures { result ≡ is_used column columns.now }
 {
     columns.iter().any(|other| column.at() == other.at())

@@ -6,12 +6,13 @@ ghost use Rattle.hq_terms.specs.declared.test.Test.TheVariants.{Compare};
 ghost use Rattle.hq_sql_tree.specs.Tree as tree;
 ghost use Rattle.hq_sql_tree.specs.View.{expr_view, pred_view, filter_view};
 ghost use Rattle.hq_compiled.specs.Conditions.{literal, operand_literal, joined_by_and, joined_by_or, with_member, where_of, negation_if, first_literal, literals_for, test_of};
-ghost use Rattle.hq_compiled.specs.Looks.{compared_at, own_look, tested_at};
+ghost use Rattle.hq_compiled.specs.Looks.{compared_at, tested_at};
+ghost use Rattle.hq_compile_tables.specs.Shown.{look_of};
 
-use crate::columns::{compared_column, tested_column};
+use crate::shown::{Shown, compared_shown, tested_shown};
 use hq_base::{Memory, Val};
 use hq_sql_tree::{Expr, ExprList, Pred, PredList};
-use hq_terms::{Arity, ColId, Column, Op, Operand, Operands, Test};
+use hq_terms::{Arity, ColId, Op, Operand, Operands, Test};
 use std::alloc::Global;
 
 /// The literal of a value.
@@ -179,22 +180,21 @@ fn one_of_nothing(negated: bool) -> Pred
     if negated { Pred::True } else { Pred::False }
 }
 
-// A test of a column at the alias of this number against these operands, or its opposite where negated.
+// A test of a column as it is shown against these operands, or its opposite where negated.
 fn listed_test(
     alloc: Global,
-    columns: &[Column],
-    number: u64,
+    shown: &Shown,
     column: ColId,
     test: Test,
     operands: &[Operand],
     negated: bool,
 ) -> Result<Pred, Memory>
-    ensures { IfOk result (λ p. pred_view p ≡ test_of (tested_at columns.now (own_look columns.now number column) column test) test operands.now negated) }
+    ensures { IfOk result (λ p. pred_view p ≡ test_of (tested_at shown.now.columns.now (look_of shown.now column) column test) test operands.now negated) }
 {
     if is_of_nothing(test, operands) {
         return Ok(one_of_nothing(negated));
     }
-    let value = tested_column(alloc, columns, number, column, test)?;
+    let value = tested_shown(alloc, shown, column, test)?;
     let operands = literals_for(alloc, test.arity(), operands)?;
     let pred = Pred::Test {
         value,
@@ -204,48 +204,40 @@ fn listed_test(
     negation_if(alloc, negated, pred)
 }
 
-/// A test of a column at the alias of this number, or its opposite where negated.
+/// A test of a column as it is shown, or its opposite where negated.
 pub fn column_test(
     alloc: Global,
-    columns: &[Column],
-    number: u64,
+    shown: &Shown,
     column: ColId,
     test: Test,
     operands: &Operands,
     negated: bool,
 ) -> Result<Pred, Memory>
-    ensures { IfOk result (λ p. pred_view p ≡ test_of (tested_at columns.now (own_look columns.now number column) column test) test (operands_of operands.now) negated) }
+    ensures { IfOk result (λ p. pred_view p ≡ test_of (tested_at shown.now.columns.now (look_of shown.now column) column test) test (operands_of operands.now) negated) }
 {
     match operands {
-        Operands::List(operands) => listed_test(
-            alloc,
-            columns,
-            number,
-            column,
-            test,
-            operands.as_slice(),
-            negated,
-        ),
+        Operands::List(operands) => {
+            listed_test(alloc, shown, column, test, operands.as_slice(), negated)
+        }
         Operands::Session(name) => {
             let unlisted = [Operand::Session(name.copy(alloc)?)];
-            listed_test(alloc, columns, number, column, test, &unlisted, negated)
+            listed_test(alloc, shown, column, test, &unlisted, negated)
         }
     }
 }
 
-/// A comparison of two columns of a row at the alias of this number.
+/// A comparison of two columns of a row as they are shown.
 pub fn columns_test(
     alloc: Global,
-    columns: &[Column],
-    number: u64,
+    shown: &Shown,
     left: ColId,
     op: Op,
     right: ColId,
 ) -> Result<Pred, Memory>
-    ensures { let at = λ (c : ℕ). compared_at columns.now (own_look columns.now number c) c in
+    ensures { let at = λ (c : ℕ). compared_at shown.now.columns.now (look_of shown.now c) c in
         IfOk result (λ p. pred_view p ≡ tree.test (at left) (Compare op) (at right ∷ [])) }
 {
-    let left = compared_column(alloc, columns, number, left)?;
-    let right = compared_column(alloc, columns, number, right)?;
+    let left = compared_shown(alloc, shown, left)?;
+    let right = compared_shown(alloc, shown, right)?;
     comparison(alloc, left, op, right)
 }

@@ -3,15 +3,21 @@
 
 mod columns;
 mod condition;
+mod shown;
 mod table;
 
 pub use columns::{
-    add_new, column_at, compared_column, each_once, is_text, own_column, value_at, value_column,
+    add_new, column_at, each_once, is_text, is_used, own_column, value_at, value_column,
 };
 pub use condition::{
     column_test, columns_test, comparison, first_member, joined_by_and, joined_by_or, literal,
     negation, where_of, with_member,
 };
+pub use shown::{
+    MaskPlace, MaskPlaceList, Shown, compared_shown, shown_at, shown_column, table_column,
+    table_shown,
+};
 pub use table::{
-    exists_where, first_row, first_select, from_table, key_orders, link, one_join, value_output,
+    both_joins, exists_where, first_row, first_select, from_table, key_orders, link, one_join,
+    value_output,
 };

@@ -1,5 +1,5 @@
 //! Selects of one table: its rows, links to them, the order of its key, and the first row in that order.
-ghost use Rattle.std.specs.Prelude.{◌≡◌, ◌∷◌, [], IfOk, map, Some, None, true, false};
+ghost use Rattle.std.specs.Prelude.{◌≡◌, ◌++◌, ◌∷◌, [], IfOk, map, Some, None, true, false};
 ghost use Rattle.hq_terms.specs.Schema.{table, rel};
 ghost use Rattle.hq_terms.specs.declared.op.Op.TheVariants.{Eq};
 ghost use Rattle.hq_terms.specs.declared.test.Test.TheVariants.{Compare};
@@ -160,15 +160,21 @@ fn unit_output(alloc: Global) -> Result<OutList, Memory>
     one_output(alloc, Expr::Bool(true), name)
 }
 
-// Rows without joins, in no order.
-fn unordered_rows(alloc: Global, outs: OutList, from: From, filter: Option<Pred>) -> Select
-    ensures { select_view result ≡ tree.rows [] (map out_view outs.items) (from_view from) tree.no_join (filter_view filter) [] None None }
+// Rows in no order.
+fn unordered_rows(
+    alloc: Global,
+    outs: OutList,
+    from: From,
+    joins: JoinList,
+    filter: Option<Pred>,
+) -> Select
+    ensures { select_view result ≡ tree.rows [] (map out_view outs.items) (from_view from) (tree.joins_of (map join_view joins.items)) (filter_view filter) [] None None }
 {
     Select::Rows {
         distinct: Vec::new(alloc),
         outs,
         from,
-        joins: Vec::new(alloc),
+        joins,
         filter,
         order: Vec::new(alloc),
         limit: None,
@@ -183,19 +189,24 @@ fn exists(alloc: Global, select: Select) -> Result<Pred, Memory>
     Ok(Pred::Exists(Box::new(alloc, select)?))
 }
 
-/// Whether table u has a row, at the alias of number n, that meets these members of a WHERE.
+/// Whether table u has a row, at the alias of number n and behind these joins, that meets these members of a WHERE.
 pub fn exists_where(
     alloc: Global,
     context: &Context,
     u: TableId,
     n: u64,
+    joins: JoinList,
     members: PredList,
 ) -> Result<Pred, Memory>
-    ensures { IfOk result (λ pred. pred_view pred ≡ exists_where (context_schema context.now) u n (where_of (map pred_view members.items))) }
+    ensures { IfOk result (λ pred. pred_view pred ≡
+        exists_where (context_schema context.now) u n (map join_view joins.items) (where_of (map pred_view members.items))) }
 {
     let outs = unit_output(alloc)?;
     let from = from_table(alloc, context, u, n)?;
-    exists(alloc, unordered_rows(alloc, outs, from, where_of(members)))
+    exists(
+        alloc,
+        unordered_rows(alloc, outs, from, joins, where_of(members)),
+    )
 }
 
 // The first one of rows in an order.
@@ -279,4 +290,12 @@ pub fn one_join(alloc: Global, select: Select, number: u64) -> Result<Join, Memo
     let select = Box::new(alloc, select)?;
     let alias = join_alias(alloc, number)?;
     Ok(Join { select, alias })
+}
+
+/// Joins, and others behind them.
+pub fn both_joins(mut joins: JoinList, mut more: JoinList) -> Result<JoinList, Memory>
+    ensures { IfOk result (λ all. map join_view all.items ≡ map join_view joins.items ++ map join_view more.items) }
+{
+    joins.append(&mut more)?;
+    Ok(joins)
 }

@@ -106,19 +106,19 @@ bare_rows w e schema name alias outs condition =
     let found : List Scope = filter (kept condition w) (flat_map (joined tree.no_join w) (map (with_alias e alias) all)) in
     any_map (outputs outs []) (sort (order_cmp []) found) ∙ any_sorted (order_cmp []) found ∙ any_kept (kept condition w) (with_alias e alias) w all
 
-nil_is : {A : Type 0} (xs : List A) → (length xs == 0) ≡ true → xs ≡ []
+pub nil_is : {A : Type 0} (xs : List A) → (length xs == 0) ≡ true → xs ≡ []
 nil_is [] h = refl
 nil_is (x ∷ xs) h = let e = eqb-true (suc (length xs)) 0 h in absurd (omega arith)
 
-none_is : (o : Option ℕ) → is_none o ≡ true → o ≡ None
+pub none_is : (o : Option ℕ) → is_none o ≡ true → o ≡ None
 none_is None h = refl
 none_is (Some n) h = cc
 
-no_join_is : (js : JoinTrees) → is_no_join js ≡ true → js ≡ tree.no_join
+pub no_join_is : (js : JoinTrees) → is_no_join js ≡ true → js ≡ tree.no_join
 no_join_is tree.no_join h = refl
 no_join_is (tree.join s a js) h = cc
 
-bare_select : (distinct : List ExprTree) (outs : List OutTree) (from : FromTree) (joins : JoinTrees) (condition : FilterTree) (keys : List OrderTree) (limit offset : Option ℕ) → is_bare distinct joins keys limit offset ≡ true
+pub bare_select : (distinct : List ExprTree) (outs : List OutTree) (from : FromTree) (joins : JoinTrees) (condition : FilterTree) (keys : List OrderTree) (limit offset : Option ℕ) → is_bare distinct joins keys limit offset ≡ true
     → tree.rows distinct outs from joins condition keys limit offset ≡ tree.rows [] outs from tree.no_join condition [] None None
 bare_select distinct outs from joins condition keys limit offset h =
     let a = and_parts ((length distinct == 0) && is_no_join joins && (length keys == 0) && is_none limit) (is_none offset) h in
@@ -131,7 +131,7 @@ bare_select distinct outs from joins condition keys limit offset h =
     ∙ ap (λ x. tree.rows [] outs from tree.no_join condition [] x offset) (none_is limit b.1)
     ∙ ap (λ x. tree.rows [] outs from tree.no_join condition [] None x) (none_is offset a.1)
 
-any_alike : (p q : NamedRow → Bool) → ((x : NamedRow) → p x ≡ q x) → (xs : List NamedRow) → list_any p xs ≡ list_any q xs
+pub any_alike : (p q : NamedRow → Bool) → ((x : NamedRow) → p x ≡ q x) → (xs : List NamedRow) → list_any p xs ≡ list_any q xs
 any_alike p q h [] = refl
 any_alike p q h (x ∷ xs) = ap₂ (λ a b. a || b) (h x) (any_alike p q h xs)
 

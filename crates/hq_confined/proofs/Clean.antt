@@ -24,11 +24,11 @@ use Rattle.hq_confined.specs.Faults.{where_faults, conjunct_faults, conjuncts_fa
 pub none : (xs ys : List Fault) → xs ≡ [] → ys ≡ [] → xs ++ ys ≡ []
 none xs ys e f = rw (e, f) refl
 
-left_none : (xs ys : List Fault) → xs ++ ys ≡ [] → xs ≡ []
+pub left_none : (xs ys : List Fault) → xs ++ ys ≡ [] → xs ≡ []
 left_none [] ys h = refl
 left_none (x ∷ xs) ys h = cc
 
-right_none : (xs ys : List Fault) → xs ++ ys ≡ [] → ys ≡ []
+pub right_none : (xs ys : List Fault) → xs ++ ys ≡ [] → ys ≡ []
 right_none [] ys h = h
 right_none (x ∷ xs) ys h = cc
 

@@ -27,7 +27,7 @@ use Rattle.hq_compiled.proofs.Scopes.{Under, under_join, under_later, LooksUnder
 use Rattle.hq_confined.specs.Conjuncts.{opened, conjuncts}
 use Rattle.hq_confined.specs.Origins.{Origin, of, scan, outputs, Shapes, shape_at, origin_in, origin_at, table_place}
 use Rattle.hq_confined.specs.Renamed.{Renaming, stands_for, is_alike}
-use Rattle.hq_confined.specs.Members.{filter_conjuncts, is_written, is_one_of, stand_among, Equation, equation, is_equation_of, is_for_pair, is_whole_link, links_shape, is_linking, has_mask, is_permitted, mask_conjuncts, shows_masked, is_mask_join}
+use Rattle.hq_confined.specs.Members.{filter_conjuncts, is_written, is_one_of, stand_among, Equation, equation, is_equation_of, is_for_pair, is_whole_link, links_shape, is_linking, has_mask, is_permitted, mask_conjuncts, shows_masked, shows_in, is_mask_join}
 use Rattle.hq_confined.specs.Uses.{is_plain}
 use Rattle.hq_confined.specs.Faults.{outputs_of, is_exempt, select_faults}
 use Rattle.hq_confined.specs.Ready.{IsMask, Ready, Leads, Permits}
@@ -132,10 +132,12 @@ module _ (s : Schema) (g : Grants) where
       subst (λ b. Zip (Alike ((table_alias 0, table_alias p) ∷ [])) (opened (own_predicate b s t 0 1)) (opened (own_predicate m.shown s t p (n + 1)))) (sym mask.is) (written m.shown t p (n + 1) (omega arith) (omega arith)) in
       let stands : stand_among all (mask_conjuncts s g t c) (table_alias p) ≡ true = all_among (table_alias p) (mask_conjuncts s g t c) (opened (own_predicate m.shown s t p (n + 1))) [] [] zip in
       let ones : list_all (is_one_of (mask_conjuncts s g t c) (table_alias p)) all ≡ true = all_one_of (table_alias p) (mask_conjuncts s g t c) (opened (own_predicate m.shown s t p (n + 1))) (each_one_of (table_alias p) (mask_conjuncts s g t c) (opened (own_predicate m.shown s t p (n + 1))) zip) in
-      let shows : shows_masked s g (table_alias p) all (of t (table_alias p ∷ []) c) ≡ true = rw (mask.permitted, mask.masked, stands) ones in
+      let shows : shows_masked s g (table_alias p) all t (Some c) ≡ true = rw (mask.permitted, mask.masked, stands) ones in
+      let inner : Shapes = (table_alias n, outputs []) ∷ scope in
+      let here : shape_at inner (table_alias p) ≡ scan t = scans_behind scope inner p n t lt (grows_one n (outputs []) scope (omega arith)) k in
       let is : is_mask_join s g scope (mask_select m s t p n) ≡ true =
-      ap (λ l. shows_masked s g (table_alias p) l (origin_at s scope (table_alias p) (name_of (table s t).columns c))) (where_one (own_predicate m.shown s t p (n + 1)))
-      ∙ ap (shows_masked s g (table_alias p) all) (own_origin s g scope p t c ready mask.has k) ∙ shows in
+      ap (λ l. shows_in s g (table_alias p) (name_of (table s t).columns c) l (shape_at inner (table_alias p))) (where_one (own_predicate m.shown s t p (n + 1)))
+      ∙ ap (shows_in s g (table_alias p) (name_of (table s t).columns c) all) here ∙ ap (shows_masked s g (table_alias p) all t) (ready.names c mask.has) ∙ shows in
       record { clean = rw is refl; shows = rw is refl }
 
   -- the columns of a row are plain behind the joins of their masks

@@ -1,7 +1,7 @@
 mod Worked
 mod Renaming
-mod Clean
-mod Runs
+pub mod Clean
+pub mod Runs
 mod Scopes
 mod Filters
 mod Exempt
@@ -9,5 +9,8 @@ mod Wanted
 mod Chains
 mod Sorts
 mod Lists
-mod Alike
-mod Permitted
+pub mod Alike
+pub mod Permitted
+mod Folds
+mod OneRow
+mod Fields

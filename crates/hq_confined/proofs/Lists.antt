@@ -37,14 +37,22 @@ module _ (s : Schema) (g : Grants) where
   distinct_clean final columns look (c ∷ cs) k =
       none _ _ (column_clean s g final (look c).alias (look c).name (is_text_column columns c) (k c (used_left c (c ∷ []) cs (used_one c)))) (distinct_clean final columns look cs (λ d used. k d (used_right d (c ∷ []) cs used)))
 
-  -- the rows of a list of table u at the alias of number n, their tie, outputs and children given
-  pub list_clean : (scope : Shapes) (counts : Bool) (u n m : ℕ) (a : ListArguments) (more : List ℕ) (tie : PredTree) (limit : Option ℕ) (outs : List OutTree) (J : List JoinTree) (V : Shapes → Type 0) → Ready s g u → Permits s g u (list_used s u a more)
-      → Allowed a.wanted s g u → Each (λ k. AllowedSort s g u (record { own = false; key = k })) (entries (once a)) → children_from s (rights_of g) u (list_used s u a more) a n ≤ m → m ≤ 2 ^ 64
-      → ((final : Shapes) → Behind s g scope u n (list_used s u a more) final → IsTied s g final u n tie)
+  -- what stands behind the joins of a list: the masks of its rows, its sort keys and its children
+  abbrev pub ListSeen : (scope : Shapes) → (u n : ℕ) → ListArguments → (more : List ℕ) → (V : Shapes → Type 0) → Shapes → Type 0
+  ListSeen scope u n a more V final =
+      Behind s g scope u n (list_used s u a more) final
+      × (EntriesPlain s g u n (shown_look s (rights_of g) u (list_used s u a more) n) final (entries (once a)) (sorts_from s (rights_of g) u (list_used s u a more) a n) × V final)
+
+  -- the joins of a list of table u at the alias of number n
+  abbrev pub all_joins : (u n : ℕ) → ListArguments → (more : List ℕ) → List JoinTree → List JoinTree
+  all_joins u n a more J =
+      masks s (rights_of g) u (list_used s u a more) n ++ (sorts_joins (list_sorts s u a) s (rights_of g) u n (sorts_from s (rights_of g) u (list_used s u a more) a n) ++ J)
+
+  pub list_joined : (scope : Shapes) (u n m : ℕ) (a : ListArguments) (more : List ℕ) (J : List JoinTree) (V : Shapes → Type 0) → Ready s g u → Permits s g u (list_used s u a more)
+      → Each (λ k. AllowedSort s g u (record { own = false; key = k })) (entries (once a)) → children_from s (rights_of g) u (list_used s u a more) a n ≤ m → m ≤ 2 ^ 64
       → ((here : Shapes) → Behind s g scope u n (list_used s u a more) here → Joined s g here (children_from s (rights_of g) u (list_used s u a more) a n) m J V)
-      → ((final : Shapes) → Behind s g scope u n (list_used s u a more) final → EntriesPlain s g u n (shown_look s (rights_of g) u (list_used s u a more) n) final (entries (once a)) (sorts_from s (rights_of g) u (list_used s u a more) a n) → V final → outs_faults s g final outs ≡ [])
-      → select_faults s g scope counts (list_rows s (rights_of g) u (list_used s u a more) a n tie limit outs J) ≡ []
-  list_clean scope counts u n m a more tie limit outs J V ready permits wanted sorted le bound tied kids shown =
+      → Joined s g (with_scan s g u n scope) (n + 1) m (all_joins u n a more J) (ListSeen scope u n a more V)
+  list_joined scope u n m a more J V ready permits sorted le bound kids =
       let R : Rights = rights_of g in
       let cs : List ℕ = list_used s u a more in
       let es : List SortKey = entries (once a) in
@@ -67,9 +75,27 @@ module _ (s : Schema) (g : Grants) where
         grows = λ x v. first.grows x (under_later n at x (omega arith) v) ∙ b.grows x v;
       } in
       sooner s g here mid at m (sorts ++ J) (λ final. E final × V final) (omega arith) (joined_then s g here at kid m sorts J E V (omega arith) le first (kids first.after after)) in
+      alias_joins s g scope u n m cs (sorts ++ J) (λ final. E final × V final) ready permits (omega (arith, le)) bound both
+
+  -- the rows of a list of table u at the alias of number n, their tie, outputs and children given
+  pub list_clean : (scope : Shapes) (counts : Bool) (u n m : ℕ) (a : ListArguments) (more : List ℕ) (tie : PredTree) (limit : Option ℕ) (outs : List OutTree) (J : List JoinTree) (V : Shapes → Type 0) → Ready s g u → Permits s g u (list_used s u a more)
+      → Allowed a.wanted s g u → Each (λ k. AllowedSort s g u (record { own = false; key = k })) (entries (once a)) → children_from s (rights_of g) u (list_used s u a more) a n ≤ m → m ≤ 2 ^ 64
+      → ((final : Shapes) → Behind s g scope u n (list_used s u a more) final → IsTied s g final u n tie)
+      → ((here : Shapes) → Behind s g scope u n (list_used s u a more) here → Joined s g here (children_from s (rights_of g) u (list_used s u a more) a n) m J V)
+      → ((final : Shapes) → Behind s g scope u n (list_used s u a more) final → EntriesPlain s g u n (shown_look s (rights_of g) u (list_used s u a more) n) final (entries (once a)) (sorts_from s (rights_of g) u (list_used s u a more) a n) → V final → outs_faults s g final outs ≡ [])
+      → select_faults s g scope counts (list_rows s (rights_of g) u (list_used s u a more) a n tie limit outs J) ≡ []
+  list_clean scope counts u n m a more tie limit outs J V ready permits wanted sorted le bound tied kids shown =
+      let R : Rights = rights_of g in
+      let cs : List ℕ = list_used s u a more in
+      let es : List SortKey = entries (once a) in
+      let ks : List Sort = list_sorts s u a in
+      let look : Look = shown_look s R u cs n in
+      let mid : ℕ = n + 1 + extra s R u cs in
+      let behind : ℕ = behind_filter s R u cs n in
+      let at : ℕ = sorts_from s R u cs a n in
       let within : Shapes = with_scan s g u n scope in
-      let J' : List JoinTree = masks s R u cs n ++ (sorts ++ J) in
-      let j = alias_joins s g scope u n m cs (sorts ++ J) (λ final. E final × V final) ready permits (omega (arith, le)) bound both in
+      let J' : List JoinTree = all_joins u n a more J in
+      let j = list_joined scope u n m a more J V ready permits sorted le bound kids in
       let final : Shapes = j.after in
       let seen = j.seen final (λ x v. refl) in
       let A : PredTree = filter_predicate s R u n mid in

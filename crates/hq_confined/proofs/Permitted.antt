@@ -31,7 +31,7 @@ found_holds p q b h (x ∷ xs) a c =
     go (p x) refl a
 
 module _ (w : World) (e f : Scope) (alias : List ℕ) (same : f (table_alias 0) ≡ e alias) where
-  related : Related ((table_alias 0, alias) ∷ []) f e
+  pub related : Related ((table_alias 0, alias) ∷ []) f e
   related a b k =
       let go : (c d : Bool) → bytes_eq (table_alias 0) a ≡ c → bytes_eq alias b ≡ d → cond c d (not d && false) ≡ true → f a ≡ e b =
       elim [

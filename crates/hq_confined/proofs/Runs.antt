@@ -50,7 +50,7 @@ of_is t path c (of u other d) h =
 self_eq : (n : ℕ) → (n == n) ≡ true
 self_eq n = let e = eq-eqb n n refl in rw e refl
 
-suc_not : (n : ℕ) → (suc n == 0) ≡ false
+pub suc_not : (n : ℕ) → (suc n == 0) ≡ false
 suc_not n = ne_eqb (suc n) 0 (λ e. absurd (omega arith))
 
 or_true : (b : Bool) → (b || true) ≡ true

@@ -17,7 +17,7 @@ use Rattle.hq_compiled.specs.Names.{table_alias, value_name, unit_name}
 use Rattle.hq_compiled.specs.Predicates.{columns_in, columns_in_all, guard_from, inner_from, numbers, numbers_all, predicate, predicates, link}
 use Rattle.hq_compiled.specs.Rights.{Rights, rights_of}
 use Rattle.hq_compiled.specs.Selects.{key_orders, filter_from, behind_filter, first_select}
-use Rattle.hq_compiled.proofs.Names.{same_text, used_else}
+use Rattle.hq_compiled.proofs.Names.{same_text, used_one, used_left, used_right, used_else}
 use Rattle.hq_compiled.proofs.Scopes.{under_later, LooksUnder, looks_under_later}
 use Rattle.hq_confined.specs.Conjuncts.{opened, conjuncts}
 use Rattle.hq_confined.specs.Origins.{Origin, made, of, scan, Shapes, shape_at, origin_at, origin, output_named, table_place}
@@ -104,8 +104,34 @@ module _ (s : Schema) (g : Grants) where
         (joins_clean s g within (n + 1) from (masks s R far cs n) _ j) (joins_shapes s g within (n + 1) from (masks s R far cs n) _ j) refl refl
         (ap (λ l. stand_among l (filter_conjuncts s g far) (table_alias n)) is ∙ stand) refl
         (subst (λ l. where_faults s g final (is_exempt s g final l (from_of far n)) (where_of (with_member L (with_member A (with_member B [])))) ≡ []) (sym is) kept) refl
-    wanted_clean (exists_in u b) look t p n scope f own lt k v bound = absurd f
-    wanted_clean (two_columns l op r) look t p n scope f own lt k u bound = absurd f
+    wanted_clean (exists_in u b) look t p n scope f own lt k v bound =
+        let R : Rights = rights_of g in
+        let cs : List ℕ = columns_in b in
+        let ready : Ready s g u = f.0 in
+        let within : Shapes = with_scan u n scope in
+        let near : Scans within n u = scan_here u n scope ready in
+        let j = shown_clean s g u n cs within ready f.1 near (omega arith) in
+        let final : Shapes = j.after in
+        let here : Scans final n u = scans_behind within final n (n + 1) u (omega arith) j.grows near in
+        let from : ℕ = n + 1 + extra s R u cs in
+        let behind : ℕ = n + 1 + extra s R u cs + filter_numbers s R u in
+        let A : PredTree = filter_predicate s R u n from in
+        let B : PredTree = predicate b s (where_mode s R) (shown_look s R u cs n) u n behind in
+        let shown : Shows s g final (shown_look s R u cs n) cs = j.seen final (λ a w. refl) in
+        let inner = wanted_clean b (shown_look s R u cs n) u n behind final f.2 here (omega arith) shown (looks_under_later from behind (shown_look s R u cs n) (omega arith) (shown_under s g u n cs (omega arith))) (omega arith) in
+        let all : List PredTree = opened A ++ (opened B ++ []) in
+        let is : conjuncts (where_of (with_member A (with_member B []))) ≡ all = where_pair A B in
+        let ex : PredTree → Bool = is_exempt s g final all (from_of u n) in
+        let kept : where_faults s g final ex (where_of (with_member A (with_member B []))) ≡ [] =
+        two_free s g final ex A B (exempt_free s g final ex A (filter_exempt s g u n from final all ready (omega arith) (omega arith))) (clean_free s g final ex B inner) in
+        let stand : stand_among all (filter_conjuncts s g u) (table_alias n) ≡ true = filter_stands s g u n from [] (opened B ++ []) (omega arith) (omega arith) in
+        rows_clean scope final u n false [] (record { value = tree.bool true; name = unit_name } ∷ []) (joins_of (masks s R u cs n)) (where_of (with_member A (with_member B []))) [] None None ready
+        (joins_clean s g within (n + 1) from (masks s R u cs n) _ j) (joins_shapes s g within (n + 1) from (masks s R u cs n) _ j) refl refl
+        (ap (λ l. stand_among l (filter_conjuncts s g u) (table_alias n)) is ∙ stand) refl
+        (subst (λ l. where_faults s g final (is_exempt s g final l (from_of u n)) (where_of (with_member A (with_member B []))) ≡ []) (sym is) kept) refl
+    wanted_clean (two_columns l op r) look t p n scope f own lt k u bound =
+        none _ _ (column_clean s g scope (look l).alias (look l).name (is_text_column (table s t).columns l) (k l (used_left l (l ∷ []) (r ∷ []) (used_one l))))
+        (none _ _ (column_clean s g scope (look r).alias (look r).name (is_text_column (table s t).columns r) (k r (used_right r (l ∷ []) (r ∷ []) (used_one r)))) refl)
 
     wanteds_clean : (bs : BexpTrees) (look : Look) (t p n : ℕ) (scope : Shapes) → AllAllowed bs s g t → Scans scope p t → p < n → Shows s g scope look (columns_in_all bs) → LooksUnder n look → n + numbers_all bs s (where_mode s (rights_of g)) t ≤ 2 ^ 64
         → Each (IsClean s g scope) (predicates bs s (where_mode s (rights_of g)) look t p n)

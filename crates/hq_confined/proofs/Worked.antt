@@ -13,6 +13,7 @@ use Rattle.hq_terms.specs.Selected.{ListArguments, SortKey}
 use Rattle.hq_terms.specs.declared.bexp.Operands.TheVariants as operands
 use Rattle.hq_terms.specs.declared.bexp.Operand.TheVariants.{Const}
 use Rattle.hq_terms.specs.declared.op.Op.TheVariants.{Eq}
+use Rattle.hq_terms.specs.declared.table.Column.{Column}
 use Rattle.hq_terms.specs.declared.test.Test.TheVariants.{Compare}
 use Rattle.hq_ask_tree.specs.declared.aggregate.AggCol.TheVariants as of
 use Rattle.hq_ask_tree.specs.declared.aggregate.AggField.TheVariants as take
@@ -200,3 +201,67 @@ compared_key_breaks_5 = refl
 downwards_breaks_5 : worst (faults schema keyless (authors (at_a (codes "name")) tree.no_join tree.no_filter (record { value = at_a (codes "id"); desc = true; nulls_first = false } ∷ by_id) None)) ≡ due 5 (codes "a")
 unfolding table_alias fold_alias join_alias value_name key_name needed_name unit_name digits
 downwards_breaks_5 = refl
+
+-- ---- what must not be taken for what it is like
+
+-- a filter's conjunct with another constant is none of the filter
+abbrev other_article : Permission
+other_article = record article { filter = or_of (bexp is_published (bexp (test 1 (Compare Eq) (operands.List (Const (val.Int (pos 2)) ∷ [])) false) no_bexp)) }
+
+constant_breaks_2 : worst (faults schema (Some author ∷ Some other_article ∷ []) (statement (one (list (from_table 1) plain (field (codes "title") (column 2) no_field))) schema (rights_of user))) ≡ due 2 (codes "t1")
+unfolding table_alias fold_alias join_alias value_name key_name needed_name unit_name digits
+constant_breaks_2 = refl
+
+-- the rows of an EXISTS may stand in no order, but not with LIMIT
+abbrev some_author : (limit : Option ℕ) → FilterTree
+some_author limit = tree.filter (tree.exists (tree.rows [] (record { value = tree.bool true; name = codes "u" } ∷ []) (tree.table (codes "public") (codes "author") (codes "b")) tree.no_join tree.no_filter [] limit None))
+
+exists_is_confined : faults schema user (authors (at_a (codes "name")) tree.no_join (some_author None) by_id None) ≡ []
+unfolding table_alias fold_alias join_alias value_name key_name needed_name unit_name digits
+exists_is_confined = refl
+
+limited_breaks_6 : worst (faults schema user (authors (at_a (codes "name")) tree.no_join (some_author (Some 1)) by_id None)) ≡ due 6 (codes "b")
+unfolding table_alias fold_alias join_alias value_name key_name needed_name unit_name digits
+limited_breaks_6 = refl
+
+-- a relationship of two pairs is a whole link by both of them, and by one of them none
+abbrev whole : Column
+whole = record { name = codes "k"; ty = Integer; nullable = false }
+
+abbrev places : Schema
+places =
+    record {
+      schema = codes "public";
+      name = codes "place";
+      columns = whole ∷ record whole { name = codes "a" } ∷ record whole { name = codes "b" } ∷ [];
+      key = 0 ∷ [];
+      rels = record { name = codes "visits"; remote = 1; pairs = record { own = 1; remote = 1 } ∷ record { own = 2; remote = 2 } ∷ []; many = true } ∷ [];
+    }
+    ∷ record {
+      schema = codes "public";
+      name = codes "visit";
+      columns = whole ∷ record whole { name = codes "a" } ∷ record whole { name = codes "b" } ∷ [];
+      key = 0 ∷ [];
+      rels = [];
+    }
+    ∷ []
+
+abbrev visitor : Grants
+visitor = Some (record author { columns = 0 ∷ [] }) ∷ Some (record author { columns = 0 ∷ [] }) ∷ []
+
+abbrev equals : List ℕ → PredTree
+equals name = tree.test (tree.column (codes "b") name false) (Compare Eq) (tree.column (codes "a") name false ∷ [])
+
+abbrev visited : PredTree → SelectTree
+visited tie =
+    tree.rows [] (record { value = at_a (codes "k"); name = codes "v" } ∷ []) (tree.table (codes "public") (codes "place") (codes "a")) tree.no_join
+    (tree.filter (tree.exists (tree.rows [] (record { value = tree.bool true; name = codes "u" } ∷ []) (tree.table (codes "public") (codes "visit") (codes "b")) tree.no_join (tree.filter tie) [] None None)))
+    (sorted (at_a (codes "k")) ∷ []) None None
+
+link_is_confined : faults places visitor (visited (tree.all_of (tree.pred (equals (codes "a")) (tree.pred (equals (codes "b")) tree.no_pred)))) ≡ []
+unfolding table_alias fold_alias join_alias value_name key_name needed_name unit_name digits
+link_is_confined = refl
+
+part_of_link_breaks_3 : worst (faults places visitor (visited (equals (codes "a")))) ≡ due 3 (codes "b")
+unfolding table_alias fold_alias join_alias value_name key_name needed_name unit_name digits
+part_of_link_breaks_3 = refl

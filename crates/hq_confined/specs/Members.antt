@@ -18,8 +18,8 @@ use Rattle.hq_compiled.specs.Predicates.{own_predicate}
 use Rattle.hq_compiled.specs.Masks.{filter_predicate}
 use Rattle.hq_compiled.specs.Rights.{rights_of}
 use Rattle.hq_confined.specs.Conjuncts.{opened, conjuncts}
-use Rattle.hq_confined.specs.Origins.{Origin, of, Shape, scan, outputs, Shapes, shape_at, origin_at}
-use Rattle.hq_confined.specs.Renamed.{is_alike}
+use Rattle.hq_confined.specs.Origins.{Shape, scan, outputs, Shapes, shape_at, column_place}
+use Rattle.hq_confined.specs.Renamed.{alias_of, is_alike}
 
 -- ---- filters
 
@@ -95,25 +95,30 @@ is_permitted p c = list_any (λ d. d == c) p.columns
 abbrev pub mask_conjuncts : Schema → Grants → (t c : ℕ) → List PredTree
 mask_conjuncts s g t c = opened (own_predicate (mask_of (grant g t).masks c) s t 0 1)
 
--- these conjuncts are exactly those of the mask of the column
-abbrev pub shows_masked : Schema → Grants → (alias : List ℕ) → (all : List PredTree) → Origin → Bool
-shows_masked s g alias all (of t (a ∷ []) c) =
+-- these conjuncts are exactly those of the mask of a column of table t, where there is one
+abbrev pub shows_masked : Schema → Grants → (alias : List ℕ) → (all : List PredTree) → (t : ℕ) → Option ℕ → Bool
+shows_masked s g alias all t None = false
+shows_masked s g alias all t (Some c) =
     is_permitted (grant g t) c && has_mask (grant g t) c && stand_among all (mask_conjuncts s g t c) alias && list_all (is_one_of (mask_conjuncts s g t c) alias) all
-shows_masked s g alias all _ = false
+
+-- the column of this name of a scan
+abbrev pub shows_in : Schema → Grants → (alias name : List ℕ) → (all : List PredTree) → Shape → Bool
+shows_in s g alias name all (scan t) = shows_masked s g alias all t (column_place s t name)
+shows_in s g alias name all (outputs os) = false
 
 -- one output, which is a column
 abbrev pub shows_one : Schema → Grants → Shapes → (all : List PredTree) → ExprTree → Bool
-shows_one s g scope all (tree.column alias name collate) = shows_masked s g alias all (origin_at s scope alias name)
+shows_one s g scope all (tree.column alias name collate) = shows_in s g alias name all (shape_at scope alias)
 shows_one s g scope all _ = false
 
 abbrev pub shows_only : Schema → Grants → Shapes → (all : List PredTree) → List OutTree → Bool
 shows_only s g scope all (o ∷ []) = shows_one s g scope all o.value
 shows_only s g scope all _ = false
 
--- Rows over One whose one output is a masked column, without joins, DISTINCT ON, ORDER BY, LIMIT and OFFSET, with exactly the
--- conjuncts of its mask: as a lateral join they show the shown cell.
+-- Rows over One whose one output is a masked column of a scan around it, without joins, DISTINCT ON, ORDER BY, LIMIT and OFFSET, with
+-- exactly the conjuncts of its mask: as a lateral join they show the shown cell.
 abbrev pub is_mask_join : Schema → Grants → Shapes → SelectTree → Bool
 is_mask_join s g scope (tree.rows distinct outs from joins condition keys limit offset) =
     (length distinct == 0) && is_one from && is_no_join joins && (length keys == 0) && is_none limit && is_none offset
-    && shows_only s g scope (conjuncts condition) outs
+    && shows_only s g ((alias_of from, outputs []) ∷ scope) (conjuncts condition) outs
 is_mask_join s g scope (tree.fold out inner alias) = false

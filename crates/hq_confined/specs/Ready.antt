@@ -1,5 +1,5 @@
 -- What a request and what it is granted must be, that its statement is confined: it uses what is granted.
-use Rattle.std.specs.Prelude.{◌≡◌, ℕ, ◌<◌, List, [], ◌∷◌, length, true, false, Some, None, is_some, slice_index_or, ◌==◌}
+use Rattle.std.specs.Prelude.{◌≡◌, ℕ, ◌<◌, ◌≤◌, ◌^◌, List, [], ◌∷◌, length, true, false, Some, None, is_some, slice_index_or, ◌==◌}
 use Rattle.std.specs.List.{list_any}
 use Rattle.hq_base.specs.Lists.{Each}
 use Rattle.hq_terms.specs.Bexp.{BexpTree, always, and_of, or_of, not_of, test, through, exists_in, two_columns, BexpTrees, no_bexp, bexp}
@@ -7,13 +7,13 @@ use Rattle.hq_terms.specs.Grants.{Grants, grant}
 use Rattle.hq_terms.specs.Permission.{Mask}
 use Rattle.hq_terms.specs.Permitted.{mask_of}
 use Rattle.hq_terms.specs.Schema.{Schema, table, rel}
-use Rattle.hq_terms.specs.Selected.{SortKey, ListArguments}
+use Rattle.hq_terms.specs.Selected.{SortKey, ListArguments, entries}
 use Rattle.hq_ask_tree.specs.Fields.{Origin, from_table, along, FieldTrees, no_field, field, FieldTree, column, typename, no_queries, object, list, by_key, aggregate, introspect, PartTrees, no_part, part, PartTree, summary, nodes, part_typename}
 use Rattle.hq_ask_tree.specs.Resolve.{origin_table}
 use Rattle.hq_compiled.specs.Aggregates.{needed}
-use Rattle.hq_compiled.specs.Fields.{fields_used}
+use Rattle.hq_compiled.specs.Fields.{fields_used, key_used}
 use Rattle.hq_compiled.specs.Fine.{Has}
-use Rattle.hq_compiled.specs.Lists.{once, list_sorts}
+use Rattle.hq_compiled.specs.Lists.{once, list_sorts, list_used}
 use Rattle.hq_compiled.specs.Looks.{name_of, is_used}
 use Rattle.hq_compiled.specs.Predicates.{columns_in}
 use Rattle.hq_compiled.specs.Sorts.{Sort, last_used, used_sorts}
@@ -49,7 +49,7 @@ pub record Leads (s : Schema) (g : Grants) (t r : ℕ) : Type 0 where
   pub within : r < length (table s t).rels
   pub ready : Ready s g (rel s t r).remote
 
--- what a `where` asks is there and permitted; it asks for no table by itself, and compares no two columns
+-- what a `where` asks is there and permitted
 abbrev mutual
   pub Allowed : BexpTree → Schema → Grants → (t : ℕ) → Type 0
   Allowed always s g t = Unit {0}
@@ -58,8 +58,8 @@ abbrev mutual
   Allowed (not_of b) s g t = Allowed b s g t
   Allowed (test c tested vs negated) s g t = Unit {0}
   Allowed (through r b) s g t = Leads s g t r × Permits s g (rel s t r).remote (columns_in b) × Allowed b s g (rel s t r).remote
-  Allowed (exists_in u b) s g t = ⊥
-  Allowed (two_columns l op r) s g t = ⊥
+  Allowed (exists_in u b) s g t = Ready s g u × Permits s g u (columns_in b) × Allowed b s g u
+  Allowed (two_columns l op r) s g t = Unit {0}
 
   pub AllAllowed : BexpTrees → Schema → Grants → (t : ℕ) → Type 0
   AllAllowed no_bexp s g t = Unit {0}
@@ -72,3 +72,43 @@ AllowedChain (r ∷ rs) s g t c = Leads s g t r × Permits s g (rel s t r).remot
 
 abbrev pub AllowedSort : Schema → Grants → (t : ℕ) → Sort → Type 0
 AllowedSort s g t k = AllowedChain k.key.through s g t k.key.column
+
+-- ---- lists
+
+-- the arguments of a list of rows of table u, which uses these further columns
+pub record AllowedList (s : Schema) (g : Grants) (u : ℕ) (a : ListArguments) (more : List ℕ) : Type 0 where
+  pub permits : Permits s g u (list_used s u a more)
+  pub wanted : Allowed a.wanted s g u
+  pub sorted : Each (λ k. AllowedSort s g u (record { own = false; key = k })) (entries (once a))
+  pub few : length (list_sorts s u a) ≤ 2 ^ 64
+
+-- a list is of a table that is ready, or along a relationship that leads to one
+abbrev pub AllowedOrigin : Origin → Schema → Grants → (t : ℕ) → Type 0
+AllowedOrigin (from_table u) s g t = Ready s g u
+AllowedOrigin (along r) s g t = Leads s g t r
+
+-- ---- fields
+
+abbrev mutual
+  pub AllowedFields : FieldTrees → Schema → Grants → (t : ℕ) → Type 0
+  AllowedFields no_field s g t = Unit {0}
+  AllowedFields (field key f fs) s g t = AllowedField f s g t × AllowedFields fs s g t
+
+  pub AllowedField : FieldTree → Schema → Grants → (t : ℕ) → Type 0
+  AllowedField (column c) s g t = Unit {0}
+  AllowedField (typename name) s g t = Unit {0}
+  AllowedField no_queries s g t = Unit {0}
+  AllowedField (object r fs) s g t = Leads s g t r × Permits s g (rel s t r).remote (fields_used fs) × AllowedFields fs s g (rel s t r).remote
+  AllowedField (list o a fs) s g t = AllowedOrigin o s g t × AllowedList s g (origin_table o s t) a (fields_used fs) × AllowedFields fs s g (origin_table o s t)
+  AllowedField (by_key u key fs) s g t = Ready s g u × Permits s g u (key_used s u fs) × AllowedFields fs s g u
+  AllowedField (aggregate o a ps) s g t = AllowedOrigin o s g t × AllowedParts ps s g (origin_table o s t) a
+  AllowedField (introspect f) s g t = Unit {0}
+
+  pub AllowedParts : PartTrees → Schema → Grants → (u : ℕ) → ListArguments → Type 0
+  AllowedParts no_part s g u a = Unit {0}
+  AllowedParts (part key p ps) s g u a = AllowedPart p s g u a × AllowedParts ps s g u a
+
+  pub AllowedPart : PartTree → Schema → Grants → (u : ℕ) → ListArguments → Type 0
+  AllowedPart (summary fs) s g u a = AllowedList s g u a (needed fs [])
+  AllowedPart (nodes fs) s g u a = AllowedList s g u a (fields_used fs) × AllowedFields fs s g u
+  AllowedPart (part_typename name) s g u a = Unit {0}

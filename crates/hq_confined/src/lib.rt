@@ -3,4 +3,4 @@
 
 mod laws;
 
-pub use laws::scans_keep_permitted_rows;
+pub use laws::{scans_keep_permitted_rows, statements_are_confined};

@@ -2,6 +2,7 @@
 
 use crate::given::{given_meta, given_table};
 use hq_base::{Json, Txt, top_path};
+use hq_binding::bind;
 use hq_case::{Case, Stop, Words, given_catalog, given_session, push_bexp};
 use hq_filter_read::{FilterRefusal, read_filter};
 use hq_terms::{Bexp, BindRefusal, Catalog, Meta, Session, TableId};
@@ -97,7 +98,7 @@ fn push_bound(
     bexp: &Bexp,
     words: &mut Words,
 ) {
-    match bexp.bind(alloc, session, catalog, meta, table) {
+    match bind(alloc, bexp, session, catalog, meta, table) {
         Ok(bexp) => push_bexp(&bexp, words),
         Err(refusal) => push_fault(&refusal, words),
     }

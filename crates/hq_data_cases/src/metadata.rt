@@ -5,7 +5,8 @@ use hq_base::Txt;
 use hq_case::{Case, Stop, Words, given_catalog, push_bexp};
 use hq_meta_read::{MetaRefusal, read_meta};
 use hq_terms::{
-    Catalog, ColId, Meta, Pair, Perm, PermView, Rel, Role, RootNames, TableId, Tracked,
+    Catalog, ColId, Inherited, Mask, Meta, Pair, Perm, PermView, Rel, Role, RootNames, TableId,
+    Tracked,
 };
 use std::alloc::Global;
 
@@ -124,8 +125,22 @@ fn push_tracked(tracked: &Tracked, words: &mut Words) {
     words.push("\n");
 }
 
-fn push_all(meta: &Meta, words: &mut Words) {
-    for tracked in meta.tracked.as_slice() {
+// An inherited role and its set.
+fn push_inherited(inherited: &Inherited, words: &mut Words) {
+    words.push_pair("inherited ", inherited.role.as_str());
+    words.push(":");
+    push_names(inherited.set.as_slice(), words);
+    words.push("\n");
+}
+
+fn push_all_inherited(all: &[Inherited], words: &mut Words) {
+    for inherited in all {
+        push_inherited(inherited, words);
+    }
+}
+
+fn push_all_tracked(all: &[Tracked], words: &mut Words) {
+    for tracked in all {
         push_tracked(tracked, words);
     }
 }
@@ -136,10 +151,26 @@ fn meta_of(alloc: Global, case: &Case) -> Result<Meta, Stop> {
     given_meta(alloc, case, &catalog)
 }
 
-/// The tracked tables of metadata.
+/// The tracked tables and the inherited roles of metadata.
 pub fn tell_export(alloc: Global, case: &Case, words: &mut Words) -> Result<(), Stop> {
-    push_all(&meta_of(alloc, case)?, words);
+    let meta = meta_of(alloc, case)?;
+    push_all_tracked(meta.tracked.as_slice(), words);
+    push_all_inherited(meta.inherited.as_slice(), words);
     Ok(())
+}
+
+// A column that shows at some rows only.
+fn push_mask(mask: &Mask, words: &mut Words) {
+    words.push("; c");
+    words.push_place(mask.col.at());
+    words.push(" where ");
+    push_bexp(&mask.shown, words);
+}
+
+fn push_masks(masks: &[Mask], words: &mut Words) {
+    for mask in masks {
+        push_mask(mask, words);
+    }
 }
 
 // What is seen by a permission.
@@ -149,6 +180,7 @@ fn push_view(view: &PermView, words: &mut Words) {
     words.push(" where ");
     push_bexp(&view.filter, words);
     push_most(view.limit, view.aggregations, words);
+    push_masks(&view.masks, words);
 }
 
 fn push_seen(

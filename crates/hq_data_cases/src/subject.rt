@@ -12,13 +12,14 @@ pub enum About {
     OlderMetadata,
     Exports,
     Permissions,
+    InheritedPermissions,
     RoleSchemas,
     LookUps,
 }
 
 impl About {
     /// Each subject, in the order of its line.
-    pub const ALL: [About; 10] = [
+    pub const ALL: [About; 11] = [
         About::Catalogs,
         About::TableFiles,
         About::Filters,
@@ -27,6 +28,7 @@ impl About {
         About::OlderMetadata,
         About::Exports,
         About::Permissions,
+        About::InheritedPermissions,
         About::RoleSchemas,
         About::LookUps,
     ];
@@ -43,6 +45,7 @@ impl Subject for About {
             About::OlderMetadata => "older_metadata",
             About::Exports => "exports",
             About::Permissions => "permissions",
+            About::InheritedPermissions => "inherited_permissions",
             About::RoleSchemas => "role_schemas",
             About::LookUps => "look_ups",
         }
@@ -57,7 +60,9 @@ impl Subject for About {
             About::Bindings => filters::tell_binding(alloc, case, words),
             About::Metadata | About::OlderMetadata => metadata::tell_verdict(alloc, case, words),
             About::Exports => metadata::tell_export(alloc, case, words),
-            About::Permissions => metadata::tell_permission(alloc, case, words),
+            About::Permissions | About::InheritedPermissions => {
+                metadata::tell_permission(alloc, case, words)
+            }
             About::RoleSchemas => schemas::tell_role_schema(alloc, case, words),
             About::LookUps => schemas::tell_look_ups(alloc, case, words),
         }

@@ -5,7 +5,7 @@ use crate::layout::put_statement;
 use hq_ask_tree::{Ask, Bound};
 use hq_base::{Bytes, Memory};
 use hq_places::Words;
-use hq_terms::{Bexp, Catalog, ColId, Meta, PermView, Role, Tracked};
+use hq_terms::{Bexp, Catalog, ColId, Mask, Meta, PermView, Role, Tracked};
 use std::alloc::Global;
 
 fn put_role(words: &mut Words, role: &Role) {
@@ -45,6 +45,16 @@ fn put_limit(words: &mut Words, perm: &PermView) {
     }
 }
 
+// Adds the columns that show at some of the rows alone.
+fn put_masks(words: &mut Words, tracked: &Tracked, scope: &Scope<'_>, masks: &[Mask]) {
+    for mask in masks {
+        words.put("    masked:  ");
+        put_columns(words, tracked, &[mask.col]);
+        words.put(", shown ");
+        put_rows(words, scope, &mask.shown);
+    }
+}
+
 // Adds a touched table: what the role may see of it, and which of its rows this session may.
 fn put_table(
     alloc: Global,
@@ -71,6 +81,7 @@ fn put_table(
         table: bound.table,
     };
     put_rows(words, &scope, &bound.filter);
+    put_masks(words, tracked, &scope, &bound.masks);
     put_limit(words, &perm);
     Ok(())
 }

@@ -36,7 +36,7 @@ fn tracked<'a>(catalog: &'a Catalog, node: &Node<'_>) -> Option<&'a Table> {
 }
 
 // What an element of a member of this name is to be.
-static ELEMENTS: [(&str, &str); 8] = [
+static ELEMENTS: [(&str, &str); 10] = [
     ("tables", "an object with a member \"table\""),
     ("columns", "the name of a column"),
     ("foreign_key_constraint_on", "the name of a column"),
@@ -52,6 +52,14 @@ static ELEMENTS: [(&str, &str); 8] = [
         "select_permissions",
         "an object with \"role\" and \"permission\"",
     ),
+    (
+        "role_set",
+        "the name of a role that is neither \"admin\" nor inherited",
+    ),
+    (
+        "inherited_roles",
+        "an object with \"role_name\" and \"role_set\"",
+    ),
     ("_and", "a filter: an object"),
     ("_or", "a filter: an object"),
 ];
@@ -62,7 +70,7 @@ const NAME: &str =
 const NONE: &str = "none: hq would answer otherwise than Hasura";
 
 // What a member of this name is to be.
-static MEMBERS: [(&str, &str); 33] = [
+static MEMBERS: [(&str, &str); 35] = [
     (
         "$",
         "an object with \"version\", and \"sources\" or \"tables\"",
@@ -93,7 +101,9 @@ static MEMBERS: [(&str, &str); 33] = [
     ("object_relationships", "a list"),
     ("array_relationships", "a list"),
     ("select_permissions", "a list"),
-    ("inherited_roles", NONE),
+    ("inherited_roles", "a list"),
+    ("role_name", "the name of a role, not \"admin\""),
+    ("role_set", "a list of roles, at least one"),
     ("customization", NONE),
     ("query_root_fields", NONE),
     ("subscription_root_fields", NONE),
@@ -241,6 +251,16 @@ fn no_foreign_key(words: &mut Words, node: &Node<'_>, catalog: &Catalog) {
     }
 }
 
+fn repeated_role(words: &mut Words, node: &Node<'_>) {
+    words.put("role ");
+    node.put_value(words);
+    words.put(if node.name() == b"role_name" {
+        " is inherited already"
+    } else {
+        " has a permission on this table already"
+    });
+}
+
 fn bad_operand(words: &mut Words, node: &Node<'_>) {
     let name = node.name();
     if compares_columns(name) {
@@ -294,11 +314,7 @@ fn put_refusal(words: &mut Words, node: &Node<'_>, catalog: &Catalog, refusal: &
             node.put_value(words);
             words.put(" stands in the schema already");
         }
-        MetaRefusal::RepeatedRole { .. } => {
-            words.put("role ");
-            node.put_value(words);
-            words.put(" has a permission on this table already");
-        }
+        MetaRefusal::RepeatedRole { .. } => repeated_role(words, node),
         MetaRefusal::Version { .. } => {
             words.put("expected version 2 or 3; found ");
             node.put_value(words);

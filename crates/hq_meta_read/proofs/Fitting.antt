@@ -2,7 +2,7 @@
 use Rattle.std.proofs.Common.{◌≡◌, ◌∙◌, ℕ, zero, suc, ◌+◌, ◌<◌, ◌==◌, List, [], ◌∷◌, length, map, Bool, true, not, ◌&&◌, ◌||◌, Option, Some, None, option_map, slice_get, Ok, refl, sym, ap, subst, arith}
 use Rattle.std.specs.Prelude.{IfOk, ⊤, is_some, nat_lt, nat_le, unwrap_or, bytes_eq}
 use Rattle.std.specs.List.{AllByRecursion, AllZip, list_all, list_any, zip}
-use Rattle.std.proofs.lemmas.Bool.{and_from, lt-ltb, le-leb, eq-eqb}
+use Rattle.std.proofs.lemmas.Bool.{lt-ltb, le-leb, eq-eqb}
 use Rattle.std.proofs.lemmas.List.{length-map}
 use Rattle.std.proofs.lemmas.Option.{unwrap_or-slice_get, slice_get_within}
 use Rattle.std.proofs.lemmas.Result.{IfOk-at_ok}
@@ -26,16 +26,18 @@ use Rattle.hq_terms.specs.declared.table.Table.{Table}
 use Rattle.hq_meta_tables.specs.Each.{each, each_after}
 use Rattle.hq_meta_tables.specs.Found.{columns_of}
 use Rattle.hq_meta_read.specs.Permitted.{perms_at, with_perms, permitted}
-use Rattle.hq_meta_read.specs.Reading.{named, names_in, tracked_of, meta_of}
+use Rattle.hq_meta_read.specs.Reading.{named, names_in, with_inherited, tracked_of, meta_of}
+use Rattle.hq_meta_read.specs.Inheriting.{inherited_due}
 use Rattle.hq_meta_read.specs.Related.{rels_at, with_rels, related}
 use Rattle.hq_meta_read.specs.Sound.{Sound, AllSound, TablesSound}
-use Rattle.hq_meta_tables.specs.Top.{tables_path, table_entries, unwrapped}
+use Rattle.hq_meta_tables.specs.Top.{tables_path, table_entries, role_entries, unwrapped}
 use Rattle.hq_meta_tables.specs.Tracked.{tracked_at, tables_of}
 use Rattle.hq_meta_read.proofs.Beside.{WithRels, put_rels, WithPerms, put_perms, same_tracked, same_schema, long_zip}
 use Rattle.hq_meta_read.proofs.Heads.{Head, Tracked, all_tracked-Tracked}
 use Rattle.hq_meta_read.proofs.Keys.{joins}
 use Rattle.hq_meta_read.proofs.Links.{Related, Rels, rels_at-Rels}
-use Rattle.hq_meta_read.proofs.Lists.{list_all-from, all_both}
+use Rattle.hq_meta_read.proofs.InheritedFit.{inherited_due-fits}
+use Rattle.hq_meta_read.proofs.Lists.{list_all-from, list_all-same, all_both}
 use Rattle.hq_meta_read.proofs.Perms.{Permits, Perms, perms_at-Perms}
 use Rattle.hq_meta_read.proofs.Steps.{ok_always, ok_both, ok_and_then, ok_next, Behind, each_after-Behind}
 
@@ -87,10 +89,6 @@ six a b c d e f p q r s t u = cc
 
 eight : (a b c d e f g h : Bool) → a ≡ true → b ≡ true → c ≡ true → d ≡ true → e ≡ true → f ≡ true → g ≡ true → h ≡ true → (a && b && c && d && e && f && g && h) ≡ true
 eight a b c d e f g h p q r s t u v w = cc
-
-list_all-same : {A : Type 0} (p q : A → Bool) → ((x : A) → p x ≡ q x) → (xs : List A) → list_all p xs ≡ list_all q xs
-list_all-same p q same [] = refl
-list_all-same p q same (x ∷ xs) = Prim.cc (same x, list_all-same p q same xs)
 
 rel_fits : (tables : List Table) (m n : MetaTree) (t : ℕ) (r : Rel) → map (λ k. k.table) n.tracked ≡ map (λ k. k.table) m.tracked → Related tables m t r → fits_rel (schema_of tables n) n t r ≡ true
 rel_fits tables m n t r same h =
@@ -200,69 +198,41 @@ all_known tables m n [] each sound = tt
 all_known tables m n (k ∷ ks) each sound =
     (record { head = each.0.0.0; rels = each.0.0.1; perms = each.0.1; sound = sound.0 }, all_known tables m n ks each.1 sound.1)
 
--- ---- no inherited role is read
-
-abbrev NoneInherited : MetaTree → Type 0
-NoneInherited m = m.inherited ≡ []
-
-named-none : (tables : List Table) (path : List ℕ) (js : List JsonTree) → IfOk (named tables path js) NoneInherited
-unfolding named
-named-none tables path js =
-    let made = λ (ks : List TrackedTree). let m : MetaTree = record { tracked = ks; inherited = [] } in m in
-    ok_next (λ ks. Ok (made ks)) NoneInherited (λ ks. refl) (each_after (tracked_at tables) path 0 [] js)
-
-related-none : (tables : List Table) (path : List ℕ) (js : List JsonTree) (m : MetaTree) → NoneInherited m → IfOk (related tables path js m) NoneInherited
-unfolding related
-related-none tables path js m none = ok_next (λ rels. Ok (with_rels m rels)) NoneInherited (λ rels. none) (each (rels_at tables m) path (zip (tables_of m) js))
-
-permitted-none : (tables : List Table) (path : List ℕ) (js : List JsonTree) (m : MetaTree) → NoneInherited m → IfOk (permitted tables path js m) NoneInherited
-unfolding permitted
-permitted-none tables path js m none = ok_next (λ perms. Ok (with_perms m perms)) NoneInherited (λ perms. none) (each (perms_at tables m) path (zip (tables_of m) js))
-
-none_fits : (is : List Inherited) → is ≡ [] → (are_inherited is && (length is == 0)) ≡ true
-none_fits is none = rw none refl
-
 -- sound filters and names that differ are all that is left
 abbrev pub FitsIf : List Table → MetaTree → Type 0
 FitsIf tables m = TablesSound tables m m.tracked → names_differ (schema_of tables m) m ≡ true → fits tables m ≡ true
 
-whole_fits : (tables : List Table) (m n q : MetaTree) → NoneInherited q → Tracked tables m.tracked → WithRels (Head tables) (Rels tables m) m.tracked n.tracked → WithPerms (Joined tables m) (Perms tables) n.tracked q.tracked → FitsIf tables q
-whole_fits tables m n q none h f g sound names =
+whole_fits : (tables : List Table) (m n q : MetaTree) → are_inherited q.inherited ≡ true → Tracked tables m.tracked → WithRels (Head tables) (Rels tables m) m.tracked n.tracked → WithPerms (Joined tables m) (Perms tables) n.tracked q.tracked → FitsIf tables q
+whole_fits tables m n q inherited h f g sound names =
     let same : map (λ k. k.table) q.tracked ≡ map (λ k. k.table) m.tracked = g.same ∙ f.same in
     let once : all_differ (λ j k. j.table == k.table) q.tracked ≡ true = all_differ-places q.tracked ∙ ap (all_differ (λ a b. a == b)) same ∙ sym (all_differ-places m.tracked) ∙ h.once in
     let each : list_all (fits_tracked (schema_of tables q) q) q.tracked ≡ true =
     list_all-from (All tables m q) (fits_tracked (schema_of tables q) q) (λ k a. tracked_fits tables m q k same a) q.tracked (all_known tables m q q.tracked g.each sound) in
-    let tracked = all_differ (λ j k. j.table == k.table) q.tracked && list_all (fits_tracked (schema_of tables q) q) q.tracked in
-    and_from (tracked && names_differ (schema_of tables q) q) (are_inherited q.inherited && (length q.inherited == 0))
-    (and_from tracked (names_differ (schema_of tables q) q)
-    (and_from (all_differ (λ j k. j.table == k.table) q.tracked) (list_all (fits_tracked (schema_of tables q) q) q.tracked) once each) names)
-    (none_fits q.inherited none)
+    four (all_differ (λ j k. j.table == k.table) q.tracked) (list_all (fits_tracked (schema_of tables q) q) q.tracked) (names_differ (schema_of tables q) q) (are_inherited q.inherited) once each names inherited
 
 long_as : (ks ls : List TrackedTree) → map (λ k. k.table) ks ≡ map (λ k. k.table) ls → length ls ≡ length ks
 long_as ks ls same = sym (length-map ls (λ (k : TrackedTree). k.table)) ∙ ap length (sym same) ∙ length-map ks (λ (k : TrackedTree). k.table)
 
-pub tracked_of-FitsIf : (tables : List Table) (path : List ℕ) (js : List JsonTree) → is_catalog tables ≡ true → IfOk (tracked_of tables path js) (FitsIf tables)
+pub tracked_of-FitsIf : (tables : List Table) (path : List ℕ) (js roles : List JsonTree) → is_catalog tables ≡ true → IfOk (tracked_of tables path js roles) (FitsIf tables)
 unfolding tracked_of
-tracked_of-FitsIf tables path js catalog =
-    let end = λ (q : MetaTree). and_then (λ u. Ok q) (names_in (names_due (schema_of tables q) q path)) in
-    let Names = λ (m : MetaTree). Tracked tables m.tracked × (length js ≡ length m.tracked) in
-    let Linked = λ (m n : MetaTree). WithRels (Head tables) (Rels tables m) m.tracked n.tracked in
-    let Granted = λ (m n q : MetaTree). WithPerms (Joined tables m) (Perms tables) n.tracked q.tracked in
-    ok_and_then (λ m. and_then (λ n. and_then end (permitted tables path js n)) (related tables path js m)) (λ m. Names m × NoneInherited m) (FitsIf tables)
-    (λ m h. ok_and_then (λ n. and_then end (permitted tables path js n)) (λ n. Linked m n × NoneInherited n) (FitsIf tables)
-    (λ n f. ok_and_then end (λ q. Granted m n q × NoneInherited q) (FitsIf tables)
-    (λ q g. ok_next (λ u. Ok q) (FitsIf tables) (λ u. whole_fits tables m n q g.1 h.0.0 f.0 g.0) (names_in (names_due (schema_of tables q) q path)))
-    (permitted tables path js n)
-    (ok_both (permitted tables path js n) (Granted m n) NoneInherited (permitted-is tables path js m n f.0.each (h.0.1 ∙ long_as n.tracked m.tracked f.0.same)) (permitted-none tables path js n f.1)))
-    (related tables path js m)
-    (ok_both (related tables path js m) (Linked m) NoneInherited (related-is tables path js m catalog h.0.0.heads h.0.1) (related-none tables path js m h.1)))
-    (named tables path js)
-    (ok_both (named tables path js) Names NoneInherited (named-is tables path js) (named-none tables path js))
+tracked_of-FitsIf tables path js roles catalog =
+    let last = λ (q : MetaTree) (is : List Inherited). and_then (λ u. Ok (with_inherited q is)) (names_in (names_due (schema_of tables q) q path)) in
+    let end = λ (q : MetaTree). and_then (last q) (inherited_due roles) in
+    ok_and_then (λ m. and_then (λ n. and_then end (permitted tables path js n)) (related tables path js m)) (λ m. Tracked tables m.tracked × (length js ≡ length m.tracked)) (FitsIf tables)
+    (λ m h. ok_and_then (λ n. and_then end (permitted tables path js n)) (λ n. WithRels (Head tables) (Rels tables m) m.tracked n.tracked) (FitsIf tables)
+    (λ n f. ok_and_then end (λ q. WithPerms (Joined tables m) (Perms tables) n.tracked q.tracked) (FitsIf tables)
+    (λ q g. ok_and_then (last q) (λ is. are_inherited is ≡ true) (FitsIf tables)
+    (λ is fit. ok_next (λ u. Ok (with_inherited q is)) (FitsIf tables) (λ u. whole_fits tables m n (with_inherited q is) fit h.0 f g) (names_in (names_due (schema_of tables q) q path)))
+    (inherited_due roles) (inherited_due-fits roles))
+    (permitted tables path js n) (permitted-is tables path js m n f.each (h.1 ∙ long_as n.tracked m.tracked f.same)))
+    (related tables path js m) (related-is tables path js m catalog h.0.heads h.1))
+    (named tables path js) (named-is tables path js)
 
 pub meta_of-FitsIf : (tables : List Table) (j : JsonTree) → is_catalog tables ≡ true → IfOk (meta_of tables j) (FitsIf tables)
 unfolding meta_of
 meta_of-FitsIf tables j catalog =
-    ok_next (λ entries. tracked_of tables (tables_path entries.0) entries.1) (FitsIf tables) (λ entries. tracked_of-FitsIf tables (tables_path entries.0) entries.1 catalog) (table_entries (unwrapped j))
+    let roles = role_entries (unwrapped j) in
+    ok_next (λ entries. tracked_of tables (tables_path entries.0) entries.1 roles) (FitsIf tables) (λ entries. tracked_of-FitsIf tables (tables_path entries.0) entries.1 roles catalog) (table_entries (unwrapped j))
 
 -- ---- filters that are sound before permissions are put into tables are so behind
 
@@ -316,3 +286,7 @@ passes_same tables path js m n q catalog is_m is_n is_q =
 
 pub passes_sound : (tables : List Table) (path : List ℕ) (js : List JsonTree) (m n q : MetaTree) → is_catalog tables ≡ true → named tables path js ≡ Ok m → related tables path js m ≡ Ok n → permitted tables path js n ≡ Ok q → TablesSound tables n q.tracked → TablesSound tables q q.tracked
 passes_sound tables path js m n q catalog is_m is_n is_q sound = tables_sound_same tables q n q.tracked (passes_same tables path js m n q catalog is_m is_n is_q) sound
+
+-- inherited roles change no filter
+pub inherited_sound : (tables : List Table) (q : MetaTree) (is : List Inherited) → TablesSound tables q q.tracked → TablesSound tables (with_inherited q is) q.tracked
+inherited_sound tables q is sound = tables_sound_same tables (with_inherited q is) q q.tracked (record { schema = refl; tracked = λ u. refl }) sound

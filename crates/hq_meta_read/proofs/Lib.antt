@@ -6,6 +6,7 @@ mod Keys
 mod Links
 mod Perms
 mod Beside
+mod InheritedFit
 mod Fitting
 mod Loops
 mod Nesting

@@ -38,6 +38,10 @@ pub list_all-from : {A : Type 0} (P : A → Type 0) (p : A → Bool) → ((x : A
 list_all-from P p f [] all = refl
 list_all-from P p f (x ∷ xs) all = and_from (p x) (list_all p xs) (f x all.0) (list_all-from P p f xs all.1)
 
+pub list_all-same : {A : Type 0} (p q : A → Bool) → ((x : A) → p x ≡ q x) → (xs : List A) → list_all p xs ≡ list_all q xs
+list_all-same p q same [] = refl
+list_all-same p q same (x ∷ xs) = Prim.cc (same x, list_all-same p q same xs)
+
 pub all_weaker : {A : Type 0} (P Q : A → Type 0) → ((x : A) → P x → Q x) → (xs : List A) → AllByRecursion P xs → AllByRecursion Q xs
 all_weaker P Q f [] all = tt
 all_weaker P Q f (x ∷ xs) all = (f x all.0, all_weaker P Q f xs all.1)

@@ -3,6 +3,7 @@
 //! names nor what a role may see are passed over; those that would are refused.
 #![tactic(auto)]
 
+mod inheriting;
 mod link;
 mod linking;
 mod permissions;

@@ -8,24 +8,25 @@ ghost use Rattle.hq_terms.specs.Meta.{meta_view};
 ghost use Rattle.hq_terms.specs.Schema.{schema_of};
 ghost use Rattle.hq_terms.specs.SchemaNames.{names_differ};
 ghost use Rattle.hq_meta_names.specs.Repeats.{names_due};
-ghost use Rattle.hq_meta_read.specs.Reading.{json_in, names_in, named, tracked_of, meta_of, meta_due};
+ghost use Rattle.hq_meta_read.specs.Reading.{json_in, names_in, named, with_inherited, tracked_of, meta_of, meta_due};
 ghost use Rattle.hq_meta_read.specs.Sound.{Shallow, TablesSound};
 
+use crate::inheriting::inherited_roles;
 use crate::permissions::permitted;
 use crate::relationships::related;
 use hq_base::{Json, JsonRefusal, List, Txt};
 use hq_filter_read::nesting_is_bounded;
 use hq_meta_names::check_names;
 use hq_meta_tables::MetaRefusal;
-use hq_meta_tables::top::{table_entries, tables_path, unwrapped};
+use hq_meta_tables::top::{role_entries, table_entries, tables_path, unwrapped};
 use hq_meta_tables::tracking::all_tracked;
-use hq_terms::{Catalog, Meta};
+use hq_terms::{Catalog, InheritedList, Meta};
 use std::alloc::Global;
 
 /// Reads the bytes of a `metadata.json`, an export of Hasura v2's metadata of version 2 or 3, over a catalog. The tests come in
 /// this order, each over the whole file before the next, lists in order and members in the order of the form: NotJson,
-/// Version, Shape of the top, in version 3 Sources and Shape of the source, tables and their names, relationships, permissions, and names
-/// that stand twice. The first refusal is the answer.
+/// Version, Shape of the top, in version 3 Sources and Shape of the source, tables and their names, relationships, permissions, inherited roles,
+/// and names that stand twice. The first refusal is the answer.
 #[tactic(auto, unfolding(crate::specs::Reading::meta_due))]
 pub fn read_meta(alloc: Global, bytes: &[u8], catalog: &Catalog) -> Result<Meta, MetaRefusal>
     ensures due { Gives meta_view MetaRefusal.Memory (meta_due catalog.now.tables bytes.now) result }
@@ -57,8 +58,10 @@ fn meta_of(alloc: Global, catalog: &Catalog, json: &Json) -> Result<Meta, MetaRe
     ensures sound { IfOk result (λ meta. TablesSound catalog.now.tables (meta_view meta) (meta_view meta).tracked) }
     ensures names { IfOk result (λ meta. names_differ (schema_of catalog.now.tables (meta_view meta)) (meta_view meta) ≡ true) }
 {
-    let (version, entries) = table_entries(alloc, unwrapped(json))?;
-    tracked_of(alloc, catalog, &tables_path(alloc, version)?, entries)
+    let top = unwrapped(json);
+    let (version, entries) = table_entries(alloc, top)?;
+    let path = tables_path(alloc, version)?;
+    tracked_of(alloc, catalog, &path, entries, role_entries(top))
 }
 
 // The tables that the entries of the list at a path track, with their names.
@@ -92,22 +95,31 @@ fn check_all_names(
     Ok(())
 }
 
-// The metadata that the entries of the list at a path give.
+// A metadata with inherited roles.
+fn with_inherited(meta: Meta, inherited: InheritedList) -> Meta
+    ensures { meta_view result ≡ with_inherited (meta_view meta) inherited }
+{
+    Meta { inherited, ..meta }
+}
+
+// The metadata that the entries of the list at a path give, and those of the inherited roles.
 #[tactic(auto, unfolding(crate::specs::Reading::tracked_of))]
 fn tracked_of(
     alloc: Global,
     catalog: &Catalog,
     path: &Txt,
     list: &[Json],
+    roles: &[Json],
 ) -> Result<Meta, MetaRefusal>
     requires { AllByRecursion (λ j. Shallow (json_view j)) list.now }
-    ensures due { Gives meta_view MetaRefusal.Memory (tracked_of catalog.now.tables path.now (map json_view list.now)) result }
+    ensures due { Gives meta_view MetaRefusal.Memory (tracked_of catalog.now.tables path.now (map json_view list.now) (map json_view roles.now)) result }
     ensures sound { IfOk result (λ meta. TablesSound catalog.now.tables (meta_view meta) (meta_view meta).tracked) }
     ensures names { IfOk result (λ meta. names_differ (schema_of catalog.now.tables (meta_view meta)) (meta_view meta) ≡ true) }
 {
     let tables = named(alloc, catalog, path, list)?;
     let joined = related(alloc, catalog, path, list, tables)?;
     let meta = permitted(alloc, catalog, path, list, joined)?;
+    let inherited = inherited_roles(alloc, roles)?;
     check_all_names(alloc, catalog, &meta, path)?;
-    Ok(meta)
+    Ok(with_inherited(meta, inherited))
 }

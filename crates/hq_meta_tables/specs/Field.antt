@@ -1,7 +1,7 @@
 -- The names of the members of a metadata file that are read.
 use Rattle.std.specs.Prelude.{ℕ, List, codes}
 use Rattle.hq_meta_tables.specs.declared.field.Field.{Field}
-use Rattle.hq_meta_tables.specs.declared.field.Field.TheVariants.{AllowAggregations, ArrayRelationships, Column, ColumnConfig, ColumnMapping, Columns, Configuration, CustomColumnNames, CustomName, CustomRootFields, Customization, DisabledForRoles, Filter, ForeignKeyConstraintOn, GraphqlSchemaIntrospection, InheritedRoles, Kind, Limit, ManualConfiguration, Metadata, Name, ObjectRelationships, Permission, QueryRootFields, RemoteTable, Role, Select, SelectAggregate, SelectByPk, SelectPermissions, Sources, SubscriptionRootFields, Table, Tables, Using, Version}
+use Rattle.hq_meta_tables.specs.declared.field.Field.TheVariants.{AllowAggregations, ArrayRelationships, Column, ColumnConfig, ColumnMapping, Columns, Configuration, CustomColumnNames, CustomName, CustomRootFields, Customization, DisabledForRoles, Filter, ForeignKeyConstraintOn, GraphqlSchemaIntrospection, InheritedRoles, Kind, Limit, ManualConfiguration, Metadata, Name, ObjectRelationships, Permission, QueryRootFields, RemoteTable, Role, RoleName, RoleSet, Select, SelectAggregate, SelectByPk, SelectPermissions, Sources, SubscriptionRootFields, Table, Tables, Using, Version}
 
 unfoldable pub field_name : Field → List ℕ
 field_name AllowAggregations = codes "allow_aggregations"
@@ -30,6 +30,8 @@ field_name Permission = codes "permission"
 field_name QueryRootFields = codes "query_root_fields"
 field_name RemoteTable = codes "remote_table"
 field_name Role = codes "role"
+field_name RoleName = codes "role_name"
+field_name RoleSet = codes "role_set"
 field_name Select = codes "select"
 field_name SelectAggregate = codes "select_aggregate"
 field_name SelectByPk = codes "select_by_pk"

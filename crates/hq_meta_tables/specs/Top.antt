@@ -1,10 +1,10 @@
 -- The top of a metadata file down to the entries of its tables (Hasura v2, metadata format: versions 2 and 3).
-use Rattle.std.specs.Prelude.{ℕ, ℤ, pos, List, [], ◌∷◌, length, Bool, true, false, is_some, Option, Some, None, ok_or, Result, Ok, Err, if◌then◌else◌, bytes_eq, codes}
+use Rattle.std.specs.Prelude.{ℕ, ℤ, pos, List, [], ◌∷◌, length, Bool, true, false, is_some, Option, Some, None, option_and_then, unwrap_or, ok_or, Result, Ok, Err, if◌then◌else◌, bytes_eq, codes}
 use Rattle.std.specs.Ordering.{int_eq}
 use Rattle.hq_base.specs.Compact.{compact}
 use Rattle.hq_base.specs.Due.{◌>>=◌}
 use Rattle.hq_base.specs.Json.{JsonTree}
-use Rattle.hq_base.specs.Look.{int_in, object_in}
+use Rattle.hq_base.specs.Look.{int_in, array_in, object_in}
 use Rattle.hq_base.specs.Path.{top_path, item_path}
 use Rattle.hq_meta_tables.specs.declared.field.Field.{Field}
 use Rattle.hq_meta_tables.specs.declared.field.Field.TheVariants.{Customization, DisabledForRoles, GraphqlSchemaIntrospection, InheritedRoles, Kind, Metadata, Name, Sources, Tables, Version}
@@ -55,11 +55,15 @@ open_in path (Some j) = do
   object ← object_at path j
   no_entries path object DisabledForRoles
 
--- there are no inherited roles, and introspection is open to all; null counts as absent there
+-- inherited roles stand in a list, and introspection is open to all; null counts as absent there
 unfoldable pub roles_due : JsonTree → Result (Unit {0}) MetaRefusal
 roles_due object = do
-  _ ← no_entries top_path object InheritedRoles
+  _ ← entries_member top_path object InheritedRoles
   open_in (at top_path GraphqlSchemaIntrospection) (given_value (Some object) GraphqlSchemaIntrospection)
+
+-- the entries of the inherited roles: none where there is no list of them
+unfoldable pub role_entries : JsonTree → List JsonTree
+role_entries j = unwrap_or (option_and_then array_in (value_of j InheritedRoles)) []
 
 -- the path of the one source
 unfoldable pub source_path : List ℕ

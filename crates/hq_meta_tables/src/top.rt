@@ -4,7 +4,7 @@ ghost use Rattle.hq_base.specs.Json.{json_view};
 ghost use Rattle.hq_base.specs.Path.{top_path};
 ghost use Rattle.hq_meta_tables.specs.declared.field.Field.TheVariants.{Customization};
 ghost use Rattle.hq_meta_tables.specs.Node.{at, value_of, object_at};
-ghost use Rattle.hq_meta_tables.specs.Top.{unwrapped, sole, is_empty, no_entries, open_in, roles_due, source_path, tables_path, kind_due, plain_in, source_tables, own_entries, source_entries, top_entries, table_entries};
+ghost use Rattle.hq_meta_tables.specs.Top.{unwrapped, sole, is_empty, no_entries, open_in, roles_due, role_entries, source_path, tables_path, kind_due, plain_in, source_tables, own_entries, source_entries, top_entries, table_entries};
 
 use crate::MetaRefusal;
 use crate::field::Field;
@@ -76,18 +76,32 @@ fn check_open(alloc: Global, path: &Txt, given: Option<&Json>) -> Result<(), Met
     check_no_entries(alloc, path, object, Field::DisabledForRoles)
 }
 
-// There must be no inherited roles, and introspection must be open to all.
+// Inherited roles must stand in a list, and introspection must be open to all.
 #[tactic(auto, unfolding(crate::specs::Top::roles_due))]
 fn check_roles(alloc: Global, object: &Json) -> Result<(), MetaRefusal>
     ensures { Gives (λ done. done) MetaRefusal.Memory (roles_due (json_view object.now)) result }
 {
     let top = top_path(alloc)?;
-    check_no_entries(alloc, &top, object, Field::InheritedRoles)?;
+    entries_member(alloc, &top, object, Field::InheritedRoles)?;
     check_open(
         alloc,
         &at(alloc, &top, Field::GraphqlSchemaIntrospection)?,
         given_value(Some(object), Field::GraphqlSchemaIntrospection),
     )
+}
+
+/// The entries of the inherited roles: none where there is no list of them.
+#[tactic(auto, unfolding(crate::specs::Top::role_entries))]
+pub fn role_entries(json: &Json) -> &[Json]
+    ensures { map json_view result.now ≡ role_entries (json_view json.now) }
+{
+    let Some(list) = json.member(Field::InheritedRoles.name()) else {
+        return &[];
+    };
+    match list.as_array() {
+        Some(entries) => entries,
+        None => &[],
+    }
 }
 
 // The path of the one source.

@@ -1,7 +1,7 @@
--- Bound filters: they are conditions over their tables without session names, as high as what was bound.
-use Rattle.std.proofs.Common.{◌≡◌, ◌∙◌, refl, sym, ap, subst, ℕ, suc, max, List, [], ◌∷◌, length, map, filter, Bool, true, ◌&&◌, ◌==◌, ◌≤◌, arith, nat_lt, nat_le, Option, Some, None, Result, Ok, Err, is_some, option_map, option_and_then, slice_get, find, bytes_eq}
-use Rattle.std.specs.List.{list_all, list_any}
-use Rattle.std.proofs.lemmas.Bool.{and_parts, and_from, leb-true, le-leb, false≢true}
+-- Bound filters and masks: they are conditions over their tables without session names, as high as what was bound.
+use Rattle.std.proofs.Common.{◌≡◌, ◌∙◌, refl, sym, ap, subst, ℕ, suc, max, List, [], ◌∷◌, length, map, Bool, true, ◌&&◌, ◌≤◌, nat_lt, Option, Some, None, Result, Ok, Err, is_some, option_map, option_and_then, slice_get}
+use Rattle.std.specs.List.{list_all}
+use Rattle.std.proofs.lemmas.Bool.{and_parts, and_from, le-leb, false≢true}
 use Rattle.std.proofs.lemmas.Option.{get_or_from_slice_get}
 use Rattle.std.specs.Result.{result_ok}
 use Rattle.hq_base.specs.Due.{mapped}
@@ -10,11 +10,12 @@ use Rattle.hq_base.specs.Lists.{Each}
 use Rattle.hq_base.specs.declared.value.Ty.{Ty}
 use Rattle.hq_base.specs.declared.value.Val.{Val}
 use Rattle.hq_terms.specs.Bexp.{BexpTree, always, and_of, or_of, not_of, test, through, exists_in, two_columns, BexpTrees, no_bexp, bexp, operands_of, bexps_of, depth, depth_of_all}
-use Rattle.hq_terms.specs.Binding.{variable, constant, constant_of, bound_operand, bound_each, constants, constants_of, bound_operands, bound, bound_all}
+use Rattle.hq_terms.specs.Binding.{variable, constant, constant_of, bound_operand, bound_each, constants, constants_of, bound_operands, bound, bound_all, bound_masks, bound_permission}
 use Rattle.hq_terms.specs.Filters.{column_ty, test_fits, operand_fits, is_test, of_type, is_filter, are_filters}
-use Rattle.hq_terms.specs.Fits.{fits, fits_tracked, fits_perm}
-use Rattle.hq_terms.specs.Meta.{MetaTree, TrackedTree, PermTree, tracked_table}
-use Rattle.hq_terms.specs.Permission.{Permission, permission, permission_in, with_columns, told_permission, named_columns}
+use Rattle.hq_terms.specs.Fits.{fits}
+use Rattle.hq_terms.specs.Laws.{IsLowFilter, IsMask, IsPermission}
+use Rattle.hq_terms.specs.Meta.{MetaTree}
+use Rattle.hq_terms.specs.Permission.{Mask, Permission, permission}
 use Rattle.hq_terms.specs.Schema.{Schema, schema_of, table, column, no_column, rel}
 use Rattle.hq_terms.specs.SessionLists.{element_value, element_values, elements_of, list_want}
 use Rattle.hq_terms.specs.Tests.{arity, has_arity, takes, takes_many, applies, reads}
@@ -26,19 +27,16 @@ use Rattle.hq_terms.specs.declared.bexp.Operand.TheVariants.{Const, Session}
 use Rattle.hq_terms.specs.declared.bexp.Operands.{Operands}
 use Rattle.hq_terms.specs.declared.bexp.Operands.TheVariants as operands
 use Rattle.hq_terms.specs.declared.role.Role.{Role}
-use Rattle.hq_terms.specs.declared.role.Role.TheVariants.{Admin, Named}
 use Rattle.hq_terms.specs.declared.session.Var.{Var}
 use Rattle.hq_terms.specs.declared.table.Column.{Column}
 use Rattle.hq_terms.specs.declared.table.Table.{Table}
 use Rattle.hq_terms.specs.declared.want.Want.{Want}
 use Rattle.hq_ask_tree.specs.Request.{BoundTree}
 use Rattle.hq_ask_tree.specs.Conditions.{is_constant, is_bound, are_bound, is_condition}
-use Rattle.hq_ask_tree.specs.WellFormed.{is_bound_table}
-use Rattle.hq_bound.specs.Bound.{filter_of, filter_due, with_filter, bound_due, bounds_due}
+use Rattle.hq_ask_tree.specs.WellFormed.{is_bound_mask, is_bound_table}
+use Rattle.hq_bound.specs.Bound.{of_table, bound_of, bound_due, bounds_due}
 use Rattle.hq_terms.proofs.Fitting.{reads_fit}
-use Rattle.hq_request_laws.proofs.Items.{each_of, found_each}
-use Rattle.hq_request_laws.proofs.Permitted.{entry, none_inherited}
-use Rattle.hq_terms.proofs.Together.{own_alone}
+use Rattle.hq_terms.proofs.Permitting.{permission_fits}
 use Rattle.hq_request_laws.proofs.BuildingSteps.{mapped_ok, then_ok}
 
 -- ---- operands
@@ -218,78 +216,47 @@ module _ (s : Schema) (vars : List Var) where
           deep = ap (λ n. max n (depth_of_all (bexps_of two.0))) here.deep ∙ ap (λ n. max (depth b) n) later.deep;
         })
 
--- ---- filters of permissions
+-- ---- permissions
 
 module _ (tables : List Table) (m : MetaTree) (metadata_fits : fits tables m ≡ true) (role : Role) (vars : List Var) where
   abbrev s : Schema
   s = schema_of tables m
 
-  -- at most 300 is at most 301
-  one_more : (n : ℕ) → nat_le n 300 ≡ true → nat_le n 301 ≡ true
-  one_more n h = let low : n ≤ 300 = leb-true n 300 h in le-leb n 301 (omega arith)
+  -- a filter of a permission, bound, is a condition
+  condition_of : (t : ℕ) (b x : BexpTree) → IsLowFilter s t b → bound b s vars t ≡ Ok x → is_condition 301 x s t ≡ true
+  condition_of t b x low e =
+      let is = filter_bound s vars b t low.0 x e in
+      let deep : depth x ≤ 301 = subst (λ n. n ≤ 301) (sym is.deep) low.1 in
+      and_from _ _ (and_from _ _ is.fit is.constant) (le-leb (depth x) 301 deep)
 
-  -- a filter over table t, at most 300 high
-  abbrev IsLow : ℕ → BexpTree → Type 0
-  IsLow t b = (is_filter b s t ≡ true) × (nat_le (depth b) 300 ≡ true)
+  -- so are its masks
+  masks_bound : (t : ℕ) (ms ks : List Mask) → Each (IsMask s t) ms → bound_masks ms s vars t ≡ Ok ks → list_all (is_bound_mask s t) ks ≡ true
+  masks_bound t [] ks h e = let same : [] ≡ ks = cc in ap (list_all (is_bound_mask s t)) (sym same)
+  masks_bound t (k ∷ ms) ks h e =
+      let one = then_ok (λ shown. mapped (λ rest. record { column = k.column; shown = shown } ∷ rest) (bound_masks ms s vars t)) (bound k.shown s vars t) ks e in
+      let two = mapped_ok (λ rest. record { column = k.column; shown = one.0 } ∷ rest) (bound_masks ms s vars t) ks one.2 in
+      subst (λ l. list_all (is_bound_mask s t) l ≡ true) two.2
+      (and_from _ _ (and_from _ _ h.0.0 (condition_of t k.shown one.0 h.0.1 one.1)) (masks_bound t ms two.0 h.1 two.1))
 
-  columns_low : (t : ℕ) (p q : Permission) (cs : List ℕ) → IsLow t p.filter → with_columns p cs ≡ Some q → IsLow t q.filter
-  columns_low t p q [] h e = cc
-  columns_low t p q (k ∷ cs) h e = let same : record p { columns = k ∷ cs } ≡ q = cc in subst (λ (x : Permission). IsLow t x.filter) same h
+  -- a permission on a table, bound
+  permission_bound : (t : ℕ) (p q : Permission) → IsPermission s t p → bound_permission p s vars t ≡ Ok q → is_bound_table s (of_table t q) ≡ true
+  permission_bound t p q h e =
+      let one = then_ok (λ f. mapped (λ ks. record p { filter = f; masks = ks }) (bound_masks p.masks s vars t)) (bound p.filter s vars t) q e in
+      let two = mapped_ok (λ ks. record p { filter = one.0; masks = ks }) (bound_masks p.masks s vars t) q one.2 in
+      subst (λ x. is_bound_table s (of_table t x) ≡ true) two.2 (and_from _ _ (condition_of t p.filter one.0 h.filter one.1) (masks_bound t p.masks two.0 h.masks two.1))
 
-  perm_low : (t : ℕ) (p : PermTree) → fits_perm s m t p ≡ true → IsLow t p.filter
-  perm_low t p h =
-      let deep = and_parts _ _ (and_parts _ _ (and_parts _ _ h).0).0 in
-      ((and_parts _ _ deep.0).1, deep.1)
-
-  perms_fit : (k : TrackedTree) → fits_tracked s m k ≡ true → list_all (fits_perm s m k.table) k.perms ≡ true
-  perms_fit k h = (and_parts _ _ h).1
-
-  entry_low : (t : ℕ) (k : TrackedTree) → tracked_table m t ≡ Some k → (r : Role) (q : Permission) → permission_in r [] k ≡ Some q → IsLow t q.filter
-  entry_low t k is Admin q e = columns_low t (record { columns = []; filter = always; limit = None; aggregations = true; masks = [] }) q (named_columns k) (refl, refl) e
-  entry_low t k is (Named name) q e = by (find (λ (p : PermTree). bytes_eq p.role name) k.perms) refl (sym (own_alone name k) ∙ e)
+  entry_bound : (t : ℕ) (b : BoundTree) → bound_due role m s vars t ≡ Ok b → is_bound_table s b ≡ true
+  entry_bound t b e = by (permission role m t) refl e
     where
-      all : Each (λ p. fits_perm s m t p ≡ true) k.perms
-      all = let en = entry tables m metadata_fits t k is in each_of (fits_perm s m t) k.perms (subst (λ u. list_all (fits_perm s m u) k.perms ≡ true) en.0 (perms_fit k en.1))
-
-      by : (o : Option PermTree) → find (λ (p : PermTree). bytes_eq p.role name) k.perms ≡ o → option_and_then (told_permission k) o ≡ Some q → IsLow t q.filter
-      by None at e = cc
-      by (Some p) at e =
-          let low = perm_low t p (found_each (λ p. fits_perm s m t p ≡ true) (λ (p : PermTree). bytes_eq p.role name) k.perms p at all).0 in
-          columns_low t (record { columns = []; filter = p.filter; limit = p.limit; aggregations = p.aggregations; masks = [] }) q (filter (λ c. list_any (λ d. d == c) p.cols) (named_columns k)) low e
-
-  permission_low : (t : ℕ) (q : Permission) → permission role m t ≡ Some q → IsLow t q.filter
-  permission_low t q e = by (tracked_table m t) refl e
-    where
-      by : (o : Option TrackedTree) → tracked_table m t ≡ o → option_and_then (permission_in role m.inherited) o ≡ Some q → IsLow t q.filter
-      by None is e = cc
-      by (Some k) is e = entry_low t k is role q (ap (λ roles. permission_in role roles k) (sym (none_inherited tables m metadata_fits)) ∙ e)
-
-  -- ---- tables with their bound filters
-
-  -- the filter is a condition, and there are no masks
-  pub record IsEntry (b : BoundTree) : Type 0 where
-    pub fit : is_bound_table s b ≡ true
-    pub bare : b.masks ≡ []
-
-  filter_fits : (t : ℕ) (f : BexpTree) → filter_due role m s vars t ≡ Ok f → is_condition 301 f s t ≡ true
-  filter_fits t f e = by (permission role m t) refl e
-    where
-      by : (o : Option Permission) → permission role m t ≡ o → filter_of o s vars t ≡ Ok f → is_condition 301 f s t ≡ true
-      by None is e = let same : or_of no_bexp ≡ f = cc in subst (λ g. is_condition 301 g s t ≡ true) same refl
+      by : (o : Option Permission) → permission role m t ≡ o → bound_of o s vars t ≡ Ok b → is_bound_table s b ≡ true
+      by None is e = let none : BoundTree = record { table = t; filter = or_of no_bexp; masks = [] } in let same : none ≡ b = cc in subst (λ x. is_bound_table s x ≡ true) same refl
       by (Some p) is e =
-          let low = permission_low t p is in
-          let x = filter_bound s vars p.filter t low.0 f e in
-          and_from _ _ (and_from _ _ x.fit x.constant) (ap (λ n. nat_le n 301) x.deep ∙ one_more (depth p.filter) low.1)
+          let one = mapped_ok (of_table t) (bound_permission p s vars t) b e in
+          subst (λ x. is_bound_table s x ≡ true) one.2 (permission_bound t p one.0 (permission_fits tables m role t metadata_fits p is) one.1)
 
-  pub entries_fit : (ts : List ℕ) (bs : List BoundTree) → bounds_due role m s vars ts ≡ Ok bs → Each IsEntry bs
-  entries_fit [] bs e = let same : [] ≡ bs = cc in subst (Each IsEntry) same tt
-  entries_fit (t ∷ ts) bs e =
+  pub entries_bound : (ts : List ℕ) (bs : List BoundTree) → bounds_due role m s vars ts ≡ Ok bs → list_all (is_bound_table s) bs ≡ true
+  entries_bound [] bs e = let same : [] ≡ bs = cc in ap (list_all (is_bound_table s)) (sym same)
+  entries_bound (t ∷ ts) bs e =
       let one = then_ok (λ b. mapped (λ more. b ∷ more) (bounds_due role m s vars ts)) (bound_due role m s vars t) bs e in
       let two = mapped_ok (λ more. one.0 ∷ more) (bounds_due role m s vars ts) bs one.2 in
-      let three = mapped_ok (with_filter t) (filter_due role m s vars t) one.0 one.1 in
-      let here : IsEntry (with_filter t three.0) = record { fit = and_from _ _ (filter_fits t three.0 three.1) refl; bare = refl } in
-      subst (Each IsEntry) two.2 (subst IsEntry three.2 here, entries_fit ts two.0 two.1)
-
-  pub entries_bound : (bs : List BoundTree) → Each IsEntry bs → list_all (is_bound_table s) bs ≡ true
-  entries_bound [] h = refl
-  entries_bound (b ∷ bs) h = and_from (is_bound_table s b) (list_all (is_bound_table s) bs) h.0.fit (entries_bound bs h.1)
+      subst (λ l. list_all (is_bound_table s) l ≡ true) two.2 (and_from (is_bound_table s one.0) (list_all (is_bound_table s) two.0) (entry_bound t one.0 one.1) (entries_bound ts two.0 two.1))

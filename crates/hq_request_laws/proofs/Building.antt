@@ -3,7 +3,6 @@ use Rattle.std.proofs.Common.{◌≡◌, ◌∙◌, ap, subst, ℕ, ◌≤◌, a
 use Rattle.std.proofs.lemmas.Bool.{and_parts, and_from}
 use Rattle.hq_base.specs.Due.{◌>>=◌}
 use Rattle.hq_base.specs.Lists.{Each}
-use Rattle.hq_base.proofs.Lists.{each_weaken}
 use Rattle.hq_terms.specs.Fits.{fits}
 use Rattle.hq_terms.specs.Meta.{MetaTree}
 use Rattle.hq_terms.specs.Permission.{role_of}
@@ -46,10 +45,9 @@ use Rattle.hq_ask.specs.Asked.{fields_due}
 use Rattle.hq_ask.specs.Due.{operation_of, collected_due, with_fault, bound_in, build_due}
 use Rattle.hq_ask.specs.Known.{Due}
 use Rattle.hq_request_laws.specs.Built.{IsBuilt, AreShallow}
-use Rattle.hq_request_laws.proofs.Binding.{IsEntry, entries_fit, entries_bound}
+use Rattle.hq_request_laws.proofs.Binding.{entries_bound}
 use Rattle.hq_request_laws.proofs.Collecting.{operation_low, heads_low, are_kept}
 use Rattle.hq_request_laws.proofs.Kept.{AreKept}
-use Rattle.hq_request_laws.proofs.Permitted.{none_inherited}
 use Rattle.hq_request_laws.proofs.Places.{Schemed}
 use Rattle.hq_request_laws.proofs.Roots.{RootFacts, AllRoots, roots_fit}
 use Rattle.hq_request_laws.proofs.Rows.{RowFacts, PartFacts}
@@ -113,9 +111,6 @@ module _ (tables : List Table) (m : MetaTree) (metadata_fits : fits tables m ≡
     roots : AllRoots tables m metadata_fits role (schemed leads) vars low trees fs
     roots = roots_fit tables m metadata_fits role (schemed leads) vars low trees limited.kept fs asked
 
-    entries : Each (IsEntry tables m metadata_fits role session.vars) bs
-    entries = entries_fit tables m metadata_fits role session.vars (touched fs s (length tables)) bs due
-
     request_is : IsRequest tables m (request_of session fs bs)
     request_is =
         let Row = RowFacts tables m metadata_fits role (schemed leads) vars low in
@@ -131,15 +126,11 @@ module _ (tables : List Table) (m : MetaTree) (metadata_fits : fits tables m ≡
           looks = roots_give Row AnyField Part AnyPart s (λ t f h. tt) (λ u p h. tt) Root root RootLooks (λ f h. h.looks) fs roots.every;
           shallow = omega (arith, roots.levels, limited.shallow);
           touched = bound.touches;
-          bound = entries_bound tables m metadata_fits role session.vars bs entries;
+          bound = entries_bound tables m metadata_fits role session.vars (touched fs s (length tables)) bs due;
         }
 
     built_is : IsBuilt tables m session (request_of session fs bs)
-    built_is = record {
-      request = request_is;
-      is_for = bound.is_for;
-      bare = each_weaken (IsEntry tables m metadata_fits role session.vars) (λ b. b.masks ≡ []) (λ b h. h.bare) bs entries;
-    }
+    built_is = record { request = request_is; is_for = bound.is_for }
 
   -- what follows in the whole way, behind each of its steps
   abbrev after_fields : FieldTrees → Due AskTree
@@ -166,4 +157,4 @@ module _ (tables : List Table) (m : MetaTree) (metadata_fits : fits tables m ≡
       let limited = collected_ok d vars op o shallow (operation_ok (operation_at d op) o one.1) (collects (record { document = d; vars = vars }) (selections_in o.selections)) two.0 two.1 in
       let due : bounds_due role m s session.vars (touched fs s (length tables)) ≡ Ok bs = fault_ok (bounds_due role m s session.vars (touched fs s (length tables))) bs four.1 in
       let same : request_of session fs bs ≡ a = let is : _ = four.2 in cc in
-      subst (IsBuilt tables m session) same (built_is leads two.0 limited fs three.1 bs due (bounds fs (none_inherited tables m metadata_fits) bs due))
+      subst (IsBuilt tables m session) same (built_is leads two.0 limited fs three.1 bs due (bounds fs bs due))

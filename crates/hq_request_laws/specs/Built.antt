@@ -1,5 +1,5 @@
 -- A built request is a typed request of its session.
-use Rattle.std.specs.Prelude.{◌≡◌, ℕ, ◌≤◌, List, [], true, Ok}
+use Rattle.std.specs.Prelude.{◌≡◌, ℕ, ◌≤◌, List, true, Ok}
 use Rattle.hq_base.specs.Lists.{Each}
 use Rattle.hq_terms.specs.Catalog.{is_catalog}
 use Rattle.hq_terms.specs.Fits.{fits}
@@ -18,11 +18,10 @@ use Rattle.hq_ask_tree.specs.WellFormed.{IsRequest}
 use Rattle.hq_ask.specs.Due.{build_due}
 use Rattle.hq_request_laws.specs.ObjectsNest.{objects_nest}
 
--- well-formed, of the session, and without masks
+-- well-formed, and of the session
 pub record IsBuilt (tables : List Table) (m : MetaTree) (session : Session) (a : AskTree) : Type 0 where
   pub request : IsRequest tables m a
   pub is_for : IsFor (schema_of tables m) m session a
-  pub bare : Each (λ b. b.masks ≡ []) a.bound
 
 -- no variable's value has more objects in one another than a JSON text may nest
 abbrev pub AreShallow : List VarTree → Type 0

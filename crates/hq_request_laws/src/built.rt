@@ -12,7 +12,7 @@ use hq_collect::collected_apart;
 use hq_roles::leads_where_permitted;
 
 /// What is built of a document and variables that nest no deeper than they are read, in the schema of the session's role, over
-/// a catalog and a metadata that fits it, is a well-formed typed request of the session, without masks.
+/// a catalog and a metadata that fits it, is a well-formed typed request of the session.
 pub fn requests_are_built()
     ensures { (tables : Items CatalogTable) (m : MetaTree) (session : Caller) (d : DocumentTree) (op : ℕ) (vars : Items VarTree) → Builds tables m session d op vars }
 {

@@ -10,7 +10,7 @@ use Rattle.hq_terms.specs.declared.meta.RootNames.{RootNames}
 use Rattle.hq_terms.specs.declared.role.Role.TheVariants.{Admin, Named}
 use Rattle.hq_terms.specs.declared.table.Table.{Table}
 use Rattle.hq_schema.specs.Look.{field_of}
-use Rattle.hq_schema.specs.Schema.{SchemaTree, base}
+use Rattle.hq_schema.specs.Schema.{SchemaTree, TypeRefTree, named, non_null, base}
 use Rattle.hq_schema.specs.declared.origin.FieldOrigin.{FieldOrigin}
 use Rattle.hq_schema.specs.declared.origin.FieldOrigin.TheVariants as origin
 use Rattle.hq_role_schema.specs.Fields.{part_fields}
@@ -131,3 +131,49 @@ articles = refl
 email_of_author : leads (role_schema tables meta (Named (codes "user"))) 18 (codes "email") ≡ None
 unfolding role_schema part_count part_type part_fields fixed_type
 email_of_author = refl
+
+-- ---- a role that sees what two roles see
+
+-- titles are seen by both, the other columns by one of them
+abbrev mixed : MetaTree
+mixed = record {
+  tracked =
+      record {
+        table = 1;
+        name = codes "article";
+        column_names = codes "id" ∷ codes "author_id" ∷ codes "title" ∷ codes "published" ∷ codes "rating" ∷ [];
+        roots = roots_with (codes "article") (codes "article_aggregate") (codes "article_by_pk");
+        rels = [];
+        perms =
+            record { role = codes "user"; cols = 0 ∷ 2 ∷ 4 ∷ []; filter = always; limit = None; aggregations = false }
+            ∷ record { role = codes "titles"; cols = 2 ∷ []; filter = always; limit = None; aggregations = false } ∷ [];
+      }
+      ∷ [];
+  inherited = record { role = codes "mix"; set = codes "user" ∷ codes "titles" ∷ [] } ∷ [];
+}
+
+mixed_fits : fits tables mixed ≡ true
+mixed_fits = refl
+
+-- the type of a field, and those of its arguments
+abbrev types : List ℕ → ℕ → List ℕ → Option (TypeRefTree × List TypeRefTree)
+types role t name = option_map (λ f. (f.ty, map (λ a. a.ty) f.args)) (field_of (role_schema tables mixed (Named role)) t name)
+
+-- an id that one of the two roles sees may be null
+id_of_user : types (codes "user") 18 (codes "id") ≡ Some (non_null (named 1), [])
+unfolding role_schema part_count part_type part_fields fixed_type
+id_of_user = refl
+
+id_of_mix : types (codes "mix") 18 (codes "id") ≡ Some (named 1, [])
+unfolding role_schema part_count part_type part_fields fixed_type
+id_of_mix = refl
+
+-- a title that both see may not
+title_of_mix : types (codes "mix") 18 (codes "title") ≡ Some (non_null (named 2), [])
+unfolding role_schema part_count part_type part_fields fixed_type
+title_of_mix = refl
+
+-- a look-up names each column of the key
+look_up_of_mix : types (codes "mix") 17 (codes "article_by_pk") ≡ Some (named 18, non_null (named 1) ∷ [])
+unfolding role_schema part_count part_type part_fields fixed_type
+look_up_of_mix = refl

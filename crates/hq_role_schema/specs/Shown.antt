@@ -1,28 +1,32 @@
 -- What a role may see of the tracked tables (Hasura, Authorization: select permissions).
-use Rattle.std.specs.Prelude.{ℕ, List, filter, Bool, cond, ◌==◌, Option, Some, None, option_map, option_and_then, slice_get}
+use Rattle.std.specs.Prelude.{ℕ, List, [], filter, Bool, ◌||◌, cond, ◌==◌, Option, Some, None, option_map, option_and_then, slice_get}
 use Rattle.std.specs.List.{filter_map, list_all, list_any}
 use Rattle.hq_base.specs.Aggregates.{all_aggregates, is_aggregate_of}
 use Rattle.hq_base.specs.declared.aggregate.Aggregate.{Aggregate}
 use Rattle.hq_terms.specs.Meta.{TrackedTree, MetaTree}
-use Rattle.hq_terms.specs.Permission.{Permission, permission}
+use Rattle.hq_terms.specs.Permission.{Mask, Permission, permission}
 use Rattle.hq_terms.specs.declared.role.Role.{Role}
 use Rattle.hq_terms.specs.declared.table.Column.{Column}
 use Rattle.hq_terms.specs.declared.table.Table.{Table}
 use Rattle.hq_role_schema.specs.declared.shown.ShownColumn.{ShownColumn}
 use Rattle.hq_role_schema.specs.declared.shown.ShownTable.{ShownTable}
 
--- a column of the catalog under its GraphQL name
-abbrev pub under_name : (col : ℕ) → Option Column → Option (List ℕ) → Option ShownColumn
-under_name col (Some c) (Some name) = Some (record { name = name; ty = c.ty; nullable = c.nullable; col = col })
-under_name col _ _ = None
+-- a column has a mask
+abbrev pub is_masked : List Mask → ℕ → Bool
+is_masked ms col = list_any (λ m. m.column == col) ms
 
--- columns of a table, by their places
-abbrev pub shown_columns : Table → TrackedTree → List ℕ → List ShownColumn
-shown_columns t k cs = filter_map (λ c. under_name c (slice_get t.columns c) (slice_get k.column_names c)) cs
+-- a column of the catalog under its GraphQL name; with a mask it may be null at some row
+abbrev pub under_name : List Mask → (col : ℕ) → Option Column → Option (List ℕ) → Option ShownColumn
+under_name ms col (Some c) (Some name) = Some (record { name = name; ty = c.ty; nullable = is_masked ms col || c.nullable; col = col })
+under_name ms col _ _ = None
 
--- the columns of the primary key, in its order, where they are all permitted
+-- columns of a table with these masks, by their places
+abbrev pub shown_columns : Table → TrackedTree → List Mask → List ℕ → List ShownColumn
+shown_columns t k ms cs = filter_map (λ c. under_name ms c (slice_get t.columns c) (slice_get k.column_names c)) cs
+
+-- the columns of the primary key, in its order, where they are all permitted; a look-up names each, also one with a mask
 abbrev pub shown_key : Table → TrackedTree → (permitted : List ℕ) → Option (List ShownColumn)
-shown_key t k cs = cond (list_all (λ c. list_any (λ d. d == c) cs) t.key) (Some (shown_columns t k t.key)) None
+shown_key t k cs = cond (list_all (λ c. list_any (λ d. d == c) cs) t.key) (Some (shown_columns t k [] t.key)) None
 
 -- a table of the catalog, with its entry in the metadata and a permission on it
 abbrev pub shown_table : TrackedTree → Table → Permission → ShownTable
@@ -30,7 +34,7 @@ shown_table k t p = record {
   table = k.table;
   name = k.name;
   roots = k.roots;
-  columns = shown_columns t k p.columns;
+  columns = shown_columns t k p.masks p.columns;
   key = shown_key t k p.columns;
   aggregates = p.aggregations;
   rels = k.rels;

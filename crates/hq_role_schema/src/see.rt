@@ -1,50 +1,63 @@
-ghost use Rattle.std.specs.Prelude.{◌≡◌, ◌==◌, IfOk, option_copied};
+ghost use Rattle.std.specs.Prelude.{◌≡◌, ◌==◌, [], IfOk, map, option_copied};
 ghost use Rattle.std.specs.List.{list_all, list_any};
 ghost use Rattle.hq_terms.specs.Meta.{tracked_view, meta_view};
-ghost use Rattle.hq_terms.specs.PermView.{permission_view};
-ghost use Rattle.hq_role_schema.specs.Shown.{under_name, shown_columns, shown_key, shown_table, shown_entry, shown_tables};
+ghost use Rattle.hq_terms.specs.PermView.{mask_view, permission_view};
+ghost use Rattle.hq_role_schema.specs.Shown.{is_masked, under_name, shown_columns, shown_key, shown_table, shown_entry, shown_tables};
 
 use crate::shown::{ShownColumn, ShownColumnList, ShownTable, ShownTableList};
 use hq_base::{List, Memory, Txt};
 use hq_terms::{
-    Catalog, ColId, ColList, Column, Meta, PermView, Role, Table, Tracked, TryCopy, copy_list,
-    has_column,
+    Catalog, ColId, ColList, Column, Mask, Meta, PermView, Role, Table, Tracked, TryCopy,
+    copy_list, has_column,
 };
 use std::alloc::Global;
 
-// A column under its GraphQL name, where it has both.
+fn is_masked(masks: &[Mask], col: ColId) -> bool
+    ensures { result ≡ is_masked (map mask_view masks.now) col }
+{
+    for mask in masks {
+        if mask.col.at() == col.at() {
+            return true;
+        }
+    }
+    false
+}
+
+// A column under its GraphQL name, where it has both; with a mask it may be null.
 fn under_name(
     alloc: Global,
+    masks: &[Mask],
     col: ColId,
     column: Option<&Column>,
     name: Option<&Txt>,
 ) -> Result<Option<ShownColumn>, Memory>
-    ensures { IfOk result (λ shown. shown ≡ under_name col (option_copied column.entry) (option_copied name.entry)) }
+    ensures { IfOk result (λ shown. shown ≡ under_name (map mask_view masks.now) col (option_copied column.entry) (option_copied name.entry)) }
 {
     match (column, name) {
         (Some(column), Some(name)) => Ok(Some(ShownColumn {
             name: name.copy(alloc)?,
             ty: column.ty,
-            nullable: column.nullable,
+            nullable: is_masked(masks, col) || column.nullable,
             col,
         })),
         _ => Ok(None),
     }
 }
 
-// Columns of a table, by their places.
+// Columns of a table with these masks, by their places.
 fn shown_columns(
     alloc: Global,
     table: &Table,
     tracked: &Tracked,
+    masks: &[Mask],
     cols: &ColList,
 ) -> Result<ShownColumnList, Memory>
-    ensures { IfOk result (λ columns. columns ≡ shown_columns table.now (tracked_view tracked.now) cols.now) }
+    ensures { IfOk result (λ columns. columns ≡ shown_columns table.now (tracked_view tracked.now) (map mask_view masks.now) cols.now) }
 {
     let mut columns = List::new(alloc);
     for col in cols.as_slice() {
         let name = tracked.column_names.get(col.at());
-        if let Some(column) = under_name(alloc, *col, table.column(*col), name)? {
+        if let Some(column) = under_name(alloc, masks, *col, table.column(*col), name)? {
             columns.push(column)?;
         }
     }
@@ -71,7 +84,7 @@ fn shown_key(
     if !has_key(&table.key, cols) {
         return Ok(None);
     }
-    Ok(Some(shown_columns(alloc, table, tracked, &table.key)?))
+    Ok(Some(shown_columns(alloc, table, tracked, &[], &table.key)?))
 }
 
 fn shown_table(
@@ -85,7 +98,7 @@ fn shown_table(
     Ok(ShownTable {
         table: tracked.table,
         name: tracked.name.copy(alloc)?,
-        columns: shown_columns(alloc, table, tracked, &view.cols)?,
+        columns: shown_columns(alloc, table, tracked, &view.masks, &view.cols)?,
         rels: copy_list(alloc, &tracked.rels)?,
         key: shown_key(alloc, table, tracked, &view.cols)?,
         aggregates: view.aggregations,

@@ -109,7 +109,7 @@ module _ (m : MetaTree) (ps : List PlacedTable) (seen : Each (λ (p : PlacedTabl
   rel_names = map (λ r. r.name) (admin.rels_in_schema m k)
 
   abbrev columns_of : List ShownColumn
-  columns_of = shown_columns tb k p.columns
+  columns_of = shown_columns tb k p.masks p.columns
 
   abbrev links_of : List Link
   links_of = links_from ps 0 k.rels
@@ -124,7 +124,7 @@ module _ (m : MetaTree) (ps : List PlacedTable) (seen : Each (λ (p : PlacedTabl
   all_columns_differ = differ_some (admin.column_names_of k) (admin.fields_of m k) (sub_front (admin.column_names_of k) (flat_map admin.rel_fields (admin.rels_in_schema m k))) fields_differ
 
   columns_some : Sub (map column_name columns_of) (admin.column_names_of k)
-  columns_some = columns_sub tb k p.columns chosen
+  columns_some = columns_sub tb k p.masks p.columns chosen
 
   row_differs : differ (map field_name (column_fields Rows columns_of ++ flat_map link_fields links_of)) ≡ true
   row_differs =
@@ -157,12 +157,12 @@ module _ (m : MetaTree) (ps : List PlacedTable) (seen : Each (λ (p : PlacedTabl
       differ_some (map input_name (inputs_of Sort columns_of links_of)) (admin.fixed_inputs ++ (admin.column_names_of k ++ rel_names))
       (sub_skip admin.fixed_inputs (map input_name (inputs_of Sort columns_of links_of)) (admin.column_names_of k ++ rel_names) (inputs_some Sort)) inputs_differ
 
-  key_names_differ : list_all (λ c. list_any (λ d. d == c) p.columns) tb.key ≡ true → differ (map column_name (shown_columns tb k tb.key)) ≡ true
+  key_names_differ : list_all (λ c. list_any (λ d. d == c) p.columns) tb.key ≡ true → differ (map column_name (shown_columns tb k [] tb.key)) ≡ true
   key_names_differ h =
       let name = λ (c : ℕ). slice_index_or k.column_names c [] in
       let permitted = each_of (λ c. list_any (λ d. d == c) p.columns) tb.key h in
       let all = each_weaken (λ c. list_any (λ d. d == c) p.columns ≡ true) (λ c. list_any (λ d. d == c) (named_columns k) ≡ true) (λ c g. any_sub (λ d. d == c) p.columns (named_columns k) chosen g) tb.key permitted in
-      differ_some (map column_name (shown_columns tb k tb.key)) (map name tb.key) (columns_named tb k tb.key) (images_differ name (named_columns k) all_columns_differ tb.key key_differs all)
+      differ_some (map column_name (shown_columns tb k [] tb.key)) (map name tb.key) (columns_named tb k [] tb.key) (images_differ name (named_columns k) all_columns_differ tb.key key_differs all)
 
   table_differs : TableDiffers ps (shown_table k tb p)
   table_differs = record {
@@ -173,7 +173,7 @@ module _ (m : MetaTree) (ps : List PlacedTable) (seen : Each (λ (p : PlacedTabl
     key = by (list_all (λ c. list_any (λ d. d == c) p.columns) tb.key) refl;
   }
     where
-      by : (b : Bool) → list_all (λ c. list_any (λ d. d == c) p.columns) tb.key ≡ b → IfSome (cond b (Some (shown_columns tb k tb.key)) None) (λ (key : List ShownColumn). differ (map column_name key) ≡ true)
+      by : (b : Bool) → list_all (λ c. list_any (λ d. d == c) p.columns) tb.key ≡ b → IfSome (cond b (Some (shown_columns tb k [] tb.key)) None) (λ (key : List ShownColumn). differ (map column_name key) ≡ true)
       by true e = key_names_differ e
       by false e = tt
 

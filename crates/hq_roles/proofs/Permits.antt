@@ -7,7 +7,7 @@ use Rattle.std.proofs.lemmas.List.Folds.{list_any-append}
 use Rattle.hq_base.specs.Lists.{Each, all_differ}
 use Rattle.hq_base.proofs.Lists.{each_weaken}
 use Rattle.hq_terms.specs.Meta.{TrackedTree, MetaTree, tracked_table}
-use Rattle.hq_terms.specs.Permission.{Permission, permission}
+use Rattle.hq_terms.specs.Permission.{Mask, Permission, permission}
 use Rattle.hq_terms.specs.declared.role.Role.{Role}
 use Rattle.hq_terms.specs.declared.table.Column.{Column}
 use Rattle.hq_terms.specs.declared.table.Table.{Table}
@@ -61,15 +61,15 @@ each_of p [] h = tt
 each_of p (x ∷ xs) h = (and_left (p x) (list_all p xs) h, each_of p xs (and_right (p x) (list_all p xs) h))
 
 module _ (test : ℕ → Bool) where
-  under_name_passes : (c : ℕ) (o : Option Column) (name : Option (List ℕ)) → test c ≡ true → IfSome (under_name c o name) (λ (s : ShownColumn). test s.col ≡ true)
-  under_name_passes c None name h = tt
-  under_name_passes c (Some o) None h = tt
-  under_name_passes c (Some o) (Some name) h = h
+  under_name_passes : (ms : List Mask) (c : ℕ) (o : Option Column) (name : Option (List ℕ)) → test c ≡ true → IfSome (under_name ms c o name) (λ (s : ShownColumn). test s.col ≡ true)
+  under_name_passes ms c None name h = tt
+  under_name_passes ms c (Some o) None h = tt
+  under_name_passes ms c (Some o) (Some name) h = h
 
-  columns_pass : (t : Table) (k : TrackedTree) (cs : List ℕ) → Each (λ c. test c ≡ true) cs → Each (λ (s : ShownColumn). test s.col ≡ true) (shown_columns t k cs)
-  columns_pass t k cs h =
-      each_filter_map (λ (s : ShownColumn). test s.col ≡ true) (λ c. test c ≡ true) (λ c. under_name c (slice_get t.columns c) (slice_get k.column_names c))
-      (λ c g. under_name_passes c (slice_get t.columns c) (slice_get k.column_names c) g) cs h
+  columns_pass : (t : Table) (k : TrackedTree) (ms : List Mask) (cs : List ℕ) → Each (λ c. test c ≡ true) cs → Each (λ (s : ShownColumn). test s.col ≡ true) (shown_columns t k ms cs)
+  columns_pass t k ms cs h =
+      each_filter_map (λ (s : ShownColumn). test s.col ≡ true) (λ c. test c ≡ true) (λ c. under_name ms c (slice_get t.columns c) (slice_get k.column_names c))
+      (λ c g. under_name_passes ms c (slice_get t.columns c) (slice_get k.column_names c) g) cs h
 
 -- where the role has this permission on an entry, the first one of its table
 table_permits : (m : MetaTree) (role : Role) (k : TrackedTree) (t : Table) (p : Permission) → permission role m k.table ≡ Some p → tracked_table m k.table ≡ Some k → Permits (access_of m role) (shown_table k t p)
@@ -79,18 +79,18 @@ table_permits m role k t p granted first =
     λ c. ap (λ (o : Option Permission). option_map_or (λ (q : Permission). list_any (λ d. d == c) q.columns) o false) granted
     in
     let all : (c : ℕ) → list_any (λ d. d == c) p.columns ≡ true → a.column k.table c ≡ true = λ c h. column c ∙ h in
-    let permitted : (cs : List ℕ) → Each (λ c. list_any (λ d. d == c) p.columns ≡ true) cs → Permitted a k.table (shown_columns t k cs) =
-    λ cs h. columns_pass (a.column k.table) t k cs (each_weaken (λ c. list_any (λ d. d == c) p.columns ≡ true) (λ c. a.column k.table c ≡ true) all cs h)
+    let permitted : (ms : List Mask) (cs : List ℕ) → Each (λ c. list_any (λ d. d == c) p.columns ≡ true) cs → Permitted a k.table (shown_columns t k ms cs) =
+    λ ms cs h. columns_pass (a.column k.table) t k ms cs (each_weaken (λ c. list_any (λ d. d == c) p.columns ≡ true) (λ c. a.column k.table c ≡ true) all cs h)
     in
     record {
       seen = ap (λ (o : Option Permission). is_some o) granted;
-      columns = permitted p.columns (all_among [] p.columns);
-      key = key_passes (list_all (λ c. list_any (λ d. d == c) p.columns) t.key) refl (λ h. permitted t.key (each_of (λ c. list_any (λ d. d == c) p.columns) t.key h));
+      columns = permitted p.masks p.columns (all_among [] p.columns);
+      key = key_passes (list_all (λ c. list_any (λ d. d == c) p.columns) t.key) refl (λ h. permitted [] t.key (each_of (λ c. list_any (λ d. d == c) p.columns) t.key h));
       aggregates = λ h. ap (λ (o : Option Permission). option_map_or (λ (q : Permission). q.aggregations) o false) granted ∙ h;
       rels = λ i. ap (λ (o : Option TrackedTree). option_and_then (λ (j : TrackedTree). slice_get j.rels i) o) first;
     }
   where
-    key_passes : (b : Bool) → list_all (λ c. list_any (λ d. d == c) p.columns) t.key ≡ b → (list_all (λ c. list_any (λ d. d == c) p.columns) t.key ≡ true → Permitted (access_of m role) k.table (shown_columns t k t.key)) → IfSome (cond b (Some (shown_columns t k t.key)) None) (Permitted (access_of m role) k.table)
+    key_passes : (b : Bool) → list_all (λ c. list_any (λ d. d == c) p.columns) t.key ≡ b → (list_all (λ c. list_any (λ d. d == c) p.columns) t.key ≡ true → Permitted (access_of m role) k.table (shown_columns t k [] t.key)) → IfSome (cond b (Some (shown_columns t k [] t.key)) None) (Permitted (access_of m role) k.table)
     key_passes true e step = step e
     key_passes false e step = tt
 

@@ -14,7 +14,7 @@ use Rattle.hq_schema.specs.Parts.{row_parts, aggregate_parts, part_suffix}
 use Rattle.hq_schema.specs.Schema.{TypeRefTree, ArgTree, FieldTree}
 use Rattle.hq_schema.specs.declared.part.Part.{Part}
 use Rattle.hq_terms.specs.Meta.{TrackedTree, MetaTree}
-use Rattle.hq_terms.specs.Permission.{Permission, named_columns}
+use Rattle.hq_terms.specs.Permission.{Mask, Permission, named_columns}
 use Rattle.hq_terms.specs.Schema.{Schema, schema_of, table, column, no_column}
 use Rattle.hq_terms.specs.SchemaNames.{some_column, has_columns, is_in_schema, is_aggregated, types_of, key_is_named, roots_of, column_names_of, rel_fields}
 use Rattle.hq_terms.specs.declared.meta.Rel.{Rel}
@@ -88,12 +88,12 @@ module _ (tables : List Table) (m : MetaTree) (k : TrackedTree) (tb : Table) (he
   columns_are = ap (λ t. t.columns) (table_present tables m k.table tb here)
 
   -- what some shown column has, a column of admin's has
-  some_shown : (test : Ty → Bool) (cs : List ℕ) → list_any (λ (c : ShownColumn). test c.ty) (shown_columns tb k cs) ≡ true → list_any (λ c. test (column s k.table c).ty) cs ≡ true
-  some_shown test [] h = h
-  some_shown test (c ∷ cs) h = by (slice_get tb.columns c) (slice_get k.column_names c) refl h (some_shown test cs)
+  some_shown : (ms : List Mask) (test : Ty → Bool) (cs : List ℕ) → list_any (λ (c : ShownColumn). test c.ty) (shown_columns tb k ms cs) ≡ true → list_any (λ c. test (column s k.table c).ty) cs ≡ true
+  some_shown ms test [] h = h
+  some_shown ms test (c ∷ cs) h = by (slice_get tb.columns c) (slice_get k.column_names c) refl h (some_shown ms test cs)
     where
       rest : Bool
-      rest = list_any (λ (x : ShownColumn). test x.ty) (shown_columns tb k cs)
+      rest = list_any (λ (x : ShownColumn). test x.ty) (shown_columns tb k ms cs)
 
       goal_rest : Bool
       goal_rest = list_any (λ d. test (column s k.table d).ty) cs
@@ -105,7 +105,7 @@ module _ (tables : List Table) (m : MetaTree) (k : TrackedTree) (tb : Table) (he
       held true x e same h later = rw (same, e) refl
       held false x e same h later = or_right_true (test (column s k.table c).ty) goal_rest (later h)
 
-      by : (o : Option Column) (n : Option (List ℕ)) → slice_get tb.columns c ≡ o → list_any (λ (x : ShownColumn). test x.ty) (cons_option (under_name c o n) (shown_columns tb k cs)) ≡ true → (rest ≡ true → goal_rest ≡ true) → (test (column s k.table c).ty || goal_rest) ≡ true
+      by : (o : Option Column) (n : Option (List ℕ)) → slice_get tb.columns c ≡ o → list_any (λ (x : ShownColumn). test x.ty) (cons_option (under_name ms c o n) (shown_columns tb k ms cs)) ≡ true → (rest ≡ true → goal_rest ≡ true) → (test (column s k.table c).ty || goal_rest) ≡ true
       by None n e h later = or_right_true (test (column s k.table c).ty) goal_rest (later h)
       by (Some x) None e h later = or_right_true (test (column s k.table c).ty) goal_rest (later h)
       by (Some x) (Some name) e h later = held (test x.ty) x refl (is x e) h later
@@ -115,7 +115,7 @@ module _ (tables : List Table) (m : MetaTree) (k : TrackedTree) (tb : Table) (he
     t = shown_table k tb p
 
     has_some : (test : Ty → Bool) → list_any (λ (c : ShownColumn). test c.ty) t.columns ≡ true → some_column test s k ≡ true
-    has_some test h = any_sub (λ c. test (column s k.table c).ty) p.columns (named_columns k) chosen (some_shown test p.columns h)
+    has_some test h = any_sub (λ c. test (column s k.table c).ty) p.columns (named_columns k) chosen (some_shown p.masks test p.columns h)
 
     pub types_sub : Sub (map (λ (q : Part). t.name ++ part_suffix q) (parts_of t)) (types_of s k)
     types_sub =
@@ -144,7 +144,7 @@ module _ (tables : List Table) (m : MetaTree) (k : TrackedTree) (tb : Table) (he
     pub roots_sub : Sub (root_names t) (roots_of s k)
     roots_sub = rw some (inr (rest_of t, refl, by t.aggregates (list_all (λ c. list_any (λ d. d == c) p.columns) tb.key) (key_is_named s k) key_named))
       where
-        by : (g b n : Bool) → (b ≡ true → n ≡ true) → Sub (cond g (k.roots.select_aggregate ∷ []) [] ++ key_names k.roots (cond b (Some (shown_columns tb k tb.key)) None)) (k.roots.select_aggregate ∷ cond n (k.roots.select_by_pk ∷ []) [])
+        by : (g b n : Bool) → (b ≡ true → n ≡ true) → Sub (cond g (k.roots.select_aggregate ∷ []) [] ++ key_names k.roots (cond b (Some (shown_columns tb k [] tb.key)) None)) (k.roots.select_aggregate ∷ cond n (k.roots.select_by_pk ∷ []) [])
         by true true n f = rw (f refl) (sub_same (k.roots.select_aggregate ∷ k.roots.select_by_pk ∷ []))
         by false true n f = rw (f refl) (inl (sub_same (k.roots.select_by_pk ∷ [])))
         by true false n f = inr ([], refl, sub_nil (cond n (k.roots.select_by_pk ∷ []) []))
@@ -152,20 +152,20 @@ module _ (tables : List Table) (m : MetaTree) (k : TrackedTree) (tb : Table) (he
 
 -- ---- the names of columns
 
-pub columns_named : (tb : Table) (k : TrackedTree) (cs : List ℕ) → Sub (map (λ (c : ShownColumn). c.name) (shown_columns tb k cs)) (map (λ c. get_or k.column_names c []) cs)
-columns_named tb k [] = refl
-columns_named tb k (c ∷ cs) = by (slice_get tb.columns c) (slice_get k.column_names c) refl (columns_named tb k cs)
+pub columns_named : (tb : Table) (k : TrackedTree) (ms : List Mask) (cs : List ℕ) → Sub (map (λ (c : ShownColumn). c.name) (shown_columns tb k ms cs)) (map (λ c. get_or k.column_names c []) cs)
+columns_named tb k ms [] = refl
+columns_named tb k ms (c ∷ cs) = by (slice_get tb.columns c) (slice_get k.column_names c) refl (columns_named tb k ms cs)
   where
-    by : (o : Option Column) (n : Option (List ℕ)) → slice_get k.column_names c ≡ n → Sub (map (λ (x : ShownColumn). x.name) (shown_columns tb k cs)) (map (λ d. get_or k.column_names d []) cs) → Sub (map (λ (x : ShownColumn). x.name) (cons_option (under_name c o n) (shown_columns tb k cs))) (get_or k.column_names c [] ∷ map (λ d. get_or k.column_names d []) cs)
+    by : (o : Option Column) (n : Option (List ℕ)) → slice_get k.column_names c ≡ n → Sub (map (λ (x : ShownColumn). x.name) (shown_columns tb k ms cs)) (map (λ d. get_or k.column_names d []) cs) → Sub (map (λ (x : ShownColumn). x.name) (cons_option (under_name ms c o n) (shown_columns tb k ms cs))) (get_or k.column_names c [] ∷ map (λ d. get_or k.column_names d []) cs)
     by None n e later = inl later
     by (Some x) None e later = inl later
     by (Some x) (Some name) e later =
-        let rest = map (λ (x : ShownColumn). x.name) (shown_columns tb k cs) in
+        let rest = map (λ (x : ShownColumn). x.name) (shown_columns tb k ms cs) in
         inr (rest, ap (λ (z : List ℕ). z ∷ rest) (sym (get_or_from_slice_get k.column_names c name [] e)), later)
 
-pub columns_sub : (tb : Table) (k : TrackedTree) (cs : List ℕ) → Sub cs (named_columns k) → Sub (map (λ (c : ShownColumn). c.name) (shown_columns tb k cs)) (column_names_of k)
-columns_sub tb k cs chosen =
-    sub_trans (map (λ (c : ShownColumn). c.name) (shown_columns tb k cs)) (map (λ c. get_or k.column_names c []) cs) (column_names_of k) (columns_named tb k cs) (sub_map (λ c. get_or k.column_names c []) cs (named_columns k) chosen)
+pub columns_sub : (tb : Table) (k : TrackedTree) (ms : List Mask) (cs : List ℕ) → Sub cs (named_columns k) → Sub (map (λ (c : ShownColumn). c.name) (shown_columns tb k ms cs)) (column_names_of k)
+columns_sub tb k ms cs chosen =
+    sub_trans (map (λ (c : ShownColumn). c.name) (shown_columns tb k ms cs)) (map (λ c. get_or k.column_names c []) cs) (column_names_of k) (columns_named tb k ms cs) (sub_map (λ c. get_or k.column_names c []) cs (named_columns k) chosen)
 
 -- the fields of columns are named for columns
 pub fields_sub : (q : Part) (cs : List ShownColumn) → Sub (map (λ (f : FieldTree). f.name) (column_fields q cs)) (map (λ (c : ShownColumn). c.name) cs)

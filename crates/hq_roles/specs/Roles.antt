@@ -1,5 +1,5 @@
 -- The schema of each role that a session may have, as an engine keeps them: that of `admin`, that of each role that has a
--- permission, by its name, and the one of all other roles.
+-- permission or inherits some, by its name, and the one of all other roles.
 use Rattle.std.specs.Prelude.{◌≡◌, ℕ, List, [], ◌∷◌, ◌++◌, map, flat_map, Bool, cond, bytes_eq, Option, Some, is_some, unwrap_or}
 use Rattle.std.specs.HashMap.{HashMap, get}
 use Rattle.std.specs.List.{list_all, list_any}
@@ -20,6 +20,10 @@ new_names earlier (n ∷ ns) = cond (list_any (bytes_eq n) earlier) (new_names e
 -- the roles that have a permission, each once
 abbrev pub roles_in : MetaTree → List (List ℕ)
 roles_in meta = new_names [] (flat_map (λ k. map (λ p. p.role) k.perms) meta.tracked)
+
+-- the roles that may see something: those that have a permission, and behind them the inherited ones that have none
+abbrev pub seeing_roles : MetaTree → List (List ℕ)
+seeing_roles meta = roles_in meta ++ new_names (roles_in meta) (map (λ i. i.role) meta.inherited)
 
 module _ {S : Type 0} where
   -- the schema that is kept under a name

@@ -6,12 +6,12 @@ ghost use Rattle.hq_schema.specs.Schema.{schema_view};
 ghost use Rattle.hq_terms.specs.Fits.{fits};
 ghost use Rattle.hq_terms.specs.Meta.{meta_view, perm_view, tracked_view};
 ghost use Rattle.hq_terms.specs.declared.role.Role.TheVariants as role;
-ghost use Rattle.hq_roles.specs.Roles.{AreRoleSchemas, KeepsRoles, keeps_each, new_names, roles_in, schema_for};
+ghost use Rattle.hq_roles.specs.Roles.{AreRoleSchemas, KeepsRoles, keeps_each, new_names, roles_in, schema_for, seeing_roles};
 
 use hq_base::{List, Memory, Txt};
 use hq_role_schema::derive;
 use hq_schema::Schema;
-use hq_terms::{Catalog, Meta, Perm, Role, Tracked};
+use hq_terms::{Catalog, Inherited, Meta, Perm, Role, Tracked};
 use std::alloc::Global;
 use std::collections::HashMap;
 
@@ -56,11 +56,34 @@ fn roles_of(alloc: Global, tracked: &[Tracked]) -> Result<List<Txt>, Memory>
     Ok(roles)
 }
 
-/// The roles that have a permission, each once, in the order of the metadata.
+/// The roles that have a permission, each once, in the order of the metadata; not those that inherit alone.
 pub fn roles_in(alloc: Global, meta: &Meta) -> Result<List<Txt>, Memory>
     ensures { IfOk result (λ roles. roles ≡ roles_in (meta_view meta.now)) }
 {
     roles_of(alloc, meta.tracked.as_slice())
+}
+
+// Adds the inherited roles that are not there.
+fn add_inherited(
+    alloc: Global,
+    roles: &mut List<Txt>,
+    inherited: &[Inherited],
+) -> Result<(), Memory>
+    ensures { OnOk result (roles.new ≡ roles.old ++ new_names roles.old (map (λ i. i.role) inherited.now)) }
+{
+    for entry in inherited {
+        add_role(alloc, roles, &entry.role)?;
+    }
+    Ok(())
+}
+
+// The roles that may see something, each once: those that have a permission, and behind them the inherited ones that have none.
+fn seeing_roles(alloc: Global, meta: &Meta) -> Result<List<Txt>, Memory>
+    ensures { IfOk result (λ roles. roles ≡ seeing_roles (meta_view meta.now)) }
+{
+    let mut roles = roles_in(alloc, meta)?;
+    add_inherited(alloc, &mut roles, meta.inherited.as_slice())?;
+    Ok(roles)
 }
 
 // The schema of the role of this name.
@@ -89,7 +112,8 @@ fn named_schemas(
     Ok(kept)
 }
 
-// The schema of a role that has no permission. No permission is one of `admin` by its name, so this stands for all of them.
+// The schema of a role that sees nothing. No permission and no inherited role is one of `admin` by its name, so this stands for
+// all of them.
 fn other_schema(alloc: Global, catalog: &Catalog, meta: &Meta) -> Result<Schema, Memory>
     ensures { IfOk result (λ schema. schema_view schema ≡ role_schema catalog.now.tables (meta_view meta.now) (role.Named (codes "admin"))) }
 {
@@ -103,7 +127,7 @@ fn other_schema(alloc: Global, catalog: &Catalog, meta: &Meta) -> Result<Schema,
 pub struct RoleSchemas {
     /// That of `admin`.
     pub admin: Schema,
-    /// Those of the roles that have a permission.
+    /// Those of the roles that have a permission or inherit some.
     pub named: HashMap<Txt, Schema>,
     /// That of all other roles.
     pub other: Schema,
@@ -116,7 +140,7 @@ impl RoleSchemas {
         ensures { IfOk result (AreRoleSchemas catalog.now.tables (meta_view meta.now)) }
     {
         let admin = derive(alloc, catalog, meta, &Role::Admin)?;
-        let names = roles_in(alloc, meta)?;
+        let names = seeing_roles(alloc, meta)?;
         let named = named_schemas(alloc, catalog, meta, names.as_slice())?;
         let other = other_schema(alloc, catalog, meta)?;
         Ok(RoleSchemas {

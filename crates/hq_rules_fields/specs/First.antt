@@ -8,7 +8,7 @@ use Rattle.hq_gql_tree.specs.declared.fault.Fault.{Fault}
 use Rattle.hq_gql_tree.specs.Documents.{DocumentTree}
 use Rattle.hq_gql_nodes.specs.Faults.{or_later}
 use Rattle.hq_gql_nodes.specs.Nodes.{PartTree, document_parts}
-use Rattle.hq_rules_overlap.specs.Places.{overlap_place}
+use Rattle.hq_overlap_sets.specs.Places.{overlap_place}
 use Rattle.hq_rules_fields.specs.NodeRules.{rule_place}
 use Rattle.hq_rules_fields.specs.declared.rules.NodeRule.TheVariants as rule
 

@@ -3,15 +3,26 @@ ghost use Rattle.std.specs.Prelude.{◌≡◌, IfOk, map};
 ghost use Rattle.hq_schema.specs.Schema.{schema_view};
 ghost use Rattle.hq_gql_tree.specs.View.{document_view};
 ghost use Rattle.hq_gql_nodes.specs.Nodes.{part_view};
+ghost use Rattle.hq_overlap_sets.specs.Places.{overlap_place};
 ghost use Rattle.hq_rules_fields.specs.First.{selection_fault, argument_fault, value_fault, fault_by, first_field_fault};
 
 use crate::rules::NodeRule;
 use hq_base::Memory;
 use hq_gql_nodes::{Part, document_parts, fault_at, variable_types};
 use hq_gql_tree::{Document, Fault, RuleId};
-use hq_rules_overlap::first_overlap;
+use hq_rules_overlap::{OverlapRefusal, first_overlap};
 use hq_schema::Schema;
 use std::alloc::Global;
+
+// The least place of a field that cannot be merged. Too many selection sets at fault are answered as want of memory from here on.
+fn overlap(alloc: Global, schema: &Schema, document: &Document) -> Result<Option<u64>, Memory>
+    ensures { IfOk result (λ place. place ≡ overlap_place (schema_view schema.now) (document_view document.now)) }
+{
+    match first_overlap(alloc, document, schema) {
+        Ok(place) => Ok(place),
+        Err(OverlapRefusal::TooMuchAtFault) | Err(OverlapRefusal::Memory) => Err(Memory),
+    }
+}
 
 // The first fault of the rules of fields.
 fn selection_fault(
@@ -25,7 +36,7 @@ fn selection_fault(
     if let Some(at) = NodeRule::FieldsOnCorrectType.place(alloc, schema, parts)? {
         return Ok(Some(fault_at(RuleId::FieldSelections, at)));
     }
-    if let Some(at) = first_overlap(alloc, document, schema)? {
+    if let Some(at) = overlap(alloc, schema, document)? {
         return Ok(Some(fault_at(RuleId::FieldSelectionMerging, at)));
     }
     if let Some(at) = NodeRule::ScalarLeafs.place(alloc, schema, parts)? {

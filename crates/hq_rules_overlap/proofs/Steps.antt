@@ -7,14 +7,15 @@ use Rattle.std.specs.Result.{OnOk}
 use Rattle.std.proofs.lemmas.Bool.{eqb-true, and_parts, or_cases}
 use Rattle.std.proofs.lemmas.List.{take_all, length-map, get_or-map}
 use Rattle.std.proofs.lemmas.List.Elements.{All-nil, All-more, All-weaker, All-map, Contains-get_or, Contains-push, Contains-push_cases, Contains-append_left}
-use Rattle.hq_rules_overlap.specs.declared.walk.Pair.{Pair}
+use Rattle.hq_overlap_sets.specs.declared.sets.Pair.{Pair}
 use Rattle.hq_rules_overlap.specs.declared.walk.Walk.{Walk}
-use Rattle.hq_rules_overlap.specs.Sets.{FieldTree, SetTree}
-use Rattle.hq_rules_overlap.specs.Pairs.{fields_in, spreads_in, fields_at, AtMost, Violates, later}
+use Rattle.hq_overlap_sets.specs.Sets.{FieldTree, SetTree}
+use Rattle.hq_overlap_sets.specs.Pairs.{fields_in, spreads_in, fields_at, AtMost, Violates, later}
 use Rattle.hq_gql_nodes.specs.Least.{earlier, at_if}
-use Rattle.hq_rules_overlap.proofs.Growing.{nothing_more, join_assoc}
-use Rattle.hq_rules_overlap.proofs.Least.{low_left, low_right, earlier_cases, at_if_true, at_if_low}
-use Rattle.hq_rules_overlap.specs.Walk.{Together, IsSound, IsEmpty, Step, Met, is_marked, Known, Compared, ComparedWith, IsDone, IsConflict, AreConflicts}
+use Rattle.hq_overlap_sets.proofs.Growing.{nothing_more, join_assoc}
+use Rattle.hq_overlap_sets.proofs.Least.{low_left, low_right, earlier_cases, at_if_true, at_if_low}
+use Rattle.hq_rules_overlap.specs.Walk.{IsSound, IsEmpty, Step, Met, is_marked, Known, Compared, ComparedWith, IsDone}
+use Rattle.hq_overlap_sets.specs.Together.{Together, IsConflict, AreConflicts}
 
 -- one more pair
 module _ (sets : List SetTree) (p q : Walk) (l r : ℕ) (together : Together sets l r)
@@ -89,11 +90,6 @@ count_step sets p q v n pairs marks best conflict =
 pub counted_now : (o : Option ℕ) (v : Bool) (n : ℕ) → v ≡ true → AtMost (earlier o (at_if v n)) n
 counted_now o v n h = low_right o (at_if v n) n (at_if_low v n h)
 
--- only the steps that are left changed
-pub spend_step : (sets : List SetTree) (p q : Walk) → q.pairs ≡ p.pairs → q.marks ≡ p.marks → q.best ≡ p.best → Step sets p q
-spend_step sets p q pairs marks best =
-    same_step sets p q pairs marks (λ n h. subst (λ o. AtMost o n) (sym best) h) (λ found. subst (AreConflicts sets) (sym best) found)
-
 pub step_refl : (sets : List SetTree) (p : Walk) → Step sets p p
 step_refl sets p = same_step sets p p refl refl (λ n h. h) (λ f. f)
 
@@ -129,14 +125,6 @@ apart sets q a b h = record { below = λ e. absurd (h e); counted = λ v. absurd
 pub compared_now : (sets : List SetTree) (p q : Walk) (a b : FieldTree) → (Violates a b → AtMost p.best (later a b)) → Step sets p q → Known sets q a.below b.below → Compared sets q a b
 compared_now sets p q a b counted step known = record { below = λ _. known; counted = λ v. step.lower (later a b) (counted v) }
 
-pub on_ok_weaker2 : {T E P Q R : Type 0} (r : Result T E) → (P → Q → R) → OnOk r P → OnOk r Q → OnOk r R
-on_ok_weaker2 (Ok x) f p q = f p q
-on_ok_weaker2 (Err e) f p q = tt
-
-pub on_ok_weaker3 : {T E P Q R S : Type 0} (r : Result T E) → (P → Q → R → S) → OnOk r P → OnOk r Q → OnOk r R → OnOk r S
-on_ok_weaker3 (Ok x) f p q s = f p q s
-on_ok_weaker3 (Err e) f p q s = tt
-
 -- what a mark tells after one more pair
 pub mark_cases : (l r s t : ℕ) (old new : Bool) → new ≡ ((nat_eq l s && nat_eq r t) || old) → new ≡ true → ((l ≡ s) × (r ≡ t)) ⊎ (old ≡ true)
 mark_cases l r s t old new e h =
@@ -144,19 +132,6 @@ mark_cases l r s t old new e h =
       | inl two ↦ let both = and_parts (nat_eq l s) (nat_eq r t) two in inl (eqb-true l s both.0, eqb-true r t both.1)
       | inr before ↦ inr before
     ])
-
--- one more of a list, under facts that a step keeps
-pub all_more : {X : Type 0} (P Q : X → Type 0) → ((x : X) → P x → Q x) → (xs : List X) (i : ℕ) (d : X) → i < length xs → All P (take i xs) → Q (get_or xs i d) → All Q (take (i + 1) xs)
-all_more P Q kept xs i d h before now = All-more Q xs i d h (All-weaker P Q kept (take i xs) before) now
-
-pub all_more_item : {X : Type 0} (P Q : X → Type 0) → ((x : X) → P x → Q x) → (xs : List X) (i : ℕ) (x : X) → i < length xs → x ≡ get_or xs i x → All P (take i xs) → Q x → All Q (take (i + 1) xs)
-all_more_item P Q kept xs i x h is before now = all_more P Q kept xs i x h before (subst Q is now)
-
--- an element that is seen in a list
-pub contained : {X Y : Type 0} (f : X → Y) (xs : List X) (ys : List Y) (i : ℕ) (d : X) → map f xs ≡ ys → i < length xs → Contains ys (f (get_or xs i d))
-contained f xs ys i d e h =
-    let long : i < length (map f xs) = subst (λ (n : ℕ). i < n) (sym (length-map xs f)) h in
-    subst (λ zs. Contains zs (f (get_or xs i d))) e (subst (Contains (map f xs)) (get_or-map f xs i d (f d) h) (Contains-get_or (map f xs) i (f d) long))
 
 -- sets of which one is empty are done
 pub done_beside : (sets : List SetTree) (q : Walk) (s t : ℕ) → IsEmpty sets s ⊎ IsEmpty sets t → IsDone sets q s t
@@ -174,17 +149,3 @@ done_beside sets q s t (inr e) = record {
 -- a number beyond the sets
 pub empty_beyond : (sets : List SetTree) (s : ℕ) → slice_get sets s ≡ None → IsEmpty sets s
 empty_beyond sets s h = record { fields = ap fields_in h; spreads = ap spreads_in h }
-
-pub contained_item : {X Y : Type 0} (f : X → Y) (xs : List X) (ys : List Y) (i : ℕ) (x : X) → map f xs ≡ ys → i < length xs → x ≡ get_or xs i x → Contains ys (f x)
-contained_item f xs ys i x e h is = subst (λ z. Contains ys (f z)) (sym is) (contained f xs ys i x e h)
-
--- at the end of a loop the whole list was seen
-pub all_at_end : {X Y : Type 0} (f : X → Y) (P : Y → Type 0) (xs : List X) (ys : List Y) (i : ℕ) → map f xs ≡ ys → length xs ≤ i → All (λ x. P (f x)) (take i xs) → All P ys
-all_at_end f P xs ys i e h all = subst (All P) e (All-map P f xs (subst (All (λ x. P (f x))) (take_all i xs h) all))
-
-pub all_at_end_itself : {X : Type 0} (P : X → Type 0) (xs ys : List X) (i : ℕ) → xs ≡ ys → length xs ≤ i → All P (take i xs) → All P ys
-all_at_end_itself P xs ys i e h all = subst (All P) e (subst (All P) (take_all i xs h) all)
-
--- an element of a list that equals another
-pub stands_in : {X : Type 0} (xs ys : List X) (i : ℕ) (d : X) → xs ≡ ys → i < length xs → Contains ys (get_or xs i d)
-stands_in xs ys i d e h = subst (λ zs. Contains zs (get_or xs i d)) e (Contains-get_or xs i d h)

@@ -1,8 +1,4 @@
-pub mod Literals
-pub mod Shapes
-pub mod Sets
-pub mod Pairs
-pub mod Places
-pub mod Floor
+pub mod Heads
+pub mod Groups
+pub mod Exploring
 pub mod Walk
-pub mod Disputes

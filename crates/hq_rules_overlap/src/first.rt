@@ -1,60 +1,59 @@
 //! The least place at which a document violates the rule.
-ghost use Rattle.std.specs.Prelude.{◌≡◌, true, IfOk};
+ghost use Rattle.std.specs.Prelude.{◌≡◌, ◌≤◌, ℕ, Err, IfOk};
 ghost use Rattle.hq_schema.specs.Schema.{schema_view};
 ghost use Rattle.hq_gql_tree.specs.View.{document_view};
-ghost use Rattle.hq_rules_overlap.specs.Disputes.{IsTrueOfAll, noted_in};
-ghost use Rattle.hq_rules_overlap.specs.Pairs.{IsFirst, IsOverlap};
-ghost use Rattle.hq_rules_overlap.specs.Places.{overlap_place};
-ghost use Rattle.hq_rules_overlap.specs.Sets.{arena_view};
-ghost use Rattle.hq_rules_overlap.specs.Walk.{AreConflicts};
+ghost use Rattle.hq_overlap_classes.specs.Classes.{MoreAtFault, size_at};
+ghost use Rattle.hq_overlap_classes.specs.Disputes.{IsTrueOfAll, noted_in};
+ghost use Rattle.hq_overlap_classes.specs.Noting.{IsSo};
+ghost use Rattle.hq_overlap_sets.specs.Pairs.{IsFirst, IsOverlap};
+ghost use Rattle.hq_overlap_sets.specs.Places.{overlap_place};
+ghost use Rattle.hq_overlap_sets.specs.Sets.{arena_view, document_sets};
 
-use crate::conflicts::{floor, own_conflict};
-use crate::definitions::document_arena;
-use crate::disputes::{Disputes, disputes_of};
-use crate::sets::Arena;
+use crate::groups::{Search, first_by_groups};
+use crate::refusal::OverlapRefusal;
 use crate::walk::first_by_walk;
 use hq_base::Memory;
-use hq_gql_nodes::earlier;
 use hq_gql_tree::Document;
+use hq_overlap_classes::{Disputes, disputes_of};
+use hq_overlap_sets::{Arena, document_arena};
 use hq_schema::Schema;
 use std::alloc::Global;
 
-// Whether a conflict within a set is at the first place that there can be.
-fn is_same(own: Option<u64>, least: Option<u64>) -> bool
-    ensures { result ≡ true → own ≡ least }
-{
-    match (own, least) {
-        (Some(place), Some(other)) => place == other,
-        (None, None) => true,
-        _ => false,
-    }
-}
+/// The most selection sets at fault, with their fields and spreads, that are compared in pairs where there are too many groups of those
+/// that are put together.
+pub const MOST_AT_FAULT: usize = 10_000;
 
-// The same by selection sets: the walk is made only where fields of one key differ, and no conflict within a set is
-// the first there can be.
+// The least place, by groups of sets or by pairs.
 fn first_among(alloc: Global, arena: &Arena<'_>) -> Result<Option<u64>, Memory>
     ensures { IfOk result (IsFirst (arena_view arena.now)) }
 {
-    let least = floor(alloc, arena)?;
-    let own = own_conflict(alloc, arena)?;
-    if is_same(own, least) {
-        return Ok(own);
+    match first_by_groups(alloc, arena)? {
+        Search::First(place) => Ok(place),
+        Search::Known(conflict) => first_by_walk(alloc, arena, conflict),
     }
-    first_by_walk(alloc, arena, own)
 }
 
-// The place of a conflict within a set, if something is in dispute and one is found.
-fn known_conflict(
+// The same by what is kept of a document's sets, unless too much is at fault.
+fn first_kept(
     alloc: Global,
     arena: &Arena<'_>,
     disputes: &Disputes<'_>,
-) -> Result<Option<u64>, Memory>
-    ensures { IfOk result (AreConflicts (arena_view arena.now)) }
+    kept: &Arena<'_>,
+) -> Result<Option<u64>, OverlapRefusal>
+    requires so { IsSo (schema_view arena.now.schema.now) (arena_view arena.now) disputes.now }
+    requires smaller { (s : ℕ) → size_at (arena_view kept.now) s ≤ size_at (arena_view arena.now) s }
+    ensures first { IfOk result (IsFirst (arena_view kept.now)) }
+    ensures many { result ≡ Err OverlapRefusal.TooMuchAtFault → MoreAtFault (arena_view arena.now) MOST_AT_FAULT }
 {
-    if disputes.disputed.is_empty() {
-        return Ok(None);
+    match first_by_groups(alloc, kept)? {
+        Search::First(place) => Ok(place),
+        Search::Known(conflict) => {
+            if disputes.are_more_at_fault(arena, kept, MOST_AT_FAULT) {
+                return Err(OverlapRefusal::TooMuchAtFault);
+            }
+            Ok(first_by_walk(alloc, kept, conflict)?)
+        }
     }
-    own_conflict(alloc, arena)
 }
 
 // The same by the document's selection sets, without the fields that are in no dispute.
@@ -62,40 +61,43 @@ fn first_sifted<'a>(
     alloc: Global,
     arena: &Arena<'a>,
     disputes: &Disputes<'a>,
-) -> Result<Option<u64>, Memory>
-    requires { IsTrueOfAll (noted_in (schema_view arena.now.schema.now) disputes.now) (arena_view arena.now) }
-    ensures { IfOk result (IsFirst (arena_view arena.now)) }
+) -> Result<Option<u64>, OverlapRefusal>
+    requires so { IsSo (schema_view arena.now.schema.now) (arena_view arena.now) disputes.now }
+    requires known { IsTrueOfAll (noted_in (schema_view arena.now.schema.now) disputes.now) (arena_view arena.now) }
+    ensures first { IfOk result (IsFirst (arena_view arena.now)) }
+    ensures many { result ≡ Err OverlapRefusal.TooMuchAtFault → MoreAtFault (arena_view arena.now) MOST_AT_FAULT }
 {
-    let own = known_conflict(alloc, arena, disputes)?;
-    let sets = disputes.kept_sets(alloc, arena, own)?;
+    let sets = disputes.kept_sets(alloc, arena)?;
     let kept = Arena {
         schema: arena.schema,
         sets,
     };
-    let place = first_among(alloc, &kept)?;
-    Ok(earlier(own, place))
+    first_kept(alloc, arena, disputes, &kept)
 }
 
 // The same by the document's selection sets.
-fn first_in(alloc: Global, arena: &Arena<'_>) -> Result<Option<u64>, Memory>
-    ensures { IfOk result (IsFirst (arena_view arena.now)) }
+fn first_in(alloc: Global, arena: &Arena<'_>) -> Result<Option<u64>, OverlapRefusal>
+    ensures first { IfOk result (IsFirst (arena_view arena.now)) }
+    ensures many { result ≡ Err OverlapRefusal.TooMuchAtFault → MoreAtFault (arena_view arena.now) MOST_AT_FAULT }
 {
     let disputes = disputes_of(alloc, arena)?;
     let fits = disputes.fits_sets(alloc, arena)?;
     if fits {
         return first_sifted(alloc, arena, &disputes);
     }
-    first_among(alloc, arena)
+    Ok(first_among(alloc, arena)?)
 }
 
-/// The least place of a later field of two that are reached together and cannot merge; None where there are no such two.
+/// The least place of a later field of two that are reached together and cannot merge; None where there are no such two. It is refused
+/// for another cause than want of memory only where the selection sets at fault, with their fields and spreads, are more than 10,000.
 pub fn first_overlap(
     alloc: Global,
     document: &Document,
     schema: &Schema,
-) -> Result<Option<u64>, Memory>
+) -> Result<Option<u64>, OverlapRefusal>
     ensures first { IfOk result (IsOverlap (schema_view schema.now) (document_view document.now)) }
     ensures place { IfOk result (λ place. place ≡ overlap_place (schema_view schema.now) (document_view document.now)) }
+    ensures many { result ≡ Err OverlapRefusal.TooMuchAtFault → MoreAtFault (document_sets (schema_view schema.now) (document_view document.now)) 10000 }
 {
     let arena = document_arena(alloc, schema, document)?;
     first_in(alloc, &arena)

@@ -2,20 +2,15 @@
 //! October 2021).
 #![tactic(auto)]
 
-mod arguments;
-mod classes;
-mod conflicts;
-mod definitions;
-mod disputes;
+mod below;
+mod closure;
 mod first;
-mod laws;
-mod partition;
-mod selections;
-mod sets;
-mod shapes;
-mod sift;
-mod values;
+mod found;
+mod gather;
+mod groups;
+mod lists;
+mod refusal;
 mod walk;
 
-pub use first::first_overlap;
-pub use laws::{no_dispute_is_no_conflict, sifting_keeps_the_answer, the_place_is_first};
+pub use first::{MOST_AT_FAULT, first_overlap};
+pub use refusal::OverlapRefusal;

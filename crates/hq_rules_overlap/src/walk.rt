@@ -2,43 +2,28 @@
 ghost use Rattle.std.specs.Prelude.{◌≡◌, ◌++◌, ◌∷◌, [], ◌&&◌, ◌||◌, nat_eq, ℕ, Some, true, false, length, map, slice_get, IfOk, OnOk};
 ghost use Rattle.std.specs.List.{Contains, All};
 ghost use Rattle.hq_gql_nodes.specs.Least.{earlier, at_if};
-ghost use Rattle.hq_rules_overlap.specs.Pairs.{fields_at, spreads_at, Violates, later, AtMost, IsFirst};
-ghost use Rattle.hq_rules_overlap.specs.Sets.{field_in, set_in, arena_view};
-ghost use Rattle.hq_rules_overlap.specs.Walk.{Together, AreConflicts, IsEmpty, is_marked, Known, IsSound, Step, Compared, ComparedWith, IsDone, HasRoots};
+ghost use Rattle.hq_overlap_sets.specs.Pairs.{fields_at, spreads_at, Violates, later, AtMost, IsFirst};
+ghost use Rattle.hq_overlap_sets.specs.Sets.{field_in, set_in, arena_view};
+ghost use Rattle.hq_overlap_sets.specs.Together.{Together, AreConflicts};
+ghost use Rattle.hq_rules_overlap.specs.Walk.{IsEmpty, is_marked, Known, IsSound, Step, Compared, ComparedWith, IsDone, HasRoots};
 
-use crate::conflicts::cannot_merge;
-use crate::sets::{Arena, Entry, Set, later};
+use crate::found::is_at_most;
 use hq_base::Memory;
 use hq_gql_nodes::{at_if, earlier};
+use hq_overlap_sets::{Arena, Entry, Pair, Set, cannot_merge, later};
 use std::alloc::Global;
 use std::collections::HashMap;
 
-/// Two selection sets that are put together.
-#[derive(Clone, Copy)]
-pub struct Pair {
-    pub left: usize,
-    pub right: usize,
-}
-
-/// The pairs that were met, those that have a mark, the least place of a conflict so far, and how many steps are left.
+/// The pairs of sets that were met, those that have a mark, and the least place of a conflict so far.
 #[derive(Drop)]
 pub struct Walk {
     pub pairs: Vec<Pair>,
     pub marks: HashMap<(usize, usize), bool>,
     pub best: Option<u64>,
-    pub left: u64,
 }
 
-/// The most pairs that a walk meets, and the most steps that it takes; one that would go further is answered by want of memory.
-const MOST_PAIRS: usize = 4_194_304;
-
-const MOST_STEPS: u64 = 134_217_728;
-
-/// The steps that an argument counts where two fields are compared.
-const STEPS_OF_ARGUMENT: u64 = 16;
-
-// Whether a set has neither fields nor spreads.
-fn is_empty(arena: &Arena<'_>, set: usize) -> bool
+/// Whether a set has neither fields nor spreads.
+pub fn is_empty(arena: &Arena<'_>, set: usize) -> bool
     ensures { result ≡ true → IsEmpty (arena_view arena.now) set }
 {
     let Some(found) = arena.set(set) else {
@@ -47,35 +32,7 @@ fn is_empty(arena: &Arena<'_>, set: usize) -> bool
     found.is_empty()
 }
 
-// The steps of a comparison of two fields of one key.
-fn cost(a: &Entry<'_>, b: &Entry<'_>) -> u64 {
-    let arguments = (a.field.args.len() as u64).saturating_add(b.field.args.len() as u64);
-    arguments.saturating_mul(STEPS_OF_ARGUMENT)
-}
-
-// The steps of a pair of sets: a comparison of the keys of each two fields, and a pair for each spread.
-fn steps_of(ours: &Set<'_>, theirs: &Set<'_>) -> u64 {
-    let fields = (ours.entries.len() as u64).saturating_mul(theirs.entries.len() as u64);
-    let spreads = (ours.spreads.len() as u64).saturating_add(theirs.spreads.len() as u64);
-    fields.saturating_add(spreads)
-}
-
 impl Walk {
-    // Takes some steps.
-    fn spend(&mut self, steps: u64) -> Result<(), Memory>
-        ensures pairs { self.new.pairs ≡ self.old.pairs }
-        ensures marks { self.new.marks ≡ self.old.marks }
-        ensures best { self.new.best ≡ self.old.best }
-    {
-        match self.left.checked_sub(steps) {
-            Some(left) => {
-                self.left = left;
-                Ok(())
-            }
-            None => Err(Memory),
-        }
-    }
-
     // Takes note of a place, if it is that of a conflict.
     fn count(&mut self, apart: bool, at: u64)
         ensures pairs { self.new.pairs ≡ self.old.pairs }
@@ -132,7 +89,7 @@ impl Walk {
         self.push(left, right)
     }
 
-    // Counts two fields of one key where they cannot merge.
+    // Counts two fields of one key where they cannot merge; behind a conflict that is known nothing is compared.
     fn count_conflict(
         &mut self,
         alloc: Global,
@@ -149,9 +106,12 @@ impl Walk {
         ensures step { OnOk result (Step (arena_view arena.now) self.old self.new) }
         ensures counted { OnOk result (Violates (field_in arena.now a.now) (field_in arena.now b.now) → AtMost self.new.best (later (field_in arena.now a.now) (field_in arena.now b.now))) }
     {
-        self.spend(cost(a, b))?;
+        let at = later(a, b);
+        if is_at_most(self.best, at) {
+            return Ok(());
+        }
         let apart = cannot_merge(alloc, arena.schema, a, b)?;
-        self.count(apart, later(a, b));
+        self.count(apart, at);
         Ok(())
     }
 
@@ -303,7 +263,6 @@ impl Walk {
         ensures step { OnOk result (Step (arena_view arena.now) self.old self.new) }
         ensures done { OnOk result (IsDone (arena_view arena.now) self.new left right) }
     {
-        self.spend(steps_of(ours, theirs))?;
         self.compare_sets(alloc, arena, left, right, &ours.entries, &theirs.entries)?;
         self.spread_left(arena, left, right, &ours.spreads)?;
         self.spread_right(arena, left, right, &theirs.spreads)
@@ -367,7 +326,7 @@ impl Walk {
         requires roots { HasRoots (arena_view arena.now) self.old (length (arena_view arena.now)) }
         ensures { OnOk result (IsFirst (arena_view arena.now) self.new.best) }
     {
-        for at in 0..MOST_PAIRS {
+        for at in 0..usize::MAX {
             let Some(pair) = self.pair_at(at) else {
                 return Ok(());
             };
@@ -387,7 +346,6 @@ fn start(alloc: Global, known: Option<u64>) -> Walk
         pairs: Vec::new(alloc),
         marks: HashMap::new(alloc),
         best: known,
-        left: MOST_STEPS,
     }
 }
 

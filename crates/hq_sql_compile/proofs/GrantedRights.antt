@@ -7,12 +7,12 @@ use Rattle.std.proofs.lemmas.Option.{unwrap_or-slice_get}
 use Rattle.hq_terms.specs.Bexp.{BexpTree, bexp_view, never}
 use Rattle.hq_terms.specs.Grants.{grant, no_grant}
 use Rattle.hq_terms.specs.Meta.{MetaTree}
+use Rattle.hq_terms.specs.PermView.{mask_view}
 use Rattle.hq_terms.specs.Permission.{Mask, Permission, option_list, permission}
 use Rattle.hq_terms.specs.Schema.{Schema, schema_of, schema_table}
 use Rattle.hq_terms.specs.declared.role.Role.{Role}
 use Rattle.hq_terms.specs.declared.table.Table.{Table}
 use Rattle.hq_terms.proofs.Places.{at_0}
-use Rattle.hq_base.specs.Lists.{Each}
 use Rattle.hq_ask_tree.specs.Request.{BoundTree, AskTree, bound_table, with_bound, grant_in, grants_in}
 use Rattle.hq_compiled.specs.Rights.{rights_of}
 use Rattle.hq_compile_context.specs.Contexts.{rights_in}
@@ -96,11 +96,13 @@ limit_as (Some x) None (Some b) = refl
 limit_as (Some x) (Some p) None = refl
 limit_as (Some x) (Some p) (Some b) = refl
 
-masks_as : (X : Option Table) (P : Option Permission) (o : Option BoundTree) → ((b : BoundTree) → o ≡ Some b → b.masks ≡ []) → [] ≡ (granted_as X P o).masks
-masks_as None P o bare = refl
-masks_as (Some x) None o bare = refl
-masks_as (Some x) (Some p) None bare = refl
-masks_as (Some x) (Some p) (Some b) bare = sym (bare b refl)
+masks_as : (X : Option Table) (P : Option Permission) (o : Option BoundTree) → unwrap_or (option_map (λ v. v.masks) (At X P o)) [] ≡ (granted_as X P o).masks
+masks_as None P None = refl
+masks_as None P (Some b) = refl
+masks_as (Some x) None None = refl
+masks_as (Some x) None (Some b) = refl
+masks_as (Some x) (Some p) None = refl
+masks_as (Some x) (Some p) (Some b) = refl
 
 filter_seen : (o : Option Granted) → unwrap_or (option_map (λ g. bexp_view g.filter) o) never ≡ unwrap_or (option_map (λ v. v.filter) (option_map granted_view o)) never
 filter_seen None = refl
@@ -110,14 +112,11 @@ limit_seen : (o : Option Granted) → option_and_then (λ g. g.limit) o ≡ opti
 limit_seen None = refl
 limit_seen (Some g) = refl
 
-bare_found : (t : ℕ) (bs : List BoundTree) (b : BoundTree) → Each (λ c. c.masks ≡ []) bs → bound_table bs t ≡ Some b → b.masks ≡ []
-bare_found t [] b h is = absurd cc
-bare_found t (x ∷ bs) b h is =
-    let by : (c : Bool) → cond c (Some x) (bound_table bs t) ≡ Some b → b.masks ≡ [] =
-    elim [ true ↦ λ same. let e : x ≡ b = cc in subst (λ (c : BoundTree). c.masks ≡ []) e h.0 | false ↦ λ later. bare_found t bs b h.1 later ] in
-    by (x.table == t) is
+masks_seen : (o : Option Granted) → unwrap_or (option_map (λ g. map mask_view g.masks.items) o) [] ≡ unwrap_or (option_map (λ v. v.masks) (option_map granted_view o)) []
+masks_seen None = refl
+masks_seen (Some g) = refl
 
-module _ (tables : List Table) (m : MetaTree) (a : AskTree) (bare : Each (λ b. b.masks ≡ []) a.bound) (gs : List Granted) (is : map granted_view gs ≡ granted_all a.role tables m a.bound) where
+module _ (tables : List Table) (m : MetaTree) (a : AskTree) (gs : List Granted) (is : map granted_view gs ≡ granted_all a.role tables m a.bound) where
   abbrev s : Schema
   s = schema_of tables m
 
@@ -143,7 +142,8 @@ module _ (tables : List Table) (m : MetaTree) (a : AskTree) (bare : Each (λ b. 
 
   masks : (t : ℕ) → (rights_in gs).masks t ≡ (rights_of (grants_in a m s)).masks t
   masks t =
-      masks_as (slice_get tables t) (permission a.role m t) (bound_table a.bound t) (λ b found. bare_found t a.bound b bare found) ∙ ap (λ (p : Permission). p.masks) (grant_as t)
+      masks_seen (find (λ g. g.table == t) gs) ∙ ap (λ o. unwrap_or (option_map (λ v. v.masks) o) []) (first_as t)
+      ∙ masks_as (slice_get tables t) (permission a.role m t) (bound_table a.bound t) ∙ ap (λ (p : Permission). p.masks) (grant_as t)
 
   -- all that is granted
   pub granted_rights : rights_in gs ≡ rights_of (grants_in a m s)

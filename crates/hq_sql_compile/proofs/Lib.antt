@@ -1,5 +1,5 @@
 mod GrantedRights
-mod ListJoins
+mod Joins
 mod Requests
 mod RootFields
 mod SortCounts

@@ -1,24 +1,17 @@
 -- What is known of the statement of a request.
-use Rattle.std.proofs.Common.{◌≡◌, ℕ, suc, List, [], ◌∷◌, length, map, Bool, true, false, cond, ◌&&◌, refl, ap}
+use Rattle.std.proofs.Common.{◌≡◌, ℕ, suc, List, [], ◌∷◌, length, Bool, true, false, cond, ◌&&◌, refl, ap}
 use Rattle.std.specs.Prelude.{nat_le, bytes_eq}
 use Rattle.std.proofs.lemmas.Bool.{and_parts}
-use Rattle.hq_base.specs.Lists.{Each, all_differ}
+use Rattle.hq_base.specs.Lists.{all_differ}
 use Rattle.hq_terms.specs.Schema.{Schema, numbered}
 use Rattle.hq_terms.specs.declared.table.Table.{Table}
 use Rattle.hq_ask_tree.specs.Fields.{FieldTrees, no_field, field}
-use Rattle.hq_ask_tree.specs.Request.{bound_view}
 use Rattle.hq_ask_tree.specs.Root.{is_table_field, table_fields}
-use Rattle.hq_ask_tree.specs.declared.ask.Bound.{Bound}
 use Rattle.hq_sql_text.specs.Readable.{is_readable}
 use Rattle.hq_sql_tree.specs.Form.{is_select, select_depth, select_fits}
 use Rattle.hq_sql_tree.specs.Tree.{SelectTree}
 use Rattle.hq_sql_tree.specs.WellFormed.{aliases_in, is_statement, is_statement_form, is_typed, is_well_formed, is_well_typed}
 use Rattle.hq_compiled.specs.Correct.{AreFew}
-
--- no column of what is bound has a mask
-pub bare_bounds : (bs : List Bound) → Each (λ b. b.masks ≡ []) (map bound_view bs)
-bare_bounds [] = tt
-bare_bounds (b ∷ bs) = (refl, bare_bounds bs)
 
 -- a list whose items are numbered is as long
 pub numbered_long : {A B : Type 0} (f : ℕ → A → B) (k : ℕ) (xs : List A) → length (numbered f k xs) ≡ length xs

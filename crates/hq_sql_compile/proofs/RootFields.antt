@@ -5,10 +5,10 @@ use Rattle.hq_ask_tree.specs.Fields.{FieldTree, FieldTrees, no_field, field, key
 use Rattle.hq_ask_tree.specs.Root.{is_table_field, table_fields}
 use Rattle.hq_ask_tree.specs.declared.field.KeyedAskField.{KeyedAskField}
 use Rattle.hq_sql_tree.specs.Tree.{JoinTree, PairTree}
-use Rattle.hq_compiled.specs.Fields.{field_numbers, field_joins, field_value, fields_numbers, fields_joins}
+use Rattle.hq_compiled.specs.Fields.{field_numbers, field_joins, field_value, fields_numbers, fields_values, fields_joins}
 use Rattle.hq_compiled.specs.Looks.{own_look}
 use Rattle.hq_compiled.specs.Rights.{Rights}
-use Rattle.hq_sql_compile.specs.Rows.{fields_view, values_at}
+use Rattle.hq_sql_compile.specs.Fields.{fields_view}
 
 -- one more item of a list whose items have numbers: what its items give, one after the other
 pub one_more : {A B : Type 0} (F : List A → ℕ → List B) (one : A → ℕ → List B) (k : A → ℕ) → ((x : A) (xs : List A) (n : ℕ) → F (x ∷ xs) n ≡ one x n ++ F xs (n + k x))
@@ -17,6 +17,10 @@ one_more F one k step xs rest x here old new whole n m new-is m-is so_far =
     rw (new-is, m-is) (append_assoc old (one x n) (F rest (n + k x)) ∙ ap (λ ys. old ++ ys) (sym (step x rest n)) ∙ ap (λ ys. old ++ F ys n) (sym here) ∙ so_far)
 
 module _ (s : Schema) (g : Rights) (root : ℕ) where
+  -- the values of root fields, which stand at no table
+  abbrev pub root_values : FieldTrees → (n : ℕ) → List PairTree
+  root_values fs n = fields_values fs s g (own_look (table s root).columns 0) root n
+
   -- how many numbers a root field takes
   abbrev pub root_numbers : KeyedAskField → ℕ
   root_numbers k = fields_numbers (table_fields (fields_view (k ∷ []))) s g root
@@ -30,17 +34,17 @@ module _ (s : Schema) (g : Rights) (root : ℕ) where
       elim [ true ↦ omega arith | false ↦ omega arith ] in
       by (is_table_field f)
 
-  pub values_step : (k : KeyedAskField) (ks : List KeyedAskField) (n : ℕ) → values_at (table_fields (fields_view (k ∷ ks))) s g root 0 n ≡ values_at (table_fields (fields_view (k ∷ []))) s g root 0 n ++ values_at (table_fields (fields_view ks)) s g root 0 (n + root_numbers k)
+  pub values_step : (k : KeyedAskField) (ks : List KeyedAskField) (n : ℕ) → root_values (table_fields (fields_view (k ∷ ks))) n ≡ root_values (table_fields (fields_view (k ∷ []))) n ++ root_values (table_fields (fields_view ks)) (n + root_numbers k)
   values_step k ks n =
       let key : List ℕ = (keyed_field_view k).0 in
       let f : FieldTree = (keyed_field_view k).1 in
       let rest : FieldTrees = table_fields (fields_view ks) in
       let one : PairTree = record { name = key; value = field_value f (own_look (table s root).columns 0) n } in
-      let by : (b : Bool) → values_at (cond b (field key f rest) rest) s g root 0 n
-      ≡ values_at (cond b (field key f no_field) no_field) s g root 0 n ++ values_at rest s g root 0 (n + fields_numbers (cond b (field key f no_field) no_field) s g root) =
+      let by : (b : Bool) → root_values (cond b (field key f rest) rest) n
+      ≡ root_values (cond b (field key f no_field) no_field) n ++ root_values rest (n + fields_numbers (cond b (field key f no_field) no_field) s g root) =
       elim [
-        | true ↦ let e : n + field_numbers f s g root ≡ n + (field_numbers f s g root + 0) = omega arith in ap (λ m. one ∷ values_at rest s g root 0 m) e
-        | false ↦ let e : n ≡ n + 0 = omega arith in ap (λ m. values_at rest s g root 0 m) e
+        | true ↦ let e : n + field_numbers f s g root ≡ n + (field_numbers f s g root + 0) = omega arith in ap (λ m. one ∷ root_values rest m) e
+        | false ↦ let e : n ≡ n + 0 = omega arith in ap (λ m. root_values rest m) e
       ] in
       by (is_table_field f)
 

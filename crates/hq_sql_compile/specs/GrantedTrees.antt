@@ -1,25 +1,27 @@
 -- What a request is granted, without where it lies in memory.
-use Rattle.std.specs.Prelude.{ℕ, List, [], ◌∷◌, ◌++◌, Option, option_map, option_and_then, slice_get}
+use Rattle.std.specs.Prelude.{ℕ, List, [], ◌∷◌, ◌++◌, map, Option, option_map, option_and_then, slice_get}
 use Rattle.hq_terms.specs.Bexp.{BexpTree, bexp_view}
 use Rattle.hq_terms.specs.Meta.{MetaTree}
-use Rattle.hq_terms.specs.Permission.{Permission, option_list, permission}
+use Rattle.hq_terms.specs.PermView.{mask_view}
+use Rattle.hq_terms.specs.Permission.{Mask, Permission, option_list, permission}
 use Rattle.hq_terms.specs.declared.role.Role.{Role}
 use Rattle.hq_terms.specs.declared.table.Table.{Table}
 use Rattle.hq_ask_tree.specs.Request.{BoundTree}
 use Rattle.hq_compile_context.specs.declared.context.Granted.{Granted}
 
--- a table with its bound filter and the most rows of a list
+-- a table with its bound filter, the most rows of a list, and the bound masks
 pub record GrantedTree : Type 0 where
   pub table : ℕ
   pub filter : BexpTree
   pub limit : Option ℕ
+  pub masks : List Mask
 
 abbrev pub granted_view : Granted → GrantedTree
-granted_view g = record { table = g.table; filter = bexp_view g.filter; limit = g.limit }
+granted_view g = record { table = g.table; filter = bexp_view g.filter; limit = g.limit; masks = map mask_view g.masks.items }
 
 -- what is granted of a touched table under the role's permission
 abbrev pub granted_under : BoundTree → Permission → GrantedTree
-granted_under b p = record { table = b.table; filter = b.filter; limit = p.limit }
+granted_under b p = record { table = b.table; filter = b.filter; limit = p.limit; masks = b.masks }
 
 -- nothing of a table beyond the catalog, or where the role has no permission
 abbrev pub granted_for : Role → List Table → MetaTree → BoundTree → Option GrantedTree

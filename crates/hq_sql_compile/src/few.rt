@@ -9,7 +9,7 @@ ghost use Rattle.hq_compiled.specs.Aggregates.{needed};
 ghost use Rattle.hq_compiled.specs.Correct.{AreFew, IsFew, AreFewParts, IsFewPart};
 ghost use Rattle.hq_compiled.specs.Lists.{list_sorts};
 ghost use Rattle.hq_compile_context.specs.Contexts.{context_schema};
-ghost use Rattle.hq_sql_compile.specs.Rows.{fields_view, parts_view};
+ghost use Rattle.hq_sql_compile.specs.Fields.{fields_view, parts_view};
 
 use hq_ask_tree::{
     AggFields, AggPart, AggParts, Args, AskField, AskFields, KeyedAggPart, KeyedAskField,

@@ -2,44 +2,51 @@
 ghost use Rattle.std.specs.Prelude.{◌≡◌, ◌+◌, ◌++◌, ◌∷◌, [], IfOk, OnOk, map};
 ghost use Rattle.hq_terms.specs.Schema.{table};
 ghost use Rattle.hq_ask_tree.specs.Arguments.{arguments_view};
-ghost use Rattle.hq_ask_tree.specs.Fields.{field_view, part_view, keyed_field_view, keyed_part_view, list, aggregate, summary};
+ghost use Rattle.hq_ask_tree.specs.Fields.{field_view, part_view, keyed_field_view, keyed_part_view, object, list, by_key, aggregate, summary};
 ghost use Rattle.hq_ask_tree.specs.Root.{is_table_field, table_fields};
+ghost use Rattle.hq_sql_tree.specs.Tree as tree;
 ghost use Rattle.hq_sql_tree.specs.View.{expr_view, pair_view, join_view, pred_view};
-ghost use Rattle.hq_compiled.specs.Fields.{fields_numbers, field_numbers, parts_numbers, part_numbers, field_value, part_value, parts_values, empty_select, fields_joins, field_joins, parts_joins, part_joins};
+ghost use Rattle.hq_compiled.specs.Conditions.{where_of};
+ghost use Rattle.hq_compiled.specs.Fields.{fields_numbers, field_numbers, parts_numbers, part_numbers, field_value, fields_values, part_value, parts_values, empty_select, fields_joins, field_joins, parts_joins, part_joins};
 ghost use Rattle.hq_compiled.specs.Looks.{own_look};
+ghost use Rattle.hq_compiled.specs.Masks.{value_output};
 ghost use Rattle.hq_compiled.specs.Names.{join_alias};
-ghost use Rattle.hq_compiled.specs.Selects.{behind_filter};
 ghost use Rattle.hq_compile_context.specs.Contexts.{context_schema, context_rights};
+ghost use Rattle.hq_compile_tables.specs.Selects.{first_row};
+ghost use Rattle.hq_compile_tables.specs.Shown.{look_in};
 ghost use Rattle.hq_compile_lists.specs.Starts.{start_origin, start_table};
-ghost use Rattle.hq_sql_compile.specs.Rows.{fields_view, parts_view, values_at, first_join};
+ghost use Rattle.hq_sql_compile.specs.Fields.{fields_view, parts_view};
 
+use crate::used::{fields_used, key_used};
 use hq_ask_tree::{AggFields, AggPart, AggParts, AskField, AskFields, KeyedAggPart, KeyedAskField};
-use hq_base::{Memory, Txt};
+use hq_base::{Memory, Txt, Val};
 use hq_compile_context::{Context, take_number};
 use hq_compile_lists::{
-    FirstRow, ListStart, Row, empty_row, key_row, list_body, list_select, list_table, list_tie,
-    no_row, object, one_row, remote_row,
+    ListStart, Row, empty_row, key_row, list_body, list_select, list_table, list_used, no_row,
+    object, one_row,
 };
-use hq_compile_predicates::row_members;
+use hq_compile_masks::{FirstRow, remote_row};
 use hq_compile_summaries::summary_select;
-use hq_compile_tables::{first_select, one_join, own_column, value_column};
+use hq_compile_tables::{MaskPlace, first_select, one_join, table_column, value_column};
 use hq_sql_tree::{Expr, ExprPair, ExprPairList, Join, JoinList};
-use hq_terms::TableId;
+use hq_terms::{RelId, TableId};
 use std::alloc::Global;
 
-// The value of a field at a row of table t at the alias of number p; n is the number of its join.
+// The value of a field at a row of table t at the alias of number p, behind the joins of masks; n is the number of its join.
 fn field_value(
     alloc: Global,
     context: &Context,
     t: TableId,
     p: u64,
+    places: &[MaskPlace],
     n: u64,
     field: &AskField,
 ) -> Result<Expr, Memory>
-    ensures { IfOk result (λ e. expr_view e ≡ field_value (field_view field.now) (own_look (table (context_schema context.now) t).columns p) n) }
+    ensures { let look = look_in places.now (table (context_schema context.now) t).columns p in
+        IfOk result (λ e. expr_view e ≡ field_value (field_view field.now) look n) }
 {
     match field {
-        AskField::Column { col } => own_column(alloc, context.columns(t), p, *col),
+        AskField::Column { col } => table_column(alloc, context, t, p, places, *col, false),
         AskField::Typename { name } => Ok(Expr::Text(name.copy(alloc)?)),
         _ => value_column(alloc, n),
     }
@@ -72,26 +79,28 @@ fn empty_join(alloc: Global, next: &mut u64) -> Result<Join, Memory>
     one_join(alloc, select, n)
 }
 
-// The values and the joins of fields at a row of table t at the alias of number p.
+// The values and the joins of fields at a row of table t at the alias of number p, behind the joins of masks.
 #[cycle(fields)]
 fn push_fields(
     alloc: Global,
     context: &Context,
     t: TableId,
     p: u64,
+    places: &[MaskPlace],
     fields: &AskFields,
     next: &mut u64,
     row: &mut Row,
 ) -> Result<(), Memory>
-    ensures pairs { let s = context_schema context.now in let g = context_rights context.now in
-        OnOk result (map pair_view row.new.pairs.items ≡ map pair_view row.old.pairs.items ++ values_at (fields_view fields.now.items) s g t p next.old) }
+    ensures pairs { let s = context_schema context.now in let look = look_in places.now (table s t).columns p in
+        OnOk result (map pair_view row.new.pairs.items ≡ map pair_view row.old.pairs.items
+        ++ fields_values (fields_view fields.now.items) s (context_rights context.now) look t next.old) }
     ensures joins { let s = context_schema context.now in let g = context_rights context.now in
         OnOk result (map join_view row.new.joins.items ≡ map join_view row.old.joins.items ++ fields_joins (fields_view fields.now.items) s g t p next.old) }
     ensures numbers { let s = context_schema context.now in let g = context_rights context.now in
         OnOk result (next.new ≡ next.old + fields_numbers (fields_view fields.now.items) s g t) }
 {
     for keyed in fields {
-        push_field(alloc, context, t, p, keyed, next, row)?;
+        push_field(alloc, context, t, p, places, keyed, next, row)?;
     }
     Ok(())
 }
@@ -102,17 +111,18 @@ fn push_field(
     context: &Context,
     t: TableId,
     p: u64,
+    places: &[MaskPlace],
     keyed: &KeyedAskField,
     next: &mut u64,
     row: &mut Row,
 ) -> Result<(), Memory>
-    ensures pairs { let s = context_schema context.now in let f = keyed_field_view keyed.now in
-        OnOk result (map pair_view row.new.pairs.items ≡ map pair_view row.old.pairs.items ++ record { name = f.0; value = field_value f.1 (own_look (table s t).columns p) next.old } ∷ []) }
+    ensures pairs { let look = look_in places.now (table (context_schema context.now) t).columns p in let f = keyed_field_view keyed.now in
+        OnOk result (map pair_view row.new.pairs.items ≡ map pair_view row.old.pairs.items ++ record { name = f.0; value = field_value f.1 look next.old } ∷ []) }
     ensures joins { let s = context_schema context.now in let g = context_rights context.now in
         OnOk result (map join_view row.new.joins.items ≡ map join_view row.old.joins.items ++ field_joins (keyed_field_view keyed.now).1 s g t p next.old) }
     ensures numbers { OnOk result (next.new ≡ next.old + field_numbers (keyed_field_view keyed.now).1 (context_schema context.now) (context_rights context.now) t) }
 {
-    let value = field_value(alloc, context, t, p, *next, &keyed.field)?;
+    let value = field_value(alloc, context, t, p, places, *next, &keyed.field)?;
     push_pair(alloc, &mut row.pairs, &keyed.key, value)?;
     push_joins(alloc, context, t, p, &keyed.field, next, &mut row.joins)
 }
@@ -139,13 +149,11 @@ fn push_joins(
             push_join(joins, join)
         }
         AskField::Object { rel, fields } => {
-            let first = remote_row(alloc, context, t, p, *rel, next)?;
-            let join = first_join(alloc, context, first, fields, next)?;
+            let join = object_join(alloc, context, t, p, *rel, fields, next)?;
             push_join(joins, join)
         }
         AskField::ByPk { table, key, fields } => {
-            let first = key_row(alloc, context, *table, key.as_slice(), next)?;
-            let join = first_join(alloc, context, first, fields, next)?;
+            let join = key_join(alloc, context, *table, key.as_slice(), fields, next)?;
             push_join(joins, join)
         }
         AskField::List {
@@ -183,6 +191,47 @@ fn push_joins(
     }
 }
 
+// The join of an object behind relationship r of table t, whose row stands at the alias of number p.
+#[cycle(fields)]
+fn object_join(
+    alloc: Global,
+    context: &Context,
+    t: TableId,
+    p: u64,
+    r: RelId,
+    fields: &AskFields,
+    next: &mut u64,
+) -> Result<Join, Memory>
+    ensures join { let s = context_schema context.now in let g = context_rights context.now in
+        IfOk result (λ join. join_view join ∷ [] ≡ field_joins (object r (fields_view fields.now.items)) s g t p next.old) }
+    ensures numbers { let s = context_schema context.now in let g = context_rights context.now in
+        OnOk result (next.new ≡ next.old + field_numbers (object r (fields_view fields.now.items)) s g t) }
+{
+    let used = fields_used(alloc, fields)?;
+    let first = remote_row(alloc, context, t, p, r, used.as_slice(), next)?;
+    first_join(alloc, context, first, fields, next)
+}
+
+// The join of a look-up by key.
+#[cycle(fields)]
+fn key_join(
+    alloc: Global,
+    context: &Context,
+    table: TableId,
+    key: &[Val],
+    fields: &AskFields,
+    next: &mut u64,
+) -> Result<Join, Memory>
+    ensures join { let s = context_schema context.now in let g = context_rights context.now in
+        IfOk result (λ join. join_view join ∷ [] ≡ field_joins (by_key table key.now (fields_view fields.now.items)) s g 0 0 next.old) }
+    ensures numbers { let s = context_schema context.now in let g = context_rights context.now in
+        OnOk result (next.new ≡ next.old + field_numbers (by_key table key.now (fields_view fields.now.items)) s g 0) }
+{
+    let used = key_used(alloc, context, table, fields)?;
+    let first = key_row(alloc, context, table, key, used.as_slice(), next)?;
+    first_join(alloc, context, first, fields, next)
+}
+
 // The join of the object at a first row.
 #[cycle(fields)]
 fn first_join(
@@ -192,16 +241,29 @@ fn first_join(
     fields: &AskFields,
     next: &mut u64,
 ) -> Result<Join, Memory>
-    requires { next.old ≡ first.number + 1 }
     ensures join { let s = context_schema context.now in let g = context_rights context.now in
-        IfOk result (λ join. join_view join ≡ first_join (fields_view fields.now.items) s g first.table first.number (pred_view first.tie)) }
+        let fs = fields_view fields.now.items in let u = first.table in let n = first.number in
+        let value = tree.object (tree.pairs_of (fields_values fs s g (look_in first.masks.places (table s u).columns n) u next.old)) in
+        let joins = map join_view first.masks.joins.items ++ fields_joins fs s g u n next.old in
+        let select = first_row s u n (value_output value) joins (where_of (map pred_view first.members.items)) in
+        IfOk result (λ join. join_view join ≡ record { select = select; alias = join_alias n }) }
     ensures numbers { let s = context_schema context.now in let g = context_rights context.now in
-        OnOk result (next.new ≡ behind_filter s g first.table [] first.number + fields_numbers (fields_view fields.now.items) s g first.table) }
+        OnOk result (next.new ≡ next.old + fields_numbers (fields_view fields.now.items) s g first.table) }
 {
-    let FirstRow { table, number, tie } = first;
-    let members = row_members(alloc, context, table, number, tie, next)?;
-    let mut row = empty_row(alloc);
-    push_fields(alloc, context, table, number, fields, next, &mut row)?;
+    let FirstRow {
+        table,
+        number,
+        masks,
+        members,
+    } = first;
+    let mut row = Row {
+        pairs: Vec::new(alloc),
+        joins: masks.joins,
+    };
+    let places = masks.places.as_slice();
+    push_fields(
+        alloc, context, table, number, places, fields, next, &mut row,
+    )?;
     let value = object(row.pairs);
     let select = first_select(alloc, context, table, number, members, value, row.joins)?;
     one_join(alloc, select, number)
@@ -223,10 +285,12 @@ fn list_join(
 {
     let n = take_number(next)?;
     let table = list_table(context, start);
-    let tie = list_tie(alloc, context, start, n)?;
-    let body = list_body(alloc, context, table, n, tie, start.args, next)?;
+    let outs = fields_used(alloc, fields)?;
+    let used = list_used(alloc, context, table, start.args, outs.as_slice())?;
+    let body = list_body(alloc, context, start, table, n, used.as_slice(), next)?;
+    let places = body.masks.places.as_slice();
     let mut row = empty_row(alloc);
-    push_fields(alloc, context, table, n, fields, next, &mut row)?;
+    push_fields(alloc, context, table, n, places, fields, next, &mut row)?;
     let select = list_select(alloc, context, table, n, start.args, body, row)?;
     one_join(alloc, select, n)
 }
@@ -366,7 +430,7 @@ pub(crate) fn root_row(
     next: &mut u64,
 ) -> Result<Row, Memory>
     ensures pairs { let s = context_schema context.now in let g = context_rights context.now in
-        IfOk result (λ row. map pair_view row.pairs.items ≡ values_at (table_fields (fields_view fields.now.items)) s g root 0 next.old) }
+        IfOk result (λ row. map pair_view row.pairs.items ≡ fields_values (table_fields (fields_view fields.now.items)) s g (own_look (table s root).columns 0) root next.old) }
     ensures joins { let s = context_schema context.now in let g = context_rights context.now in
         IfOk result (λ row. map join_view row.joins.items ≡ fields_joins (table_fields (fields_view fields.now.items)) s g root 0 next.old) }
     ensures numbers { let s = context_schema context.now in let g = context_rights context.now in
@@ -389,14 +453,15 @@ fn push_root(
     row: &mut Row,
 ) -> Result<(), Memory>
     ensures pairs { let s = context_schema context.now in let g = context_rights context.now in
-        OnOk result (map pair_view row.new.pairs.items ≡ map pair_view row.old.pairs.items ++ values_at (table_fields (fields_view (keyed.now ∷ []))) s g root 0 next.old) }
+        OnOk result (map pair_view row.new.pairs.items ≡ map pair_view row.old.pairs.items
+        ++ fields_values (table_fields (fields_view (keyed.now ∷ []))) s g (own_look (table s root).columns 0) root next.old) }
     ensures joins { let s = context_schema context.now in let g = context_rights context.now in
         OnOk result (map join_view row.new.joins.items ≡ map join_view row.old.joins.items ++ fields_joins (table_fields (fields_view (keyed.now ∷ []))) s g root 0 next.old) }
     ensures numbers { let s = context_schema context.now in let g = context_rights context.now in
         OnOk result (next.new ≡ next.old + fields_numbers (table_fields (fields_view (keyed.now ∷ []))) s g root) }
 {
     if is_table_field(&keyed.field) {
-        push_field(alloc, context, root, 0, keyed, next, row)
+        push_field(alloc, context, root, 0, &[], keyed, next, row)
     } else {
         Ok(())
     }

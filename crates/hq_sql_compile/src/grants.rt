@@ -38,6 +38,7 @@ fn with_permission(
                 table: bound.table,
                 filter,
                 limit,
+                masks: Vec::new(alloc),
             }))
         }
     }

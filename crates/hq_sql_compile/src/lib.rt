@@ -5,5 +5,6 @@ mod few;
 mod fields;
 mod grants;
 mod statement;
+mod used;
 
 pub use statement::compile;

@@ -19,7 +19,7 @@ ghost use Rattle.hq_compiled.specs.Fields.{fields_numbers};
 ghost use Rattle.hq_compiled.specs.Statement.{statement};
 ghost use Rattle.hq_compiled.specs.Asked.{asked_statement, IsHeld};
 ghost use Rattle.hq_compile_context.specs.Contexts.{context_schema, context_rights};
-ghost use Rattle.hq_sql_compile.specs.Rows.{fields_view};
+ghost use Rattle.hq_sql_compile.specs.Fields.{fields_view};
 
 use crate::few::count_fields;
 use crate::fields::root_row;

@@ -3,9 +3,9 @@ pub mod CellOrders
 mod Lists
 pub mod Joining
 pub mod Names
-pub mod ListsRead
 pub mod Fitting
 pub mod Places
 pub mod Steps
 mod Worked
 pub mod Together
+pub mod Permitting

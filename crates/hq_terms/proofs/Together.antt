@@ -1,11 +1,11 @@
 -- What roles permit together: the masks bind where the filter does, and are one level deeper than the filters at most.
 use Rattle.std.proofs.Common.{◌≡◌, ℕ, ◌≤◌, suc, List, [], ◌∷◌, ◌++◌, filter, find, Bool, true, false, cond, Option, Some, None, Result, Ok, Err, bytes_eq, refl, sym, ap, subst, ◌∙◌, arith}
-use Rattle.std.specs.Prelude.{is_ok, option_and_then, ◌==◌}
+use Rattle.std.specs.Prelude.{is_ok, option_and_then, option_map, unwrap_or, ◌==◌}
 use Rattle.std.specs.List.{list_all, list_any}
 use Rattle.std.proofs.lemmas.Bool.{false≢true}
 use Rattle.std.proofs.Math.Nat.{max-le}
 use Rattle.hq_base.specs.Due.{and_then, mapped}
-use Rattle.hq_base.specs.Lists.{Each}
+use Rattle.hq_base.specs.Lists.{Each, firsts}
 use Rattle.hq_base.proofs.Lists.{each_all}
 use Rattle.hq_terms.specs.Bexp.{BexpTree, always, or_of, bexps_of, depth, depth_of_all}
 use Rattle.hq_terms.specs.Binding.{bound, bound_all, bound_masks}
@@ -131,14 +131,6 @@ some_filters P test (p ∷ ps) h =
     let go : (b : Bool) → Each P (filters_of (cond b (p ∷ filter test ps) (filter test ps))) = elim [ true ↦ (h.0, later) | false ↦ later ] in
     go (test p)
 
-low_masks : (n : ℕ) (ps : List Permission) (cs : List ℕ) → Each (λ b. depth b ≤ n) (filters_of ps) → Each (λ m. depth m.shown ≤ suc n) (masks_for ps cs)
-low_masks n ps [] h = tt
-low_masks n ps (c ∷ cs) h =
-    let later = low_masks n ps cs h in
-    let go : (b : Bool) → Each (λ m. depth m.shown ≤ suc n) (cond b [] (record { column = c; shown = either (filters_for c ps) } ∷ []) ++ masks_for ps cs) =
-    elim [ true ↦ later | false ↦ (either_low n (filters_for c ps) (some_filters (λ b. depth b ≤ n) (permits c) ps h), later) ] in
-    go (list_all (permits c) ps)
-
 -- a permission of a role: by the rows of its own entry, or by those of the set
 module _ (P : Permission → Type 0) (k : TrackedTree) (admin : (p : Permission) → p.filter ≡ always → p.masks ≡ [] → P p)
     (own : (name : List ℕ) (p : Permission) → own_permission k name ≡ Some p → P p) (together : (rs : List (List ℕ)) (p : Permission) → combined k (permissions_of k rs) ≡ Some p → P p) where
@@ -171,39 +163,55 @@ permission_binds role m s vars t p e h = by (tracked_table m t) e
     by (Some k) f =
         permission_by (MasksFollow s vars t) k (λ q is bare b. none q.masks bare) (λ name q is b. none q.masks (own_of (λ x. Unit {0}) k name q (each_all (λ r. Unit {0}) (λ r. tt) k.perms) is).1) (of_set k) role m.inherited p f h
 
+-- what holds of the filters of all entries, and more weakly of several joined, holds so of a role's filter and masks
+module _ (P Q : BexpTree → Type 0) (weak : (b : BexpTree) → P b → Q b) (of_admin : Q always) (joined : (bs : List BexpTree) → Each P bs → Q (either bs)) (k : TrackedTree) (all : Each (λ p. P p.filter) k.perms) where
+  abbrev Holds : Permission → Type 0
+  Holds q = Q q.filter × Each (λ m. Q m.shown) q.masks
+
+  masks_hold : (ps : List Permission) (cs : List ℕ) → Each P (filters_of ps) → Each (λ m. Q m.shown) (masks_for ps cs)
+  masks_hold ps [] h = tt
+  masks_hold ps (c ∷ cs) h =
+      let later = masks_hold ps cs h in
+      let go : (b : Bool) → Each (λ m. Q m.shown) (cond b [] (record { column = c; shown = either (filters_for c ps) } ∷ []) ++ masks_for ps cs) =
+      elim [ true ↦ later | false ↦ (joined (filters_for c ps) (some_filters P (permits c) ps h), later) ] in
+      go (list_all (permits c) ps)
+
+  no_masks : (ms : List Mask) → ms ≡ [] → Each (λ m. Q m.shown) ms
+  no_masks ms bare = subst (Each (λ m. Q m.shown)) (sym bare) tt
+
+  own_holds : (name : List ℕ) (q : Permission) → own_permission k name ≡ Some q → Holds q
+  own_holds name q is = let own = own_of P k name q all is in (weak q.filter own.0, no_masks q.masks own.1)
+
+  set_holds : (rs : List (List ℕ)) (q : Permission) → combined k (permissions_of k rs) ≡ Some q → Holds q
+  set_holds rs q f =
+      let ps = permissions_of k rs in
+      let filters = set_of_filters P k all rs in
+      let kept = columns_keep (record { columns = []; filter = either (filters_of ps); limit = limit_of ps; aggregations = some_aggregate ps; masks = masks_for ps (columns_of_any k ps) }) q _ f in
+      (subst Q kept.0 (joined (filters_of ps) filters), subst (Each (λ m. Q m.shown)) kept.1 (masks_hold ps (columns_of_any k ps) filters))
+
+  pub permission_holds : (role : Role) (is : List Inherited) (p : Permission) → permission_in role is k ≡ Some p → Holds p
+  permission_holds role is p e = permission_by Holds k (λ q same bare. (subst Q (sym same) of_admin, no_masks q.masks bare)) own_holds set_holds role is p e
+
 -- filters and masks are at most one level deeper than those of the entries
-abbrev AtMost : ℕ → Permission → Type 0
-AtMost n q = (depth q.filter ≤ n) × Each (λ m. depth m.shown ≤ n) q.masks
-
 pub permission_low : (role : Role) (is : List Inherited) (k : TrackedTree) (n : ℕ) → AreLow role is k n
-permission_low role is k n all p e = permission_by (AtMost (suc n)) k of_admin of_own of_set role is p e
-  where
-    none : (ms : List Mask) → ms ≡ [] → Each (λ m. depth m.shown ≤ suc n) ms
-    none ms bare = subst (Each (λ m. depth m.shown ≤ suc n)) (sym bare) tt
+permission_low role is k n all p e = permission_holds (λ b. depth b ≤ n) (λ b. depth b ≤ suc n) (λ b h. omega arith) (omega arith) (either_low n) k all role is p e
 
-    of_admin : (q : Permission) → q.filter ≡ always → q.masks ≡ [] → AtMost (suc n) q
-    of_admin q is bare = (let same : depth q.filter ≡ 1 = ap depth is in omega (arith, same), none q.masks bare)
-
-    of_own : (name : List ℕ) (q : Permission) → own_permission k name ≡ Some q → AtMost (suc n) q
-    of_own name q is = let own = own_of (λ b. depth b ≤ n) k name q all is in (let low = own.0 in omega (arith, low), none q.masks own.1)
-
-    of_set : (rs : List (List ℕ)) (q : Permission) → combined k (permissions_of k rs) ≡ Some q → AtMost (suc n) q
-    of_set rs q f =
-        let ps = permissions_of k rs in
-        let low = set_of_filters (λ b. depth b ≤ n) k all rs in
-        let kept = columns_keep (record { columns = []; filter = either (filters_of ps); limit = limit_of ps; aggregations = some_aggregate ps; masks = masks_for ps (columns_of_any k ps) }) q _ f in
-        (subst (λ b. depth b ≤ suc n) kept.0 (either_low n (filters_of ps) low), subst (Each (λ m. depth m.shown ≤ suc n)) kept.1 (low_masks n ps (columns_of_any k ps) low))
-
--- ---- where there are no inherited roles
+-- ---- roles that are not inherited
 
 nothing_permitted : (cs : List ℕ) → filter (λ c. list_any (permits c) []) cs ≡ []
 nothing_permitted [] = refl
 nothing_permitted (c ∷ cs) = nothing_permitted cs
 
--- a role may see what its own entry permits
-pub own_alone : (name : List ℕ) (k : TrackedTree) → permission_in (Named name) [] k ≡ own_permission k name
-own_alone name k = by (own_permission k name)
+-- what the roles of the set of an entry permit together
+abbrev of_entry : TrackedTree → Option Inherited → Option Permission
+of_entry k o = combined k (permissions_of k (firsts bytes_eq (unwrap_or (option_map (λ i. i.set) o) [])))
+
+-- a role that is not inherited may see what its own entry permits
+pub own_alone : (is : List Inherited) (name : List ℕ) (k : TrackedTree) → find (λ i. bytes_eq i.role name) is ≡ None → permission_in (Named name) is k ≡ own_permission k name
+own_alone is name k none = by (own_permission k name)
   where
-    by : (o : Option Permission) → or_inherited o k (set_of [] name) ≡ o
-    by None = ap (with_columns (record { columns = []; filter = either []; limit = None; aggregations = false; masks = masks_for [] (columns_of_any k []) })) (nothing_permitted (named_columns k))
+    by : (o : Option Permission) → or_inherited o k (set_of is name) ≡ o
+    by None =
+        ap (of_entry k) none
+        ∙ ap (with_columns (record { columns = []; filter = either []; limit = None; aggregations = false; masks = masks_for [] (columns_of_any k []) })) (nothing_permitted (named_columns k))
     by (Some p) = refl

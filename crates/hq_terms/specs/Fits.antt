@@ -91,9 +91,9 @@ fits_tracked s m k =
     && list_all (fits_perm s m k.table) k.perms
 
 -- a metadata fits a catalog: each table is tracked once, each entry fits, the names in the schema of admin differ, and the
--- inherited roles fit. No request is answered for them yet, so there are none
+-- inherited roles fit
 abbrev pub fits : List Table → MetaTree → Bool
 fits tables m =
     let s = schema_of tables m in
     all_differ (λ j k. j.table == k.table) m.tracked && list_all (fits_tracked s m) m.tracked && names_differ s m
-    && (are_inherited m.inherited && (length m.inherited == 0))
+    && are_inherited m.inherited

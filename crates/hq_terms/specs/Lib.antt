@@ -15,7 +15,6 @@ pub mod Permission
 pub mod PermView
 pub mod Reading
 pub mod SessionLists
-pub mod SessionReading
 pub mod Binding
 pub mod Grants
 pub mod Permitted

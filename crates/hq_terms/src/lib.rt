@@ -3,7 +3,6 @@
 
 mod bexp;
 mod bind;
-mod binding;
 mod catalog;
 mod constant;
 mod copy;
@@ -13,7 +12,6 @@ mod laws;
 mod meta;
 mod name;
 mod op;
-mod operand;
 mod operator;
 mod perm;
 mod permission;
@@ -33,7 +31,7 @@ pub use catalog::Catalog;
 pub use constant::{constant_in, read_as, read_operand, read_pattern, whole_value};
 pub use copy::{TryCopy, copy_list};
 pub use ids::{ColId, ColList, RelId, TableId, has_column};
-pub use laws::masks_add_no_fault;
+pub use laws::{masks_add_no_fault, permissions_fit};
 pub use meta::{
     Inherited, InheritedList, Meta, Pair, PairList, Perm, PermList, Rel, RelList, RootNames,
     Tracked, TrackedList, TxtList,
@@ -46,6 +44,7 @@ pub use reading::{truth_value, whole_number};
 pub use role::Role;
 pub use scope::Scope;
 pub use session::{Session, Var, VarList};
+pub use session_list::{Place, Step};
 pub use table::{
     Column, ColumnList, ForeignKey, ForeignKeyList, Table, TableList, can_pair, table_place,
 };

@@ -1,27 +1,29 @@
-use Rattle.std.proofs.Common.{◌≡◌, ◌∙◌, ℕ, ◌+◌, [], ap, arith}
+use Rattle.std.proofs.Common.{◌∙◌, ◌+◌, [], ap}
 use Rattle.std.proofs.lemmas.Result.{IfOk-weaker}
 use Rattle.hq_terms.specs.Bexp.{bexp_view}
-use Rattle.hq_sql_tree.specs.View.{pred_view}
+use Rattle.hq_terms.specs.Schema.{table}
+use Rattle.hq_sql_tree.specs.Tree.{PredTree}
 use Rattle.hq_compiled.specs.Conditions.{with_member}
 use Rattle.hq_compiled.specs.Masks.{filter_numbers, filter_predicate, where_mode}
-use Rattle.hq_compile_tables.proofs.Members.{three_members}
+use Rattle.hq_compiled.specs.Predicates.{predicate}
 use Rattle.hq_compile_context.specs.Contexts.{context_schema, context_rights}
-use Rattle.hq_compile_predicates.specs.Unmasked.{own_predicate}
+use Rattle.hq_compile_tables.proofs.Members.{three_members}
+use Rattle.hq_compile_tables.specs.Shown.{look_in}
+use Rattle.hq_compile_lists.specs.Starts.{start_tie}
 use Rattle.hq_compile_lists.proofs.list.list_members.Goals as goal
 
--- no column has a mask, so the filter's numbers begin behind the list's own, and those of `where` behind the filter's
+-- the numbers of `where` begin behind the filter's
 pub returns-clause-members : goal.returns-clause-members
 returns-clause-members c =
     let s = context_schema c.args.context.now in
     let g = context_rights c.args.context.now in
     let t = c.args.t in
     let n = c.args.n in
-    let tie = pred_view c.args.tie in
-    let wanted = bexp_view c.args.args.now.filter in
-    let from : c.args.next.now ≡ n + 1 + 0 = omega arith in
-    let behind = c.in_ok-members.ensures.numbers ∙ ap (λ (m : ℕ). m + filter_numbers s g t) from in
+    let tie = start_tie s c.args.start.now n in
+    let filter = filter_predicate s g t n c.args.next.now in
+    let wanted = predicate (bexp_view c.args.start.now.args.now.filter) s (where_mode s g) (look_in c.args.places.now (table s t).columns n) t n in
     IfOk-weaker c.with_member.result _ _
-    (λ all is. three_members _ _ tie (filter_predicate s g t n (n + 1 + 0)) (own_predicate wanted s (where_mode s g) t n (n + 1 + 0 + filter_numbers s g t)) _ is
-    (c.in_ok-members.ensures.members ∙ ap (λ (m : ℕ). with_member tie (with_member (filter_predicate s g t n m) [])) from)
-    (c.in_ok-wanted.ensures.predicate ∙ ap (λ (m : ℕ). own_predicate wanted s (where_mode s g) t n m) behind))
+    (λ all is. three_members _ _ tie filter (wanted (c.args.next.now + filter_numbers s g t)) _ is
+    (c.in_ok-members.ensures.members ∙ ap (λ (p : PredTree). with_member p (with_member filter [])) c.in_ok-tie.ensures)
+    (c.in_ok-wanted.ensures.predicate ∙ ap wanted c.in_ok-members.ensures.numbers))
     c.with_member.ensures

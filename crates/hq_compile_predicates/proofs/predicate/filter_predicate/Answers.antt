@@ -12,14 +12,14 @@ pub returns-in-Some-clause-predicate : goal.returns-in-Some-clause-predicate
 returns-in-Some-clause-predicate c =
     let s = context_schema c.args.context.now in
     let found = ap (λ (g : Option Granted). unwrap_or (option_map (λ (x : Granted). bexp_view x.filter) g) never) c.in-Some.ensures in
-    IfOk-weaker c.predicate.result _ _
+    IfOk-weaker c.own_predicate.result _ _
     (λ p is. is ∙ ap (λ (b : BexpTree). own_predicate b s c.args.t c.args.number c.args.next.now) found)
-    c.predicate.ensures.predicate
+    c.own_predicate.ensures.predicate
 
 pub returns-in-Some-clause-numbers : goal.returns-in-Some-clause-numbers
 returns-in-Some-clause-numbers c =
     let s = context_schema c.args.context.now in
     let found = ap (λ (g : Option Granted). unwrap_or (option_map (λ (x : Granted). bexp_view x.filter) g) never) c.in-Some.ensures in
-    on_ok_weaker c.predicate.result
+    on_ok_weaker c.own_predicate.result
     (λ after. after ∙ ap (λ (b : BexpTree). c.args.next.now + own_numbers b s c.args.t) found)
-    c.predicate.ensures.numbers
+    c.own_predicate.ensures.numbers

@@ -2,9 +2,9 @@ use Rattle.std.proofs.Common.{◌∙◌, ℕ, ◌+◌, List, [], ◌∷◌, ◌+
 use Rattle.std.proofs.lemmas.List.{append-nil, at_drop_all}
 use Rattle.hq_terms.specs.Schema.{table}
 use Rattle.hq_sql_tree.specs.View.{join_view, order_view, out_view}
-use Rattle.hq_compiled.specs.Looks.{own_look}
 use Rattle.hq_compiled.specs.Sorts.{sort_numbers, sort_joins, sorts_numbers, sorts_joins, orders, key_outputs}
 use Rattle.hq_compile_context.specs.Contexts.{context_schema, context_rights}
+use Rattle.hq_compile_tables.specs.Shown.{look_in}
 use Rattle.hq_compile_tables.proofs.Loops.{rest-more, count-more}
 use Rattle.hq_compile_sorts.specs.declared.sorts.RowSort.{RowSort}
 use Rattle.hq_compile_sorts.specs.RowSorts.{row_sort_view}
@@ -17,7 +17,7 @@ loop-i-preserved c =
     let g = context_rights c.args.context.now in
     let t = c.args.t in
     let p = c.args.p in
-    let look = own_look (table s t).columns p in
+    let look = look_in c.args.places.now (table s t).columns p in
     let sorts = c.args.sorts.now in
     let i = c.loop-i.i in
     let sort = c.index-sorts-i.result in
@@ -54,7 +54,7 @@ pub returns-clause-orders : goal.returns-clause-orders
 returns-clause-orders c =
     let s = context_schema c.args.context.now in
     let g = context_rights c.args.context.now in
-    let look = own_look (table s c.args.t).columns c.args.p in
+    let look = look_in c.args.places.now (table s c.args.t).columns c.args.p in
     let done = map order_view c.loop-i.parts.orders.items in
     sym (append-nil done) ∙ sym (at_drop_all (λ (ks : List RowSort). done ++ orders (map row_sort_view ks) s g look c.args.t c.args.p c.loop-i.next) c.args.sorts.now c.loop-i.i c.loop-i-test.false)
     ∙ c.loop-i.invariant.orders
@@ -63,7 +63,7 @@ pub returns-clause-outputs : goal.returns-clause-outputs
 returns-clause-outputs c =
     let s = context_schema c.args.context.now in
     let g = context_rights c.args.context.now in
-    let look = own_look (table s c.args.t).columns c.args.p in
+    let look = look_in c.args.places.now (table s c.args.t).columns c.args.p in
     let done = map out_view c.loop-i.parts.outputs.items in
     sym (append-nil done) ∙ sym (at_drop_all (λ (ks : List RowSort). done ++ key_outputs (map row_sort_view ks) s g look c.args.t c.args.p c.loop-i.next c.loop-i.i) c.args.sorts.now c.loop-i.i c.loop-i-test.false)
     ∙ c.loop-i.invariant.outputs

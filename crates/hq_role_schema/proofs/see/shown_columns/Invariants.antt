@@ -1,8 +1,10 @@
-use Rattle.std.proofs.Common.{◌≡◌, ◌++◌, drop}
+use Rattle.std.proofs.Common.{◌≡◌, ◌++◌, map, drop}
 use Rattle.hq_terms.specs.Meta.{tracked_view}
+use Rattle.hq_terms.specs.PermView.{mask_view}
 use Rattle.hq_role_schema.specs.Shown.{shown_columns}
 use Rattle.hq_role_schema.proofs.see.shown_columns.Given as goal
 
 abbrev pub invariant-loop-col : goal.invariant-loop-col
 invariant-loop-col l =
-    l.columns ++ shown_columns l.table (tracked_view l.tracked) (drop l.col-index l.col-items) ≡ shown_columns l.table (tracked_view l.tracked) l.col-items
+    let ms = map mask_view l.masks in
+    l.columns ++ shown_columns l.table (tracked_view l.tracked) ms (drop l.col-index l.col-items) ≡ shown_columns l.table (tracked_view l.tracked) ms l.col-items

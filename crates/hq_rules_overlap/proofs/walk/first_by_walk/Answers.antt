@@ -1,7 +1,7 @@
 -- A walk that has met no pair.
 use Rattle.std.proofs.Common.{sym, subst}
-use Rattle.hq_rules_overlap.specs.Sets.{arena_view}
-use Rattle.hq_rules_overlap.specs.Walk.{AreConflicts}
+use Rattle.hq_overlap_sets.specs.Sets.{arena_view}
+use Rattle.hq_overlap_sets.specs.Together.{AreConflicts}
 use Rattle.hq_rules_overlap.proofs.Closed.{start_sound}
 use Rattle.hq_rules_overlap.proofs.walk.first_by_walk.Goals as goal
 

@@ -1,7 +1,7 @@
 -- A set that is there.
 use Rattle.std.proofs.Common.{◌∙◌, sym, nat_eq, length}
 use Rattle.std.proofs.lemmas.Bool.{and_parts, eqb-true}
-use Rattle.hq_rules_overlap.proofs.ArenaLemmas.{empty_here}
+use Rattle.hq_rules_overlap.proofs.Empties.{empty_here}
 use Rattle.hq_rules_overlap.proofs.walk.is_empty.Goals as goal
 
 pub returns : goal.returns

@@ -5,8 +5,8 @@ use Rattle.hq_ask_tree.specs.declared.field.KeyedAskField.{KeyedAskField}
 use Rattle.hq_sql_tree.specs.View.{pair_view, join_view}
 use Rattle.hq_compiled.specs.Fields.{fields_numbers, fields_joins}
 use Rattle.hq_compile_context.specs.Contexts.{context_schema, context_rights}
-use Rattle.hq_sql_compile.proofs.RootFields.{one_more, root_numbers, numbers_step, values_step, joins_step}
-use Rattle.hq_sql_compile.specs.Rows.{fields_view, values_at}
+use Rattle.hq_sql_compile.proofs.RootFields.{one_more, root_values, root_numbers, numbers_step, values_step, joins_step}
+use Rattle.hq_sql_compile.specs.Fields.{fields_view}
 use Rattle.hq_sql_compile.proofs.fields.root_row.Goals as goal
 
 -- what a root field adds is what stood first in what was left
@@ -24,7 +24,7 @@ loop-keyed-preserved c =
     let n = c.loop-keyed.next in
     let m = c.push_root.new.next in
     record {
-      pairs = one_more (λ ks j. values_at (table_fields (fields_view ks)) s g c.args.root 0 j) (λ x j. values_at (table_fields (fields_view (x ∷ []))) s g c.args.root 0 j) (root_numbers s g c.args.root)
+      pairs = one_more (λ ks j. root_values s g c.args.root (table_fields (fields_view ks)) j) (λ x j. root_values s g c.args.root (table_fields (fields_view (x ∷ []))) j) (root_numbers s g c.args.root)
           (values_step s g c.args.root) (drop i items) (drop (i + 1) items) k here (map pair_view old.pairs.items) (map pair_view new.pairs.items) _ n m
           c.in_ok-push_root.ensures.pairs c.in_ok-push_root.ensures.numbers c.loop-keyed.invariant.pairs;
       joins = one_more (λ ks j. fields_joins (table_fields (fields_view ks)) s g c.args.root 0 j) (λ x j. fields_joins (table_fields (fields_view (x ∷ []))) s g c.args.root 0 j) (root_numbers s g c.args.root)

@@ -1,11 +1,12 @@
 use Rattle.std.proofs.Common.{◌≡◌, ◌+◌, ◌++◌, drop, map}
-use Rattle.hq_terms.specs.Schema.{Schema}
+use Rattle.hq_terms.specs.Schema.{Schema, table}
 use Rattle.hq_ask_tree.specs.Root.{table_fields}
 use Rattle.hq_sql_tree.specs.View.{pair_view, join_view}
-use Rattle.hq_compiled.specs.Fields.{fields_numbers, fields_joins}
+use Rattle.hq_compiled.specs.Fields.{fields_numbers, fields_values, fields_joins}
+use Rattle.hq_compiled.specs.Looks.{own_look}
 use Rattle.hq_compiled.specs.Rights.{Rights}
 use Rattle.hq_compile_context.specs.Contexts.{context_schema, context_rights}
-use Rattle.hq_sql_compile.specs.Rows.{fields_view, values_at}
+use Rattle.hq_sql_compile.specs.Fields.{fields_view}
 use Rattle.hq_sql_compile.proofs.fields.root_row.Given as goal
 
 -- what is there so far, and then that of the table fields that are left, is that of all
@@ -15,8 +16,9 @@ invariant-loop-keyed l =
     let g : Rights = context_rights l.context in
     let rest = table_fields (fields_view (drop l.keyed-index l.keyed-items)) in
     let all = table_fields (fields_view l.keyed-items) in
+    let look = own_look (table s l.root).columns 0 in
     record {
-      pairs : map pair_view l.row.pairs.items ++ values_at rest s g l.root 0 l.next ≡ values_at all s g l.root 0 l.initial.next;
+      pairs : map pair_view l.row.pairs.items ++ fields_values rest s g look l.root l.next ≡ fields_values all s g look l.root l.initial.next;
       joins : map join_view l.row.joins.items ++ fields_joins rest s g l.root 0 l.next ≡ fields_joins all s g l.root 0 l.initial.next;
       numbers : l.next + fields_numbers rest s g l.root ≡ l.initial.next + fields_numbers all s g l.root;
     }

@@ -4,7 +4,6 @@ use Rattle.hq_terms.specs.Meta.{meta_view}
 use Rattle.hq_ask_tree.specs.Request.{ask_view, bound_view}
 use Rattle.hq_sql_compile.specs.GrantedTrees.{granted_all}
 use Rattle.hq_sql_compile.proofs.GrantedRights.{granted_rights}
-use Rattle.hq_sql_compile.proofs.Requests.{bare_bounds}
 use Rattle.hq_sql_compile.proofs.grants.granted.Goals as goal
 
 pub returns : goal.returns
@@ -13,5 +12,5 @@ returns c =
     let meta = meta_view c.args.meta.now in
     let ask = ask_view c.args.ask.now in
     IfOk-weaker c.granted_all.result _ _
-    (λ gs is. granted_rights tables meta ask (bare_bounds c.args.ask.now.bound) gs (is ∙ ap (λ bs. granted_all ask.role tables meta (map bound_view bs)) c.as_slice.ensures))
+    (λ gs is. granted_rights tables meta ask gs (is ∙ ap (λ bs. granted_all ask.role tables meta (map bound_view bs)) c.as_slice.ensures))
     c.granted_all.ensures

@@ -1,8 +1,9 @@
 -- The sets below two fields of one key are put together.
 use Rattle.std.proofs.lemmas.Result.{on_ok_weaker}
-use Rattle.hq_rules_overlap.specs.Sets.{field_in, arena_view}
-use Rattle.hq_rules_overlap.specs.Walk as walk
-use Rattle.hq_rules_overlap.proofs.Steps.{step_then, compared_now, on_ok_weaker2}
+use Rattle.hq_overlap_sets.specs.Sets.{field_in, arena_view}
+use Rattle.hq_overlap_sets.specs.Together as walk
+use Rattle.hq_rules_overlap.proofs.Steps.{step_then, compared_now}
+use Rattle.hq_overlap_sets.proofs.Stepping.{on_ok_weaker2}
 use Rattle.hq_rules_overlap.proofs.walk.Walk.compare_alike.Goals as goal
 
 pub meet-requires-clause-sound : goal.meet-requires-clause-sound

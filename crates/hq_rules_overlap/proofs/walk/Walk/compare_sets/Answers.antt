@@ -1,10 +1,11 @@
 -- One more field was compared with each of the other set.
 use Rattle.std.proofs.Common.{rules}
-use Rattle.hq_rules_overlap.specs.declared.sets.Entry.{Entry}
-use Rattle.hq_rules_overlap.specs.Pairs.{fields_at}
-use Rattle.hq_rules_overlap.specs.Sets.{FieldTree, field_in, arena_view}
+use Rattle.hq_overlap_sets.specs.declared.sets.Entry.{Entry}
+use Rattle.hq_overlap_sets.specs.Pairs.{fields_at}
+use Rattle.hq_overlap_sets.specs.Sets.{FieldTree, field_in, arena_view}
 use Rattle.hq_rules_overlap.specs.Walk.{ComparedWith}
-use Rattle.hq_rules_overlap.proofs.Steps.{step_refl, step_then, all_more_item, contained_item, all_at_end, with_kept}
+use Rattle.hq_rules_overlap.proofs.Steps.{step_refl, step_then, with_kept}
+use Rattle.hq_overlap_sets.proofs.Stepping.{all_more_item, contained_item, all_at_end}
 use Rattle.hq_rules_overlap.proofs.walk.Walk.compare_sets.Goals as goal
 
 pub compare_with-requires-clause-sound : goal.compare_with-requires-clause-sound

@@ -1,7 +1,7 @@
 use Rattle.std.proofs.Common.{take}
 use Rattle.std.specs.List.{All}
-use Rattle.hq_rules_overlap.specs.Pairs.{fields_at}
-use Rattle.hq_rules_overlap.specs.Sets.{field_in, arena_view}
+use Rattle.hq_overlap_sets.specs.Pairs.{fields_at}
+use Rattle.hq_overlap_sets.specs.Sets.{field_in, arena_view}
 use Rattle.hq_rules_overlap.specs.Walk.{Step, ComparedWith}
 use Rattle.hq_rules_overlap.proofs.walk.Walk.compare_sets.Given as goal
 

@@ -1,10 +1,11 @@
 -- One more field was compared.
 use Rattle.std.proofs.Common.{rules}
-use Rattle.hq_rules_overlap.specs.declared.sets.Entry.{Entry}
-use Rattle.hq_rules_overlap.specs.Pairs.{fields_at}
-use Rattle.hq_rules_overlap.specs.Sets.{field_in, arena_view}
+use Rattle.hq_overlap_sets.specs.declared.sets.Entry.{Entry}
+use Rattle.hq_overlap_sets.specs.Pairs.{fields_at}
+use Rattle.hq_overlap_sets.specs.Sets.{field_in, arena_view}
 use Rattle.hq_rules_overlap.specs.Walk.{Compared}
-use Rattle.hq_rules_overlap.proofs.Steps.{step_refl, step_then, all_more_item, contained_item, all_at_end, compared_kept}
+use Rattle.hq_rules_overlap.proofs.Steps.{step_refl, step_then, compared_kept}
+use Rattle.hq_overlap_sets.proofs.Stepping.{all_more_item, contained_item, all_at_end}
 use Rattle.hq_rules_overlap.proofs.walk.Walk.compare_with.Goals as goal
 
 pub compare-requires-clause-sound : goal.compare-requires-clause-sound

@@ -1,6 +1,6 @@
 use Rattle.std.proofs.Common.{take}
 use Rattle.std.specs.List.{All}
-use Rattle.hq_rules_overlap.specs.Sets.{field_in, arena_view}
+use Rattle.hq_overlap_sets.specs.Sets.{field_in, arena_view}
 use Rattle.hq_rules_overlap.specs.Walk.{Step, Compared}
 use Rattle.hq_rules_overlap.proofs.walk.Walk.compare_with.Given as goal
 

@@ -1,6 +1,7 @@
 -- The left set, if there is one.
 use Rattle.std.proofs.Common.{sym}
-use Rattle.hq_rules_overlap.proofs.ArenaLemmas.{set_here, done_without_left}
+use Rattle.hq_overlap_sets.proofs.ArenaLemmas.{set_here}
+use Rattle.hq_rules_overlap.proofs.Empties.{done_without_left}
 use Rattle.hq_rules_overlap.proofs.walk.Walk.finish.Goals as goal
 
 pub finish_left-requires-clause-ours : goal.finish_left-requires-clause-ours

@@ -1,6 +1,7 @@
 -- The right set, if there is one.
 use Rattle.std.proofs.Common.{sym}
-use Rattle.hq_rules_overlap.proofs.ArenaLemmas.{set_here, done_without_right}
+use Rattle.hq_overlap_sets.proofs.ArenaLemmas.{set_here}
+use Rattle.hq_rules_overlap.proofs.Empties.{done_without_right}
 use Rattle.hq_rules_overlap.proofs.walk.Walk.finish_left.Goals as goal
 
 pub finish_sets-requires-clause-theirs : goal.finish_sets-requires-clause-theirs

@@ -2,37 +2,27 @@
 use Rattle.std.proofs.Common.{ℕ}
 use Rattle.std.proofs.lemmas.List.Elements.{All-weaker}
 use Rattle.std.proofs.lemmas.Result.{on_ok_weaker}
-use Rattle.hq_rules_overlap.specs.Pairs.{fields_at, spreads_at}
-use Rattle.hq_rules_overlap.specs.Sets.{FieldTree, arena_view}
-use Rattle.hq_rules_overlap.specs.Walk.{Known, ComparedWith, Step}
-use Rattle.hq_rules_overlap.proofs.Steps.{spend_step, step_then, known_kept, with_kept, on_ok_weaker2}
+use Rattle.hq_overlap_sets.specs.Pairs.{fields_at, spreads_at}
+use Rattle.hq_overlap_sets.specs.Sets.{FieldTree, arena_view}
+use Rattle.hq_rules_overlap.specs.Walk.{Known, ComparedWith}
+use Rattle.hq_rules_overlap.proofs.Steps.{step_then, known_kept, with_kept}
+use Rattle.hq_overlap_sets.proofs.Stepping.{on_ok_weaker2}
 use Rattle.hq_rules_overlap.proofs.walk.Walk.finish_sets.Goals as goal
 
-pub compare_sets-requires-clause-sound : goal.compare_sets-requires-clause-sound
-compare_sets-requires-clause-sound c =
-    (spend_step (arena_view c.args.arena.now) c.args.self.now c.spend.new.self c.spend.ensures.pairs c.spend.ensures.marks c.spend.ensures.best).sound c.requires.sound
-
 pub spread_left-requires-clause-sound : goal.spread_left-requires-clause-sound
-spread_left-requires-clause-sound c =
-    c.in_ok-compare_sets.ensures.step.sound
-    ((spend_step (arena_view c.args.arena.now) c.args.self.now c.spend.new.self c.spend.ensures.pairs c.spend.ensures.marks c.spend.ensures.best).sound c.requires.sound)
+spread_left-requires-clause-sound c = c.in_ok-compare_sets.ensures.step.sound c.requires.sound
 
 pub spread_right-requires-clause-sound : goal.spread_right-requires-clause-sound
-spread_right-requires-clause-sound c =
-    c.in_ok-spread_left.ensures.step.sound
-    (c.in_ok-compare_sets.ensures.step.sound
-    ((spend_step (arena_view c.args.arena.now) c.args.self.now c.spend.new.self c.spend.ensures.pairs c.spend.ensures.marks c.spend.ensures.best).sound c.requires.sound))
+spread_right-requires-clause-sound c = c.in_ok-spread_left.ensures.step.sound (c.in_ok-compare_sets.ensures.step.sound c.requires.sound)
 
 pub returns-clause-step : goal.returns-clause-step
 returns-clause-step c =
     let sets = arena_view c.args.arena.now in
     let start = c.args.self.now in
-    let spent = c.spend.new.self in
     let one = c.compare_sets.new.self in
     let two = c.spread_left.new.self in
-    let first : Step sets start one =
-    step_then sets start spent one (spend_step sets start spent c.spend.ensures.pairs c.spend.ensures.marks c.spend.ensures.best) c.in_ok-compare_sets.ensures.step in
-    on_ok_weaker c.spread_right.result (step_then sets start two c.spread_right.new.self (step_then sets start one two first c.in_ok-spread_left.ensures.step)) c.spread_right.ensures.step
+    on_ok_weaker c.spread_right.result
+    (step_then sets start two c.spread_right.new.self (step_then sets start one two c.in_ok-compare_sets.ensures.step c.in_ok-spread_left.ensures.step)) c.spread_right.ensures.step
 
 pub returns-clause-done : goal.returns-clause-done
 returns-clause-done c =

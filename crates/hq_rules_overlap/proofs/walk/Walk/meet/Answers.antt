@@ -1,7 +1,8 @@
 -- A new pair is added, and marked.
-use Rattle.hq_rules_overlap.specs.Sets.{arena_view}
+use Rattle.hq_overlap_sets.specs.Sets.{arena_view}
 use Rattle.hq_rules_overlap.specs.Walk.{is_marked}
-use Rattle.hq_rules_overlap.proofs.Steps.{push_step, on_ok_weaker3, mark_cases}
+use Rattle.hq_rules_overlap.proofs.Steps.{push_step, mark_cases}
+use Rattle.hq_overlap_sets.proofs.Stepping.{on_ok_weaker3}
 use Rattle.hq_rules_overlap.proofs.walk.Walk.meet.Goals as goal
 
 pub returns-clause-step : goal.returns-clause-step

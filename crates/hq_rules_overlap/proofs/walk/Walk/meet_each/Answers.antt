@@ -2,8 +2,8 @@
 use Rattle.std.proofs.Common.{◌≡◌, ℕ, length, arith}
 use Rattle.std.proofs.lemmas.List.{length-map}
 use borrow.Author.Count.{below_more}
-use Rattle.hq_rules_overlap.specs.Sets.{set_in, arena_view}
-use Rattle.hq_rules_overlap.specs.Walk as walk
+use Rattle.hq_overlap_sets.specs.Sets.{set_in, arena_view}
+use Rattle.hq_overlap_sets.specs.Together as walk
 use Rattle.hq_rules_overlap.specs.Walk.{Known}
 use Rattle.hq_rules_overlap.proofs.Closed.{roots_kept}
 use Rattle.hq_rules_overlap.proofs.walk.Walk.meet_each.Goals as goal

@@ -1,4 +1,4 @@
-use Rattle.hq_rules_overlap.specs.Sets.{arena_view}
+use Rattle.hq_overlap_sets.specs.Sets.{arena_view}
 use Rattle.hq_rules_overlap.specs.Walk.{IsSound, HasRoots}
 use Rattle.hq_rules_overlap.proofs.walk.Walk.meet_each.Given as goal
 

@@ -1,6 +1,6 @@
 -- One more pair is done; where no pair is left, the place so far is the first.
 use Rattle.std.proofs.Common.{sym}
-use Rattle.hq_rules_overlap.specs.Sets.{arena_view}
+use Rattle.hq_overlap_sets.specs.Sets.{arena_view}
 use Rattle.hq_rules_overlap.proofs.Closed.{is_first, done_more, met_at, all_done, none_beyond, roots_kept, done_none}
 use Rattle.hq_rules_overlap.proofs.walk.Walk.run.Goals as goal
 

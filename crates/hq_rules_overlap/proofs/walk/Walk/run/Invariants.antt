@@ -1,5 +1,5 @@
 use Rattle.std.proofs.Common.{length}
-use Rattle.hq_rules_overlap.specs.Sets.{arena_view}
+use Rattle.hq_overlap_sets.specs.Sets.{arena_view}
 use Rattle.hq_rules_overlap.specs.Walk.{IsSound, HasRoots, AreDone}
 use Rattle.hq_rules_overlap.proofs.walk.Walk.run.Given as goal
 

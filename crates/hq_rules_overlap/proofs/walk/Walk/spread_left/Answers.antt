@@ -1,10 +1,11 @@
 -- One more spread was met.
 use Rattle.std.proofs.Common.{ℕ, rules}
-use Rattle.hq_rules_overlap.specs.Pairs.{spreads_at}
-use Rattle.hq_rules_overlap.specs.Sets.{arena_view}
-use Rattle.hq_rules_overlap.specs.Walk as walk
+use Rattle.hq_overlap_sets.specs.Pairs.{spreads_at}
+use Rattle.hq_overlap_sets.specs.Sets.{arena_view}
+use Rattle.hq_overlap_sets.specs.Together as walk
 use Rattle.hq_rules_overlap.specs.Walk.{Known}
-use Rattle.hq_rules_overlap.proofs.Steps.{step_refl, step_then, all_more, stands_in, all_at_end_itself, known_kept}
+use Rattle.hq_rules_overlap.proofs.Steps.{step_refl, step_then, known_kept}
+use Rattle.hq_overlap_sets.proofs.Stepping.{all_more, stands_in, all_at_end_itself}
 use Rattle.hq_rules_overlap.proofs.walk.Walk.spread_left.Goals as goal
 
 pub meet-requires-clause-sound : goal.meet-requires-clause-sound

@@ -1,0 +1,34 @@
+-- The join of the first relationship of a sort key, put together from its parts.
+use Rattle.std.proofs.Common.{◌≡◌, ℕ, ◌+◌, List, [], ◌∷◌, ◌++◌, false, refl, arith}
+use Rattle.hq_terms.specs.Schema.{Schema, table, rel}
+use Rattle.hq_sql_tree.specs.Tree.{JoinTree, OutTree, PredTree}
+use Rattle.hq_compiled.specs.Conditions.{with_member, where_of}
+use Rattle.hq_compiled.specs.Looks.{cell_at}
+use Rattle.hq_compiled.specs.Masks.{value_output, masks, shown_look, filter_predicate}
+use Rattle.hq_compiled.specs.Names.{join_alias}
+use Rattle.hq_compiled.specs.Predicates.{link}
+use Rattle.hq_compiled.specs.Rights.{Rights}
+use Rattle.hq_compiled.specs.Selects.{filter_from, behind_filter}
+use Rattle.hq_compiled.specs.Sorts.{last_used, sort_place, sort_numbers, sort_joins}
+use Rattle.hq_compile_tables.specs.Selects.{first_row}
+use Rattle.hq_compile_tables.specs.Shown.{look_in}
+use Rattle.hq_compile_tables.specs.declared.shown.MaskPlace.{MaskPlace}
+
+module _ (s : Schema) (g : Rights) (t p r c next : ℕ) (rest : List ℕ) where
+  -- the parts by the names that they have in the code
+  pub step_of : (v n m : ℕ) (cs : List ℕ) (places : List MaskPlace) (all joins inner : List JoinTree) (members : List PredTree) (outs : List OutTree)
+      → all ≡ record { select = first_row s v n outs (joins ++ inner) (where_of members); alias = join_alias n } ∷ []
+      → inner ≡ sort_joins rest s g v n m c
+      → outs ≡ value_output (cell_at (sort_place false rest s (look_in places (table s v).columns n) v n m c))
+      → v ≡ (rel s t r).remote → n ≡ next → m ≡ behind_filter s g (rel s t r).remote cs next
+      → look_in places (table s (rel s t r).remote).columns next ≡ shown_look s g (rel s t r).remote cs next → joins ≡ masks s g (rel s t r).remote cs next
+      → members ≡ with_member (link s t (rel s t r) p next) (with_member (filter_predicate s g (rel s t r).remote next (filter_from s g (rel s t r).remote cs next)) [])
+      → cs ≡ last_used rest c
+      → all ≡ sort_joins (r ∷ rest) s g t p next c
+  step_of v n m cs places all joins inner members outs is inner-is outs-is v-is n-is m-is look-is joins-is members-is cs-is =
+      rw (is, inner-is, outs-is, v-is, n-is, m-is, look-is, joins-is, members-is, cs-is) refl
+
+  -- the numbers that it takes
+  pub step_numbers : (v m k : ℕ) (cs : List ℕ) → k ≡ m + sort_numbers rest s g v c → m ≡ behind_filter s g (rel s t r).remote cs next → v ≡ (rel s t r).remote → cs ≡ last_used rest c
+      → k ≡ next + sort_numbers (r ∷ rest) s g t c
+  step_numbers v m k cs is m-is v-is cs-is = rw (is, m-is, v-is, cs-is) (omega arith)

@@ -1,0 +1,4 @@
+mod ReachLemmas
+mod Counting
+pub mod Joining
+pub mod Sifting

@@ -1,0 +1,11 @@
+use Rattle.hq_schema.specs.Schema.{schema_view}
+use Rattle.hq_overlap_sets.specs.Sets.{arena_view}
+use Rattle.hq_overlap_classes.specs.Noting.{AreNoted, AreToJoin}
+use Rattle.hq_overlap_classes.proofs.classes.Classes.join_all.Given as goal
+
+-- what is noted so far, and what is still to be joined
+abbrev pub invariant-loop : goal.invariant-loop
+invariant-loop l = record {
+  sound : AreNoted (schema_view l.arena.schema.now) (arena_view l.arena) l.self;
+  pending : AreToJoin (arena_view l.arena) l.pending.items;
+}
