@@ -36,7 +36,8 @@ fn tracked<'a>(catalog: &'a Catalog, node: &Node<'_>) -> Option<&'a Table> {
 }
 
 // What an element of a member of this name is to be.
-static ELEMENTS: [(&str, &str); 10] = [
+static ELEMENTS: [(&str, &str); 11] = [
+    ("sources", "a list of one source"),
     ("tables", "an object with a member \"table\""),
     ("columns", "the name of a column"),
     ("foreign_key_constraint_on", "the name of a column"),
