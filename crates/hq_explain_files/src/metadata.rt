@@ -255,7 +255,7 @@ fn no_foreign_key(words: &mut Words, node: &Node<'_>, catalog: &Catalog) {
 fn repeated_role(words: &mut Words, node: &Node<'_>) {
     words.put("role ");
     node.put_value(words);
-    words.put(if node.name() == b"role_name" {
+    words.put(if node.name() == b"role_name".as_slice() {
         " is inherited already"
     } else {
         " has a permission on this table already"
