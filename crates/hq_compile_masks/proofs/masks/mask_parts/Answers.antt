@@ -11,7 +11,7 @@ use Rattle.hq_compile_tables.specs.Shown.{look_in}
 use Rattle.hq_compile_tables.specs.declared.shown.MaskPlace.{MaskPlace}
 use Rattle.hq_compile_tables.proofs.Loops.{rest-more, count-more}
 use Rattle.hq_compile_masks.specs.MaskPlaces.{used_of, mask_places}
-use Rattle.hq_compile_masks.proofs.Masks.{first_joins, first_places, first_numbers, places_are_look}
+use Rattle.hq_compile_masks.proofs.Places.{first_joins, first_places, first_numbers, places_are_look}
 use Rattle.hq_compile_masks.proofs.masks.mask_parts.Goals as goal
 
 -- what a mask adds is what stood first in what was left
