@@ -308,9 +308,9 @@ module _ (tables : List Table) (m : MetaTree) (metadata_fits : fits tables m ≡
       distinct_lawful sorts = then_lawful (matched sorts) (distinct_columns c (given_named c (list_args first) xs (codes "distinct_on"))) (by (given_named c (list_args first) xs (codes "distinct_on")) refl) (λ cs e. matched_lawful tables m metadata_fits role schemed shaped vars sorts cs)
         where
           of_arg : (x : ArgTree) (j : JsonTree) → x ≡ arg (codes "distinct_on") (items (part first Columns)) stands.DistinctOn → coercion.is_null j ≡ false → IsOf R x.ty j → Lawful (by_distinct c j (base x.ty) x.origin)
-          of_arg x j is no h =
+          of_arg x j is never h =
               subst (λ (x : ArgTree). Lawful (by_distinct c j (base x.ty) x.origin)) (sym is)
-              (columns_lawful tables m metadata_fits role schemed shaped vars (part_place first Columns) u fit.0.reaches j no (subst (λ (x : ArgTree). IsOf R x.ty j) is h))
+              (columns_lawful tables m metadata_fits role schemed shaped vars (part_place first Columns) u fit.0.reaches j never (subst (λ (x : ArgTree). IsOf R x.ty j) is h))
 
           by : (o : Option Given) → given_named c (list_args first) xs (codes "distinct_on") ≡ o → Lawful (distinct_columns c o)
           by None is = tt
@@ -348,9 +348,9 @@ module _ (tables : List Table) (m : MetaTree) (metadata_fits : fits tables m ≡
         (flag_lawful (count_args first) nodes (codes "distinct") (λ x e. let both : Some (arg (codes "distinct") (fixed boolean) stands.Distinct) ≡ Some x = e in let same : arg (codes "distinct") (fixed boolean) stands.Distinct ≡ x = cc in ap (λ (y : ArgTree). y.ty) (sym same))) (λ distinct _. tt))
       where
         of_arg : (x : ArgTree) (j : JsonTree) → x ≡ arg (codes "columns") (items (part first Columns)) stands.Columns → coercion.is_null j ≡ false → IsOf R x.ty j → Lawful (by_columns c j (base x.ty) x.origin)
-        of_arg x j is no h =
+        of_arg x j is never h =
             subst (λ (x : ArgTree). Lawful (by_columns c j (base x.ty) x.origin)) (sym is)
-            (then_lawful one_column (columns_due c (part_place first Columns) j) (columns_lawful tables m metadata_fits role schemed shaped vars (part_place first Columns) u fit.0.reaches j no (subst (λ (x : ArgTree). IsOf R x.ty j) is h))
+            (then_lawful one_column (columns_due c (part_place first Columns) j) (columns_lawful tables m metadata_fits role schemed shaped vars (part_place first Columns) u fit.0.reaches j never (subst (λ (x : ArgTree). IsOf R x.ty j) is h))
             (λ cs e. one_lawful tables m metadata_fits role schemed shaped vars cs))
 
         by : (o : Option Given) → given_named c (count_args first) xs (codes "columns") ≡ o → Lawful (counted_due c o)

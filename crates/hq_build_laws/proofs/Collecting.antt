@@ -22,10 +22,10 @@ use Rattle.hq_gql_nodes.specs.Least.{at_if}
 use Rattle.hq_gql_nodes.specs.Nodes.{NodeTree, condition_node, field_node, spread_node, inline_node, arguments_nodes, directives_nodes, field_head_nodes, inline_head_nodes, condition_nodes, below_inline, selection_nodes, selections_nodes, definition_nodes, variables_nodes, location_of}
 use Rattle.hq_gql_nodes.specs.Reach.{has}
 use Rattle.hq_gql_nodes.specs.declared.node.Location.TheVariants as location
-use Rattle.hq_rules_overlap.specs.Pairs.{fields_at, spreads_at, fields_in, spreads_in, Within, here, spread as along, Reached, in_one, below, SameLabel, Violates}
-use Rattle.hq_rules_overlap.specs.Sets.{SetTree, seen_field, field_count_of, field_count, own_fields_of, own_fields, own_spreads_of, own_spreads, set_of, inner_sets_of, inner_sets, parent_of, selections_of_definition, document_sets}
-use Rattle.hq_rules_overlap.specs.Sets as overlap
-use Rattle.hq_rules_overlap.specs.Shapes.{shape_of}
+use Rattle.hq_overlap_sets.specs.Pairs.{fields_at, spreads_at, fields_in, spreads_in, Within, here, spread as along, Reached, in_one, below, SameLabel, Violates}
+use Rattle.hq_overlap_sets.specs.Sets.{SetTree, seen_field, field_count_of, field_count, own_fields_of, own_fields, own_spreads_of, own_spreads, set_of, inner_sets_of, inner_sets, parent_of, selections_of_definition, document_sets}
+use Rattle.hq_overlap_sets.specs.Sets as overlap
+use Rattle.hq_overlap_sets.specs.Shapes.{shape_of}
 use Rattle.hq_rules_doc.specs.NodeRules.{are_other, type_of_condition, type_of_fragment, condition_of}
 use Rattle.hq_rules_doc.specs.declared.rules.NodeRule.TheVariants as doc_rule
 use Rattle.hq_rules_fields.specs.NodeRules.{has_selections, is_wrong_leaf, lacks_any}

@@ -37,10 +37,10 @@ use Rattle.hq_roles.specs.Differ.{NamesDiffer}
 use Rattle.hq_roles.specs.Leads.{TypeFits}
 use Rattle.hq_rules_doc.specs.First.{first_doc_fault}
 use Rattle.hq_rules_fields.specs.First.{first_field_fault}
-use Rattle.hq_rules_overlap.specs.Pairs.{Reached, Violates, AtMost, later, IsFirst, IsOverlap}
-use Rattle.hq_rules_overlap.specs.Places.{overlap_place}
-use Rattle.hq_rules_overlap.specs.Sets.{document_sets}
-use Rattle.hq_rules_overlap.specs.Sets as overlap
+use Rattle.hq_overlap_sets.specs.Pairs.{Reached, Violates, AtMost, later, IsFirst, IsOverlap}
+use Rattle.hq_overlap_sets.specs.Places.{overlap_place}
+use Rattle.hq_overlap_sets.specs.Sets.{document_sets}
+use Rattle.hq_overlap_sets.specs.Sets as overlap
 use Rattle.hq_rules_reach.specs.Variables.{has_default}
 use Rattle.hq_coerce.specs.Choice.{operation_in, operation_at, operation_for, no_operation, if_query, query_at, chosen}
 use Rattle.hq_coerce.specs.Coercion.{inputs_in, inputs_at}
@@ -199,7 +199,7 @@ module _ (tables : List Table) (m : MetaTree) (session : Session) where
       schemed = record { fit = leads; stand = types_stand tables m role (and_parts _ _ (and_parts _ _ (and_parts _ _ metadata_fits).0).0).0 }
 
       no_overlap : (a b : overlap.FieldTree) → Reached (document_sets R d) a b → Violates a b → ⊥
-      no_overlap a b met no = subst (λ (x : Option ℕ). AtMost x (later a b)) k.of_fields.overlap ((first d).least a b met no)
+      no_overlap a b met clash = subst (λ (x : Option ℕ). AtMost x (later a b)) k.of_fields.overlap ((first d).least a b met clash)
 
       in_reach : has (reached g (place ∷ [])) place ≡ true
       in_reach =

@@ -6,7 +6,7 @@ use Rattle.hq_gql_tree.specs.Selections.{SelectionTree, field, spread, inline, S
 use Rattle.hq_gql_nodes.specs.Fragments.{Places, fragment_named}
 use Rattle.hq_gql_nodes.specs.Known.{below_field}
 use Rattle.hq_gql_nodes.specs.Nodes.{below_inline}
-use Rattle.hq_rules_overlap.specs.Sets.{SetTree, field_count_of, field_count, set_of, inner_sets_of, inner_sets, parent_of, selections_of_definition, roots, below_roots, document_sets}
+use Rattle.hq_overlap_sets.specs.Sets.{SetTree, field_count_of, field_count, set_of, inner_sets_of, inner_sets, parent_of, selections_of_definition, roots, below_roots, document_sets}
 
 -- these items stand in a list from a number on
 pub record IsAt {A : Type 0} (all : List A) (n : ℕ) (xs : List A) : Type 0 where

@@ -1,33 +1,29 @@
 -- What a role's access says of the tables: columns and relationships that it permits are there, and the request may use them.
-use Rattle.std.proofs.Common.{◌≡◌, ◌∙◌, refl, sym, ap, subst, ℕ, suc, ◌+◌, ◌<◌, arith, List, [], ◌∷◌, length, find, Bool, true, false, cond, ◌==◌, ◌||◌, nat_lt, Option, Some, None, is_some, option_map, option_and_then, slice_get, bytes_eq}
+use Rattle.std.proofs.Common.{◌≡◌, ◌∙◌, refl, sym, ap, subst, ℕ, List, [], ◌∷◌, length, Bool, true, false, ◌==◌, ◌||◌, nat_lt, Option, Some, None, is_some, option_map, slice_get}
 use Rattle.std.specs.Prelude.{unwrap_or}
 use Rattle.std.specs.List.{list_any}
 use Rattle.std.specs.Option.{option_map_or}
 use Rattle.std.proofs.lemmas.Bool.{and_parts, eqb-true, false≢true, ltb-true}
-use Rattle.std.proofs.lemmas.List.{nil_from_length}
 use Rattle.std.proofs.lemmas.Option.{slice_get-get_or, get_or_from_slice_get}
 use Rattle.hq_base.specs.Lists.{Each}
-use Rattle.hq_base.proofs.Lists.{each_weaken}
-use Rattle.hq_terms.specs.Bexp.{always}
 use Rattle.hq_terms.specs.Filters.{column_ty}
 use Rattle.hq_terms.specs.Fits.{fits, fits_tracked}
-use Rattle.hq_terms.specs.Meta.{MetaTree, TrackedTree, PermTree, tracked_table}
-use Rattle.hq_terms.specs.Names.{is_free_name}
-use Rattle.hq_terms.specs.Permission.{Permission, permission, permission_in, with_columns, told_permission, named_from, named_columns}
+use Rattle.hq_terms.specs.Laws.{HasColumn}
+use Rattle.hq_terms.specs.Meta.{MetaTree, TrackedTree, tracked_table}
+use Rattle.hq_terms.specs.Permission.{Permission, permission}
 use Rattle.hq_terms.specs.Schema.{Schema, schema_of, schema_table, table, column, rel, no_rel, no_column, no_table}
 use Rattle.hq_terms.specs.declared.meta.Rel.{Rel}
 use Rattle.hq_terms.specs.declared.role.Role.{Role}
-use Rattle.hq_terms.specs.declared.role.Role.TheVariants.{Admin, Named}
 use Rattle.hq_terms.specs.declared.table.Column.{Column}
 use Rattle.hq_terms.specs.declared.table.Table.{Table}
-use Rattle.hq_terms.proofs.Together.{own_alone}
+use Rattle.hq_terms.proofs.Permitting.{permission_fits}
 use Rattle.hq_terms.proofs.Places.{table_present, at_0}
 use Rattle.hq_ask_tree.specs.Allowed.{Allowed, allowed_to, permitted_columns, has_aggregates}
 use Rattle.hq_roles.specs.Access.{Access, access_of}
-use Rattle.hq_build_laws.proofs.Items.{each_filter, each_of, found_each}
+use Rattle.hq_build_laws.proofs.Items.{each_of, found_each}
 use Rattle.hq_build_laws.proofs.BuildingSteps.{and_then_some}
 
--- ---- columns that have names
+-- ---- columns that are there
 
 -- a number among others has what they all have
 among : (P : ℕ → Type 0) (cs : List ℕ) (c : ℕ) → Each P cs → list_any (λ d. d == c) cs ≡ true → P c
@@ -37,42 +33,19 @@ among P (d ∷ cs) c h g =
     elim [ true ↦ λ e g. subst P (eqb-true d c e) h.0 | false ↦ λ e g. among P cs c h.1 g ] in
     by (d == c) refl g
 
-named_within : (k : ℕ) (ns : List (List ℕ)) → Each (λ c. c < k + length ns) (named_from k ns)
-named_within k [] = tt
-named_within k (n ∷ ns) =
-    let later : Each (λ c. c < k + length (n ∷ ns)) (named_from (suc k) ns) =
-    each_weaken (λ c. c < suc k + length ns) (λ c. c < k + length (n ∷ ns)) (λ c h. omega arith) (named_from (suc k) ns) (named_within (suc k) ns) in
-    let here : k < k + length (n ∷ ns) = omega arith in
-    let by : (b : Bool) → Each (λ c. c < k + length (n ∷ ns)) (cond b (k ∷ named_from (suc k) ns) (named_from (suc k) ns)) = elim [ true ↦ (here, later) | false ↦ later ] in
-    by (is_free_name n)
-
-abbrev Within : TrackedTree → ℕ → Type 0
-Within k c = c < length k.column_names
-
-all_within : (k : TrackedTree) → Each (Within k) (named_columns k)
-all_within k = each_weaken (λ c. c < 0 + length k.column_names) (Within k) (λ c h. omega arith) (named_columns k) (named_within 0 k.column_names)
-
-with_within : (k : TrackedTree) (p : Permission) (cs : List ℕ) → Each (Within k) cs → Each (Within k) (permitted_columns (with_columns p cs))
-with_within k p [] h = tt
-with_within k p (c ∷ cs) h = h
-
-told_within : (k : TrackedTree) (o : Option PermTree) → Each (Within k) (permitted_columns (option_and_then (told_permission k) o))
-told_within k None = tt
-told_within k (Some p) = with_within k (record { columns = []; filter = p.filter; limit = p.limit; aggregations = p.aggregations; masks = [] }) _ (each_filter (Within k) (λ c. list_any (λ d. d == c) p.cols) (named_columns k) (all_within k))
-
-permitted_within : (role : Role) (k : TrackedTree) → Each (Within k) (permitted_columns (permission_in role [] k))
-permitted_within Admin k = with_within k (record { columns = []; filter = always; limit = None; aggregations = true; masks = [] }) _ (all_within k)
-permitted_within (Named name) k = subst (λ o. Each (Within k) (permitted_columns o)) (sym (own_alone name k)) (told_within k (find (λ p. bytes_eq p.role name) k.perms))
+-- a column of the catalog has the type that it shows
+typed : (s : Schema) (t c : ℕ) → HasColumn s t c → column_ty s t c ≡ Some (column s t c).ty
+typed s t c h = by (slice_get (table s t).columns c) refl h
+  where
+    by : (o : Option Column) → slice_get (table s t).columns c ≡ o → is_some (option_map (λ (d : Column). d.ty) o) ≡ true → option_map (λ (d : Column). d.ty) o ≡ Some (column s t c).ty
+    by None is h = absurd (false≢true h)
+    by (Some d) is h = ap (λ (x : Column). Some x.ty) (sym (get_or_from_slice_get (table s t).columns c d no_column is))
 
 -- ---- all that fits
 
 module _ (tables : List Table) (m : MetaTree) (metadata_fits : fits tables m ≡ true) where
   abbrev s : Schema
   s = schema_of tables m
-
-  -- there are no inherited roles
-  pub none_inherited : m.inherited ≡ []
-  none_inherited = nil_from_length m.inherited (eqb-true _ _ (and_parts _ _ (and_parts _ _ metadata_fits).1).1)
 
   -- the entry of a table fits
   pub entry : (t : ℕ) (k : TrackedTree) → tracked_table m t ≡ Some k → (k.table ≡ t) × (fits_tracked s m k ≡ true)
@@ -129,16 +102,11 @@ module _ (tables : List Table) (m : MetaTree) (metadata_fits : fits tables m ≡
 
     -- a permitted column has a type
     pub column_typed : (t c : ℕ) → a.column t c ≡ true → column_ty s t c ≡ Some (column s t c).ty
-    column_typed t c h = by (tracked_table m t) refl (column_allowed t c h)
+    column_typed t c h = by (permission role m t) refl h
       where
-        by : (o : Option TrackedTree) → tracked_table m t ≡ o → list_any (λ d. d == c) (permitted_columns (option_and_then (permission_in role m.inherited) o)) ≡ true → column_ty s t c ≡ Some (column s t c).ty
+        by : (o : Option Permission) → permission role m t ≡ o → option_map_or (λ p. list_any (λ d. d == c) p.columns) o false ≡ true → column_ty s t c ≡ Some (column s t c).ty
         by None is g = absurd (false≢true g)
-        by (Some k) is g =
-            let e = entry t k is in
-            let short : c < length k.column_names = among (Within k) (permitted_columns (permission_in role m.inherited k)) c (subst (λ roles. Each (Within k) (permitted_columns (permission_in role roles k))) (sym none_inherited) (permitted_within role k)) g in
-            let long : length k.column_names ≡ length (table s k.table).columns = eqb-true _ _ (entry_parts k e.1).1 in
-            let within : c < length (table s k.table).columns = omega arith in
-            subst (λ u. column_ty s u c ≡ Some (column s u c).ty) e.0 (ap (option_map (λ (d : Column). d.ty)) (slice_get-get_or (table s k.table).columns c no_column within))
+        by (Some p) is g = typed s t c (among (HasColumn s t) p.columns c (permission_fits tables m role t metadata_fits p is).columns g)
 
     -- a relationship of the schema is that of its table
     pub rel_at : (t r : ℕ) (q : Rel) → a.rel t r ≡ Some q → (rel s t r ≡ q) × (is_some (slice_get (table s t).rels r) ≡ true)

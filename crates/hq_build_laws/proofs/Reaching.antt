@@ -24,14 +24,18 @@ missing (x ∷ xs) ys = by (has ys x) refl (missing xs ys)
     by true here (inr other) = inr (other.0, has_behind (x ∷ []) xs other.0 other.1, other.2)
     by false here rest = inr (x, ap (λ b. b || has xs x) (eq-eqb x x refl), here)
 
+one_distinct : (x : ℕ) → IsDistinct nat_eq (x ∷ [])
+unfolding IsDistinct
+one_distinct x = (tt, tt)
+
 -- a place that is not among others is none of them
 none_of : (q : ℕ) (xs : List ℕ) → has xs q ≡ false → Each (λ y. nat_eq q y ≡ false) xs
 none_of q [] h = tt
-none_of q (x ∷ xs) h = by (nat_eq q x) refl h
+none_of q (x ∷ xs) h = by (nat_eq q x) refl h (λ g. none_of q xs g)
   where
-    by : (b : Bool) → nat_eq q x ≡ b → (b || has xs q) ≡ false → Each (λ y. nat_eq q y ≡ false) (x ∷ xs)
-    by true is h = absurd cc
-    by false is h = (is, none_of q xs h)
+    by : (b : Bool) → nat_eq q x ≡ b → (b || has xs q) ≡ false → (has xs q ≡ false → Each (λ y. nat_eq q y ≡ false) xs) → Each (λ y. nat_eq q y ≡ false) (x ∷ xs)
+    by true is h rest = absurd cc
+    by false is h rest = (is, rest h)
 
 module _ (g : Graph) (starts : List ℕ) where
   within_below : (n q : ℕ) → has (within n g starts) q ≡ true → q < length g
@@ -68,7 +72,7 @@ module _ (g : Graph) (starts : List ℕ) where
       by [] is = inl (λ p q h a. let no : has [] p ≡ true = subst (λ ys. has ys p ≡ true) is h in absurd cc)
       by (x ∷ xs) is = inr (record {
         order = x ∷ [];
-        apart = IsDistinct-cons nat_eq x [] tt tt;
+        apart = one_distinct x;
         count = refl;
         inside = λ q h. subst (λ ys. has ys q ≡ true) (sym is) (has_more (x ∷ []) xs q h);
       })

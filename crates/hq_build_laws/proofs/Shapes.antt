@@ -289,7 +289,7 @@ module _ (tables : List Table) (m : MetaTree) (role : Role) where
   module _ (metadata_fits : fits tables m ≡ true) where
     -- a permitted column of a table that is tracked has a name
     key_named : (k : TrackedTree) (t : Table) → tracked_table m k.table ≡ Some k → slice_get tables k.table ≡ Some t → (c : ℕ) → (access_of m role).column k.table c ≡ true
-        → KeyNamed k.table (λ c. under_name c (slice_get t.columns c) (slice_get k.column_names c)) c
+        → KeyNamed k.table (λ c. under_name [] c (slice_get t.columns c) (slice_get k.column_names c)) c
     key_named k t first here c permitted =
         let found = map_some (λ (d : Column). d.ty) (slice_get (table s k.table).columns c) (column s k.table c).ty (column_typed tables m metadata_fits role k.table c permitted) in
         let d : Column = found.0 in
@@ -299,7 +299,7 @@ module _ (tables : List Table) (m : MetaTree) (role : Role) where
         let name : slice_get k.column_names c ≡ Some (get_or k.column_names c []) = slice_get-get_or k.column_names c [] (omega (arith, less, names)) in
         record {
           own = record { name = get_or k.column_names c []; ty = d.ty; nullable = d.nullable; col = c };
-          is = ap (λ o. under_name c o (slice_get k.column_names c)) at ∙ ap (under_name c (Some d)) name;
+          is = ap (λ o. under_name [] c o (slice_get k.column_names c)) at ∙ ap (under_name [] c (Some d)) name;
           place = refl;
           typed = found.2;
         }
@@ -308,10 +308,10 @@ module _ (tables : List Table) (m : MetaTree) (role : Role) where
     entry_key k first = by (slice_get tables k.table) (permission role m k.table) refl refl
       where
         all_shown : (t : Table) (p : Permission) → slice_get tables k.table ≡ Some t → permission role m k.table ≡ Some p → (key : List ShownColumn) → (b : Bool) → list_all (λ c. list_any (λ d. d == c) p.columns) t.key ≡ b
-            → cond b (Some (shown_columns t k t.key)) None ≡ Some key → Each (KeyColumn k.table key) (table s k.table).key
+            → cond b (Some (shown_columns t k [] t.key)) None ≡ Some key → Each (KeyColumn k.table key) (table s k.table).key
         all_shown t p here granted key false all e = absurd cc
         all_shown t p here granted key true all e =
-            let f : ℕ → Option ShownColumn = λ c. under_name c (slice_get t.columns c) (slice_get k.column_names c) in
+            let f : ℕ → Option ShownColumn = λ c. under_name [] c (slice_get t.columns c) (slice_get k.column_names c) in
             let permitted = each_of (λ c. list_any (λ d. d == c) p.columns) t.key all in
             let named : Each (KeyNamed k.table f) t.key =
             each_weaken (λ c. list_any (λ d. d == c) p.columns ≡ true) (KeyNamed k.table f)

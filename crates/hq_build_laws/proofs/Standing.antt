@@ -12,7 +12,7 @@ use Rattle.hq_base.specs.declared.value.Ty.{Ty}
 use Rattle.hq_base.specs.declared.value.Ty.TheVariants as ty
 use Rattle.hq_terms.specs.Filters.{column_ty, of_type}
 use Rattle.hq_terms.specs.Meta.{MetaTree, TrackedTree, tracked_table}
-use Rattle.hq_terms.specs.Permission.{Permission, permission}
+use Rattle.hq_terms.specs.Permission.{Mask, Permission, permission}
 use Rattle.hq_terms.specs.Schema.{Schema, schema_of}
 use Rattle.hq_terms.specs.declared.role.Role.{Role}
 use Rattle.hq_terms.specs.declared.table.Column.{Column}
@@ -93,11 +93,11 @@ module _ (tables : List Table) (m : MetaTree) (role : Role) where
   entry_shown : (k : TrackedTree) → tracked_table m k.table ≡ Some k → IfSome (shown_entry tables m role k) IsShown
   entry_shown k first = by (slice_get tables k.table) (permission role m k.table) refl refl
     where
-      typed : (t : Table) → slice_get tables k.table ≡ Some t → (c : ℕ) (o : Option Column) (name : Option (List ℕ)) → slice_get t.columns c ≡ o
-          → IfSome (under_name c o name) (λ (x : ShownColumn). column_ty s k.table x.col ≡ Some x.ty)
-      typed t here c None name at = tt
-      typed t here c (Some d) None at = tt
-      typed t here c (Some d) (Some n) at =
+      typed : (t : Table) (ms : List Mask) → slice_get tables k.table ≡ Some t → (c : ℕ) (o : Option Column) (name : Option (List ℕ)) → slice_get t.columns c ≡ o
+          → IfSome (under_name ms c o name) (λ (x : ShownColumn). column_ty s k.table x.col ≡ Some x.ty)
+      typed t ms here c None name at = tt
+      typed t ms here c (Some d) None at = tt
+      typed t ms here c (Some d) (Some n) at =
           ap (λ u. option_map (λ (d : Column). d.ty) (slice_get u.columns c)) (table_present tables m k.table t here) ∙ ap (option_map (λ (d : Column). d.ty)) at
 
       by : (t : Option Table) (p : Option Permission) → slice_get tables k.table ≡ t → permission role m k.table ≡ p → IfSome (option_and_then (λ (t : Table). option_map (shown_table k t) p) t) IsShown
@@ -107,8 +107,8 @@ module _ (tables : List Table) (m : MetaTree) (role : Role) where
         is_seen = ap is_some granted;
         name = sym (ap (λ o. unwrap_or (option_map (λ (j : TrackedTree). j.name) o) []) first);
         columns =
-            each_filter_map (λ (x : ShownColumn). column_ty s k.table x.col ≡ Some x.ty) (λ (c : ℕ). Unit {0}) (λ c. under_name c (slice_get t.columns c) (slice_get k.column_names c))
-            (λ c u. typed t here c (slice_get t.columns c) (slice_get k.column_names c) refl) p.columns (each_all (λ (c : ℕ). Unit {0}) (λ c. tt) p.columns);
+            each_filter_map (λ (x : ShownColumn). column_ty s k.table x.col ≡ Some x.ty) (λ (c : ℕ). Unit {0}) (λ c. under_name p.masks c (slice_get t.columns c) (slice_get k.column_names c))
+            (λ c u. typed t p.masks here c (slice_get t.columns c) (slice_get k.column_names c) refl) p.columns (each_all (λ (c : ℕ). Unit {0}) (λ c. tt) p.columns);
       }
 
   pub tables_shown : all_differ (λ (j k : TrackedTree). j.table == k.table) m.tracked ≡ true → Each IsShown (shown_tables tables m role)

@@ -10,7 +10,7 @@ use Rattle.hq_gql_nodes.specs.Faults.{or_later}
 use Rattle.hq_gql_nodes.specs.Fragments.{fragment_named, graph_of}
 use Rattle.hq_gql_nodes.specs.Least.{earlier, at_if, least_of}
 use Rattle.hq_gql_nodes.specs.Nodes.{NodeTree, PartTree, part_of, definition_nodes, document_parts}
-use Rattle.hq_rules_overlap.specs.Places.{overlap_place}
+use Rattle.hq_overlap_sets.specs.Places.{overlap_place}
 use Rattle.hq_rules_reach.specs.Uses.{all_uses}
 use Rattle.hq_rules_reach.specs.Variables.{no_undefined_variables, no_unused_variables, variables_in_allowed_position}
 use Rattle.hq_gql_tree.specs.declared.rule.RuleId.TheVariants as number

@@ -1,6 +1,7 @@
 -- The walk over collected fields that their types have: it refuses by what arguments ask for alone.
 use Rattle.std.proofs.Common.{◌≡◌, ◌∙◌, refl, sym, ap, subst, ℕ, List, [], ◌∷◌, map, Bool, true, false, cond, not, ◌||◌, ◌==◌, Option, Some, None, Result, Ok, Err, is_some, option_and_then, option_map, slice_get, bytes_eq, codes, ◌⊎◌, inl, inr}
 use Rattle.std.specs.Option.{option_or}
+use Rattle.std.proofs.lemmas.Bool.{false≢true}
 use Rattle.hq_base.specs.Due.{mapped, and_then, ◌>>=◌}
 use Rattle.hq_base.specs.Lists.{Each}
 use Rattle.hq_base.specs.declared.aggregate.Aggregate.{Aggregate}
@@ -260,8 +261,7 @@ module _ (tables : List Table) (m : MetaTree) (metadata_fits : fits tables m ≡
       by (inr none) =
           let no : object_at R (base def.ty) ≡ None = ap (object_at R) leads.1 ∙ none in
           let false_is : (false || is_some (object_at R (base def.ty))) ≡ true = complete in
-          let clash : (false || is_some None) ≡ true = subst (λ (o : Option ℕ). (false || is_some o) ≡ true) no false_is in
-          absurd cc
+          absurd (false≢true (subst (λ (o : Option ℕ). (false || is_some o) ≡ true) no false_is))
 
   module _ (place t : ℕ) (at : At types place type.Introspection) (h : FieldHead) (under : CollectedTrees) (f : IsKnown place h (is_empty under))
       (again : At types (base f.def.ty) type.Introspection → IsBuilding (looks_due c (base f.def.ty) t under)) where
