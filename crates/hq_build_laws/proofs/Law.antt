@@ -65,6 +65,7 @@ use Rattle.hq_ask.specs.Due.{operation_of, within_limits, collected_fields, coll
 use Rattle.hq_ask.specs.Known.{Due}
 use Rattle.hq_build_laws.specs.Builds.{is_constant, has_constant, ValidBuilds}
 use Rattle.hq_build_laws.specs.Refusing.{IsBuilding}
+use Rattle.hq_build_laws.proofs.Binding.{OfVariables, tables_told}
 use Rattle.hq_build_laws.proofs.BuildingSteps.{then_ok, and_then_some, ok_or_ok}
 use Rattle.hq_build_laws.proofs.Collecting.{Sound, query_sound}
 use Rattle.hq_build_laws.proofs.Items.{each_at}
@@ -128,11 +129,11 @@ default_writes (Some p) h e = constant_writes p.value h
 
 -- ---- the steps
 
-fault_building : {A : Type 0} (r : Result A BindRefusal) → IsBuilding (with_fault r)
-fault_building (Ok x) = tt
-fault_building (Err (bind.NoVariable name)) = refl
-fault_building (Err (bind.BadVariable name want)) = refl
-fault_building (Err bind.Memory) = tt
+fault_building : {A : Type 0} (r : Result A BindRefusal) → OfVariables r → IsBuilding (with_fault r)
+fault_building (Ok x) h = tt
+fault_building (Err (bind.NoVariable name)) h = refl
+fault_building (Err (bind.BadVariable name want)) h = refl
+fault_building (Err bind.Memory) h = h
 
 limits_building : (at : ℕ) (vars : List VarTree) (small : Bool) (trees : CollectedTrees) → IsBuilding (within_limits at vars small trees)
 limits_building at vars small trees = by (small && is_narrow trees && is_bounded vars trees)
@@ -220,7 +221,7 @@ module _ (tables : List Table) (m : MetaTree) (session : Session) where
       operation_built =
           then_building after_collected (collected_due d vars o) (limits_building o.at vars (is_small d (selections_in o.selections)) (collected_fields d vars o)) (λ trees e.
           then_building after_fields (root_due vars R s (length tables) trees) (fields_built trees (limits_ok o.at vars (is_small d (selections_in o.selections)) (collected_fields d vars o) trees e)) (λ fs f.
-          then_building (λ (bs : List BoundTree). Ok (request_of session fs bs)) (bound_in m s session (length tables) fs) (fault_building (bounds_due role m s session.vars (touched fs s (length tables)))) (λ bs h. tt)))
+          then_building (λ (bs : List BoundTree). Ok (request_of session fs bs)) (bound_in m s session (length tables) fs) (fault_building (bounds_due role m s session.vars (touched fs s (length tables))) (tables_told s session.vars role m (touched fs s (length tables)))) (λ bs h. tt)))
 
     pub valid_built : (name : Option (List ℕ)) (given : Option JsonTree) (place : ℕ) → first_doc_fault R d ≡ None → first_field_fault R d ≡ None → chosen d name ≡ Ok place
         → Each (λ v. has_constant v ≡ true) (variables_of (operation_at d place)) → variables_due R d place given ≡ Ok vars → IsBuilding (build_due d place vars R tables m session)

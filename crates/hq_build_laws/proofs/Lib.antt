@@ -18,6 +18,7 @@ mod Filters
 mod Orders
 mod Arguments
 mod Walking
+mod Binding
 mod Law
 mod Constants
 mod Requests

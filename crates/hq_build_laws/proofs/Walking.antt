@@ -150,7 +150,7 @@ module _ (tables : List Table) (m : MetaTree) (metadata_fits : fits tables m ≡
         by : (b : Bool) → b ≡ true → (r : Read FieldArguments) → Lawful r → ((x : FieldArguments) → r ≡ Ok x → IsBuilding (next (f.def, x))) → IsBuilding (and_then next (cond b (mapped (λ (x : FieldArguments). let y : Known = (f.def, x) in y) (at_field h.at r)) (refused rule.LeafFieldSelections h)))
         by true e (Ok x) l g = g x refl
         by true e (Err (Rule q)) l g = l
-        by true e (Err Memory) l g = tt
+        by true e (Err Memory) l g = l
         by false e r l g = absurd cc
 
   name_building : (place : ℕ) (o : TypeOrigin) (h : FieldHead) → At types place o → IsBuilding (type_name_due R place h)
@@ -342,7 +342,7 @@ module _ (tables : List Table) (m : MetaTree) (metadata_fits : fits tables m ≡
         by : (n : Due (List ℕ)) → IsBuilding n → (x : FieldArguments) → IsBuilding (mapped (λ name. leaf (typename name)) n >>= with_below h (below_of t under (f.def, x)))
         by (Ok name) g x = tt
         by (Err (coerce.Fault q)) g x = g
-        by (Err coerce.Memory) g x = tt
+        by (Err coerce.Memory) g x = g
 
     -- a field at a row of table t
     row_wanted : Reaches types f.def.ty (row_target a t f.def.origin) → Each (ArgFits types (row_args a t f.def.origin)) f.def.args → (o : FieldOrigin) → f.def.origin ≡ o → Wanted o

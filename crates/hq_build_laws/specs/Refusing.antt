@@ -18,8 +18,8 @@ is_of_building rule.CountColumns = true
 is_of_building rule.SortEntries = true
 is_of_building _ = false
 
--- a value, a fault of one of these rules, or want of memory
+-- a value, or a fault of one of these rules; what is due never lacks memory
 abbrev pub IsBuilding : {A : Type 0} → Result A CoerceRefusal → Type 0
 IsBuilding (Ok x) = Unit {0}
 IsBuilding (Err (Fault f)) = is_of_building f.rule ≡ true
-IsBuilding (Err Memory) = Unit {0}
+IsBuilding (Err Memory) = ⊥
