@@ -1,9 +1,9 @@
 -- The arguments of a field that violate no rule: they are refused by what they ask for alone.
-use Rattle.std.proofs.Common.{◌≡◌, ◌∙◌, refl, sym, ap, subst, ℕ, List, [], ◌∷◌, ◌++◌, map, find, Bool, true, false, cond, not, ◌&&◌, ◌||◌, Option, Some, None, Ok, Err, ok_or, is_some, option_map, option_and_then, bytes_eq, codes}
+use Rattle.std.proofs.Common.{◌≡◌, ◌∙◌, refl, sym, ap, subst, ℕ, List, [], ◌∷◌, map, find, Bool, true, false, cond, not, ◌&&◌, Option, Some, None, ok_or, is_some, option_map, option_and_then, bytes_eq, codes}
 use Rattle.std.specs.List.{list_any}
 use Rattle.std.specs.Option.{option_map_or}
 use Rattle.std.proofs.lemmas.Bool.{and_parts, or_parts}
-use Rattle.hq_base.specs.Due.{mapped, and_then}
+use Rattle.hq_base.specs.Due.{and_then}
 use Rattle.hq_base.specs.Json.{JsonTree}
 use Rattle.hq_base.specs.Json as json
 use Rattle.hq_base.specs.Lists.{Each}
@@ -11,27 +11,24 @@ use Rattle.hq_base.proofs.Lists.{each_all, each_weaken}
 use Rattle.hq_base.specs.Look.{bool_in, str_in}
 use Rattle.hq_base.specs.declared.value.Ty.{Ty}
 use Rattle.hq_base.specs.declared.value.Ty.TheVariants as ty
-use Rattle.hq_base.specs.declared.value.Val.{Val}
-use Rattle.hq_terms.specs.Bexp.{BexpTree}
 use Rattle.hq_terms.specs.Fits.{fits}
 use Rattle.hq_terms.specs.Meta.{MetaTree}
-use Rattle.hq_terms.specs.Schema.{Schema, schema_of, table, column, rel}
-use Rattle.hq_terms.specs.Selected.{SortKey, ListArguments}
+use Rattle.hq_terms.specs.Schema.{Schema, schema_of, table, column}
+use Rattle.hq_terms.specs.Selected.{SortKey}
 use Rattle.hq_terms.specs.declared.role.Role.{Role}
 use Rattle.hq_terms.specs.declared.table.Table.{Table}
 use Rattle.hq_gql_tree.specs.Documents.{DocumentTree}
 use Rattle.hq_gql_tree.specs.Values.{ArgumentTree, ValueTree, variable}
 use Rattle.hq_gql_tree.specs.Values as text
 use Rattle.hq_gql_tree.specs.declared.rule.RuleId.TheVariants.{RequiredArguments, ValuesOfCorrectType}
-use Rattle.hq_gql_nodes.specs.Known.{PlaceTree, place_of_arg, is_non_null, is_null}
+use Rattle.hq_gql_nodes.specs.Known.{place_of_arg, is_non_null, is_null}
 use Rattle.hq_rules_reach.specs.Uses.{use_in}
 use Rattle.hq_gql_nodes.specs.Nodes.{NodeTree, value_node, argument_nodes, arguments_nodes, value_nodes, nodes_in_value}
-use Rattle.hq_schema.specs.Fixed.{fixed_place, int, boolean, string}
+use Rattle.hq_schema.specs.Fixed.{int, boolean, string}
 use Rattle.hq_schema.specs.Look.{arg_in}
-use Rattle.hq_schema.specs.Schema.{base, TypeRefTree, named, list_of, non_null, ArgTree, TypeTree, SchemaTree}
+use Rattle.hq_schema.specs.Schema.{base, TypeRefTree, non_null, ArgTree, TypeTree, SchemaTree}
 use Rattle.hq_schema.specs.declared.fixed.Fixed.TheVariants.{Scalar}
 use Rattle.hq_schema.specs.declared.origin.ArgOrigin.TheVariants as stands
-use Rattle.hq_schema.specs.declared.origin.TypeOrigin.TheVariants as type
 use Rattle.hq_schema.specs.declared.part.Part.TheVariants.{Filter, Sort, Columns}
 use Rattle.hq_role_schema.specs.Fields.{list_args, count_args}
 use Rattle.hq_role_schema.specs.References.{fixed, part, items, arg}
@@ -47,23 +44,23 @@ use Rattle.hq_coerce.specs.Variables.{VarTree, var_value}
 use Rattle.hq_arguments.specs.Columns.{one_column, columns_due, by_columns, by_distinct, distinct_columns, distinct_due, matched, counted_due}
 use Rattle.hq_arguments.specs.Context.{Context}
 use Rattle.hq_arguments.specs.Due.{list_due, count_due, introspection_due}
-use Rattle.hq_arguments.specs.FieldArguments.{FieldArguments, count, deprecated}
-use Rattle.hq_arguments.specs.Keys.{is_for, key_argument, key_value, given_for, part_due, key_due}
+use Rattle.hq_arguments.specs.FieldArguments.{deprecated}
+use Rattle.hq_arguments.specs.Keys.{is_for, key_value, given_for, part_due, key_due}
 use Rattle.hq_arguments.specs.Page.{rows_due}
 use Rattle.hq_arguments.specs.Plain.{flag_due, text_due}
-use Rattle.hq_arguments.specs.Reading.{Read, each, Given, unless_null, given, argument_named, given_named}
+use Rattle.hq_arguments.specs.Reading.{Given, unless_null, given, argument_named, given_named}
 use Rattle.hq_arguments.specs.Sorts.{by_sorts, order_by_due}
 use Rattle.hq_arguments.specs.Where.{by_filter, where_due}
 use Rattle.hq_arguments.specs.declared.refusal.ArgRefusal.TheVariants.{Rule}
 use Rattle.hq_terms.specs.SchemaNames.{all_names_differ}
 use Rattle.hq_build_laws.proofs.BuildingSteps.{map_some, and_then_some, same_text, equal_texts}
 use Rattle.hq_build_laws.proofs.Filters.{scalar_at, filter_lawful}
-use Rattle.hq_build_laws.proofs.Items.{each_at, found_each}
+use Rattle.hq_build_laws.proofs.Items.{found_each}
 use Rattle.hq_build_laws.proofs.Lawful.{Lawful, then_lawful, mapped_lawful, each_lawful}
 use Rattle.hq_build_laws.proofs.Literals.{Good, each_split, literal_is, some_of}
 use Rattle.hq_build_laws.proofs.Orders.{columns_lawful, matched_lawful, one_lawful, sorts_lawful}
-use Rattle.hq_build_laws.proofs.Places.{At, Schemed}
-use Rattle.hq_build_laws.proofs.Scalars.{ScalarOrNull, scalar_is, flag_is, text_is, rows_lawful, key_lawful}
+use Rattle.hq_build_laws.proofs.Places.{Schemed}
+use Rattle.hq_build_laws.proofs.Scalars.{scalar_is, flag_is, text_is, rows_lawful, key_lawful}
 use Rattle.hq_build_laws.proofs.Shapes.{KeyArg, Shaped}
 use Rattle.hq_build_laws.proofs.Usage.{or_left, or_right}
 use Rattle.hq_build_laws.proofs.Values.{IsOf}

@@ -1,7 +1,7 @@
 -- What is collected of a document that violates no rule: fields that their types have, each with its arguments, and fields below them
 -- only where their types have some.
-use Rattle.std.proofs.Common.{◌≡◌, ◌∙◌, refl, sym, ap, subst, ℕ, zero, suc, ◌+◌, ◌<◌, arith, List, [], ◌∷◌, ◌++◌, length, Bool, true, false, cond, not, ◌&&◌, ◌==◌, Option, Some, None, is_some, is_none, option_map, option_and_then, slice_get, bytes_eq, inr, eq-eqb}
-use Rattle.std.specs.List.{Contains, list_any}
+use Rattle.std.proofs.Common.{◌≡◌, ◌∙◌, refl, sym, ap, subst, ℕ, zero, suc, ◌+◌, ◌<◌, arith, List, [], ◌∷◌, ◌++◌, length, Bool, true, false, cond, ◌&&◌, ◌==◌, Option, Some, None, is_some, is_none, option_map, option_and_then, slice_get, bytes_eq, inr}
+use Rattle.std.specs.List.{Contains}
 use Rattle.std.specs.Option.{option_to_list, option_map_or}
 use Rattle.std.proofs.lemmas.Bool.{eqb-true}
 use Rattle.std.proofs.lemmas.List.Elements.{Contains-append_left, Contains-append_right}
@@ -18,11 +18,10 @@ use Rattle.hq_gql_tree.specs.declared.selection.TypeCond.{TypeCond}
 use Rattle.hq_gql_tree.specs.declared.document.OpKind.TheVariants as op
 use Rattle.hq_gql_nodes.specs.Fragments.{Places, is_fragment_named, fragment_named}
 use Rattle.hq_gql_nodes.specs.Known.{is_object, object_at, known_field, args_of_field, below_field, object_named, root_of}
-use Rattle.hq_gql_nodes.specs.Least.{at_if}
-use Rattle.hq_gql_nodes.specs.Nodes.{NodeTree, condition_node, field_node, spread_node, inline_node, arguments_nodes, directives_nodes, field_head_nodes, inline_head_nodes, condition_nodes, below_inline, selection_nodes, selections_nodes, definition_nodes, variables_nodes, location_of}
+use Rattle.hq_gql_nodes.specs.Nodes.{NodeTree, condition_node, arguments_nodes, directives_nodes, field_head_nodes, inline_head_nodes, condition_nodes, below_inline, selection_nodes, selections_nodes, definition_nodes, variables_nodes, location_of}
 use Rattle.hq_gql_nodes.specs.Reach.{has}
 use Rattle.hq_gql_nodes.specs.declared.node.Location.TheVariants as location
-use Rattle.hq_overlap_sets.specs.Pairs.{fields_at, spreads_at, fields_in, spreads_in, Within, here, spread as along, Reached, in_one, below, SameLabel, Violates}
+use Rattle.hq_overlap_sets.specs.Pairs.{fields_in, spreads_in, Within, here, spread as along, Reached, in_one, below, SameLabel, Violates}
 use Rattle.hq_overlap_sets.specs.Sets.{SetTree, seen_field, field_count_of, field_count, own_fields_of, own_fields, own_spreads_of, own_spreads, set_of, inner_sets_of, inner_sets, parent_of, selections_of_definition, document_sets}
 use Rattle.hq_overlap_sets.specs.Sets as overlap
 use Rattle.hq_overlap_sets.specs.Shapes.{shape_of}
@@ -36,7 +35,7 @@ use Rattle.hq_collect.specs.Fragments.{selections_at, fragment_selections}
 use Rattle.std.specs.Prelude.{unwrap_or}
 use Rattle.hq_collect.specs.Groups.{Group, key_or, response_key, grouped, selections_under, merged}
 use Rattle.hq_collect.specs.Tree.{CollectedTrees, no_collected, collected, is_empty, fields_of, collected_down}
-use Rattle.hq_collect.proofs.Kept.{Keeps, collect_kept}
+use Rattle.hq_collect.proofs.Kept.{collect_kept}
 use Rattle.hq_ask.specs.Known.{is_complete}
 use Rattle.hq_build_laws.proofs.BuildingSteps.{and_then_some, same_text, equal_texts}
 use Rattle.hq_build_laws.proofs.Items.{each_append}
@@ -123,8 +122,8 @@ module _ (s : SchemaTree) (d : DocumentTree) (reach : List ℕ) (vars : List Var
           nodes = parts.0;
         },
         selections_are u t more m (λ a h. fields a (Contains-append_right (own_fields_of s n (Some t) x) (own_fields s m (Some t) more) a h))
-        (λ q h. spreads q (Contains-append_right (own_spreads_of places x) (own_spreads places more) q h))
-        (at_back sets n (field_count_of x) (inner_sets_of s places n (Some t) x) (inner_sets s places m (Some t) more) (count_of s places n (Some t) x) inner) parts.1,
+            (λ q h. spreads q (Contains-append_right (own_spreads_of places x) (own_spreads places more) q h))
+            (at_back sets n (field_count_of x) (inner_sets_of s places n (Some t) x) (inner_sets s places m (Some t) more) (count_of s places n (Some t) x) inner) parts.1,
       )
 
   -- the selections that are a whole set
@@ -350,15 +349,19 @@ module _ (s : SchemaTree) (d : DocumentTree) (reach : List ℕ) (vars : List Var
             by def known (Some t') is later =
                 let stand = under_are t Src together g h.0 def known t' is (g.first ∷ g.others) h.0 in
                 let inside : Sound t' (collected_down w n r (merged g)) = again t' (Below t Src together g.key) (below_together t Src together g.key) (merged g) stand in
-                let object : is_some (object_at s (base def.ty)) ≡ true = ap is_some is in
-                (field_sound t Src together g h.0 def known (is_empty (collected_down w n r (merged g))) (or_right (is_empty (collected_down w n r (merged g))) (is_some (object_at s (base def.ty))) object),
-                subst (λ u. Sound u (collected_down w n r (merged g))) (sym (object_same s (base def.ty) t' is)) inside, later)
+                let object : is_some (object_at s (base def.ty)) ≡ true = ap is_some is in (
+                  field_sound t Src together g h.0 def known (is_empty (collected_down w n r (merged g))) (or_right (is_empty (collected_down w n r (merged g))) (is_some (object_at s (base def.ty))) object),
+                  subst (λ u. Sound u (collected_down w n r (merged g))) (sym (object_same s (base def.ty) t' is)) inside,
+                  later,
+                )
             by def known None is later =
                 let none_under : merged g ≡ [] = under_none t Src together g h.0 def known is (g.first ∷ g.others) h.0 in
                 let nothing : collected_down w n r (merged g) ≡ no_collected = ap (collected_down w n r) none_under ∙ nothing_collected w n in
-                let empty : is_empty (collected_down w n r (merged g)) ≡ true = ap is_empty nothing in
-                (field_sound t Src together g h.0 def known (is_empty (collected_down w n r (merged g))) (or_left (is_empty (collected_down w n r (merged g))) (is_some (object_at s (base def.ty))) empty),
-                subst (Sound (base def.ty)) (sym nothing) tt, later)
+                let empty : is_empty (collected_down w n r (merged g)) ≡ true = ap is_empty nothing in (
+                  field_sound t Src together g h.0 def known (is_empty (collected_down w n r (merged g))) (or_left (is_empty (collected_down w n r (merged g))) (is_some (object_at s (base def.ty))) empty),
+                  subst (Sound (base def.ty)) (sym nothing) tt,
+                  later,
+                )
 
       down_sound : (w n t : ℕ) (Src : ℕ → Type 0) → Together Src → (ss : List SelectionTree) → Each (Stands t Src) ss → Sound t (collected_down w n r ss)
       unfolding collected_down

@@ -1,5 +1,5 @@
 -- A value of a type is one of each type that the type goes with (GraphQL October 2021, 5.8.5).
-use Rattle.std.proofs.Common.{◌≡◌, refl, subst, ℕ, true, false, Some, is_some}
+use Rattle.std.proofs.Common.{◌≡◌, refl, subst, true, false, Some, is_some}
 use Rattle.std.proofs.lemmas.Bool.{eqb-true}
 use Rattle.hq_base.specs.Json.{JsonTree, null, bool, int, str, arr, obj, ElementTrees, no_element, element}
 use Rattle.hq_schema.specs.Schema.{TypeRefTree, named, list_of, non_null, base, SchemaTree}

@@ -1,14 +1,14 @@
 -- The defaults of a parsed document are constants.
-use Rattle.std.proofs.Common.{◌≡◌, refl, ap, sym, subst, ℕ, zero, suc, List, [], ◌∷◌, Bool, true, false, Option, Some, None, Ok, option_and_then, slice_get, ◌⊎◌, inl, inr}
+use Rattle.std.proofs.Common.{◌≡◌, refl, sym, subst, ℕ, zero, suc, List, [], ◌∷◌, true, false, Option, Some, None, inl, inr}
 use Rattle.std.specs.Option.{option_map_or}
 use Rattle.hq_base.specs.Lists.{Each}
 use Rattle.hq_coerce.specs.Choice.{operation_in, operation_at}
 use Rattle.hq_coerce.specs.Due.{variables_of}
 use Rattle.hq_gql_lexer.specs.declared.token.Token.{Token}
 use Rattle.hq_gql_parser.specs.Languages.{Each as Spells}
-use Rattle.hq_gql_parser.specs.Operations.{IsDefault, IsVariable, AreVariables, IsShorthand, IsNamedOperation, IsDefinition, IsDocument}
+use Rattle.hq_gql_parser.specs.Operations.{IsDefault, IsVariable, AreVariables, IsDefinition, IsDocument}
 use Rattle.hq_gql_parser.specs.Values.{IsValue}
-use Rattle.hq_gql_tree.specs.Documents.{VarDefTree, OperationTree, DefinitionTree, operation, fragment, DocumentTree}
+use Rattle.hq_gql_tree.specs.Documents.{VarDefTree, DefinitionTree, operation, fragment, DocumentTree}
 use Rattle.hq_gql_tree.specs.Values.{ValueTree, variable, PlacedTree}
 use Rattle.hq_build_laws.specs.Builds.{is_constant, has_constant}
 

@@ -1,5 +1,5 @@
 -- What `where` writes over a table: where its value is of the table's filters it is refused by a null or a pattern alone.
-use Rattle.std.proofs.Common.{◌≡◌, ◌∙◌, refl, sym, ap, subst, ℕ, List, [], ◌∷◌, Bool, true, false, cond, position, Option, Some, None, Ok, Err, is_some, option_map, option_and_then, slice_get, bytes_eq}
+use Rattle.std.proofs.Common.{◌≡◌, ◌∙◌, refl, sym, ap, subst, ℕ, List, [], ◌∷◌, Bool, true, false, cond, position, Option, Some, None, Err, is_some, option_map, option_and_then, bytes_eq}
 use Rattle.hq_base.specs.Due.{mapped}
 use Rattle.hq_base.specs.Json.{JsonTree, null, bool, int, str, arr, obj, ElementTrees, no_element, element, MemberTrees, no_member, member}
 use Rattle.hq_base.specs.Lists.{Each}
@@ -7,13 +7,11 @@ use Rattle.hq_base.proofs.Lists.{each_weaken}
 use Rattle.hq_base.specs.Look.{member_list}
 use Rattle.hq_base.specs.declared.value.Ty.{Ty}
 use Rattle.hq_base.specs.declared.value.Ty.TheVariants as ty
-use Rattle.hq_terms.specs.Bexp.{BexpTree, and_of, or_of, not_of, test, through, bexps_of, conjunction}
+use Rattle.hq_terms.specs.Bexp.{and_of, or_of, not_of, through, bexps_of, conjunction}
 use Rattle.hq_terms.specs.Fits.{fits}
 use Rattle.hq_terms.specs.Meta.{MetaTree}
 use Rattle.hq_terms.specs.Schema.{Schema, schema_of, column, rel}
 use Rattle.hq_terms.specs.Tests.{arity, applies}
-use Rattle.hq_terms.specs.declared.bexp.Operand.{Operand}
-use Rattle.hq_terms.specs.declared.bexp.Operands.TheVariants as operands
 use Rattle.hq_terms.specs.declared.meta.Rel.{Rel}
 use Rattle.hq_terms.specs.declared.operator.Operator.{Operator}
 use Rattle.hq_terms.specs.declared.role.Role.{Role}
@@ -45,7 +43,7 @@ use Rattle.hq_arguments.specs.Context.{Context}
 use Rattle.hq_arguments.specs.Operands.{operand_due, truth_due}
 use Rattle.hq_arguments.specs.Reading.{each, items_in}
 use Rattle.hq_arguments.specs.Where.{filter_due, filters_due, elements_due, members_due, member_due, by_origin}
-use Rattle.hq_gql_tree.specs.declared.rule.RuleId.TheVariants.{ValuesOfCorrectType, InputObjectFieldNames}
+use Rattle.hq_gql_tree.specs.declared.rule.RuleId.TheVariants.{ValuesOfCorrectType}
 use Rattle.hq_arguments.specs.declared.refusal.ArgRefusal.TheVariants.{Rule}
 use Rattle.hq_build_laws.proofs.BuildingSteps.{and_then_some}
 use Rattle.hq_build_laws.proofs.Items.{each_at, found_each}

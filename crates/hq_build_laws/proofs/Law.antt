@@ -1,5 +1,5 @@
 -- What is built of a document that violates no rule, with variables that are coerced, is refused by the rules of building alone.
-use Rattle.std.proofs.Common.{◌≡◌, ◌∙◌, refl, sym, ap, subst, ℕ, ◌<◌, arith, List, [], ◌∷◌, length, map, Bool, true, false, cond, ◌&&◌, ◌||◌, nat_eq, eq-eqb, Option, Some, None, Result, Ok, Err, is_some, ok_or, option_and_then, slice_get}
+use Rattle.std.proofs.Common.{◌≡◌, ◌∙◌, refl, sym, ap, subst, ℕ, ◌<◌, arith, List, [], ◌∷◌, length, Bool, true, false, cond, ◌&&◌, ◌||◌, eq-eqb, Option, Some, None, Result, Ok, Err, is_some, ok_or, slice_get}
 use Rattle.std.specs.Option.{option_map_or}
 use Rattle.std.proofs.lemmas.Bool.{and_parts}
 use Rattle.std.proofs.lemmas.Option.{slice_get_within}
@@ -7,7 +7,6 @@ use Rattle.hq_base.specs.Due.{and_then, ◌>>=◌}
 use Rattle.hq_base.specs.Json.{JsonTree}
 use Rattle.hq_base.specs.Lists.{Each}
 use Rattle.hq_base.proofs.Lists.{each_weaken}
-use Rattle.hq_terms.specs.Catalog.{is_catalog}
 use Rattle.hq_terms.specs.Fits.{fits}
 use Rattle.hq_terms.specs.Meta.{MetaTree}
 use Rattle.hq_terms.specs.Permission.{role_of}
@@ -23,7 +22,6 @@ use Rattle.hq_gql_tree.specs.Values.{ValueTree, variable, PlacedTree}
 use Rattle.hq_gql_tree.specs.Values as text
 use Rattle.hq_gql_tree.specs.declared.document.OpKind.{OpKind}
 use Rattle.hq_gql_tree.specs.declared.document.OpKind.TheVariants as op
-use Rattle.hq_gql_tree.specs.declared.fault.Fault.{Fault}
 use Rattle.hq_gql_nodes.specs.Fragments.{fragment_named, spread_targets, graph_of}
 use Rattle.hq_gql_nodes.specs.Known.{root_of}
 use Rattle.hq_gql_nodes.specs.Nodes.{PartTree, part_of, document_parts}
@@ -37,13 +35,13 @@ use Rattle.hq_roles.specs.Differ.{NamesDiffer}
 use Rattle.hq_roles.specs.Leads.{TypeFits}
 use Rattle.hq_rules_doc.specs.First.{first_doc_fault}
 use Rattle.hq_rules_fields.specs.First.{first_field_fault}
-use Rattle.hq_overlap_sets.specs.Pairs.{Reached, Violates, AtMost, later, IsFirst, IsOverlap}
+use Rattle.hq_overlap_sets.specs.Pairs.{Reached, Violates, AtMost, later, IsOverlap}
 use Rattle.hq_overlap_sets.specs.Places.{overlap_place}
 use Rattle.hq_overlap_sets.specs.Sets.{document_sets}
 use Rattle.hq_overlap_sets.specs.Sets as overlap
 use Rattle.hq_rules_reach.specs.Variables.{has_default}
 use Rattle.hq_coerce.specs.Choice.{operation_in, operation_at, operation_for, no_operation, if_query, query_at, chosen}
-use Rattle.hq_coerce.specs.Coercion.{inputs_in, inputs_at}
+use Rattle.hq_coerce.specs.Coercion.{inputs_in}
 use Rattle.hq_coerce.specs.Due.{default_value, given_members, values_due, variables_of, variables_due}
 use Rattle.hq_coerce.specs.Required.{is_required}
 use Rattle.hq_coerce.specs.Sources.{source_of}
@@ -51,7 +49,6 @@ use Rattle.hq_coerce.specs.Variables.{VarTree}
 use Rattle.hq_coerce.specs.Faults.{fault_of}
 use Rattle.hq_gql_tree.specs.declared.rule.RuleId.TheVariants as rule
 use Rattle.hq_coerce.specs.declared.refusal.CoerceRefusal.TheVariants as refusal
-use Rattle.hq_collect.specs.Collect.{Request}
 use Rattle.hq_collect.specs.FieldNodes.{is_bounded}
 use Rattle.hq_collect.specs.Keys.{is_narrow}
 use Rattle.hq_collect.specs.Size.{is_small}
@@ -63,10 +60,10 @@ use Rattle.hq_bound.specs.Bound.{bounds_due}
 use Rattle.hq_bound.specs.Laws.{request_of}
 use Rattle.hq_ask.specs.Due.{operation_of, within_limits, collected_fields, collected_due, root_due, with_fault, bound_in, build_due}
 use Rattle.hq_ask.specs.Known.{Due}
-use Rattle.hq_build_laws.specs.Builds.{is_constant, has_constant, ValidBuilds}
+use Rattle.hq_build_laws.specs.Builds.{is_constant, has_constant}
 use Rattle.hq_build_laws.specs.Refusing.{IsBuilding}
 use Rattle.hq_build_laws.proofs.Binding.{OfVariables, tables_told}
-use Rattle.hq_build_laws.proofs.BuildingSteps.{then_ok, and_then_some, ok_or_ok}
+use Rattle.hq_build_laws.proofs.BuildingSteps.{then_ok, and_then_some}
 use Rattle.hq_build_laws.proofs.Collecting.{Sound, query_sound}
 use Rattle.hq_build_laws.proofs.Items.{each_at}
 use Rattle.hq_build_laws.proofs.Lawful.{then_building}

@@ -1,12 +1,12 @@
 -- What `order_by` and the names of columns write over a table, where their values are of its types.
-use Rattle.std.proofs.Common.{◌≡◌, ◌∙◌, refl, sym, ap, subst, ℕ, suc, ◌<◌, arith, List, [], ◌∷◌, ◌++◌, length, Bool, true, false, cond, not, nat_lt, ◌==◌, position, Option, Some, None, Ok, Err, ok_or, is_some, option_map, option_and_then, slice_get, get_or, bytes_eq}
+use Rattle.std.proofs.Common.{◌≡◌, ◌∙◌, refl, sym, ap, subst, ℕ, ◌<◌, arith, List, [], ◌∷◌, ◌++◌, length, Bool, true, false, cond, not, nat_lt, ◌==◌, position, Option, Some, None, Ok, Err, ok_or, is_some, option_map, option_and_then, slice_get, get_or, bytes_eq}
 use Rattle.std.specs.List.{list_all}
 use Rattle.std.proofs.lemmas.List.Quantifiers.{position-Some}
 use Rattle.std.proofs.lemmas.Option.{slice_get-get_or}
 use Rattle.hq_base.specs.Due.{mapped, and_then}
 use Rattle.hq_base.specs.Json.{JsonTree, null, bool, int, str, arr, obj, ElementTrees, no_element, element, MemberTrees, no_member, member}
 use Rattle.hq_base.specs.Lists.{Each}
-use Rattle.hq_base.specs.Look.{element_list, str_in}
+use Rattle.hq_base.specs.Look.{element_list}
 use Rattle.hq_terms.specs.Fits.{fits}
 use Rattle.hq_terms.specs.Meta.{MetaTree}
 use Rattle.hq_terms.specs.Schema.{Schema, schema_of, rel}
@@ -14,7 +14,7 @@ use Rattle.hq_terms.specs.Selected.{SortKey}
 use Rattle.hq_terms.specs.declared.meta.Rel.{Rel}
 use Rattle.hq_terms.specs.declared.role.Role.{Role}
 use Rattle.hq_terms.specs.declared.table.Table.{Table}
-use Rattle.hq_schema.specs.Look.{type_at, input_field_of, enum_value_of, enum_column_of}
+use Rattle.hq_schema.specs.Look.{input_field_of, enum_value_of, enum_column_of}
 use Rattle.hq_schema.specs.Schema.{base, TypeRefTree, named, list_of, non_null, ArgTree, TypeTree, SchemaTree}
 use Rattle.hq_schema.specs.declared.fixed.Fixed.TheVariants.{OrderBy}
 use Rattle.hq_schema.specs.declared.origin.ArgOrigin.{ArgOrigin}
@@ -32,19 +32,19 @@ use Rattle.hq_coerce.specs.Coercion as coercion
 use Rattle.hq_coerce.specs.Variables.{VarTree}
 use Rattle.hq_arguments.specs.Columns.{column_due, columns_due, matched, same_as, one_column}
 use Rattle.hq_arguments.specs.Context.{Context}
-use Rattle.hq_arguments.specs.Reading.{each, items_in, fitting}
+use Rattle.hq_arguments.specs.Reading.{items_in, fitting}
 use Rattle.hq_arguments.specs.Sorts.{direction_named, direction_in, sort_by, column_sort, by_origin, member_due, entry_due, members_due, entries_due, within_limit}
 use Rattle.hq_arguments.specs.declared.sorts.Direction.{Direction}
 use Rattle.hq_gql_tree.specs.declared.rule.RuleId.TheVariants.{ValuesOfCorrectType, SortEntries, DistinctOrder, CountColumns}
 use Rattle.hq_arguments.specs.declared.refusal.ArgRefusal.TheVariants.{Rule}
-use Rattle.hq_build_laws.proofs.BuildingSteps.{and_then_some, same_text}
-use Rattle.hq_build_laws.proofs.Filters.{input_same, element_base, shaped_at, input_shaped, no_leaf}
+use Rattle.hq_build_laws.proofs.BuildingSteps.{same_text}
+use Rattle.hq_build_laws.proofs.Filters.{input_same, shaped_at, input_shaped, no_leaf}
 use Rattle.hq_build_laws.proofs.Items.{each_at}
 use Rattle.hq_build_laws.proofs.Lawful.{Lawful, then_lawful, mapped_lawful, each_lawful}
 use Rattle.hq_build_laws.proofs.Literals.{some_of}
 use Rattle.hq_build_laws.proofs.Permitted.{rel_at}
 use Rattle.hq_build_laws.proofs.Places.{At, Schemed, TypeIs, type_is, input_found}
-use Rattle.hq_build_laws.proofs.Shapes.{InputIs, ValuesAre, LeafKind, Shaped}
+use Rattle.hq_build_laws.proofs.Shapes.{ValuesAre, LeafKind, Shaped}
 use Rattle.hq_build_laws.proofs.Values.{IsOf, AreOf, MembersOf}
 
 module _ (tables : List Table) (m : MetaTree) (metadata_fits : fits tables m ≡ true) (role : Role) (schemed : Schemed tables m role) (shaped : Each (Shaped tables m role) (role_schema tables m role).types) (vars : List VarTree) where

@@ -1,13 +1,12 @@
 -- The fault of a valid request is of building.
 use Rattle.std.proofs.Common.{◌≡◌, ◌∙◌, refl, sym, ap, subst, ℕ, List, length, Bool, true, false, cond, nat_lt, Option, Some, None, Result, Ok, Err, codes}
-use Rattle.hq_base.specs.Due.{and_then, ◌>>=◌}
+use Rattle.hq_base.specs.Due.{◌>>=◌}
 use Rattle.hq_base.specs.Json.{JsonTree}
-use Rattle.hq_base.specs.Lists.{Each}
 use Rattle.hq_base.specs.Look.{member_in}
 use Rattle.hq_ask.specs.Due.{build_due}
 use Rattle.hq_ask_tree.specs.Request.{AskTree}
-use Rattle.hq_coerce.specs.Choice.{operation_at, chosen}
-use Rattle.hq_coerce.specs.Due.{variables_of, variables_due}
+use Rattle.hq_coerce.specs.Choice.{chosen}
+use Rattle.hq_coerce.specs.Due.{variables_due}
 use Rattle.hq_coerce.specs.Variables.{VarTree}
 use Rattle.hq_coerce.specs.declared.refusal.CoerceRefusal.{CoerceRefusal}
 use Rattle.hq_coerce.specs.declared.refusal.CoerceRefusal.TheVariants as coerce
@@ -20,9 +19,9 @@ use Rattle.hq_gql_parser.specs.Answered.{parsed}
 use Rattle.hq_gql_parser.specs.Documents.{Parses}
 use Rattle.hq_gql_tree.specs.Documents.{DocumentTree}
 use Rattle.hq_gql_tree.specs.declared.fault.Fault.{Fault}
-use Rattle.hq_request.specs.Operation.{of_fault, of_coerce, operation_name, operation_due, values_due, ask_due, operation_ask}
-use Rattle.hq_request.specs.Reading.{of_lex, of_parse, refused_as, json_due, query_due, document_due}
-use Rattle.hq_request.specs.Request.{request_by, request_due, fault_in, first_fault}
+use Rattle.hq_request.specs.Operation.{of_fault, of_coerce, operation_name, values_due, ask_due, operation_ask}
+use Rattle.hq_request.specs.Reading.{of_lex, of_parse, refused_as, query_due, document_due}
+use Rattle.hq_request.specs.Request.{request_by, fault_in}
 use Rattle.hq_request.specs.Validation.{rule_rank, earlier, unless_fault, valid_due}
 use Rattle.hq_request.specs.declared.refusal.RequestRefusal.{RequestRefusal}
 use Rattle.hq_role_schema.specs.RoleSchema.{role_schema}
@@ -33,7 +32,7 @@ use Rattle.hq_terms.specs.Meta.{MetaTree}
 use Rattle.hq_terms.specs.Permission.{role_of}
 use Rattle.hq_terms.specs.declared.session.Session.{Session}
 use Rattle.hq_terms.specs.declared.table.Table.{Table}
-use Rattle.hq_build_laws.specs.Builds.{has_constant, ValidBuilds}
+use Rattle.hq_build_laws.specs.Builds.{ValidBuilds}
 use Rattle.hq_build_laws.specs.Faults.{IsValid, ValidFaults}
 use Rattle.hq_build_laws.specs.Refusing.{is_of_building, IsBuilding}
 use Rattle.hq_build_laws.proofs.BuildingSteps.{then_ok}

@@ -1,5 +1,5 @@
 -- Values of a scalar, and of lists of one: constants, or null.
-use Rattle.std.proofs.Common.{◌≡◌, ◌∙◌, refl, sym, ap, subst, ℕ, ℤ, pos, negsuc, List, [], ◌∷◌, Bool, true, false, cond, Option, Some, None, Ok, Err, ok_or, is_some, is_ok, option_map, option_and_then, slice_get}
+use Rattle.std.proofs.Common.{◌≡◌, ◌∙◌, refl, sym, ap, subst, ℕ, ℤ, pos, negsuc, Bool, true, false, cond, Option, Some, None, Ok, Err, ok_or, is_some, is_ok, option_map, option_and_then}
 use Rattle.hq_base.specs.Json.{JsonTree, null, bool, int, str, arr, obj, ElementTrees, no_element, element}
 use Rattle.hq_base.specs.Lists.{Each}
 use Rattle.hq_base.specs.Look.{element_list, bool_in, str_in}
@@ -14,24 +14,23 @@ use Rattle.hq_terms.specs.Database.{int_fits}
 use Rattle.hq_terms.specs.Tests.{applies}
 use Rattle.hq_terms.specs.declared.bexp.Operand.TheVariants.{Const}
 use Rattle.hq_terms.specs.declared.test.Test.{Test}
-use Rattle.hq_terms.specs.declared.test.Test.TheVariants.{Compare, Among, IsNull, Like}
+use Rattle.hq_terms.specs.declared.test.Test.TheVariants.{Like}
 use Rattle.hq_schema.specs.Fixed.{fixed_place}
 use Rattle.hq_schema.specs.Look.{type_at}
 use Rattle.hq_schema.specs.Schema.{TypeRefTree, named, list_of, non_null, base, TypeTree, SchemaTree}
 use Rattle.hq_schema.specs.declared.fixed.Fixed.TheVariants.{Scalar}
 use Rattle.hq_schema.specs.declared.origin.TypeOrigin.TheVariants as type
 use Rattle.hq_gql_nodes.specs.Known.{element_type, input_at, is_input}
-use Rattle.hq_gql_tree.specs.declared.rule.RuleId.TheVariants.{PatternEscape, NegativeLimit, NullOperand, ValuesOfCorrectType}
+use Rattle.hq_gql_tree.specs.declared.rule.RuleId.TheVariants.{PatternEscape, ValuesOfCorrectType}
 use Rattle.hq_coerce.specs.Coercion.{leaf_by, leaf_value}
 use Rattle.hq_coerce.specs.Coercion as coercion
 use Rattle.hq_arguments.specs.Keys.{key_value}
 use Rattle.hq_arguments.specs.Operands.{pattern_due, operand_due, truth_due}
-use Rattle.hq_arguments.specs.Page.{not_negative, rows_of, rows_in}
+use Rattle.hq_arguments.specs.Page.{not_negative, rows_in}
 use Rattle.hq_arguments.specs.Reading.{items_in, fitting}
 use Rattle.hq_arguments.specs.declared.refusal.ArgRefusal.TheVariants.{Rule}
 use Rattle.hq_build_laws.proofs.Lawful.{Lawful}
 use Rattle.hq_build_laws.proofs.Values.{IsOf, AreOf}
-use Rattle.hq_build_laws.proofs.BuildingSteps.{map_some}
 
 -- the scalar of a type stands at its place
 pub record IsScalar (s : SchemaTree) (t : Ty) : Type 0 where

@@ -1,5 +1,5 @@
 -- What the arguments and inputs of a role's schema are like: their types, by what they stand for.
-use Rattle.std.proofs.Common.{◌≡◌, ◌∙◌, refl, sym, ap, subst, ℕ, ◌+◌, ◌<◌, arith, List, [], ◌∷◌, ◌++◌, length, map, filter, find, flat_map, Bool, true, false, cond, not, ◌==◌, ◌||◌, Option, Some, None, is_some, option_map, option_and_then, slice_get, IfSome, eq-eqb, codes, get_or}
+use Rattle.std.proofs.Common.{◌≡◌, ◌∙◌, refl, sym, ap, subst, ℕ, ◌+◌, ◌<◌, arith, List, [], ◌∷◌, ◌++◌, length, map, filter, find, flat_map, Bool, true, false, cond, not, ◌==◌, ◌||◌, Option, Some, None, option_map, option_and_then, slice_get, IfSome, eq-eqb, codes, get_or}
 use Rattle.std.specs.List.{filter_map, list_all, list_any, cons_option}
 use Rattle.std.specs.Option.{option_map_or}
 use Rattle.std.proofs.lemmas.Bool.{eqb-true}
@@ -15,7 +15,6 @@ use Rattle.hq_terms.specs.Operators.{all_operators}
 use Rattle.hq_terms.specs.Permission.{Permission, permission}
 use Rattle.hq_terms.specs.Schema.{Schema, schema_of, table, column, no_column}
 use Rattle.hq_terms.specs.Tests.{arity, applies}
-use Rattle.hq_terms.specs.declared.operator.Operator.{Operator}
 use Rattle.hq_terms.specs.declared.role.Role.{Role}
 use Rattle.hq_terms.specs.declared.table.Column.{Column}
 use Rattle.hq_terms.specs.declared.table.Table.{Table}
@@ -35,16 +34,16 @@ use Rattle.hq_schema.specs.declared.part.Part.TheVariants.{Rows, Filter, Sort, C
 use Rattle.hq_gql_nodes.specs.Known.{element_type, is_input}
 use Rattle.hq_schema.specs.declared.schema.Kind.{Kind}
 use Rattle.hq_role_schema.specs.Shown.{aggregates_over}
-use Rattle.hq_role_schema.specs.Fields.{list_field, aggregate_field, list_args, count_args, column_type, column_field, column_fields, link_aggregate, array_fields, link_fields, beside_rows, aggregated_fields, over_rows, part_fields}
-use Rattle.hq_role_schema.specs.FixedTypes.{fixed_values, fixed_inputs, fixed_fields, fixed_type, fixed_types}
-use Rattle.hq_role_schema.specs.Inputs.{connectives, column_input, is_filter, link_input, inputs_of, part_inputs, part_values}
+use Rattle.hq_role_schema.specs.Fields.{list_field, aggregate_field, list_args, count_args, column_type, column_field, column_fields, link_fields, aggregated_fields, part_fields}
+use Rattle.hq_role_schema.specs.FixedTypes.{fixed_values, fixed_type, fixed_types}
+use Rattle.hq_role_schema.specs.Inputs.{connectives, column_input, is_filter, link_input, inputs_of, part_inputs}
 use Rattle.hq_role_schema.specs.Introspection.{introspection_fields}
 use Rattle.hq_role_schema.specs.Operators.{value_type, operator_arg, is_operator_of, operator_inputs}
 use Rattle.hq_role_schema.specs.Placed.{parts_of, placed, placed_from, part_count, links_from}
 use Rattle.hq_role_schema.specs.References.{fixed, part, arg, plain_field}
 use Rattle.hq_role_schema.specs.RoleSchema.{part_type, table_types, role_schema}
-use Rattle.hq_role_schema.specs.Root.{key_arg, key_field, key_fields, aggregate_root, root_fields, query_fields}
-use Rattle.hq_role_schema.specs.Shown.{under_name, shown_columns, shown_key, shown_table, shown_entry, shown_tables}
+use Rattle.hq_role_schema.specs.Root.{key_arg, key_fields, aggregate_root, root_fields, query_fields}
+use Rattle.hq_role_schema.specs.Shown.{under_name, shown_columns, shown_table, shown_entry, shown_tables}
 use Rattle.hq_role_schema.specs.declared.shown.Link.{Link}
 use Rattle.hq_role_schema.specs.declared.shown.PlacedTable.{PlacedTable}
 use Rattle.hq_role_schema.specs.declared.shown.ShownColumn.{ShownColumn}
@@ -54,7 +53,7 @@ use Rattle.hq_arguments.specs.Keys.{is_for, key_argument}
 use Rattle.hq_build_laws.proofs.Items.{each_append, each_filter_map, each_flat_map, each_map, each_of}
 use Rattle.hq_build_laws.proofs.Permitted.{column_typed, entry, entry_parts}
 use Rattle.hq_build_laws.proofs.Standing.{IsShown, tables_shown, placed_shown, firsts_are, none_new}
-use Rattle.hq_build_laws.proofs.BuildingSteps.{map_some, and_then_some}
+use Rattle.hq_build_laws.proofs.BuildingSteps.{map_some}
 use Rattle.hq_build_laws.proofs.Usage.{or_left, or_right}
 
 -- ---- lists

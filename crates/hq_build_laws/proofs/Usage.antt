@@ -1,5 +1,5 @@
 -- The variables that an operation uses have values that go with their places (GraphQL October 2021, 5.8.3, 5.8.5 and 6.1.2).
-use Rattle.std.proofs.Common.{◌≡◌, ◌∙◌, refl, sym, ap, subst, ℕ, zero, suc, ◌+◌, ◌<◌, ◌≤◌, arith, nat_eq, eq-eqb, get_or, inl, inr, List, [], ◌∷◌, map, length, find, Bool, true, false, cond, not, ◌&&◌, ◌||◌, Option, Some, None, Ok, Err, is_some, is_none, option_map, option_and_then, slice_get, slice_index_or, bytes_eq}
+use Rattle.std.proofs.Common.{◌≡◌, ◌∙◌, refl, sym, ap, subst, ℕ, zero, suc, ◌+◌, ◌<◌, arith, nat_eq, eq-eqb, get_or, inl, inr, List, [], ◌∷◌, map, length, find, Bool, true, false, cond, not, ◌&&◌, ◌||◌, Option, Some, None, Ok, Err, is_some, is_none, option_and_then, slice_get, slice_index_or, bytes_eq}
 use Rattle.std.specs.List.{filter_map, list_any, cons_option, position_from}
 use Rattle.std.specs.Map.{lookup}
 use Rattle.std.proofs.lemmas.Option.{slice_get_within}
@@ -9,11 +9,11 @@ use Rattle.hq_base.specs.Due.{mapped}
 use Rattle.hq_base.specs.Json.{JsonTree}
 use Rattle.hq_base.specs.Lists.{Each}
 use Rattle.hq_base.proofs.Lists.{each_weaken}
-use Rattle.hq_schema.specs.Schema.{TypeRefTree, named, list_of, non_null, ArgTree, SchemaTree}
+use Rattle.hq_schema.specs.Schema.{TypeRefTree, named, list_of, non_null, SchemaTree}
 use Rattle.hq_gql_tree.specs.Values.{ValueTree, variable}
 use Rattle.hq_gql_tree.specs.Documents.{VarDefTree, OperationTree, DefinitionTree, operation, DocumentTree}
 use Rattle.hq_gql_nodes.specs.Known.{PlaceTree, is_non_null, resolved}
-use Rattle.hq_gql_nodes.specs.Least.{earlier, at_if, least_of}
+use Rattle.hq_gql_nodes.specs.Least.{at_if, least_of}
 use Rattle.hq_gql_nodes.specs.Names.{NameTree, repeat_behind, least_repeat}
 use Rattle.hq_gql_nodes.specs.Nodes.{NodeTree, value_node, spread_node, PartTree, part_of, definition_nodes, document_parts}
 use Rattle.hq_gql_nodes.specs.Fragments.{is_fragment_named, fragment_named, spread_target, spread_targets, graph_of}
@@ -27,9 +27,8 @@ use Rattle.hq_coerce.specs.Coercion as coercion
 use Rattle.hq_coerce.specs.Due.{refused, default_value, given_value, checked_value, value_due, value_if_known, variable_due, with_value, values_due}
 use Rattle.hq_coerce.specs.Required.{required_in, required_of, required_names, required_at, is_required}
 use Rattle.hq_coerce.specs.Variables.{VarTree, var_value}
-use Rattle.hq_coerce.specs.declared.refusal.CoerceRefusal.{CoerceRefusal}
 use Rattle.hq_rules_doc.specs.Operations.{variable_name, repeated_variable}
-use Rattle.hq_build_laws.proofs.BuildingSteps.{mapped_ok, then_ok, and_then_some, same_text, equal_texts}
+use Rattle.hq_build_laws.proofs.BuildingSteps.{mapped_ok, then_ok, same_text, equal_texts}
 use Rattle.hq_build_laws.proofs.Items.{each_at}
 use Rattle.hq_build_laws.proofs.Literals.{VarFits, UseFits, Good, not_false, not_none}
 use Rattle.hq_build_laws.proofs.Reaching.{reached_closed}
@@ -106,9 +105,10 @@ taken own name (Some j) vars same none = rw same refl
 unrepeated : (before : List (List ℕ)) (ns : List NameTree) → repeat_behind before ns ≡ None → Each (λ (n : NameTree). list_any (λ x. bytes_eq x n.name) before ≡ false) ns
 unrepeated before [] h = tt
 unrepeated before (n ∷ ns) h =
-    let both = earlier_parts (at_if (list_any (λ x. bytes_eq x n.name) before) n.at) (repeat_behind (n.name ∷ before) ns) h in
-    (at_if_none (list_any (λ x. bytes_eq x n.name) before) n.at both.0,
-    each_weaken (λ (k : NameTree). list_any (λ x. bytes_eq x k.name) (n.name ∷ before) ≡ false) (λ (k : NameTree). list_any (λ x. bytes_eq x k.name) before ≡ false) (λ k h. or_last (bytes_eq n.name k.name) (list_any (λ x. bytes_eq x k.name) before) h) ns (unrepeated (n.name ∷ before) ns both.1))
+    let both = earlier_parts (at_if (list_any (λ x. bytes_eq x n.name) before) n.at) (repeat_behind (n.name ∷ before) ns) h in (
+      at_if_none (list_any (λ x. bytes_eq x n.name) before) n.at both.0,
+      each_weaken (λ (k : NameTree). list_any (λ x. bytes_eq x k.name) (n.name ∷ before) ≡ false) (λ (k : NameTree). list_any (λ x. bytes_eq x k.name) before ≡ false) (λ k h. or_last (bytes_eq n.name k.name) (list_any (λ x. bytes_eq x k.name) before) h) ns (unrepeated (n.name ∷ before) ns both.1),
+    )
 
 -- variables behind one have other names
 others_differ : (own name : List ℕ) (before : List (List ℕ)) (vs : List VarDefTree) → bytes_eq own name ≡ true → repeat_behind (own ∷ before) (map variable_name vs) ≡ None → Each (λ (v : VarDefTree). bytes_eq v.name name ≡ false) vs
@@ -260,7 +260,7 @@ each_among {A = A} f (x ∷ xs) = by (f x) refl (each_among f xs)
     by (Some own) is later = (
       (λ name e. let same : own ≡ name = (let both : Some own ≡ Some name = sym is ∙ e in cc) in or_left (bytes_eq own name) (list_any (λ n. bytes_eq n name) (filter_map f xs)) (equal_texts own name same)),
       each_weaken (λ y. (name : List ℕ) → f y ≡ Some name → list_any (λ n. bytes_eq n name) (filter_map f xs) ≡ true) (λ y. (name : List ℕ) → f y ≡ Some name → list_any (λ n. bytes_eq n name) (own ∷ filter_map f xs) ≡ true)
-      (λ y h name e. or_right (bytes_eq own name) (list_any (λ n. bytes_eq n name) (filter_map f xs)) (h name e)) xs later,
+          (λ y h name e. or_right (bytes_eq own name) (list_any (λ n. bytes_eq n name) (filter_map f xs)) (h name e)) xs later,
     )
 
 -- the same of places

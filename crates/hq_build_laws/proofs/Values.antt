@@ -1,15 +1,11 @@
 -- JSON values that are of a type of a schema: what is coerced is, and so it is of each type that its own goes with.
-use Rattle.std.proofs.Common.{◌≡◌, ◌∙◌, refl, sym, ap, subst, ℕ, ℤ, List, [], ◌∷◌, ◌++◌, Bool, true, false, cond, not, ◌&&◌, Option, Some, None, is_some, option_map, option_and_then, ◌⊎◌, inl, inr, append-nil}
+use Rattle.std.proofs.Common.{◌≡◌, ◌∙◌, refl, sym, ap, subst, ℕ, ℤ, List, [], ◌∷◌, ◌++◌, Bool, true, false, cond, not, Option, Some, None, is_some, option_map, option_and_then, ◌⊎◌, inl, inr, append-nil}
 use Rattle.std.specs.List.{filter_map, list_any}
-use Rattle.std.proofs.lemmas.Bool.{and_parts, false≢true, eqb-true}
 use Rattle.hq_base.specs.Cells.{cell_of, json_of}
 use Rattle.hq_base.specs.Json.{JsonTree, null, bool, int, str, arr, obj, ElementTrees, no_element, element, MemberTrees, no_member, member, elements_of, members_of, names_of}
 use Rattle.hq_base.specs.Lists.{Each}
-use Rattle.hq_base.specs.declared.value.Ty.{Ty}
 use Rattle.hq_base.specs.declared.value.Ty.TheVariants as ty
-use Rattle.hq_base.specs.declared.value.Val.{Val}
 use Rattle.hq_base.specs.declared.value.Val.TheVariants as val
-use Rattle.hq_terms.specs.Constants.{text_constant, truth_constant, constant_in}
 use Rattle.hq_terms.specs.Database.{int_fits}
 use Rattle.hq_terms.specs.Reading.{whole_number}
 use Rattle.hq_terms.proofs.Fitting.{whole_fits}

@@ -1,17 +1,15 @@
 -- The walk over collected fields that their types have: it refuses by what arguments ask for alone.
-use Rattle.std.proofs.Common.{◌≡◌, ◌∙◌, refl, sym, ap, subst, ℕ, List, [], ◌∷◌, map, Bool, true, false, cond, not, ◌||◌, ◌==◌, Option, Some, None, Result, Ok, Err, is_some, option_and_then, option_map, slice_get, bytes_eq, codes, ◌⊎◌, inl, inr}
+use Rattle.std.proofs.Common.{◌≡◌, ◌∙◌, refl, sym, ap, subst, ℕ, List, [], ◌∷◌, map, Bool, true, false, cond, not, ◌||◌, ◌==◌, Option, Some, None, Ok, Err, is_some, option_and_then, option_map, bytes_eq, codes, ◌⊎◌, inl, inr}
 use Rattle.std.specs.Option.{option_or}
 use Rattle.std.proofs.lemmas.Bool.{false≢true}
 use Rattle.hq_base.specs.Due.{mapped, and_then, ◌>>=◌}
 use Rattle.hq_base.specs.Lists.{Each}
 use Rattle.hq_base.specs.declared.aggregate.Aggregate.{Aggregate}
 use Rattle.hq_base.specs.declared.value.Ty.{Ty}
-use Rattle.hq_base.specs.declared.value.Val.{Val}
 use Rattle.hq_terms.specs.Fits.{fits}
 use Rattle.hq_terms.specs.Meta.{MetaTree}
 use Rattle.hq_terms.specs.Schema.{Schema, schema_of, rel}
 use Rattle.hq_terms.specs.SchemaNames.{all_names_differ}
-use Rattle.hq_terms.specs.Selected.{ListArguments}
 use Rattle.hq_terms.specs.declared.meta.Rel.{Rel}
 use Rattle.hq_terms.specs.declared.role.Role.{Role}
 use Rattle.hq_terms.specs.declared.table.Table.{Table}
@@ -22,7 +20,7 @@ use Rattle.hq_gql_nodes.specs.Known.{is_object, object_at, known_field, meta_fie
 use Rattle.hq_gql_nodes.specs.Nodes.{arguments_nodes}
 use Rattle.hq_rules_fields.specs.NodeRules.{lacks_any}
 use Rattle.hq_schema.specs.Fixed.{fixed_place, fixed_origin}
-use Rattle.hq_schema.specs.Look.{type_at, field_in, field_of}
+use Rattle.hq_schema.specs.Look.{field_in, field_of}
 use Rattle.hq_schema.specs.Schema.{base, ArgTree, FieldTree, TypeTree, TypeRefTree, SchemaTree}
 use Rattle.hq_schema.specs.declared.fixed.Fixed.{Fixed}
 use Rattle.hq_schema.specs.declared.fixed.Fixed.TheVariants as fixed
@@ -38,18 +36,17 @@ use Rattle.hq_roles.specs.Differ.{TypeDiffers, ArgsDiffer}
 use Rattle.hq_roles.specs.Leads.{where_holds, to, behind_one, behind_many, aggregates_behind, Reaches, ArgFits, list_target, remote_of, row_target, row_args, root_target, root_args, aggregate_target, over_target, over_args, column_target, introspection_target}
 use Rattle.hq_role_schema.specs.Fields.{list_args}
 use Rattle.hq_base.specs.declared.value.Ty.TheVariants as ty
-use Rattle.hq_ask_tree.specs.Fields.{Origin, origin_of, FieldTrees, no_field, field, typename, object, list, by_key, aggregate, introspect, PartTrees, no_part, part, summary, nodes, part_typename}
+use Rattle.hq_ask_tree.specs.Fields.{origin_of, field, typename, object, list, by_key, aggregate, introspect, part, summary, nodes, part_typename}
 use Rattle.hq_ask_tree.specs.Introspection.{look, IntrospectionTrees, looks}
 use Rattle.hq_ask_tree.specs.declared.aggregate.AggCol.{AggCol}
 use Rattle.hq_ask_tree.specs.declared.aggregate.AggCol.TheVariants as of
 use Rattle.hq_ask_tree.specs.declared.aggregate.AggField.{AggField}
 use Rattle.hq_ask_tree.specs.declared.aggregate.AggField.TheVariants as take
 use Rattle.hq_coerce.specs.Variables.{VarTree}
-use Rattle.hq_coerce.specs.declared.refusal.CoerceRefusal.{CoerceRefusal}
 use Rattle.hq_coerce.specs.declared.refusal.CoerceRefusal.TheVariants as coerce
 use Rattle.hq_collect.specs.Tree.{CollectedTrees, no_collected, collected, is_empty}
 use Rattle.hq_arguments.specs.Context.{Context}
-use Rattle.hq_arguments.specs.Due.{list_due, count_due, by_origin, at_field, arguments_due}
+use Rattle.hq_arguments.specs.Due.{list_due, count_due, by_origin, at_field}
 use Rattle.hq_arguments.specs.FieldArguments.{FieldArguments, rows, key, count, type_name}
 use Rattle.hq_arguments.specs.Columns.{counted_due}
 use Rattle.hq_arguments.specs.Keys.{key_due}
@@ -66,7 +63,6 @@ use Rattle.hq_build_laws.specs.Refusing.{IsBuilding}
 use Rattle.hq_build_laws.proofs.Arguments.{list_lawful, count_lawful, introspection_lawful, keys_lawful, text_lawful}
 use Rattle.hq_build_laws.proofs.BuildingSteps.{mapped_ok, then_ok}
 use Rattle.hq_build_laws.proofs.Collecting.{SoundField, Sound}
-use Rattle.hq_build_laws.proofs.Filters.{shaped_at, scalar_at}
 use Rattle.hq_build_laws.proofs.Items.{each_at, found_each}
 use Rattle.hq_build_laws.proofs.Lawful.{Lawful, mapped_lawful, then_building, mapped_building}
 use Rattle.hq_build_laws.proofs.Literals.{Good}
@@ -272,9 +268,10 @@ module _ (tables : List Table) (m : MetaTree) (metadata_fits : fits tables m ≡
 
     look_own : Reaches types f.def.ty (introspection_target f.def.origin) → (o : FieldOrigin) → f.def.origin ≡ o → LookWanted o
     look_own reach_is origin.Introspection is =
-        let shape : FieldIs tables m role origin.Introspection f.def.args f.def.ty = subst (λ o. FieldIs tables m role o f.def.args f.def.ty) is (field_like place type.Introspection h.name f.def at f.known).shape in
-        (introspection_lawful tables m metadata_fits role schemed shaped vars d reach h.args f.def.args shape.0 f.arguments,
-        λ x e. mapped_building (look h.name None (deprecated_of x)) (looks_due c (base f.def.ty) t under) (below_looks t f.def under shape.1 f.complete again))
+        let shape : FieldIs tables m role origin.Introspection f.def.args f.def.ty = subst (λ o. FieldIs tables m role o f.def.args f.def.ty) is (field_like place type.Introspection h.name f.def at f.known).shape in (
+          introspection_lawful tables m metadata_fits role schemed shaped vars d reach h.args f.def.args shape.0 f.arguments,
+          λ x e. mapped_building (look h.name None (deprecated_of x)) (looks_due c (base f.def.ty) t under) (below_looks t f.def under shape.1 f.complete again),
+        )
     look_own reach_is o is = absurd (subst (λ o. Reaches types f.def.ty (introspection_target o)) is reach_is)
 
     look_wanted : (def : FieldTree) → f.def ≡ def → Found tables m role schemed place type.Introspection h.name def → LookWanted f.def.origin
@@ -464,8 +461,8 @@ module _ (tables : List Table) (m : MetaTree) (metadata_fits : fits tables m ≡
     type_wanted : f.def ≡ type_field → Wanted origin.«Type»
     type_wanted is = (
       subst (λ (l : List ArgTree). Lawful (mapped type_name (text_due (given_named c l h.args (codes "name"))))) (sym same)
-      (mapped_lawful type_name (text_due (given_named c type_field.args h.args (codes "name")))
-      (text_lawful tables m metadata_fits role schemed shaped vars d reach h.args (subst (λ (l : List ArgTree). Each (Good R d reach vars) (arguments_nodes R (Some l) h.args)) same f.arguments) (subst (λ (l : List ArgTree). lacks_any h.args l ≡ false) same f.required))),
+          (mapped_lawful type_name (text_due (given_named c type_field.args h.args (codes "name")))
+          (text_lawful tables m metadata_fits role schemed shaped vars d reach h.args (subst (λ (l : List ArgTree). Each (Good R d reach vars) (arguments_nodes R (Some l) h.args)) same f.arguments) (subst (λ (l : List ArgTree). lacks_any h.args l ≡ false) same f.required))),
       asked,
     )
       where

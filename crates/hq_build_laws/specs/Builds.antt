@@ -1,5 +1,5 @@
 -- What building the typed request of a valid document refuses.
-use Rattle.std.specs.Prelude.{◌≡◌, ℕ, List, Bool, true, false, Option, None, Result, Ok, Err}
+use Rattle.std.specs.Prelude.{◌≡◌, ℕ, List, Bool, true, false, Option, None, Ok}
 use Rattle.std.specs.Option.{option_map_or}
 use Rattle.hq_base.specs.Json.{JsonTree}
 use Rattle.hq_base.specs.Lists.{Each}
@@ -9,16 +9,11 @@ use Rattle.hq_terms.specs.Meta.{MetaTree}
 use Rattle.hq_terms.specs.Permission.{role_of}
 use Rattle.hq_terms.specs.declared.session.Session.{Session}
 use Rattle.hq_terms.specs.declared.table.Table.{Table}
-use Rattle.hq_schema.specs.Schema.{SchemaTree}
 use Rattle.hq_gql_tree.specs.Documents.{VarDefTree, DocumentTree}
 use Rattle.hq_gql_tree.specs.Values.{ValueTree, variable}
-use Rattle.hq_gql_tree.specs.declared.rule.RuleId.{RuleId}
-use Rattle.hq_gql_tree.specs.declared.rule.RuleId.TheVariants as rule
 use Rattle.hq_coerce.specs.Choice.{operation_at, chosen}
 use Rattle.hq_coerce.specs.Due.{variables_of, variables_due}
 use Rattle.hq_coerce.specs.Variables.{VarTree}
-use Rattle.hq_coerce.specs.declared.refusal.CoerceRefusal.{CoerceRefusal}
-use Rattle.hq_coerce.specs.declared.refusal.CoerceRefusal.TheVariants.{Fault, Memory}
 use Rattle.hq_role_schema.specs.RoleSchema.{role_schema}
 use Rattle.hq_rules_doc.specs.First.{first_doc_fault}
 use Rattle.hq_rules_fields.specs.First.{first_field_fault}

@@ -8,8 +8,8 @@ ghost use Rattle.hq_gql_tree.specs.Documents.{DocumentTree};
 ghost use Rattle.hq_coerce.specs.Variables.{VarTree};
 ghost use Rattle.hq_build_laws.specs.Builds.{ValidBuilds};
 
-use hq_roles::{leads_where_permitted, names_differ};
 use hq_overlap_sets::the_place_is_first;
+use hq_roles::{leads_where_permitted, names_differ};
 
 /// Over a catalog and a metadata that fits it: where a document violates no rule for the schema of the session's role, and its variables
 /// are coerced, building the request gives it, or breaks a limit (F32), lacks a session variable (F33, F34), or asks for what arguments
