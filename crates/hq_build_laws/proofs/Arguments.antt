@@ -68,11 +68,13 @@ use Rattle.hq_build_laws.proofs.Values.{IsOf}
 -- ---- names that differ
 
 -- the name of an item that is found is one of the names
-any_found : (p : ArgTree → Bool) (name : List ℕ) (args : List ArgTree) (x : ArgTree) → find p args ≡ Some x → bytes_eq name x.name ≡ true → list_any (bytes_eq name) (map (λ (y : ArgTree). y.name) args) ≡ true
+any_found : (p : ArgTree → Bool) (name : List ℕ) (args : List ArgTree) (x : ArgTree) → find p args ≡ Some x → bytes_eq name x.name ≡ true
+    → list_any (bytes_eq name) (map (λ (y : ArgTree). y.name) args) ≡ true
 any_found p name [] x e same = absurd cc
 any_found p name (y ∷ args) x e same = by (p y) e (λ g. any_found p name args x g same)
   where
-    by : (b : Bool) → cond b (Some y) (find p args) ≡ Some x → (find p args ≡ Some x → list_any (bytes_eq name) (map (λ (y : ArgTree). y.name) args) ≡ true) → list_any (bytes_eq name) (map (λ (y : ArgTree). y.name) (y ∷ args)) ≡ true
+    by : (b : Bool) → cond b (Some y) (find p args) ≡ Some x → (find p args ≡ Some x → list_any (bytes_eq name) (map (λ (y : ArgTree). y.name) args) ≡ true)
+        → list_any (bytes_eq name) (map (λ (y : ArgTree). y.name) (y ∷ args)) ≡ true
     by true e again = let is : y ≡ x = cc in or_left (bytes_eq name y.name) _ (ap (λ (z : ArgTree). bytes_eq name z.name) is ∙ same)
     by false e again = or_right (bytes_eq name y.name) _ (again e)
 
@@ -87,7 +89,8 @@ differ_found p (y ∷ args) x differ e =
     other new e false is = refl
     other new e true is = let no : not true ≡ true = subst (λ b. not b ≡ true) (any_found p y.name args x e is) new in absurd cc
 
-    by : not (list_any (bytes_eq y.name) (map (λ (z : ArgTree). z.name) args)) ≡ true → (b : Bool) → cond b (Some y) (find p args) ≡ Some x → (find p args ≡ Some x → arg_in args x.name ≡ Some x) → arg_in (y ∷ args) x.name ≡ Some x
+    by : not (list_any (bytes_eq y.name) (map (λ (z : ArgTree). z.name) args)) ≡ true → (b : Bool) → cond b (Some y) (find p args) ≡ Some x
+        → (find p args ≡ Some x → arg_in args x.name ≡ Some x) → arg_in (y ∷ args) x.name ≡ Some x
     by new true e again = let is : y ≡ x = cc in rw (ap (λ (z : ArgTree). bytes_eq z.name x.name) is ∙ equal_texts x.name x.name refl) (ap Some is)
     by new false e again = rw (other new e (bytes_eq y.name x.name) refl) (again e)
 
@@ -141,7 +144,8 @@ module _ (s : SchemaTree) (d : DocumentTree) (reach : List ℕ) (vars : List Var
         let here : Each Fine (value_nodes s (Some (place_of_arg a)) x.value) = subst (λ (o : Option ArgTree). Each Fine (value_nodes s (option_map place_of_arg o) x.value)) known mine.1 in
         (here.0, here.1)
 
-    value_of : (name : List ℕ) (x : ArgumentTree) → argument_named xs name ≡ Some x → (a : ArgTree) → arg_in args x.name ≡ Some a → (j : JsonTree) → source_of vars x.value.value ≡ Some j → IsOf s a.ty j
+    value_of : (name : List ℕ) (x : ArgumentTree) → argument_named xs name ≡ Some x → (a : ArgTree) → arg_in args x.name ≡ Some a → (j : JsonTree) → source_of vars x.value.value ≡ Some j
+        → IsOf s a.ty j
     value_of name x found a known j e = let w = written_is name x found a known in literal_is s d reach vars x.value.value x.value.at (place_of_arg a) w.0 w.1 j e
 
     pub given_is : (c : Context) → c.vars ≡ vars → (name : List ℕ) (g : Given) → given_named c args xs name ≡ Some g → GivenIs s g × (arg_in args name ≡ Some g.arg)
@@ -184,7 +188,9 @@ module _ (s : SchemaTree) (d : DocumentTree) (reach : List ℕ) (vars : List Var
             let named_so = (found_each (λ (y : ArgumentTree). Unit {0}) (λ (y : ArgumentTree). bytes_eq y.name a.name) xs x found (each_all (λ (y : ArgumentTree). Unit {0}) (λ y. tt) xs)).1 in
             let here : arg_in args x.name ≡ Some a = ap (arg_in args) (same_text x.name a.name named_so) ∙ known in
             let w = written_is a.name x found a here in
-            let j = some_of (source_of vars x.value.value) (source_some x.value.value (λ name is. (w.0.used (record { name = name; at = x.value.at; place = Some (place_of_arg a) }) (ap (use_in x.value.at (Some (place_of_arg a))) is) (place_of_arg a) refl).given strict plain)) in
+            let j = some_of (source_of vars x.value.value)
+            (source_some x.value.value (λ name is.
+            (w.0.used (record { name = name; at = x.value.at; place = Some (place_of_arg a) }) (ap (use_in x.value.at (Some (place_of_arg a))) is) (place_of_arg a) refl).given strict plain)) in
             let of : IsOf s a.ty j.0 = literal_is s d reach vars x.value.value x.value.at (place_of_arg a) w.0 w.1 j.0 j.1 in
             let no : coercion.is_null j.0 ≡ false = strict_not_null s a.ty j.0 strict of in
             let made : JsonTree → Given = λ i. record { arg = a; value = i } in
@@ -197,7 +203,8 @@ module _ (s : SchemaTree) (d : DocumentTree) (reach : List ℕ) (vars : List Var
 
 -- ---- the arguments of each kind of field
 
-module _ (tables : List Table) (m : MetaTree) (metadata_fits : fits tables m ≡ true) (role : Role) (schemed : Schemed tables m role) (shaped : Each (Shaped tables m role) (role_schema tables m role).types) (vars : List VarTree)
+module _ (tables : List Table) (m : MetaTree) (metadata_fits : fits tables m ≡ true) (role : Role) (schemed : Schemed tables m role)
+    (shaped : Each (Shaped tables m role) (role_schema tables m role).types) (vars : List VarTree)
     (d : DocumentTree) (reach : List ℕ) where
   abbrev s : Schema
   s = schema_of tables m
@@ -220,7 +227,8 @@ module _ (tables : List Table) (m : MetaTree) (metadata_fits : fits tables m ≡
   module _ (xs : List ArgumentTree) where
     -- ---- where its definition is this one
 
-    flag_lawful : (args : List ArgTree) → Each FineHere (arguments_nodes R (Some args) xs) → (name : List ℕ) → ((x : ArgTree) → arg_in args name ≡ Some x → x.ty ≡ fixed boolean) → Lawful (flag_due (given_named c args xs name))
+    flag_lawful : (args : List ArgTree) → Each FineHere (arguments_nodes R (Some args) xs) → (name : List ℕ) → ((x : ArgTree) → arg_in args name ≡ Some x → x.ty ≡ fixed boolean)
+        → Lawful (flag_due (given_named c args xs name))
     flag_lawful args nodes name typed = by (given_named c args xs name) refl
       where
         some : (o : Option Bool) → is_some o ≡ true → Lawful (ok_or o (Rule ValuesOfCorrectType))
@@ -232,7 +240,8 @@ module _ (tables : List Table) (m : MetaTree) (metadata_fits : fits tables m ≡
         by (Some g) is =
             let g_is = given_is R d reach vars args xs nodes c refl name g is in
             let of : IsOf R (fixed boolean) g.value = subst (λ r. IsOf R r g.value) (typed g.arg g_is.1) g_is.0.of in
-            some (bool_in g.value) (flag_is g.value g_is.0.not_null (scalar_is R ty.Boolean (scalar_at tables m metadata_fits role schemed shaped vars ty.Boolean) (fixed boolean) refl refl g.value of))
+            some (bool_in g.value) (flag_is g.value g_is.0.not_null
+            (scalar_is R ty.Boolean (scalar_at tables m metadata_fits role schemed shaped vars ty.Boolean) (fixed boolean) refl refl g.value of))
 
     -- the name of a type, which is required
     pub text_lawful : Each FineHere (arguments_nodes R (Some type_field.args) xs) → lacks_any xs type_field.args ≡ false → Lawful (text_due (given_named c type_field.args xs (codes "name")))
@@ -248,7 +257,8 @@ module _ (tables : List Table) (m : MetaTree) (metadata_fits : fits tables m ≡
         some None h = absurd cc
         some (Some b) h = tt
 
-        by : (o : Option ArgumentTree) → argument_named xs (codes "name") ≡ o → (g : Given) → option_and_then (given c (arg (codes "name") (non_null (fixed string)) stands.TypeName)) o ≡ Some g → is_some (str_in g.value) ≡ true
+        by : (o : Option ArgumentTree) → argument_named xs (codes "name") ≡ o → (g : Given)
+            → option_and_then (given c (arg (codes "name") (non_null (fixed string)) stands.TypeName)) o ≡ Some g → is_some (str_in g.value) ≡ true
             → Lawful (text_due (option_and_then (λ (x : ArgumentTree). option_and_then (λ a. given c a x) (arg_in type_field.args x.name)) o))
         by None is g e h = absurd cc
         by (Some x) is g e h =
@@ -256,7 +266,8 @@ module _ (tables : List Table) (m : MetaTree) (metadata_fits : fits tables m ≡
             let here : arg_in type_field.args x.name ≡ Some (arg (codes "name") (non_null (fixed string)) stands.TypeName) = ap (arg_in type_field.args) (same_text x.name (codes "name") named_so) in
             subst (λ (o : Option Given). Lawful (text_due o)) (sym (ap (option_and_then (λ a. given c a x)) here ∙ e)) (some (str_in g.value) h)
 
-    rows_of_lawful : (args : List ArgTree) → Each FineHere (arguments_nodes R (Some args) xs) → (name : List ℕ) → ((x : ArgTree) → arg_in args name ≡ Some x → x.ty ≡ fixed int) → Lawful (rows_due (given_named c args xs name))
+    rows_of_lawful : (args : List ArgTree) → Each FineHere (arguments_nodes R (Some args) xs) → (name : List ℕ) → ((x : ArgTree) → arg_in args name ≡ Some x → x.ty ≡ fixed int)
+        → Lawful (rows_due (given_named c args xs name))
     rows_of_lawful args nodes name typed = by (given_named c args xs name) refl
       where
         by : (o : Option Given) → given_named c args xs name ≡ o → Lawful (rows_due o)
@@ -302,24 +313,31 @@ module _ (tables : List Table) (m : MetaTree) (metadata_fits : fits tables m ≡
 
       distinct_lawful : (sorts : List SortKey) → Lawful (distinct_due c sorts (given_named c (list_args first) xs (codes "distinct_on")))
       unfolding list_args
-      distinct_lawful sorts = then_lawful (matched sorts) (distinct_columns c (given_named c (list_args first) xs (codes "distinct_on"))) (by (given_named c (list_args first) xs (codes "distinct_on")) refl) (λ cs e. matched_lawful tables m metadata_fits role schemed shaped vars sorts cs)
+      distinct_lawful sorts = then_lawful (matched sorts) (distinct_columns c (given_named c (list_args first) xs (codes "distinct_on")))
+          (by (given_named c (list_args first) xs (codes "distinct_on")) refl) (λ cs e. matched_lawful tables m metadata_fits role schemed shaped vars sorts cs)
         where
-          of_arg : (x : ArgTree) (j : JsonTree) → x ≡ arg (codes "distinct_on") (items (part first Columns)) stands.DistinctOn → coercion.is_null j ≡ false → IsOf R x.ty j → Lawful (by_distinct c j (base x.ty) x.origin)
+          of_arg : (x : ArgTree) (j : JsonTree) → x ≡ arg (codes "distinct_on") (items (part first Columns)) stands.DistinctOn → coercion.is_null j ≡ false → IsOf R x.ty j
+              → Lawful (by_distinct c j (base x.ty) x.origin)
           of_arg x j is never h =
               subst (λ (x : ArgTree). Lawful (by_distinct c j (base x.ty) x.origin)) (sym is)
               (columns_lawful tables m metadata_fits role schemed shaped vars (part_place first Columns) u fit.0.reaches j never (subst (λ (x : ArgTree). IsOf R x.ty j) is h))
 
           by : (o : Option Given) → given_named c (list_args first) xs (codes "distinct_on") ≡ o → Lawful (distinct_columns c o)
           by None is = tt
-          by (Some g) is = let g_is = given_here (codes "distinct_on") (arg (codes "distinct_on") (items (part first Columns)) stands.DistinctOn) refl g is in of_arg g.arg g.value g_is.1 g_is.0.not_null g_is.0.of
+          by (Some g) is = let g_is = given_here (codes "distinct_on") (arg (codes "distinct_on") (items (part first Columns)) stands.DistinctOn) refl g is in
+              of_arg g.arg g.value g_is.1 g_is.0.not_null g_is.0.of
 
       limit_lawful : Lawful (rows_due (given_named c (list_args first) xs (codes "limit")))
       unfolding list_args
-      limit_lawful = rows_of_lawful (list_args first) nodes (codes "limit") (λ x e. let both : Some (arg (codes "limit") (fixed int) stands.Limit) ≡ Some x = e in let same : arg (codes "limit") (fixed int) stands.Limit ≡ x = cc in ap (λ (y : ArgTree). y.ty) (sym same))
+      limit_lawful = rows_of_lawful (list_args first) nodes (codes "limit")
+          (λ x e. let both : Some (arg (codes "limit") (fixed int) stands.Limit) ≡ Some x = e in let same : arg (codes "limit") (fixed int) stands.Limit ≡ x = cc in
+          ap (λ (y : ArgTree). y.ty) (sym same))
 
       offset_lawful : Lawful (rows_due (given_named c (list_args first) xs (codes "offset")))
       unfolding list_args
-      offset_lawful = rows_of_lawful (list_args first) nodes (codes "offset") (λ x e. let both : Some (arg (codes "offset") (fixed int) stands.Offset) ≡ Some x = e in let same : arg (codes "offset") (fixed int) stands.Offset ≡ x = cc in ap (λ (y : ArgTree). y.ty) (sym same))
+      offset_lawful = rows_of_lawful (list_args first) nodes (codes "offset")
+          (λ x e. let both : Some (arg (codes "offset") (fixed int) stands.Offset) ≡ Some x = e in let same : arg (codes "offset") (fixed int) stands.Offset ≡ x = cc in
+          ap (λ (y : ArgTree). y.ty) (sym same))
 
       all_lawful : Lawful (list_due c (list_args first) xs u)
       all_lawful =
@@ -330,7 +348,8 @@ module _ (tables : List Table) (m : MetaTree) (metadata_fits : fits tables m ≡
           then_lawful _ (distinct_due c sorts (given_named c (list_args first) xs (codes "distinct_on"))) (distinct_lawful sorts) (λ distinct _. tt)))))
 
     -- the same of arguments that are those of a list
-    pub list_lawful : (u : ℕ) (args : List ArgTree) → ((first : ℕ) × (args ≡ list_args first)) → Each (ArgFits types (list_target (Some u))) args → Each FineHere (arguments_nodes R (Some args) xs) → Lawful (list_due c args xs u)
+    pub list_lawful : (u : ℕ) (args : List ArgTree) → ((first : ℕ) × (args ≡ list_args first)) → Each (ArgFits types (list_target (Some u))) args
+        → Each FineHere (arguments_nodes R (Some args) xs) → Lawful (list_due c args xs u)
     list_lawful u args is fit nodes =
         subst (λ (l : List ArgTree). Lawful (list_due c l xs u)) (sym is.1)
         (all_lawful u is.0 (subst (Each (ArgFits types (list_target (Some u)))) is.1 fit) (subst (λ (l : List ArgTree). Each FineHere (arguments_nodes R (Some l) xs)) is.1 nodes))
@@ -342,22 +361,28 @@ module _ (tables : List Table) (m : MetaTree) (metadata_fits : fits tables m ≡
     count_here u first fit nodes =
         then_lawful _ (counted_due c (given_named c (count_args first) xs (codes "columns"))) (by (given_named c (count_args first) xs (codes "columns")) refl) (λ column _.
         then_lawful _ (flag_due (given_named c (count_args first) xs (codes "distinct")))
-        (flag_lawful (count_args first) nodes (codes "distinct") (λ x e. let both : Some (arg (codes "distinct") (fixed boolean) stands.Distinct) ≡ Some x = e in let same : arg (codes "distinct") (fixed boolean) stands.Distinct ≡ x = cc in ap (λ (y : ArgTree). y.ty) (sym same))) (λ distinct _. tt))
+        (flag_lawful (count_args first) nodes (codes "distinct")
+        (λ x e. let both : Some (arg (codes "distinct") (fixed boolean) stands.Distinct) ≡ Some x = e in let same : arg (codes "distinct") (fixed boolean) stands.Distinct ≡ x = cc in
+        ap (λ (y : ArgTree). y.ty) (sym same))) (λ distinct _. tt))
       where
-        of_arg : (x : ArgTree) (j : JsonTree) → x ≡ arg (codes "columns") (items (part first Columns)) stands.Columns → coercion.is_null j ≡ false → IsOf R x.ty j → Lawful (by_columns c j (base x.ty) x.origin)
+        of_arg : (x : ArgTree) (j : JsonTree) → x ≡ arg (codes "columns") (items (part first Columns)) stands.Columns → coercion.is_null j ≡ false → IsOf R x.ty j
+            → Lawful (by_columns c j (base x.ty) x.origin)
         of_arg x j is never h =
             subst (λ (x : ArgTree). Lawful (by_columns c j (base x.ty) x.origin)) (sym is)
-            (then_lawful one_column (columns_due c (part_place first Columns) j) (columns_lawful tables m metadata_fits role schemed shaped vars (part_place first Columns) u fit.0.reaches j never (subst (λ (x : ArgTree). IsOf R x.ty j) is h))
+            (then_lawful one_column (columns_due c (part_place first Columns) j)
+            (columns_lawful tables m metadata_fits role schemed shaped vars (part_place first Columns) u fit.0.reaches j never (subst (λ (x : ArgTree). IsOf R x.ty j) is h))
             (λ cs e. one_lawful tables m metadata_fits role schemed shaped vars cs))
 
         by : (o : Option Given) → given_named c (count_args first) xs (codes "columns") ≡ o → Lawful (counted_due c o)
         by None is = tt
         by (Some g) is =
             let g_is = given_is R d reach vars (count_args first) xs nodes c refl (codes "columns") g is in
-            let same : g.arg ≡ arg (codes "columns") (items (part first Columns)) stands.Columns = (let both : Some g.arg ≡ Some (arg (codes "columns") (items (part first Columns)) stands.Columns) = sym g_is.1 in cc) in
+            let same : g.arg ≡ arg (codes "columns") (items (part first Columns)) stands.Columns =
+            (let both : Some g.arg ≡ Some (arg (codes "columns") (items (part first Columns)) stands.Columns) = sym g_is.1 in cc) in
             of_arg g.arg g.value same g_is.0.not_null g_is.0.of
 
-    pub count_lawful : (u : ℕ) (args : List ArgTree) → ((first : ℕ) × (args ≡ count_args first)) → Each (ArgFits types (count_target u)) args → Each FineHere (arguments_nodes R (Some args) xs) → Lawful (count_due c args xs)
+    pub count_lawful : (u : ℕ) (args : List ArgTree) → ((first : ℕ) × (args ≡ count_args first)) → Each (ArgFits types (count_target u)) args
+        → Each FineHere (arguments_nodes R (Some args) xs) → Lawful (count_due c args xs)
     count_lawful u args is fit nodes =
         subst (λ (l : List ArgTree). Lawful (count_due c l xs)) (sym is.1)
         (count_here u is.0 (subst (Each (ArgFits types (count_target u))) is.1 fit) (subst (λ (l : List ArgTree). Each FineHere (arguments_nodes R (Some l) xs)) is.1 nodes))
@@ -368,7 +393,8 @@ module _ (tables : List Table) (m : MetaTree) (metadata_fits : fits tables m ≡
     introspection_lawful [] typed nodes = tt
     introspection_lawful (x ∷ args) typed nodes =
         mapped_lawful deprecated (flag_due (given_named c (x ∷ args) xs (codes "includeDeprecated")))
-        (flag_lawful (x ∷ args) nodes (codes "includeDeprecated") (λ y e. (found_each (λ (z : ArgTree). z.ty ≡ fixed boolean) (λ (z : ArgTree). bytes_eq z.name (codes "includeDeprecated")) (x ∷ args) y e typed).0))
+        (flag_lawful (x ∷ args) nodes (codes "includeDeprecated")
+        (λ y e. (found_each (λ (z : ArgTree). z.ty ≡ fixed boolean) (λ (z : ArgTree). bytes_eq z.name (codes "includeDeprecated")) (x ∷ args) y e typed).0))
 
     -- ---- keys
 
@@ -390,7 +416,9 @@ module _ (tables : List Table) (m : MetaTree) (metadata_fits : fits tables m ≡
         let value = key_lawful q g.0.value g.3.not_null (scalar_is R q (scalar_at tables m metadata_fits role schemed shaped vars q) (non_null (fixed (Scalar q))) refl refl g.0.value of) in
         subst (λ (o : Option Given). Lawful (and_then (λ (g : Given). key_value q g.value) (ok_or o (Rule RequiredArguments)))) (sym there) value
 
-    pub keys_lawful : (u : ℕ) (args : List ArgTree) → Each (KeyArg tables m role u args) (table s u).key → all_names_differ (map (λ (y : ArgTree). y.name) args) ≡ true → Each FineHere (arguments_nodes R (Some args) xs)
+    pub keys_lawful : (u : ℕ) (args : List ArgTree) → Each (KeyArg tables m role u args) (table s u).key → all_names_differ (map (λ (y : ArgTree). y.name) args) ≡ true
+        → Each FineHere (arguments_nodes R (Some args) xs)
         → lacks_any xs args ≡ false → Lawful (key_due c args xs u)
     keys_lawful u args keys differ nodes lacking =
-        each_lawful (part_due c args xs u) (table s u).key (each_weaken (KeyArg tables m role u args) (λ k. Lawful (part_due c args xs u k)) (λ k h. part_lawful u args differ nodes lacking k h) (table s u).key keys)
+        each_lawful (part_due c args xs u) (table s u).key
+        (each_weaken (KeyArg tables m role u args) (λ k. Lawful (part_due c args xs u k)) (λ k h. part_lawful u args differ nodes lacking k h) (table s u).key keys)

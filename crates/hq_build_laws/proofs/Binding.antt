@@ -104,7 +104,8 @@ module _ (s : Schema) (vars : List Var) where
   permission_told None t = tt
   permission_told (Some p) t =
       mapped_told (of_table t) (bound_permission p s vars t)
-      (then_told _ (bound p.filter s vars t) (expression_told p.filter t) (λ filter. mapped_told (λ masks. record p { filter = filter; masks = masks }) (bound_masks p.masks s vars t) (masks_told p.masks t)))
+      (then_told _ (bound p.filter s vars t) (expression_told p.filter t)
+      (λ filter. mapped_told (λ masks. record p { filter = filter; masks = masks }) (bound_masks p.masks s vars t) (masks_told p.masks t)))
 
   -- tables in order
   pub tables_told : (role : Role) (m : MetaTree) (ts : List ℕ) → OfVariables (bounds_due role m s vars ts)

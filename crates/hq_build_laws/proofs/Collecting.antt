@@ -162,7 +162,8 @@ module _ (s : SchemaTree) (d : DocumentTree) (reach : List ℕ) (vars : List Var
 
   module _ (all_good : (i : ℕ) (x : DefinitionTree) → has reach i ≡ true → slice_get d i ≡ Some x → Each Fine (definition_nodes s x)) where
     -- the fragment that is spread stands on the type
-    fragment_are : (t q : ℕ) (f : FragmentTree) → slice_get d q ≡ Some (fragment f) → has reach q ≡ true → are_other (Some t) (object_named s f.cond.name) ≡ false → Each (SelectionAt q t) (selections_in f.selections)
+    fragment_are : (t q : ℕ) (f : FragmentTree) → slice_get d q ≡ Some (fragment f) → has reach q ≡ true → are_other (Some t) (object_named s f.cond.name) ≡ false
+        → Each (SelectionAt q t) (selections_in f.selections)
     fragment_are t q f at in_reach other =
         let nodes = all_good q (fragment f) in_reach at in
         let u = cond_known f.cond nodes.0 in
@@ -178,12 +179,15 @@ module _ (s : SchemaTree) (d : DocumentTree) (reach : List ℕ) (vars : List Var
         let r = found_at (is_fragment_named x.name) 0 d q.0 q.1 in
         let place : q.0 ≡ r.0 = omega (arith, r.2) in
         let there : slice_get d q.0 ≡ Some r.1 = ap (slice_get d) place ∙ r.3 in
-        let other : are_other (Some t) (type_of_fragment s d places x.name) ≡ false = at_if_none (are_other (Some t) (type_of_fragment s d places x.name)) x.at (h.nodes.0.holds.doc doc_rule.PossibleFragmentSpreads) in
+        let other : are_other (Some t) (type_of_fragment s d places x.name) ≡ false =
+        at_if_none (are_other (Some t) (type_of_fragment s d places x.name)) x.at (h.nodes.0.holds.doc doc_rule.PossibleFragmentSpreads) in
         let found : option_and_then (slice_get d) (places x.name) ≡ Some r.1 = ap (option_and_then (slice_get d)) q.1 ∙ there in
-        let type : are_other (Some t) (type_of_condition s (condition_of r.1)) ≡ false = ap (λ (o : Option DefinitionTree). are_other (Some t) (type_of_condition s (option_and_then condition_of o))) (sym found) ∙ other in
+        let type : are_other (Some t) (type_of_condition s (condition_of r.1)) ≡ false =
+        ap (λ (o : Option DefinitionTree). are_other (Some t) (type_of_condition s (option_and_then condition_of o))) (sym found) ∙ other in
         subst (λ (o : Option DefinitionTree). Each (SelectionAt u t) (selections_at o)) (sym found) (by q.0 q.1 r.1 there r.5 type)
       where
-        by : (q : ℕ) → places x.name ≡ Some q → (y : DefinitionTree) → slice_get d q ≡ Some y → is_fragment_named x.name y ≡ true → are_other (Some t) (type_of_condition s (condition_of y)) ≡ false → Each (SelectionAt u t) (selections_at (Some y))
+        by : (q : ℕ) → places x.name ≡ Some q → (y : DefinitionTree) → slice_get d q ≡ Some y → is_fragment_named x.name y ≡ true
+            → are_other (Some t) (type_of_condition s (condition_of y)) ≡ false → Each (SelectionAt u t) (selections_at (Some y))
         by q is (operation o) at named other = absurd cc
         by q is (fragment f) at named other =
             each_weaken (SelectionAt q t) (SelectionAt u t) (λ y g. moved u q t (λ a w. h.spreads q (contains_one (places x.name) q is) a w) y g) (selections_in f.selections)
@@ -212,7 +216,8 @@ module _ (s : SchemaTree) (d : DocumentTree) (reach : List ℕ) (vars : List Var
           let set : slice_get sets (x.n + field_count f.1) ≡ Some (set_of s places x.n p f.1) =
           at_one sets (x.n + field_count f.1) (set_of s places x.n p f.1) (at_back sets x.n (field_count f.1) inner one (counts_of s places x.n p f.1) x.inner) in
           set_is (x.n + field_count f.1) t' x.n f.1 (subst (λ (p : Option ℕ). slice_get sets (x.n + field_count f.1) ≡ Some (set_of s places x.n p f.1)) same set)
-          (subst (λ (p : Option ℕ). IsAt sets x.n (inner_sets s places x.n p f.1)) same (at_front sets x.n inner one x.inner)) (subst (λ (p : Option ℕ). Each Fine (selections_nodes s p f.1)) same parts.1)
+          (subst (λ (p : Option ℕ). IsAt sets x.n (inner_sets s places x.n p f.1)) same (at_front sets x.n inner one x.inner))
+          (subst (λ (p : Option ℕ). Each Fine (selections_nodes s p f.1)) same parts.1)
 
       -- no selections stand below it, where its type is none
       pub leaf_empty : (g : schema.FieldTree) → known_field s (Some t) f.0.name ≡ Some g → object_at s (base g.ty) ≡ None → selections_in f.1 ≡ []
@@ -338,19 +343,22 @@ module _ (s : SchemaTree) (d : DocumentTree) (reach : List ℕ) (vars : List Var
       nothing_collected zero (suc n) = refl
       nothing_collected (suc w) (suc n) = refl
 
-      module _ (w n : ℕ) (again : (t : ℕ) (Src : ℕ → Type 0) → Together Src → (ss : List SelectionTree) → Each (Stands t Src) ss → Sound t (collected_down w n r ss)) (t : ℕ) (Src : ℕ → Type 0) (together : Together Src) where
+      module _ (w n : ℕ) (again : (t : ℕ) (Src : ℕ → Type 0) → Together Src → (ss : List SelectionTree) → Each (Stands t Src) ss → Sound t (collected_down w n r ss)) (t : ℕ)
+          (Src : ℕ → Type 0) (together : Together Src) where
         groups_sound : (gs : List Group) → Each (GroupIn t Src) gs → Sound t (fields_of (collected_down w n r) gs)
         groups_sound [] h = tt
         groups_sound (g ∷ gs) h =
             let k = field_known h.0.0.1.0 t g.first h.0.0.1.2 in
             by k.0 k.1 (object_at s (base k.0.ty)) refl (groups_sound gs h.1)
           where
-            by : (def : schema.FieldTree) → known_field s (Some t) g.first.0.name ≡ Some def → (o : Option ℕ) → object_at s (base def.ty) ≡ o → Sound t (fields_of (collected_down w n r) gs) → Sound t (fields_of (collected_down w n r) (g ∷ gs))
+            by : (def : schema.FieldTree) → known_field s (Some t) g.first.0.name ≡ Some def → (o : Option ℕ) → object_at s (base def.ty) ≡ o → Sound t (fields_of (collected_down w n r) gs)
+                → Sound t (fields_of (collected_down w n r) (g ∷ gs))
             by def known (Some t') is later =
                 let stand = under_are t Src together g h.0 def known t' is (g.first ∷ g.others) h.0 in
                 let inside : Sound t' (collected_down w n r (merged g)) = again t' (Below t Src together g.key) (below_together t Src together g.key) (merged g) stand in
                 let object : is_some (object_at s (base def.ty)) ≡ true = ap is_some is in (
-                  field_sound t Src together g h.0 def known (is_empty (collected_down w n r (merged g))) (or_right (is_empty (collected_down w n r (merged g))) (is_some (object_at s (base def.ty))) object),
+                  field_sound t Src together g h.0 def known (is_empty (collected_down w n r (merged g)))
+                      (or_right (is_empty (collected_down w n r (merged g))) (is_some (object_at s (base def.ty))) object),
                   subst (λ u. Sound u (collected_down w n r (merged g))) (sym (object_same s (base def.ty) t' is)) inside,
                   later,
                 )
@@ -358,7 +366,8 @@ module _ (s : SchemaTree) (d : DocumentTree) (reach : List ℕ) (vars : List Var
                 let none_under : merged g ≡ [] = under_none t Src together g h.0 def known is (g.first ∷ g.others) h.0 in
                 let nothing : collected_down w n r (merged g) ≡ no_collected = ap (collected_down w n r) none_under ∙ nothing_collected w n in
                 let empty : is_empty (collected_down w n r (merged g)) ≡ true = ap is_empty nothing in (
-                  field_sound t Src together g h.0 def known (is_empty (collected_down w n r (merged g))) (or_left (is_empty (collected_down w n r (merged g))) (is_some (object_at s (base def.ty))) empty),
+                  field_sound t Src together g h.0 def known (is_empty (collected_down w n r (merged g)))
+                      (or_left (is_empty (collected_down w n r (merged g))) (is_some (object_at s (base def.ty))) empty),
                   subst (Sound (base def.ty)) (sym nothing) tt,
                   later,
                 )
@@ -369,15 +378,19 @@ module _ (s : SchemaTree) (d : DocumentTree) (reach : List ℕ) (vars : List Var
       down_sound w (suc n) t Src together ss h = groups_sound w n (λ t Src together ss h. down_sound w n t Src together ss h) t Src together (collect w r ss none).groups (groups_in t Src w ss h)
 
       -- the collected fields of a query
-      pub query_sound : (q : ℕ) (o : OperationTree) → slice_get d q ≡ Some (operation o) → has reach q ≡ true → o.kind ≡ op.Query → root_of s op.Query ≡ Some s.query → Sound s.query (collected_down 50 50 r (selections_in o.selections))
+      pub query_sound : (q : ℕ) (o : OperationTree) → slice_get d q ≡ Some (operation o) → has reach q ≡ true → o.kind ≡ op.Query → root_of s op.Query ≡ Some s.query
+          → Sound s.query (collected_down 50 50 r (selections_in o.selections))
       query_sound q o at in_reach query root =
           let x = definition_at s d q (operation o) at in
           let same : root_of s o.kind ≡ Some s.query = ap (root_of s) query ∙ root in
           let within : q < length sets = slice_get_within sets q (set_of s places x.number (root_of s o.kind) o.selections) x.set in
-          let one = each_split Fine (variables_nodes s o.vars) (directives_nodes s (location_of o.kind) o.directives ++ selections_nodes s (root_of s o.kind) o.selections) (all_good q (operation o) in_reach at) in
+          let one = each_split Fine (variables_nodes s o.vars) (directives_nodes s (location_of o.kind) o.directives ++ selections_nodes s (root_of s o.kind) o.selections)
+          (all_good q (operation o) in_reach at) in
           let two = each_split Fine (directives_nodes s (location_of o.kind) o.directives) (selections_nodes s (root_of s o.kind) o.selections) one.1 in
           let stand : Each (SelectionAt q s.query) (selections_in o.selections) =
           set_is q s.query x.number o.selections (subst (λ (p : Option ℕ). slice_get sets q ≡ Some (set_of s places x.number p o.selections)) same x.set)
-          (subst (λ (p : Option ℕ). IsAt sets x.number (inner_sets s places x.number p o.selections)) same x.inner) (subst (λ (p : Option ℕ). Each Fine (selections_nodes s p o.selections)) same two.1) in
-          down_sound 50 50 s.query (λ u. u ≡ q) (λ u v hu hv a b wa wb. in_one (subst (λ n. n < length sets) (sym hu) within) wa (subst (λ n. Within sets n b) (hv ∙ sym hu) wb)) (selections_in o.selections)
+          (subst (λ (p : Option ℕ). IsAt sets x.number (inner_sets s places x.number p o.selections)) same x.inner)
+          (subst (λ (p : Option ℕ). Each Fine (selections_nodes s p o.selections)) same two.1) in
+          down_sound 50 50 s.query (λ u. u ≡ q) (λ u v hu hv a b wa wb. in_one (subst (λ n. n < length sets) (sym hu) within) wa (subst (λ n. Within sets n b) (hv ∙ sym hu) wb))
+          (selections_in o.selections)
           (each_weaken (SelectionAt q s.query) (Stands s.query (λ u. u ≡ q)) (λ y g. (q, refl, g)) (selections_in o.selections) stand)

@@ -71,7 +71,8 @@ element_base (named t) q e = absurd cc
 element_base (list_of r) q e = let same : r ≡ q = cc in ap base (sym same)
 element_base (non_null r) q e = element_base r q e
 
-module _ (tables : List Table) (m : MetaTree) (metadata_fits : fits tables m ≡ true) (role : Role) (schemed : Schemed tables m role) (shaped : Each (Shaped tables m role) (role_schema tables m role).types) (vars : List VarTree) where
+module _ (tables : List Table) (m : MetaTree) (metadata_fits : fits tables m ≡ true) (role : Role) (schemed : Schemed tables m role)
+    (shaped : Each (Shaped tables m role) (role_schema tables m role).types) (vars : List VarTree) where
   abbrev s : Schema
   s = schema_of tables m
 
@@ -150,7 +151,8 @@ module _ (tables : List Table) (m : MetaTree) (metadata_fits : fits tables m ≡
     tested_lawful o of j One h = mapped_lawful _ (operand_due o.test q j) (operand_lawful o.test q of j (scalar_is R q (scalar_at q) (value_type q One) refl refl j h))
     tested_lawful o of j Many h =
         mapped_lawful _ (each (operand_due o.test q) (items_in j))
-        (each_lawful (operand_due o.test q) (items_in j) (each_weaken (ScalarOrNull q) (λ i. Lawful (operand_due o.test q i)) (λ i g. operand_lawful o.test q of i g) (items_in j) (items_scalar R q (scalar_at q) j h)))
+        (each_lawful (operand_due o.test q) (items_in j)
+        (each_weaken (ScalarOrNull q) (λ i. Lawful (operand_due o.test q i)) (λ i g. operand_lawful o.test q of i g) (items_in j) (items_scalar R q (scalar_at q) j h)))
 
     operator_lawful : (o : Operator) (j : JsonTree) → applies o.test q ≡ true → IsOf R (value_type q (arity o.test)) j → Lawful (operator_due k q o j)
     operator_lawful o j of h = by (applies o.test q) of
@@ -180,7 +182,8 @@ module _ (tables : List Table) (m : MetaTree) (metadata_fits : fits tables m ≡
     compared_lawful (arr js) h = absurd (let no : None ≡ Some h.0 = h.1 in cc)
     compared_lawful (obj ms) h =
         let inside : MembersOf R (fixed_place (Comparison q)) ms = subst (λ p. MembersOf R p ms) (input_same R (fixed_place (Comparison q)) h.0 h.1) h.2 in
-        mapped_lawful conjunction (each (comparisons.named_due c (fixed_place (Comparison q)) k q) (member_list ms)) (each_lawful (comparisons.named_due c (fixed_place (Comparison q)) k q) (member_list ms) (members_compare ms inside))
+        mapped_lawful conjunction (each (comparisons.named_due c (fixed_place (Comparison q)) k q) (member_list ms))
+        (each_lawful (comparisons.named_due c (fixed_place (Comparison q)) k q) (member_list ms) (members_compare ms inside))
 
   comparisons_lawful : (k : ℕ) (q : Ty) (r : TypeRefTree) (j : JsonTree) → r ≡ fixed (Comparison q) → IsOf R r j → Lawful (comparisons_due c (base r) k q j)
   comparisons_lawful k q r j same h = subst (λ x. Lawful (comparisons_due c (base x) k q j)) (sym same) (compared_lawful k q j (subst (λ x. IsOf R x j) same h))
@@ -230,7 +233,8 @@ module _ (tables : List Table) (m : MetaTree) (metadata_fits : fits tables m ≡
     filter_lawful (int n) r t single at h = absurd (no_filter_leaf (base r) t at (int n) h)
     filter_lawful (str x) r t single at h = absurd (no_filter_leaf (base r) t at (str x) h)
     filter_lawful (arr js) r t single at h = absurd (let no : None ≡ Some h.0 = sym single ∙ h.1 in cc)
-    filter_lawful (obj ms) r t single at h = mapped_lawful conjunction (members_due ms c (base r) t) (members_lawful ms (base r) t at (subst (λ p. MembersOf R p ms) (input_same R (base r) h.0 h.1) h.2))
+    filter_lawful (obj ms) r t single at h =
+        mapped_lawful conjunction (members_due ms c (base r) t) (members_lawful ms (base r) t at (subst (λ p. MembersOf R p ms) (input_same R (base r) h.0 h.1) h.2))
 
     filters_lawful : (j : JsonTree) (r : TypeRefTree) (t : ℕ) → ManyIs r → At types (base r) (type.Filter t) → IsOf R r j → Lawful (filters_due j c (base r) t)
     filters_lawful null r t many at h = refl

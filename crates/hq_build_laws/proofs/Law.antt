@@ -167,7 +167,8 @@ module _ (tables : List Table) (m : MetaTree) (session : Session) where
   unfolding role_schema fixed_type
   root_is_object = refl
 
-  module _ (metadata_fits : fits tables m ≡ true) (leads : Each (TypeFits R.types (access_of m role)) R.types) (differ : NamesDiffer R) (first : (d : DocumentTree) → IsOverlap R d (overlap_place R d)) (d : DocumentTree) (vars : List VarTree) where
+  module _ (metadata_fits : fits tables m ≡ true) (leads : Each (TypeFits R.types (access_of m role)) R.types) (differ : NamesDiffer R)
+      (first : (d : DocumentTree) → IsOverlap R d (overlap_place R d)) (d : DocumentTree) (vars : List VarTree) where
     -- what follows in the whole way, behind each of its steps
     abbrev after_fields : FieldTrees → Due AskTree
     after_fields fs = bound_in m s session (length tables) fs >>= λ (bs : List BoundTree). Ok (request_of session fs bs)
@@ -207,18 +208,22 @@ module _ (tables : List Table) (m : MetaTree) (session : Session) where
 
       sound : Sound R d (reached g (place ∷ [])) vars R.query (collected_fields d vars o)
       sound =
-          query_sound R d (reached g (place ∷ [])) vars (λ i x in_reach at. nodes_good R (plain_inputs k.shaped) d k.of_doc k.of_fields place o k.here k.constants k.given vars k.due i x in_reach at) no_overlap place o k.here in_reach k.query
+          query_sound R d (reached g (place ∷ [])) vars
+          (λ i x in_reach at. nodes_good R (plain_inputs k.shaped) d k.of_doc k.of_fields place o k.here k.constants k.given vars k.due i x in_reach at) no_overlap place o k.here in_reach k.query
           root_is_object
 
       fields_built : (trees : CollectedTrees) → collected_fields d vars o ≡ trees → IsBuilding (root_due vars R s (length tables) trees)
       fields_built trees same =
-          roots_building tables m metadata_fits role schemed k.shaped differ.members vars d (reached g (place ∷ [])) trees (length tables) (subst (Sound R d (reached g (place ∷ [])) vars R.query) same sound)
+          roots_building tables m metadata_fits role schemed k.shaped differ.members vars d (reached g (place ∷ [])) trees (length tables)
+          (subst (Sound R d (reached g (place ∷ [])) vars R.query) same sound)
 
       operation_built : IsBuilding (after_operation o)
       operation_built =
           then_building after_collected (collected_due d vars o) (limits_building o.at vars (is_small d (selections_in o.selections)) (collected_fields d vars o)) (λ trees e.
-          then_building after_fields (root_due vars R s (length tables) trees) (fields_built trees (limits_ok o.at vars (is_small d (selections_in o.selections)) (collected_fields d vars o) trees e)) (λ fs f.
-          then_building (λ (bs : List BoundTree). Ok (request_of session fs bs)) (bound_in m s session (length tables) fs) (fault_building (bounds_due role m s session.vars (touched fs s (length tables))) (tables_told s session.vars role m (touched fs s (length tables)))) (λ bs h. tt)))
+          then_building after_fields (root_due vars R s (length tables) trees)
+          (fields_built trees (limits_ok o.at vars (is_small d (selections_in o.selections)) (collected_fields d vars o) trees e)) (λ fs f.
+          then_building (λ (bs : List BoundTree). Ok (request_of session fs bs)) (bound_in m s session (length tables) fs)
+          (fault_building (bounds_due role m s session.vars (touched fs s (length tables))) (tables_told s session.vars role m (touched fs s (length tables)))) (λ bs h. tt)))
 
     pub valid_built : (name : Option (List ℕ)) (given : Option JsonTree) (place : ℕ) → first_doc_fault R d ≡ None → first_field_fault R d ≡ None → chosen d name ≡ Ok place
         → Each (λ v. has_constant v ≡ true) (variables_of (operation_at d place)) → variables_due R d place given ≡ Ok vars → IsBuilding (build_due d place vars R tables m session)
@@ -226,7 +231,8 @@ module _ (tables : List Table) (m : MetaTree) (session : Session) where
     valid_built name given place doc fields choice constants valued =
         let q = query_is d name place choice in
         let defaults : DefaultsWrite q.own.vars =
-        each_weaken (λ (v : VarDefTree). has_constant v ≡ true) (λ (v : VarDefTree). has_default v.default ≡ true → is_some (default_value v.default) ≡ true) (λ v h. default_writes v.default h) q.own.vars
+        each_weaken (λ (v : VarDefTree). has_constant v ≡ true) (λ (v : VarDefTree). has_default v.default ≡ true → is_some (default_value v.default) ≡ true)
+        (λ v h. default_writes v.default h) q.own.vars
         (subst (λ (x : Option OperationTree). Each (λ v. has_constant v ≡ true) (variables_of x)) q.at constants) in
         let known : Known place q.own = record {
           here = q.here;

@@ -48,7 +48,8 @@ wide ty.Boolean n h = absurd cc
 int_wide : (n : ℤ) (t : Ty) (text : List ℕ) → whole_number t text ≡ Some n → whole_number ty.Bigint text ≡ Some n
 int_wide n t text e = by (is_whole_number text) (int_fits t (signed_digits_value 10 text)) refl refl e
   where
-    by : (b c : Bool) → is_whole_number text ≡ b → int_fits t (signed_digits_value 10 text) ≡ c → cond (b && c) (Some (signed_digits_value 10 text)) None ≡ Some n → whole_number ty.Bigint text ≡ Some n
+    by : (b c : Bool) → is_whole_number text ≡ b → int_fits t (signed_digits_value 10 text) ≡ c → cond (b && c) (Some (signed_digits_value 10 text)) None ≡ Some n
+        → whole_number ty.Bigint text ≡ Some n
     by true true is fits e = rw (is, wide t (signed_digits_value 10 text) fits) e
     by true false is fits e = absurd cc
     by false c is fits e = absurd cc
@@ -58,7 +59,8 @@ module _ (s : SchemaTree) (t : ℕ) where
   leaf_takes_by : (v : ValueTree) → leaf_takes s t v ≡ true → (d : TypeTree) × (type_at s t ≡ Some d) × (literal.leaf_by s t d.origin v ≡ true)
   leaf_takes_by v h = by (type_at s t) refl h
     where
-      by : (o : Option TypeTree) → type_at s t ≡ o → option_map_or (λ (d : TypeTree). literal.leaf_by s t d.origin v) o false ≡ true → (d : TypeTree) × (type_at s t ≡ Some d) × (literal.leaf_by s t d.origin v ≡ true)
+      by : (o : Option TypeTree) → type_at s t ≡ o → option_map_or (λ (d : TypeTree). literal.leaf_by s t d.origin v) o false ≡ true
+          → (d : TypeTree) × (type_at s t ≡ Some d) × (literal.leaf_by s t d.origin v ≡ true)
       by None is h = absurd cc
       by (Some d) is h = (d, is, h)
 
@@ -193,7 +195,8 @@ module _ (s : SchemaTree) (d : DocumentTree) (reach : List ℕ) (vars : List Var
         let same : json.arr (elements_of (element_sources vars vs)) ≡ j = cc in
         let q = some_of (element_type p.ty) (taken p (record { at = at; value = list vs }) h) in
         let place : PlaceTree = record { ty = q.0; default_false = false } in
-        let nodes : Each Fine (elements_nodes s (Some place) vs) = subst (λ (o : Option TypeRefTree). Each Fine (elements_nodes s (option_map (λ (r : TypeRefTree). let x : PlaceTree = record { ty = r; default_false = false } in x) o) vs)) q.1 inside in
+        let nodes : Each Fine (elements_nodes s (Some place) vs) =
+        subst (λ (o : Option TypeRefTree). Each Fine (elements_nodes s (option_map (λ (r : TypeRefTree). let x : PlaceTree = record { ty = r; default_false = false } in x) o) vs)) q.1 inside in
         subst (IsOf s p.ty) same (q.0, q.1, elements_are vs place nodes)
     literal_is (object ms) at p h inside j e =
         let same : json.obj (members_of (member_sources vars ms)) ≡ j = cc in
@@ -214,8 +217,10 @@ module _ (s : SchemaTree) (d : DocumentTree) (reach : List ℕ) (vars : List Var
         let known : is_none (input_field_of s t name) ≡ false = at_if_none (is_none (input_field_of s t name)) at (h.0.holds.fields rule.KnownInputFields) in
         by known (input_field_of s t name) refl h.1.0 parts.0 (λ a here inside j e. literal_is v value_at (place_of_arg a) here inside j e) (members_have ms t parts.1)
       where
-        by : is_none (input_field_of s t name) ≡ false → (o : Option ArgTree) → input_field_of s t name ≡ o → Fine (value_node (record { at = value_at; value = v }) (option_map place_of_arg o)) → Each Fine (nodes_in_value s (option_map place_of_arg o) v)
-            → ((a : ArgTree) → Fine (value_node (record { at = value_at; value = v }) (Some (place_of_arg a))) → Each Fine (nodes_in_value s (Some (place_of_arg a)) v) → (j : JsonTree) → source_of vars v ≡ Some j → IsOf s a.ty j)
+        by : is_none (input_field_of s t name) ≡ false → (o : Option ArgTree) → input_field_of s t name ≡ o
+            → Fine (value_node (record { at = value_at; value = v }) (option_map place_of_arg o)) → Each Fine (nodes_in_value s (option_map place_of_arg o) v)
+            → ((a : ArgTree) → Fine (value_node (record { at = value_at; value = v }) (Some (place_of_arg a))) → Each Fine (nodes_in_value s (Some (place_of_arg a)) v) → (j : JsonTree)
+            → source_of vars v ≡ Some j → IsOf s a.ty j)
             → MembersOf s t (members_of (member_sources vars ms)) → MembersOf s t (members_of (with_member name (source_of vars v) (member_sources vars ms)))
         by known None is here inside value later = let no : true ≡ false = ap is_none (sym is) ∙ known in absurd cc
         by known (Some a) is here inside value later = with_have t name a is (source_of vars v) (member_sources vars ms) (λ j e. value a here inside j e) later

@@ -38,7 +38,8 @@ mutual
   pub count_of : (s : SchemaTree) (places : Places) (n : ℕ) (parent : Option ℕ) (x : SelectionTree) → length (inner_sets_of s places n parent x) ≡ field_count_of x
   count_of s places n parent (field h below) =
       let inner : length (inner_sets s places n (below_field s parent h.name) below) ≡ field_count below = counts_of s places n (below_field s parent h.name) below in
-      let both : length (inner_sets s places n (below_field s parent h.name) below ++ (set_of s places n (below_field s parent h.name) below ∷ [])) ≡ length (inner_sets s places n (below_field s parent h.name) below) + 1 =
+      let both : length (inner_sets s places n (below_field s parent h.name) below ++ (set_of s places n (below_field s parent h.name) below ∷ [])) ≡ length
+      (inner_sets s places n (below_field s parent h.name) below) + 1 =
       length-append (inner_sets s places n (below_field s parent h.name) below) (set_of s places n (below_field s parent h.name) below ∷ []) in
       omega (arith, inner, both)
   count_of s places n parent (spread x) = refl
@@ -49,7 +50,8 @@ mutual
   counts_of s places n parent (selection x more) =
       let one : length (inner_sets_of s places n parent x) ≡ field_count_of x = count_of s places n parent x in
       let rest : length (inner_sets s places (n + field_count_of x) parent more) ≡ field_count more = counts_of s places (n + field_count_of x) parent more in
-      let both : length (inner_sets_of s places n parent x ++ inner_sets s places (n + field_count_of x) parent more) ≡ length (inner_sets_of s places n parent x) + length (inner_sets s places (n + field_count_of x) parent more) =
+      let both : length (inner_sets_of s places n parent x ++ inner_sets s places (n + field_count_of x) parent more) ≡ length (inner_sets_of s places n parent x) + length
+      (inner_sets s places (n + field_count_of x) parent more) =
       length-append (inner_sets_of s places n parent x) (inner_sets s places (n + field_count_of x) parent more) in
       omega (arith, one, rest, both)
 

@@ -47,7 +47,8 @@ use Rattle.hq_build_laws.proofs.Places.{At, Schemed, TypeIs, type_is, input_foun
 use Rattle.hq_build_laws.proofs.Shapes.{ValuesAre, LeafKind, Shaped}
 use Rattle.hq_build_laws.proofs.Values.{IsOf, AreOf, MembersOf}
 
-module _ (tables : List Table) (m : MetaTree) (metadata_fits : fits tables m ≡ true) (role : Role) (schemed : Schemed tables m role) (shaped : Each (Shaped tables m role) (role_schema tables m role).types) (vars : List VarTree) where
+module _ (tables : List Table) (m : MetaTree) (metadata_fits : fits tables m ≡ true) (role : Role) (schemed : Schemed tables m role)
+    (shaped : Each (Shaped tables m role) (role_schema tables m role).types) (vars : List VarTree) where
   abbrev s : Schema
   s = schema_of tables m
 
@@ -108,11 +109,13 @@ module _ (tables : List Table) (m : MetaTree) (metadata_fits : fits tables m ≡
         let is = type_is tables m role schemed p (type.Columns t) at in
         let d : TypeTree = is.type in
         let inside : is_some (position (λ v. bytes_eq v name) d.values) ≡ true = ap (λ q. is_some (option_and_then (λ (x : TypeTree). position (λ v. bytes_eq v name) x.values) q)) (sym is.here) ∙ h in
-        let fit : Each (λ k. a.column t k ≡ true) d.columns × (length d.columns ≡ length d.values) = subst (λ q. ColumnsFit a q d.columns d.values) is.means (each_at (TypeFits types a) types p d is.here schemed.fit).columns in
+        let fit : Each (λ k. a.column t k ≡ true) d.columns × (length d.columns ≡ length d.values) =
+        subst (λ q. ColumnsFit a q d.columns d.values) is.means (each_at (TypeFits types a) types p d is.here schemed.fit).columns in
         let i = some_of (position (λ v. bytes_eq v name) d.values) inside in
         let within = position-Some (λ v. bytes_eq v name) d.values i.0 [] i.1 in
         let below : i.0 < length d.columns = (let long : length d.columns ≡ length d.values = fit.1 in omega (arith, within.0, long)) in
-        let there : is_some (option_and_then (slice_get d.columns) (position (λ v. bytes_eq v name) d.values)) ≡ true = ap (λ q. is_some (option_and_then (slice_get d.columns) q)) i.1 ∙ ap is_some (slice_get-get_or d.columns i.0 0 below) in
+        let there : is_some (option_and_then (slice_get d.columns) (position (λ v. bytes_eq v name) d.values)) ≡ true = ap (λ q. is_some (option_and_then (slice_get d.columns) q)) i.1
+        ∙ ap is_some (slice_get-get_or d.columns i.0 0 below) in
         ap (λ q. is_some (option_and_then (λ (x : TypeTree). option_and_then (slice_get x.columns) (position (λ v. bytes_eq v name) x.values)) q)) is.here ∙ there
 
     column_lawful : (j : JsonTree) → is_some (leaf_value R p j) ≡ true → Lawful (column_due c p j)
@@ -147,7 +150,8 @@ module _ (tables : List Table) (m : MetaTree) (metadata_fits : fits tables m ≡
         by (bool b) never h = (column_lawful (bool b) h, tt)
         by (int n) never h = (column_lawful (int n) h, tt)
         by (str x) never h = (column_lawful (str x) h, tt)
-        by (arr js) never h = let same : non_null (named p) ≡ h.0 = (let both : Some (non_null (named p)) ≡ Some h.0 = h.1 in cc) in each_column js (non_null (named p)) refl refl refl (subst (λ q. AreOf R q js) (sym same) h.2)
+        by (arr js) never h = let same : non_null (named p) ≡ h.0 = (let both : Some (non_null (named p)) ≡ Some h.0 = h.1 in cc) in
+            each_column js (non_null (named p)) refl refl refl (subst (λ q. AreOf R q js) (sym same) h.2)
         by (obj ms) never h = absurd (no_column_object h.0 h.1)
 
   -- distinct columns that do not match the sorts, and two columns of a count
@@ -182,19 +186,23 @@ module _ (tables : List Table) (m : MetaTree) (metadata_fits : fits tables m ≡
       let within = position-Some (λ v. bytes_eq v name) vs i.0 [] i.1 in
       let v : List ℕ = get_or vs i.0 [] in
       let known : is_some (direction_named v) ≡ true =
-      each_at (λ (v : List ℕ). is_some (direction_named v) ≡ true) vs i.0 v (slice_get-get_or vs i.0 [] within.0) (subst (Each (λ (v : List ℕ). is_some (direction_named v) ≡ true)) (sym same) directions_known) in
+      each_at (λ (v : List ℕ). is_some (direction_named v) ≡ true) vs i.0 v (slice_get-get_or vs i.0 [] within.0)
+      (subst (Each (λ (v : List ℕ). is_some (direction_named v) ≡ true)) (sym same) directions_known) in
       subst (λ n. is_some (direction_named n) ≡ true) (same_text v name within.1) known
 
   -- a sort by a column
-  column_lawful_sort : (through : List ℕ) (k p : ℕ) → At types p type.Directions → (j : JsonTree) → (r : TypeRefTree) → base r ≡ p → element_type r ≡ None → IsOf R r j → Lawful (column_sort through k j)
+  column_lawful_sort : (through : List ℕ) (k p : ℕ) → At types p type.Directions → (j : JsonTree) → (r : TypeRefTree) → base r ≡ p → element_type r ≡ None → IsOf R r j
+      → Lawful (column_sort through k j)
   column_lawful_sort through k p at j r place single h = mapped_lawful (λ d. sort_by through k d ∷ []) (fitting j (direction_in j)) (by j h)
     where
       leaf : (j : JsonTree) → is_some (leaf_value R p j) ≡ true → Lawful (fitting j (direction_in j))
       leaf j h =
           let name = enum_leaf p type.Directions at (λ j. refl) j h in
           let is = type_is tables m role schemed p type.Directions at in
-          let values : is.type.values ≡ fixed_values OrderBy = subst (λ o. ValuesAre o is.type.values) is.means (shaped_at tables m metadata_fits role schemed shaped vars p type.Directions at).values in
-          let inside : is_some (position (λ v. bytes_eq v name.0) is.type.values) ≡ true = ap (λ q. is_some (option_and_then (λ (x : TypeTree). position (λ v. bytes_eq v name.0) x.values) q)) (sym is.here) ∙ name.2 in
+          let values : is.type.values ≡ fixed_values OrderBy =
+          subst (λ o. ValuesAre o is.type.values) is.means (shaped_at tables m metadata_fits role schemed shaped vars p type.Directions at).values in
+          let inside : is_some (position (λ v. bytes_eq v name.0) is.type.values) ≡ true =
+          ap (λ q. is_some (option_and_then (λ (x : TypeTree). position (λ v. bytes_eq v name.0) x.values) q)) (sym is.here) ∙ name.2 in
           subst (λ i. Lawful (fitting i (direction_in i))) (sym name.1) (known name.0 (direction_named name.0) (direction_known name.0 is.type.values values inside))
         where
           known : (name : List ℕ) (o : Option Direction) → is_some o ≡ true → Lawful (fitting (str name) o)
@@ -210,7 +218,8 @@ module _ (tables : List Table) (m : MetaTree) (metadata_fits : fits tables m ≡
       by (obj ms) h = absurd (no_object p type.Directions at (λ d h is. subst (λ o. LeafKind o d.kind) is h.kind) h.0 (subst (λ x. input_at R x ≡ Some h.0) place h.1))
 
   -- one member, where its value is read as an entry
-  module _ (j : JsonTree) (entry_lawful : (through : List ℕ) (r : TypeRefTree) (t : ℕ) → element_type r ≡ None → At types (base r) (type.Sort t) → IsOf R r j → Lawful (entry_due j c through (base r) t)) where
+  module _ (j : JsonTree) (entry_lawful : (through : List ℕ) (r : TypeRefTree) (t : ℕ) → element_type r ≡ None → At types (base r) (type.Sort t) → IsOf R r j
+      → Lawful (entry_due j c through (base r) t)) where
     origin_lawful : (through : List ℕ) (t : ℕ) (r : TypeRefTree) (o : ArgOrigin) → Reaches types r (sort_target a t o) → element_type r ≡ None → IsOf R r j
         → Lawful (by_origin (λ deeper q u. entry_due j c deeper q u) j c through t (base r) o)
     origin_lawful through t r (stands.Column k) at single h = by (a.column t k) at
@@ -261,9 +270,11 @@ module _ (tables : List Table) (m : MetaTree) (metadata_fits : fits tables m ≡
   entries_by : (p t : ℕ) (js : List JsonTree) → Each (λ j. Lawful (entry_due j c [] p t)) js → Lawful (entries_due c p t js)
   entries_by p t [] h = tt
   entries_by p t (j ∷ js) h =
-      then_lawful (λ here. mapped (λ more. here ++ more) (entries_due c p t js)) (entry_due j c [] p t) h.0 (λ here e. mapped_lawful (λ more. here ++ more) (entries_due c p t js) (entries_by p t js h.1))
+      then_lawful (λ here. mapped (λ more. here ++ more) (entries_due c p t js)) (entry_due j c [] p t) h.0
+      (λ here e. mapped_lawful (λ more. here ++ more) (entries_due c p t js) (entries_by p t js h.1))
 
-  each_entry : (js : ElementTrees) (q : TypeRefTree) (t : ℕ) → element_type q ≡ None → At types (base q) (type.Sort t) → AreOf R q js → Each (λ j. Lawful (entry_due j c [] (base q) t)) (element_list js)
+  each_entry : (js : ElementTrees) (q : TypeRefTree) (t : ℕ) → element_type q ≡ None → At types (base q) (type.Sort t) → AreOf R q js
+      → Each (λ j. Lawful (entry_due j c [] (base q) t)) (element_list js)
   each_entry no_element q t single at h = tt
   each_entry (element j js) q t single at h = (entry_lawful j [] q t single at h.0, each_entry js q t single at h.1)
 
@@ -282,5 +293,6 @@ module _ (tables : List Table) (m : MetaTree) (metadata_fits : fits tables m ≡
       by (bool b) h = absurd (no_sort_leaf p t at (bool b) h)
       by (int n) h = absurd (no_sort_leaf p t at (int n) h)
       by (str x) h = absurd (no_sort_leaf p t at (str x) h)
-      by (arr js) h = let same : non_null (named p) ≡ h.0 = (let both : Some (non_null (named p)) ≡ Some h.0 = h.1 in cc) in each_entry js (non_null (named p)) t refl at (subst (λ q. AreOf R q js) (sym same) h.2)
+      by (arr js) h = let same : non_null (named p) ≡ h.0 = (let both : Some (non_null (named p)) ≡ Some h.0 = h.1 in cc) in
+          each_entry js (non_null (named p)) t refl at (subst (λ q. AreOf R q js) (sym same) h.2)
       by (obj ms) h = (entry_lawful (obj ms) [] (named p) t refl at h, tt)

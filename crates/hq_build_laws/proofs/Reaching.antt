@@ -96,7 +96,8 @@ module _ (g : Graph) (starts : List ℕ) where
       ends : ((q : ℕ) → has (flat_map (targets g) (within n g starts)) q ≡ true → has (within n g starts) q ≡ true) → Closed n
       ends all p q h a = all q (flat_map-has (targets g) (within n g starts) p q h (inside-has g (get_or g p []) q a))
 
-      next : Many n → ((q : ℕ) → has (flat_map (targets g) (within n g starts)) q ≡ true → has (within n g starts) q ≡ true) ⊎ ((q : ℕ) × (has (flat_map (targets g) (within n g starts)) q ≡ true) × (has (within n g starts) q ≡ false))
+      next : Many n → ((q : ℕ) → has (flat_map (targets g) (within n g starts)) q ≡ true → has (within n g starts) q ≡ true)
+          ⊎ ((q : ℕ) × (has (flat_map (targets g) (within n g starts)) q ≡ true) × (has (within n g starts) q ≡ false))
           → Closed (suc n) ⊎ Many (suc n)
       next many (inl all) = inl (closed_more n (ends all))
       next many (inr new) = inr (grown many new.0 new.1 new.2)
@@ -111,7 +112,8 @@ module _ (g : Graph) (starts : List ℕ) where
     where
       by : Closed (length g) ⊎ Many (length g) → Closed (length g)
       by (inl closed) = closed
-      by (inr many) = let few : length many.order ≤ length g = length-le_from_distinct_below many.order (length g) many.apart (λ q h. within_below (length g) q (many.inside q h)) in absurd (omega (arith, few, many.count))
+      by (inr many) = let few : length many.order ≤ length g = length-le_from_distinct_below many.order (length g) many.apart (λ q h. within_below (length g) q (many.inside q h)) in
+          absurd (omega (arith, few, many.count))
 
   -- a start is reached
   pub start_reached : (q : ℕ) → Among (length g) starts q → has (reached g starts) q ≡ true

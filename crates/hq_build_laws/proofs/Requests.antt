@@ -80,7 +80,8 @@ module _ (tables : List Table) (meta : MetaTree) (session : Session) (body : Lis
   valid_is : (v : IsValid tables meta session body) → request_by R tables meta session body ≡ ask_due R tables meta session v.document v.operation v.variables
   unfolding request_by
   valid_is v =
-      ap (λ r. r >>= after_json) v.read ∙ (ap (λ r. r >>= after_text v.json) v.found ∙ (ap (λ r. r >>= after_document v.json) v.parsed ∙ (ap (λ r. r >>= λ valid. operation_ask R tables meta session v.json valid) v.valid
+      ap (λ r. r >>= after_json) v.read
+      ∙ (ap (λ r. r >>= after_text v.json) v.found ∙ (ap (λ r. r >>= after_document v.json) v.parsed ∙ (ap (λ r. r >>= λ valid. operation_ask R tables meta session v.json valid) v.valid
       ∙ (ap (λ r. r >>= after_operation v.json v.document) v.chosen ∙ ap (λ r. r >>= λ variables. ask_due R tables meta session v.document v.operation variables) v.valued))))
 
   pub valid_faults : ((d : DocumentTree) (name : Option (List ℕ)) (given : Option JsonTree) (op : ℕ) (vars : List VarTree) → ValidBuilds tables meta session d name given op vars)

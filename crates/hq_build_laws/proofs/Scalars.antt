@@ -47,7 +47,8 @@ module _ (s : SchemaTree) (t : Ty) (is : IsScalar s t) where
   -- a leaf of the scalar
   leaf_constant : (j : JsonTree) → is_some (leaf_value s (fixed_place (Scalar t)) j) ≡ true → is_some (constant_in t j) ≡ true
   leaf_constant j h =
-      let first : is_some (leaf_by s (fixed_place (Scalar t)) is.own.origin j) ≡ true = ap (λ o. is_some (option_and_then (λ (d : TypeTree). leaf_by s (fixed_place (Scalar t)) d.origin j) o)) (sym is.here) ∙ h in
+      let first : is_some (leaf_by s (fixed_place (Scalar t)) is.own.origin j) ≡ true =
+      ap (λ o. is_some (option_and_then (λ (d : TypeTree). leaf_by s (fixed_place (Scalar t)) d.origin j) o)) (sym is.here) ∙ h in
       let second : is_some (option_map (λ v. json_of (cell_of v)) (constant_in t j)) ≡ true = ap (λ o. is_some (leaf_by s (fixed_place (Scalar t)) o j)) (sym is.means) ∙ first in
       by (constant_in t j) second
     where
@@ -58,7 +59,8 @@ module _ (s : SchemaTree) (t : Ty) (is : IsScalar s t) where
   -- no object is one
   no_object : (u : ℕ) → input_at s (fixed_place (Scalar t)) ≡ Some u → ⊥
   no_object u e =
-      let first : cond (is_input is.own.kind) (Some (fixed_place (Scalar t))) None ≡ Some u = ap (option_and_then (λ (d : TypeTree). cond (is_input d.kind) (Some (fixed_place (Scalar t))) None)) (sym is.here) ∙ e in
+      let first : cond (is_input is.own.kind) (Some (fixed_place (Scalar t))) None ≡ Some u =
+      ap (option_and_then (λ (d : TypeTree). cond (is_input d.kind) (Some (fixed_place (Scalar t))) None)) (sym is.here) ∙ e in
       let second : None ≡ Some u = ap (λ b. cond b (Some (fixed_place (Scalar t))) None) (sym is.leaf) ∙ first in
       cc
 
@@ -81,7 +83,8 @@ module _ (s : SchemaTree) (t : Ty) (is : IsScalar s t) where
   items_scalar (bool b) h = ((λ not. leaf_constant (bool b) h), tt)
   items_scalar (int n) h = ((λ not. leaf_constant (int n) h), tt)
   items_scalar (str x) h = ((λ not. leaf_constant (str x) h), tt)
-  items_scalar (arr js) h = let same : non_null (named (fixed_place (Scalar t))) ≡ h.0 = (let both : Some (non_null (named (fixed_place (Scalar t)))) ≡ Some h.0 = h.1 in cc) in each_scalar js (subst (λ q. AreOf s q js) (sym same) h.2)
+  items_scalar (arr js) h = let same : non_null (named (fixed_place (Scalar t))) ≡ h.0 = (let both : Some (non_null (named (fixed_place (Scalar t)))) ≡ Some h.0 = h.1 in cc) in
+      each_scalar js (subst (λ q. AreOf s q js) (sym same) h.2)
   items_scalar (obj ms) h = absurd (no_object h.0 h.1)
 
 -- ---- what is read of them

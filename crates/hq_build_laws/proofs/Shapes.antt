@@ -75,7 +75,11 @@ filter_passes p (x ∷ xs) = by (p x) refl (filter_passes p xs)
 -- each number of a list is one of it
 each_member : (xs : List ℕ) → Each (λ k. list_any (λ d. d == k) xs ≡ true) xs
 each_member [] = tt
-each_member (x ∷ xs) = (or_left (x == x) (list_any (λ d. d == x) xs) (eq-eqb x x refl), each_weaken (λ k. list_any (λ d. d == k) xs ≡ true) (λ k. list_any (λ d. d == k) (x ∷ xs) ≡ true) (λ k h. or_right (x == k) (list_any (λ d. d == k) xs) h) xs (each_member xs))
+each_member (x ∷ xs) = (
+  or_left (x == x) (list_any (λ d. d == x) xs) (eq-eqb x x refl),
+  each_weaken (λ k. list_any (λ d. d == k) xs ≡ true) (λ k. list_any (λ d. d == k) (x ∷ xs) ≡ true)
+      (λ k h. or_right (x == k) (list_any (λ d. d == k) xs) h) xs (each_member xs),
+)
 
 find_mapped : {A B : Type 0} (p : B → Bool) (f : A → B) (xs : List A) → find p (map f xs) ≡ option_map f (find (λ x. p (f x)) xs)
 find_mapped p f [] = refl
@@ -177,7 +181,9 @@ module _ (tables : List Table) (m : MetaTree) (role : Role) where
   link_shaped : (l : Link) → Each FieldShape (link_fields l)
   link_shaped l = by l.many l.aggregates
     where
-      by : (b g : Bool) → Each FieldShape (cond b (list_field l.name l.first (field.«List» l.rel) ∷ cond g (aggregate_field (l.name ++ codes "_aggregate") l.first (field.ListAggregate l.rel) ∷ []) []) (plain_field l.name (part l.first Rows) (field.Object l.rel) ∷ []))
+      by : (b g : Bool) → Each FieldShape
+          (cond b (list_field l.name l.first (field.«List» l.rel) ∷ cond g (aggregate_field (l.name ++ codes "_aggregate") l.first (field.ListAggregate l.rel) ∷ []) [])
+          (plain_field l.name (part l.first Rows) (field.Object l.rel) ∷ []))
       by true true = ((l.first, refl), ((l.first, refl), tt))
       by true false = ((l.first, refl), tt)
       by false g = (tt, tt)
@@ -188,7 +194,8 @@ module _ (tables : List Table) (m : MetaTree) (role : Role) where
 
   fields_shaped : (first : ℕ) (cs : List ShownColumn) (ls : List Link) (p : Part) → Each FieldShape (part_fields first cs ls p)
   unfolding part_fields
-  fields_shaped first cs ls Rows = each_append FieldShape (column_fields Rows cs) (flat_map link_fields ls) (columns_shaped Rows cs) (each_flat_map FieldShape (λ (l : Link). Unit {0}) link_fields (λ l u. link_shaped l) ls (each_all (λ (l : Link). Unit {0}) (λ l. tt) ls))
+  fields_shaped first cs ls Rows = each_append FieldShape (column_fields Rows cs) (flat_map link_fields ls) (columns_shaped Rows cs)
+      (each_flat_map FieldShape (λ (l : Link). Unit {0}) link_fields (λ l u. link_shaped l) ls (each_all (λ (l : Link). Unit {0}) (λ l. tt) ls))
   fields_shaped first cs ls Filter = columns_shaped Filter cs
   fields_shaped first cs ls Sort = columns_shaped Sort cs
   fields_shaped first cs ls Columns = columns_shaped Columns cs
@@ -204,14 +211,16 @@ module _ (tables : List Table) (m : MetaTree) (role : Role) where
       by l false = tt
 
   plain_links : (p : Part) (ls : List Link) → Each (λ (a : ArgTree). a.default_false ≡ false) (filter_map (link_input p) ls)
-  plain_links p ls = each_filter_map (λ (a : ArgTree). a.default_false ≡ false) (λ (l : Link). Unit {0}) (link_input p) (λ l u. by l (is_filter p || not l.many)) ls (each_all (λ (l : Link). Unit {0}) (λ l. tt) ls)
+  plain_links p ls = each_filter_map (λ (a : ArgTree). a.default_false ≡ false) (λ (l : Link). Unit {0}) (link_input p) (λ l u. by l (is_filter p || not l.many)) ls
+      (each_all (λ (l : Link). Unit {0}) (λ l. tt) ls)
     where
       by : (l : Link) (b : Bool) → IfSome (cond b (Some (arg l.name (part l.first p) (stands.Relationship l.rel))) None) (λ (a : ArgTree). a.default_false ≡ false)
       by l true = refl
       by l false = tt
 
   plain_inputs : (p : Part) (cs : List ShownColumn) (ls : List Link) → Each (λ (a : ArgTree). a.default_false ≡ false) (inputs_of p cs ls)
-  plain_inputs p cs ls = each_append (λ (a : ArgTree). a.default_false ≡ false) (map (column_input p) cs) (filter_map (link_input p) ls) (each_map (λ (a : ArgTree). a.default_false ≡ false) (column_input p) (λ c. refl) cs) (plain_links p ls)
+  plain_inputs p cs ls = each_append (λ (a : ArgTree). a.default_false ≡ false) (map (column_input p) cs) (filter_map (link_input p) ls)
+      (each_map (λ (a : ArgTree). a.default_false ≡ false) (column_input p) (λ c. refl) cs) (plain_links p ls)
 
   -- a column of the type that the catalog has
   typed_column : (t : ℕ) (c : ShownColumn) → column_ty s t c.col ≡ Some c.ty → c.ty ≡ (column s t c.col).ty
@@ -219,7 +228,8 @@ module _ (tables : List Table) (m : MetaTree) (role : Role) where
       let found = map_some (λ (d : Column). d.ty) (slice_get (table s t).columns c.col) c.ty typed in
       sym found.2 ∙ ap (λ (d : Column). d.ty) (sym (get_or_from_slice_get (table s t).columns c.col found.0 no_column found.1))
 
-  filter_shaped : (t first : ℕ) (cs : List ShownColumn) (ls : List Link) → Each (λ (c : ShownColumn). column_ty s t c.col ≡ Some c.ty) cs → Each (InputIs (type.Filter t)) (connectives first ++ inputs_of Filter cs ls)
+  filter_shaped : (t first : ℕ) (cs : List ShownColumn) (ls : List Link) → Each (λ (c : ShownColumn). column_ty s t c.col ≡ Some c.ty) cs
+      → Each (InputIs (type.Filter t)) (connectives first ++ inputs_of Filter cs ls)
   filter_shaped t first cs ls typed =
       each_append (InputIs (type.Filter t)) (connectives first) (inputs_of Filter cs ls) ((non_null (part first Filter), refl, refl), (refl, ((non_null (part first Filter), refl, refl), tt)))
       (each_append (InputIs (type.Filter t)) (map (column_input Filter) cs) (filter_map (link_input Filter) ls)
@@ -227,7 +237,8 @@ module _ (tables : List Table) (m : MetaTree) (role : Role) where
       (links_shaped (type.Filter t) Filter (λ l. refl) ls))
 
   sort_shaped : (t : ℕ) (cs : List ShownColumn) (ls : List Link) → Each (InputIs (type.Sort t)) (inputs_of Sort cs ls)
-  sort_shaped t cs ls = each_append (InputIs (type.Sort t)) (map (column_input Sort) cs) (filter_map (link_input Sort) ls) (each_map (InputIs (type.Sort t)) (column_input Sort) (λ c. refl) cs) (links_shaped (type.Sort t) Sort (λ l. refl) ls)
+  sort_shaped t cs ls = each_append (InputIs (type.Sort t)) (map (column_input Sort) cs) (filter_map (link_input Sort) ls)
+      (each_map (InputIs (type.Sort t)) (column_input Sort) (λ c. refl) cs) (links_shaped (type.Sort t) Sort (λ l. refl) ls)
 
   part_shaped : (p : PlacedTable) (ls : List Link) → IsShown tables m role p.shown → (q : Part) → Shaped (part_type p ls q)
   unfolding part_type part_inputs
@@ -239,7 +250,8 @@ module _ (tables : List Table) (m : MetaTree) (role : Role) where
     values = refl;
     kind = tt;
   }
-  part_shaped p ls shown Sort = record { inputs = sort_shaped p.shown.table p.shown.columns ls; plain = plain_inputs Sort p.shown.columns ls; fields = fields_shaped p.first p.shown.columns ls Sort; values = refl; kind = tt }
+  part_shaped p ls shown Sort = record
+      { inputs = sort_shaped p.shown.table p.shown.columns ls; plain = plain_inputs Sort p.shown.columns ls; fields = fields_shaped p.first p.shown.columns ls Sort; values = refl; kind = tt }
   part_shaped p ls shown Columns = record { inputs = tt; plain = tt; fields = fields_shaped p.first p.shown.columns ls Columns; values = tt; kind = refl }
   part_shaped p ls shown Aggregate = record { inputs = tt; plain = tt; fields = fields_shaped p.first p.shown.columns ls Aggregate; values = tt; kind = tt }
   part_shaped p ls shown AggregateFields = record { inputs = tt; plain = tt; fields = fields_shaped p.first p.shown.columns ls AggregateFields; values = tt; kind = tt }
@@ -306,7 +318,8 @@ module _ (tables : List Table) (m : MetaTree) (role : Role) where
     entry_key : (k : TrackedTree) → tracked_table m k.table ≡ Some k → IfSome (shown_entry tables m role k) KeyShown
     entry_key k first = by (slice_get tables k.table) (permission role m k.table) refl refl
       where
-        all_shown : (t : Table) (p : Permission) → slice_get tables k.table ≡ Some t → permission role m k.table ≡ Some p → (key : List ShownColumn) → (b : Bool) → list_all (λ c. list_any (λ d. d == c) p.columns) t.key ≡ b
+        all_shown : (t : Table) (p : Permission) → slice_get tables k.table ≡ Some t → permission role m k.table ≡ Some p → (key : List ShownColumn) → (b : Bool)
+            → list_all (λ c. list_any (λ d. d == c) p.columns) t.key ≡ b
             → cond b (Some (shown_columns t k [] t.key)) None ≡ Some key → Each (KeyColumn k.table key) (table s k.table).key
         all_shown t p here granted key false all e = absurd cc
         all_shown t p here granted key true all e =
@@ -318,16 +331,19 @@ module _ (tables : List Table) (m : MetaTree) (role : Role) where
             let same : filter_map f t.key ≡ key = (let both : Some (filter_map f t.key) ≡ Some key = e in cc) in
             let keys : (table s k.table).key ≡ t.key = ap (λ u. u.key) (table_present tables m k.table t here) in
             subst (λ ks. Each (KeyColumn k.table ks) (table s k.table).key) same
-            (subst (Each (KeyColumn k.table (filter_map f t.key))) (sym keys) (each_weaken (λ c. list_any (λ d. d == c) t.key ≡ true) (KeyColumn k.table (filter_map f t.key)) (λ c h. keys_found k.table f t.key named c h) t.key (each_member t.key)))
+            (subst (Each (KeyColumn k.table (filter_map f t.key))) (sym keys)
+            (each_weaken (λ c. list_any (λ d. d == c) t.key ≡ true) (KeyColumn k.table (filter_map f t.key)) (λ c h. keys_found k.table f t.key named c h) t.key (each_member t.key)))
 
-        by : (t : Option Table) (p : Option Permission) → slice_get tables k.table ≡ t → permission role m k.table ≡ p → IfSome (option_and_then (λ (t : Table). option_map (shown_table k t) p) t) KeyShown
+        by : (t : Option Table) (p : Option Permission) → slice_get tables k.table ≡ t → permission role m k.table ≡ p
+            → IfSome (option_and_then (λ (t : Table). option_map (shown_table k t) p) t) KeyShown
         by None p here granted = tt
         by (Some t) None here granted = tt
         by (Some t) (Some p) here granted = λ key e. all_shown t p here granted key (list_all (λ c. list_any (λ d. d == c) p.columns) t.key) refl e
 
     -- the tables that the schema shows
     keys_shown : all_differ (λ (j k : TrackedTree). j.table == k.table) m.tracked ≡ true → Each KeyShown (shown_tables tables m role)
-    keys_shown differ = each_filter_map KeyShown (λ (k : TrackedTree). tracked_table m k.table ≡ Some k) (shown_entry tables m role) entry_key m.tracked (firsts_are [] m.tracked differ (none_new m.tracked))
+    keys_shown differ = each_filter_map KeyShown (λ (k : TrackedTree). tracked_table m k.table ≡ Some k) (shown_entry tables m role) entry_key m.tracked
+        (firsts_are [] m.tracked differ (none_new m.tracked))
 
     placed_keys : (first : ℕ) (ts : List ShownTable) → Each KeyShown ts → Each (λ (p : PlacedTable). KeyShown p.shown) (placed_from first ts)
     placed_keys first [] h = tt
@@ -364,18 +380,68 @@ module _ (tables : List Table) (m : MetaTree) (role : Role) where
     fixed_shaped ps h (Scalar t) = record { inputs = tt; plain = tt; fields = tt; values = tt; kind = tt }
     fixed_shaped ps h OrderBy = record { inputs = tt; plain = tt; fields = tt; values = refl; kind = refl }
     fixed_shaped ps h (Comparison t) = record {
-      inputs = each_mapped (InputIs (type.Comparison t)) (λ o. is_operator_of t o ≡ true) (operator_arg t) (λ o g. (g, refl)) (filter (is_operator_of t) all_operators) (filter_passes (is_operator_of t) all_operators);
+      inputs = each_mapped (InputIs (type.Comparison t)) (λ o. is_operator_of t o ≡ true) (operator_arg t) (λ o g. (g, refl)) (filter (is_operator_of t) all_operators)
+          (filter_passes (is_operator_of t) all_operators);
       plain = each_map (λ (a : ArgTree). a.default_false ≡ false) (operator_arg t) (λ o. refl) (filter (is_operator_of t) all_operators);
       fields = tt;
       values = refl;
       kind = tt;
     }
-    fixed_shaped ps h SchemaType = record { inputs = tt; plain = tt; fields = ((tt, (string, refl, refl)), ((tt, (TypeType, refl, refl)), ((tt, (TypeType, refl, refl)), ((tt, (TypeType, refl, refl)), ((tt, (TypeType, refl, refl)), ((tt, (Directive, refl, refl)), tt)))))); values = tt; kind = tt }
-    fixed_shaped ps h TypeType = record { inputs = tt; plain = tt; fields = ((tt, (TypeKind, refl, refl)), ((tt, (string, refl, refl)), ((tt, (string, refl, refl)), ((tt, (string, refl, refl)), (((refl, tt), (Field, refl, refl)), ((tt, (TypeType, refl, refl)), ((tt, (TypeType, refl, refl)), (((refl, tt), (EnumValue, refl, refl)), ((tt, (InputValue, refl, refl)), ((tt, (TypeType, refl, refl)), tt)))))))))); values = tt; kind = tt }
-    fixed_shaped ps h Field = record { inputs = tt; plain = tt; fields = ((tt, (string, refl, refl)), ((tt, (string, refl, refl)), ((tt, (InputValue, refl, refl)), ((tt, (TypeType, refl, refl)), ((tt, (boolean, refl, refl)), ((tt, (string, refl, refl)), tt)))))); values = tt; kind = tt }
-    fixed_shaped ps h InputValue = record { inputs = tt; plain = tt; fields = ((tt, (string, refl, refl)), ((tt, (string, refl, refl)), ((tt, (TypeType, refl, refl)), ((tt, (string, refl, refl)), tt)))); values = tt; kind = tt }
-    fixed_shaped ps h EnumValue = record { inputs = tt; plain = tt; fields = ((tt, (string, refl, refl)), ((tt, (string, refl, refl)), ((tt, (boolean, refl, refl)), ((tt, (string, refl, refl)), tt)))); values = tt; kind = tt }
-    fixed_shaped ps h Directive = record { inputs = tt; plain = tt; fields = ((tt, (string, refl, refl)), ((tt, (string, refl, refl)), ((tt, (boolean, refl, refl)), ((tt, (DirectiveLocation, refl, refl)), ((tt, (InputValue, refl, refl)), tt))))); values = tt; kind = tt }
+    fixed_shaped ps h SchemaType = record {
+      inputs = tt;
+      plain = tt;
+      fields = (
+        (tt, (string, refl, refl)),
+        ((tt, (TypeType, refl, refl)), ((tt, (TypeType, refl, refl)), ((tt, (TypeType, refl, refl)), ((tt, (TypeType, refl, refl)), ((tt, (Directive, refl, refl)), tt))))),
+      );
+      values = tt;
+      kind = tt;
+    }
+    fixed_shaped ps h TypeType = record {
+      inputs = tt;
+      plain = tt;
+      fields = (
+        (tt, (TypeKind, refl, refl)),
+        (
+          (tt, (string, refl, refl)),
+          (
+            (tt, (string, refl, refl)),
+            (
+              (tt, (string, refl, refl)),
+              (
+                ((refl, tt), (Field, refl, refl)),
+                ((tt, (TypeType, refl, refl)), ((tt, (TypeType, refl, refl)), (((refl, tt), (EnumValue, refl, refl)), ((tt, (InputValue, refl, refl)), ((tt, (TypeType, refl, refl)), tt))))),
+              ),
+            ),
+          ),
+        ),
+      );
+      values = tt;
+      kind = tt;
+    }
+    fixed_shaped ps h Field = record {
+      inputs = tt;
+      plain = tt;
+      fields = (
+        (tt, (string, refl, refl)),
+        ((tt, (string, refl, refl)), ((tt, (InputValue, refl, refl)), ((tt, (TypeType, refl, refl)), ((tt, (boolean, refl, refl)), ((tt, (string, refl, refl)), tt))))),
+      );
+      values = tt;
+      kind = tt;
+    }
+    fixed_shaped ps h InputValue = record
+        { inputs = tt; plain = tt; fields = ((tt, (string, refl, refl)), ((tt, (string, refl, refl)), ((tt, (TypeType, refl, refl)), ((tt, (string, refl, refl)), tt)))); values = tt; kind = tt }
+    fixed_shaped ps h EnumValue = record
+        { inputs = tt; plain = tt; fields = ((tt, (string, refl, refl)), ((tt, (string, refl, refl)), ((tt, (boolean, refl, refl)), ((tt, (string, refl, refl)), tt)))); values = tt; kind = tt }
+    fixed_shaped ps h Directive = record {
+      inputs = tt;
+      plain = tt;
+      fields =
+          ((tt, (string, refl, refl)), ((tt, (string, refl, refl)), ((tt, (boolean, refl, refl)), ((tt, (DirectiveLocation, refl, refl)), ((tt, (InputValue, refl, refl)), tt)))));
+      values =
+          tt;
+      kind = tt;
+    }
     fixed_shaped ps h TypeKind = record { inputs = tt; plain = tt; fields = tt; values = tt; kind = tt }
     fixed_shaped ps h DirectiveLocation = record { inputs = tt; plain = tt; fields = tt; values = tt; kind = tt }
     fixed_shaped ps h QueryRoot = record { inputs = tt; plain = tt; fields = query_shaped ps h; values = tt; kind = tt }

@@ -70,27 +70,66 @@ pub record FieldsHold (s : SchemaTree) (d : DocumentTree) : Type 0 where
 
 pub doc_holds : (s : SchemaTree) (d : DocumentTree) → first_doc_fault s d ≡ None → DocHolds s d
 doc_holds s d h =
-    let a = or_parts (operation_fault d (fragment_named d)) (option_or (fragment_fault s d (fragment_named d) (document_parts s d) (graph_of (fragment_named d) (document_parts s d))) (option_or (directive_fault s d (fragment_named d) (document_parts s d)) (variable_fault s d (fragment_named d) (document_parts s d) (graph_of (fragment_named d) (document_parts s d))))) h in
-    let b = or_parts (fragment_fault s d (fragment_named d) (document_parts s d) (graph_of (fragment_named d) (document_parts s d))) (option_or (directive_fault s d (fragment_named d) (document_parts s d)) (variable_fault s d (fragment_named d) (document_parts s d) (graph_of (fragment_named d) (document_parts s d)))) a.1 in
-    let c = or_parts (directive_fault s d (fragment_named d) (document_parts s d)) (variable_fault s d (fragment_named d) (document_parts s d) (graph_of (fragment_named d) (document_parts s d))) b.1 in
-    let f1 = later_parts number.FragmentNameUniqueness (unique_fragment_names d) (or_later number.FragmentSpreadTypeExistence (doc.rule_place doc_rule.KnownTypeNames s d (fragment_named d) (document_parts s d)) (or_later number.FragmentsOnCompositeTypes (doc.rule_place doc_rule.FragmentsOnCompositeTypes s d (fragment_named d) (document_parts s d)) (or_later number.FragmentsMustBeUsed (no_unused_fragments d (document_parts s d)) (or_later number.FragmentSpreadTargetDefined (doc.rule_place doc_rule.KnownFragmentNames s d (fragment_named d) (document_parts s d)) (or_later number.FragmentSpreadsMustNotFormCycles (no_fragment_cycles (graph_of (fragment_named d) (document_parts s d)) d) (or_later number.FragmentSpreadIsPossible (doc.rule_place doc_rule.PossibleFragmentSpreads s d (fragment_named d) (document_parts s d)) None)))))) b.0 in
-    let f2 = later_parts number.FragmentSpreadTypeExistence (doc.rule_place doc_rule.KnownTypeNames s d (fragment_named d) (document_parts s d)) (or_later number.FragmentsOnCompositeTypes (doc.rule_place doc_rule.FragmentsOnCompositeTypes s d (fragment_named d) (document_parts s d)) (or_later number.FragmentsMustBeUsed (no_unused_fragments d (document_parts s d)) (or_later number.FragmentSpreadTargetDefined (doc.rule_place doc_rule.KnownFragmentNames s d (fragment_named d) (document_parts s d)) (or_later number.FragmentSpreadsMustNotFormCycles (no_fragment_cycles (graph_of (fragment_named d) (document_parts s d)) d) (or_later number.FragmentSpreadIsPossible (doc.rule_place doc_rule.PossibleFragmentSpreads s d (fragment_named d) (document_parts s d)) None))))) f1.1 in
-    let f3 = later_parts number.FragmentsOnCompositeTypes (doc.rule_place doc_rule.FragmentsOnCompositeTypes s d (fragment_named d) (document_parts s d)) (or_later number.FragmentsMustBeUsed (no_unused_fragments d (document_parts s d)) (or_later number.FragmentSpreadTargetDefined (doc.rule_place doc_rule.KnownFragmentNames s d (fragment_named d) (document_parts s d)) (or_later number.FragmentSpreadsMustNotFormCycles (no_fragment_cycles (graph_of (fragment_named d) (document_parts s d)) d) (or_later number.FragmentSpreadIsPossible (doc.rule_place doc_rule.PossibleFragmentSpreads s d (fragment_named d) (document_parts s d)) None)))) f2.1 in
-    let f4 = later_parts number.FragmentsMustBeUsed (no_unused_fragments d (document_parts s d)) (or_later number.FragmentSpreadTargetDefined (doc.rule_place doc_rule.KnownFragmentNames s d (fragment_named d) (document_parts s d)) (or_later number.FragmentSpreadsMustNotFormCycles (no_fragment_cycles (graph_of (fragment_named d) (document_parts s d)) d) (or_later number.FragmentSpreadIsPossible (doc.rule_place doc_rule.PossibleFragmentSpreads s d (fragment_named d) (document_parts s d)) None))) f3.1 in
-    let f5 = later_parts number.FragmentSpreadTargetDefined (doc.rule_place doc_rule.KnownFragmentNames s d (fragment_named d) (document_parts s d)) (or_later number.FragmentSpreadsMustNotFormCycles (no_fragment_cycles (graph_of (fragment_named d) (document_parts s d)) d) (or_later number.FragmentSpreadIsPossible (doc.rule_place doc_rule.PossibleFragmentSpreads s d (fragment_named d) (document_parts s d)) None)) f4.1 in
-    let f6 = later_parts number.FragmentSpreadsMustNotFormCycles (no_fragment_cycles (graph_of (fragment_named d) (document_parts s d)) d) (or_later number.FragmentSpreadIsPossible (doc.rule_place doc_rule.PossibleFragmentSpreads s d (fragment_named d) (document_parts s d)) None) f5.1 in
+    let a = or_parts (operation_fault d (fragment_named d))
+    (option_or (fragment_fault s d (fragment_named d) (document_parts s d) (graph_of (fragment_named d) (document_parts s d)))
+    (option_or (directive_fault s d (fragment_named d) (document_parts s d)) (variable_fault s d (fragment_named d) (document_parts s d) (graph_of (fragment_named d) (document_parts s d))))) h in
+    let b = or_parts (fragment_fault s d (fragment_named d) (document_parts s d) (graph_of (fragment_named d) (document_parts s d)))
+    (option_or (directive_fault s d (fragment_named d) (document_parts s d)) (variable_fault s d (fragment_named d) (document_parts s d) (graph_of (fragment_named d) (document_parts s d)))) a.1 in
+    let c = or_parts (directive_fault s d (fragment_named d) (document_parts s d))
+    (variable_fault s d (fragment_named d) (document_parts s d) (graph_of (fragment_named d) (document_parts s d))) b.1 in
+    let f1 = later_parts number.FragmentNameUniqueness (unique_fragment_names d)
+    (or_later number.FragmentSpreadTypeExistence (doc.rule_place doc_rule.KnownTypeNames s d (fragment_named d) (document_parts s d))
+    (or_later number.FragmentsOnCompositeTypes (doc.rule_place doc_rule.FragmentsOnCompositeTypes s d (fragment_named d) (document_parts s d))
+    (or_later number.FragmentsMustBeUsed (no_unused_fragments d (document_parts s d))
+    (or_later number.FragmentSpreadTargetDefined (doc.rule_place doc_rule.KnownFragmentNames s d (fragment_named d) (document_parts s d))
+    (or_later number.FragmentSpreadsMustNotFormCycles (no_fragment_cycles (graph_of (fragment_named d) (document_parts s d)) d)
+    (or_later number.FragmentSpreadIsPossible (doc.rule_place doc_rule.PossibleFragmentSpreads s d (fragment_named d) (document_parts s d)) None)))))) b.0 in
+    let f2 = later_parts number.FragmentSpreadTypeExistence (doc.rule_place doc_rule.KnownTypeNames s d (fragment_named d) (document_parts s d))
+    (or_later number.FragmentsOnCompositeTypes (doc.rule_place doc_rule.FragmentsOnCompositeTypes s d (fragment_named d) (document_parts s d))
+    (or_later number.FragmentsMustBeUsed (no_unused_fragments d (document_parts s d))
+    (or_later number.FragmentSpreadTargetDefined (doc.rule_place doc_rule.KnownFragmentNames s d (fragment_named d) (document_parts s d))
+    (or_later number.FragmentSpreadsMustNotFormCycles (no_fragment_cycles (graph_of (fragment_named d) (document_parts s d)) d)
+    (or_later number.FragmentSpreadIsPossible (doc.rule_place doc_rule.PossibleFragmentSpreads s d (fragment_named d) (document_parts s d)) None))))) f1.1 in
+    let f3 = later_parts number.FragmentsOnCompositeTypes (doc.rule_place doc_rule.FragmentsOnCompositeTypes s d (fragment_named d) (document_parts s d))
+    (or_later number.FragmentsMustBeUsed (no_unused_fragments d (document_parts s d))
+    (or_later number.FragmentSpreadTargetDefined (doc.rule_place doc_rule.KnownFragmentNames s d (fragment_named d) (document_parts s d))
+    (or_later number.FragmentSpreadsMustNotFormCycles (no_fragment_cycles (graph_of (fragment_named d) (document_parts s d)) d)
+    (or_later number.FragmentSpreadIsPossible (doc.rule_place doc_rule.PossibleFragmentSpreads s d (fragment_named d) (document_parts s d)) None)))) f2.1 in
+    let f4 = later_parts number.FragmentsMustBeUsed (no_unused_fragments d (document_parts s d))
+    (or_later number.FragmentSpreadTargetDefined (doc.rule_place doc_rule.KnownFragmentNames s d (fragment_named d) (document_parts s d))
+    (or_later number.FragmentSpreadsMustNotFormCycles (no_fragment_cycles (graph_of (fragment_named d) (document_parts s d)) d)
+    (or_later number.FragmentSpreadIsPossible (doc.rule_place doc_rule.PossibleFragmentSpreads s d (fragment_named d) (document_parts s d)) None))) f3.1 in
+    let f5 = later_parts number.FragmentSpreadTargetDefined (doc.rule_place doc_rule.KnownFragmentNames s d (fragment_named d) (document_parts s d))
+    (or_later number.FragmentSpreadsMustNotFormCycles (no_fragment_cycles (graph_of (fragment_named d) (document_parts s d)) d)
+    (or_later number.FragmentSpreadIsPossible (doc.rule_place doc_rule.PossibleFragmentSpreads s d (fragment_named d) (document_parts s d)) None)) f4.1 in
+    let f6 = later_parts number.FragmentSpreadsMustNotFormCycles (no_fragment_cycles (graph_of (fragment_named d) (document_parts s d)) d)
+    (or_later number.FragmentSpreadIsPossible (doc.rule_place doc_rule.PossibleFragmentSpreads s d (fragment_named d) (document_parts s d)) None) f5.1 in
     let f7 = later_parts number.FragmentSpreadIsPossible (doc.rule_place doc_rule.PossibleFragmentSpreads s d (fragment_named d) (document_parts s d)) None f6.1 in
-    let d1 = later_parts number.DirectivesAreDefined (doc.rule_place doc_rule.KnownDirectives s d (fragment_named d) (document_parts s d)) (or_later number.DirectivesAreInValidLocations (doc.rule_place doc_rule.DirectivesInLocations s d (fragment_named d) (document_parts s d)) (or_later number.DirectivesAreUniquePerLocation (doc.rule_place doc_rule.UniqueDirectives s d (fragment_named d) (document_parts s d)) None)) c.0 in
-    let d2 = later_parts number.DirectivesAreInValidLocations (doc.rule_place doc_rule.DirectivesInLocations s d (fragment_named d) (document_parts s d)) (or_later number.DirectivesAreUniquePerLocation (doc.rule_place doc_rule.UniqueDirectives s d (fragment_named d) (document_parts s d)) None) d1.1 in
+    let d1 = later_parts number.DirectivesAreDefined (doc.rule_place doc_rule.KnownDirectives s d (fragment_named d) (document_parts s d))
+    (or_later number.DirectivesAreInValidLocations (doc.rule_place doc_rule.DirectivesInLocations s d (fragment_named d) (document_parts s d))
+    (or_later number.DirectivesAreUniquePerLocation (doc.rule_place doc_rule.UniqueDirectives s d (fragment_named d) (document_parts s d)) None)) c.0 in
+    let d2 = later_parts number.DirectivesAreInValidLocations (doc.rule_place doc_rule.DirectivesInLocations s d (fragment_named d) (document_parts s d))
+    (or_later number.DirectivesAreUniquePerLocation (doc.rule_place doc_rule.UniqueDirectives s d (fragment_named d) (document_parts s d)) None) d1.1 in
     let d3 = later_parts number.DirectivesAreUniquePerLocation (doc.rule_place doc_rule.UniqueDirectives s d (fragment_named d) (document_parts s d)) None d2.1 in
-    let v1 = later_parts number.VariableUniqueness (unique_variable_names d) (or_later number.VariablesAreInputTypes (doc.rule_place doc_rule.VariablesAreInputTypes s d (fragment_named d) (document_parts s d)) (or_later number.AllVariableUsesDefined (no_undefined_variables (graph_of (fragment_named d) (document_parts s d)) (all_uses (document_parts s d)) d) (or_later number.AllVariablesUsed (no_unused_variables (graph_of (fragment_named d) (document_parts s d)) (all_uses (document_parts s d)) d) (or_later number.AllVariableUsagesAreAllowed (variables_in_allowed_position s (graph_of (fragment_named d) (document_parts s d)) (all_uses (document_parts s d)) d) None)))) c.1 in
-    let v2 = later_parts number.VariablesAreInputTypes (doc.rule_place doc_rule.VariablesAreInputTypes s d (fragment_named d) (document_parts s d)) (or_later number.AllVariableUsesDefined (no_undefined_variables (graph_of (fragment_named d) (document_parts s d)) (all_uses (document_parts s d)) d) (or_later number.AllVariablesUsed (no_unused_variables (graph_of (fragment_named d) (document_parts s d)) (all_uses (document_parts s d)) d) (or_later number.AllVariableUsagesAreAllowed (variables_in_allowed_position s (graph_of (fragment_named d) (document_parts s d)) (all_uses (document_parts s d)) d) None))) v1.1 in
-    let v3 = later_parts number.AllVariableUsesDefined (no_undefined_variables (graph_of (fragment_named d) (document_parts s d)) (all_uses (document_parts s d)) d) (or_later number.AllVariablesUsed (no_unused_variables (graph_of (fragment_named d) (document_parts s d)) (all_uses (document_parts s d)) d) (or_later number.AllVariableUsagesAreAllowed (variables_in_allowed_position s (graph_of (fragment_named d) (document_parts s d)) (all_uses (document_parts s d)) d) None)) v2.1 in
-    let v4 = later_parts number.AllVariablesUsed (no_unused_variables (graph_of (fragment_named d) (document_parts s d)) (all_uses (document_parts s d)) d) (or_later number.AllVariableUsagesAreAllowed (variables_in_allowed_position s (graph_of (fragment_named d) (document_parts s d)) (all_uses (document_parts s d)) d) None) v3.1 in
+    let v1 = later_parts number.VariableUniqueness (unique_variable_names d)
+    (or_later number.VariablesAreInputTypes (doc.rule_place doc_rule.VariablesAreInputTypes s d (fragment_named d) (document_parts s d))
+    (or_later number.AllVariableUsesDefined (no_undefined_variables (graph_of (fragment_named d) (document_parts s d)) (all_uses (document_parts s d)) d)
+    (or_later number.AllVariablesUsed (no_unused_variables (graph_of (fragment_named d) (document_parts s d)) (all_uses (document_parts s d)) d)
+    (or_later number.AllVariableUsagesAreAllowed (variables_in_allowed_position s (graph_of (fragment_named d) (document_parts s d)) (all_uses (document_parts s d)) d) None)))) c.1 in
+    let v2 = later_parts number.VariablesAreInputTypes (doc.rule_place doc_rule.VariablesAreInputTypes s d (fragment_named d) (document_parts s d))
+    (or_later number.AllVariableUsesDefined (no_undefined_variables (graph_of (fragment_named d) (document_parts s d)) (all_uses (document_parts s d)) d)
+    (or_later number.AllVariablesUsed (no_unused_variables (graph_of (fragment_named d) (document_parts s d)) (all_uses (document_parts s d)) d)
+    (or_later number.AllVariableUsagesAreAllowed (variables_in_allowed_position s (graph_of (fragment_named d) (document_parts s d)) (all_uses (document_parts s d)) d) None))) v1.1 in
+    let v3 = later_parts number.AllVariableUsesDefined (no_undefined_variables (graph_of (fragment_named d) (document_parts s d)) (all_uses (document_parts s d)) d)
+    (or_later number.AllVariablesUsed (no_unused_variables (graph_of (fragment_named d) (document_parts s d)) (all_uses (document_parts s d)) d)
+    (or_later number.AllVariableUsagesAreAllowed (variables_in_allowed_position s (graph_of (fragment_named d) (document_parts s d)) (all_uses (document_parts s d)) d) None)) v2.1 in
+    let v4 = later_parts number.AllVariablesUsed (no_unused_variables (graph_of (fragment_named d) (document_parts s d)) (all_uses (document_parts s d)) d)
+    (or_later number.AllVariableUsagesAreAllowed (variables_in_allowed_position s (graph_of (fragment_named d) (document_parts s d)) (all_uses (document_parts s d)) d) None) v3.1 in
     let v5 = later_parts number.AllVariableUsagesAreAllowed (variables_in_allowed_position s (graph_of (fragment_named d) (document_parts s d)) (all_uses (document_parts s d)) d) None v4.1 in
     record { node = node f2.0 f3.0 f5.0 f7.0 d1.0 d2.0 d3.0 v2.0; names = v1.0; defined = v3.0; allowed = v5.0 }
   where
-    node : DocRuleHolds s d doc_rule.KnownTypeNames → DocRuleHolds s d doc_rule.FragmentsOnCompositeTypes → DocRuleHolds s d doc_rule.KnownFragmentNames → DocRuleHolds s d doc_rule.PossibleFragmentSpreads
+    node : DocRuleHolds s d doc_rule.KnownTypeNames → DocRuleHolds s d doc_rule.FragmentsOnCompositeTypes → DocRuleHolds s d doc_rule.KnownFragmentNames
+        → DocRuleHolds s d doc_rule.PossibleFragmentSpreads
         → DocRuleHolds s d doc_rule.KnownDirectives → DocRuleHolds s d doc_rule.DirectivesInLocations → DocRuleHolds s d doc_rule.UniqueDirectives → DocRuleHolds s d doc_rule.VariablesAreInputTypes
         → (r : DocRule) → DocRuleHolds s d r
     node a b c e f g h i doc_rule.KnownTypeNames = a
@@ -118,8 +157,10 @@ fields_hold s d h =
     let v4 = later_parts _ _ _ v3.1 in
     record { node = node s1.0 s3.0 a1.0 a2.0 a3.0 v1.0 v2.0 v3.0 v4.0; overlap = s2.0 }
   where
-    node : FieldRuleHolds s d field_rule.FieldsOnCorrectType → FieldRuleHolds s d field_rule.ScalarLeafs → FieldRuleHolds s d field_rule.KnownArgumentNames → FieldRuleHolds s d field_rule.UniqueArgumentNames
-        → FieldRuleHolds s d field_rule.ProvidedRequiredArguments → FieldRuleHolds s d field_rule.ValuesOfCorrectType → FieldRuleHolds s d field_rule.KnownInputFields → FieldRuleHolds s d field_rule.UniqueInputFields
+    node : FieldRuleHolds s d field_rule.FieldsOnCorrectType → FieldRuleHolds s d field_rule.ScalarLeafs → FieldRuleHolds s d field_rule.KnownArgumentNames
+        → FieldRuleHolds s d field_rule.UniqueArgumentNames
+        → FieldRuleHolds s d field_rule.ProvidedRequiredArguments → FieldRuleHolds s d field_rule.ValuesOfCorrectType → FieldRuleHolds s d field_rule.KnownInputFields
+        → FieldRuleHolds s d field_rule.UniqueInputFields
         → FieldRuleHolds s d field_rule.RequiredInputFields → (r : FieldRule) → FieldRuleHolds s d r
     node a b c e f g h i j field_rule.FieldsOnCorrectType = a
     node a b c e f g h i j field_rule.ScalarLeafs = b
@@ -156,7 +197,8 @@ module _ (s : SchemaTree) (d : DocumentTree) (of_doc : DocHolds s d) (of_fields 
       → (i : ℕ) (x : DefinitionTree) → slice_get d i ≡ Some x → Each (λ n. f n ≡ None) (definition_nodes s x)
   at_nodes f h i x at =
       let parts = least_none (λ (p : PartTree). least_of f p.nodes) (document_parts s d) h in
-      least_none f (definition_nodes s x) (each_at (λ (y : DefinitionTree). least_of f (definition_nodes s y) ≡ None) d i x at (each_unmap (λ (p : PartTree). least_of f p.nodes ≡ None) (part_of s) d parts))
+      least_none f (definition_nodes s x)
+      (each_at (λ (y : DefinitionTree). least_of f (definition_nodes s y) ≡ None) d i x at (each_unmap (λ (p : PartTree). least_of f p.nodes ≡ None) (part_of s) d parts))
 
   pub nodes_hold : (i : ℕ) (x : DefinitionTree) → slice_get d i ≡ Some x → Each (Holds s d) (definition_nodes s x)
   nodes_hold i x at =

@@ -68,7 +68,8 @@ each_given : {A B : Type 0} (P : B → Type 0) (f : A → Option B) (xs : List A
 each_given P f [] h = tt
 each_given {A = A} {B = B} P f (x ∷ xs) h = by (f x) refl h (λ g. each_given P f xs g)
   where
-    by : (o : Option B) → f x ≡ o → Each P (cons_option o (filter_map f xs)) → (Each P (filter_map f xs) → Each (λ x. (y : B) → f x ≡ Some y → P y) xs) → Each (λ x. (y : B) → f x ≡ Some y → P y) (x ∷ xs)
+    by : (o : Option B) → f x ≡ o → Each P (cons_option o (filter_map f xs)) → (Each P (filter_map f xs) → Each (λ x. (y : B) → f x ≡ Some y → P y) xs)
+        → Each (λ x. (y : B) → f x ≡ Some y → P y) (x ∷ xs)
     by None is h again = ((λ y e. let no : None ≡ Some y = sym is ∙ e in absurd cc), again h)
     by (Some z) is h again = ((λ y e. let same : z ≡ y = (let s : Some z ≡ Some y = sym is ∙ e in cc) in subst P same h.0), again h.1)
 
@@ -107,13 +108,16 @@ unrepeated before [] h = tt
 unrepeated before (n ∷ ns) h =
     let both = earlier_parts (at_if (list_any (λ x. bytes_eq x n.name) before) n.at) (repeat_behind (n.name ∷ before) ns) h in (
       at_if_none (list_any (λ x. bytes_eq x n.name) before) n.at both.0,
-      each_weaken (λ (k : NameTree). list_any (λ x. bytes_eq x k.name) (n.name ∷ before) ≡ false) (λ (k : NameTree). list_any (λ x. bytes_eq x k.name) before ≡ false) (λ k h. or_last (bytes_eq n.name k.name) (list_any (λ x. bytes_eq x k.name) before) h) ns (unrepeated (n.name ∷ before) ns both.1),
+      each_weaken (λ (k : NameTree). list_any (λ x. bytes_eq x k.name) (n.name ∷ before) ≡ false) (λ (k : NameTree). list_any (λ x. bytes_eq x k.name) before ≡ false)
+          (λ k h. or_last (bytes_eq n.name k.name) (list_any (λ x. bytes_eq x k.name) before) h) ns (unrepeated (n.name ∷ before) ns both.1),
     )
 
 -- variables behind one have other names
-others_differ : (own name : List ℕ) (before : List (List ℕ)) (vs : List VarDefTree) → bytes_eq own name ≡ true → repeat_behind (own ∷ before) (map variable_name vs) ≡ None → Each (λ (v : VarDefTree). bytes_eq v.name name ≡ false) vs
+others_differ : (own name : List ℕ) (before : List (List ℕ)) (vs : List VarDefTree) → bytes_eq own name ≡ true → repeat_behind (own ∷ before) (map variable_name vs) ≡ None
+    → Each (λ (v : VarDefTree). bytes_eq v.name name ≡ false) vs
 others_differ own name before vs same h =
-    each_weaken (λ (v : VarDefTree). list_any (λ x. bytes_eq x v.name) (own ∷ before) ≡ false) (λ (v : VarDefTree). bytes_eq v.name name ≡ false) (λ v h. other v (or_first (bytes_eq own v.name) (list_any (λ x. bytes_eq x v.name) before) h)) vs
+    each_weaken (λ (v : VarDefTree). list_any (λ x. bytes_eq x v.name) (own ∷ before) ≡ false) (λ (v : VarDefTree). bytes_eq v.name name ≡ false)
+    (λ v h. other v (or_first (bytes_eq own v.name) (list_any (λ x. bytes_eq x v.name) before) h)) vs
     (each_unmap (λ (n : NameTree). list_any (λ x. bytes_eq x n.name) (own ∷ before) ≡ false) variable_name vs (unrepeated (own ∷ before) (map variable_name vs) h))
   where
     other : (v : VarDefTree) → bytes_eq own v.name ≡ false → bytes_eq v.name name ≡ false
@@ -162,10 +166,12 @@ module _ (s : SchemaTree) (plain : NoDefaults s) where
   without_null (list_of q) x is never h = absurd cc
   without_null (non_null q) x is never h = strict_is s q x never h
 
-  module _ (required default : Bool) (r : TypeRefTree) (p : PlaceTree) (given : Option JsonTree) (strict : is_non_null p.ty ≡ true → required ≡ true) (has : default ≡ true → is_some given ≡ true) where
+  module _ (required default : Bool) (r : TypeRefTree) (p : PlaceTree) (given : Option JsonTree) (strict : is_non_null p.ty ≡ true → required ≡ true)
+      (has : default ≡ true → is_some given ≡ true) where
     -- where the types go together as they are
     plainly : (o : Option JsonTree) → IsValue required r given o → are_compatible r p.ty ≡ true → (is_non_null p.ty ≡ true → is_non_null r ≡ true) → AtPlace p o
-    plainly o (absent out none loose) goes both = record { typed = λ j e. let no : None ≡ Some j = sym out ∙ e in absurd cc; given = λ is d. let no : true ≡ false = sym (both is) ∙ loose in absurd cc }
+    plainly o (absent out none loose) goes both =
+        record { typed = λ j e. let no : None ≡ Some j = sym out ∙ e in absurd cc; given = λ is d. let no : true ≡ false = sym (both is) ∙ loose in absurd cc }
     plainly o (present x out h never) goes both = record {
       typed = λ j e. let same : x ≡ j = (let both : Some x ≡ Some j = sym out ∙ e in cc) in subst (IsOf s p.ty) same (compatible_is s x r p.ty goes h);
       given = λ is d. ap is_some out;
@@ -175,14 +181,16 @@ module _ (s : SchemaTree) (plain : NoDefaults s) where
     by_default : (o : Option JsonTree) → IsValue required r given o → is_non_null p.ty ≡ true → (default || p.default_false) ≡ true → are_compatible r (nullable p.ty) ≡ true → AtPlace p o
     by_default o (absent out none loose) is one goes = record {
       typed = λ j e. let no : None ≡ Some j = sym out ∙ e in absurd cc;
-      given = λ _ d. let both : (default || false) ≡ true = subst (λ b. (default || b) ≡ true) d one in let there : is_some given ≡ true = has (or_false default both) in let no : false ≡ true = ap is_some (sym none) ∙ there in absurd cc;
+      given = λ _ d. let both : (default || false) ≡ true = subst (λ b. (default || b) ≡ true) d one in let there : is_some given ≡ true = has (or_false default both) in
+          let no : false ≡ true = ap is_some (sym none) ∙ there in absurd cc;
     }
       where
         or_false : (b : Bool) → (b || false) ≡ true → b ≡ true
         or_false true h = refl
         or_false false h = absurd cc
     by_default o (present x out h never) is one goes = record {
-      typed = λ j e. let same : x ≡ j = (let both : Some x ≡ Some j = sym out ∙ e in cc) in subst (IsOf s p.ty) same (without_null p.ty x is (never (strict is)) (compatible_is s x r (nullable p.ty) goes h));
+      typed = λ j e. let same : x ≡ j = (let both : Some x ≡ Some j = sym out ∙ e in cc) in
+          subst (IsOf s p.ty) same (without_null p.ty x is (never (strict is)) (compatible_is s x r (nullable p.ty) goes h));
       given = λ _ d. ap is_some out;
     }
 
@@ -198,7 +206,8 @@ module _ (s : SchemaTree) (plain : NoDefaults s) where
 
   module _ (required : List ℕ → Bool) (given : List (List ℕ × JsonTree)) where
     -- no variable of a name has a value where none of that name is defined
-    not_defined : (name : List ℕ) (vs : List VarDefTree) (vars : List VarTree) → Each (λ (v : VarDefTree). bytes_eq v.name name ≡ false) vs → values_due s required given vs ≡ Ok vars → var_value vars name ≡ None
+    not_defined : (name : List ℕ) (vs : List VarDefTree) (vars : List VarTree) → Each (λ (v : VarDefTree). bytes_eq v.name name ≡ false) vs → values_due s required given vs ≡ Ok vars
+        → var_value vars name ≡ None
     not_defined name [] vars other e = let same : [] ≡ vars = cc in subst (λ ws. var_value ws name ≡ None) same refl
     not_defined name (v ∷ vs) vars other e =
         let one = then_ok (λ o. mapped (with_value v.name o) (values_due s required given vs)) (variable_due s required given v) vars e in
@@ -206,18 +215,22 @@ module _ (s : SchemaTree) (plain : NoDefaults s) where
         subst (λ ws. var_value ws name ≡ None) two.2 (skipped v.name name one.0 two.0 other.0 ∙ not_defined name vs two.0 other.1 two.1)
 
     -- the value of a variable is what is due of its definition
-    pub value_due_of : (name : List ℕ) (vs : List VarDefTree) (vars : List VarTree) (before : List (List ℕ)) → repeat_behind before (map variable_name vs) ≡ None → values_due s required given vs ≡ Ok vars
+    pub value_due_of : (name : List ℕ) (vs : List VarDefTree) (vars : List VarTree) (before : List (List ℕ)) → repeat_behind before (map variable_name vs) ≡ None
+        → values_due s required given vs ≡ Ok vars
         → (v : VarDefTree) → find (λ (w : VarDefTree). bytes_eq w.name name) vs ≡ Some v → variable_due s required given v ≡ Ok (var_value vars name)
     value_due_of name [] vars before unique e v is = absurd cc
     value_due_of name (w ∷ vs) vars before unique e v is =
         let one = then_ok (λ o. mapped (with_value w.name o) (values_due s required given vs)) (variable_due s required given w) vars e in
         let two = mapped_ok (with_value w.name one.0) (values_due s required given vs) vars one.2 in
         let rest = earlier_parts (at_if (list_any (λ x. bytes_eq x w.name) before) w.at) (repeat_behind (w.name ∷ before) (map variable_name vs)) unique in
-        subst (λ ws. variable_due s required given v ≡ Ok (var_value ws name)) two.2 (by one.0 two.0 one.1 two.1 rest.1 (bytes_eq w.name name) refl is (λ is. value_due_of name vs two.0 (w.name ∷ before) rest.1 two.1 v is))
+        subst (λ ws. variable_due s required given v ≡ Ok (var_value ws name)) two.2
+        (by one.0 two.0 one.1 two.1 rest.1 (bytes_eq w.name name) refl is (λ is. value_due_of name vs two.0 (w.name ∷ before) rest.1 two.1 v is))
       where
-        by : (o : Option JsonTree) (more : List VarTree) → variable_due s required given w ≡ Ok o → values_due s required given vs ≡ Ok more → repeat_behind (w.name ∷ before) (map variable_name vs) ≡ None
+        by : (o : Option JsonTree) (more : List VarTree) → variable_due s required given w ≡ Ok o → values_due s required given vs ≡ Ok more
+            → repeat_behind (w.name ∷ before) (map variable_name vs) ≡ None
             → (b : Bool) → bytes_eq w.name name ≡ b → cond b (Some w) (find (λ (w : VarDefTree). bytes_eq w.name name) vs) ≡ Some v
-            → (find (λ (w : VarDefTree). bytes_eq w.name name) vs ≡ Some v → variable_due s required given v ≡ Ok (var_value more name)) → variable_due s required given v ≡ Ok (var_value (with_value w.name o more) name)
+            → (find (λ (w : VarDefTree). bytes_eq w.name name) vs ≡ Some v → variable_due s required given v ≡ Ok (var_value more name))
+            → variable_due s required given v ≡ Ok (var_value (with_value w.name o more) name)
         by o more due others later true same is again =
             let w_is : w ≡ v = cc in
             let none : var_value more name ≡ None = not_defined name vs more (others_differ w.name name before vs same later) others in
@@ -258,8 +271,10 @@ each_among {A = A} f (x ∷ xs) = by (f x) refl (each_among f xs)
         → Each (λ y. (name : List ℕ) → f y ≡ Some name → list_any (λ n. bytes_eq n name) (cons_option o (filter_map f xs)) ≡ true) (x ∷ xs)
     by None is later = ((λ name e. let no : None ≡ Some name = sym is ∙ e in absurd cc), later)
     by (Some own) is later = (
-      (λ name e. let same : own ≡ name = (let both : Some own ≡ Some name = sym is ∙ e in cc) in or_left (bytes_eq own name) (list_any (λ n. bytes_eq n name) (filter_map f xs)) (equal_texts own name same)),
-      each_weaken (λ y. (name : List ℕ) → f y ≡ Some name → list_any (λ n. bytes_eq n name) (filter_map f xs) ≡ true) (λ y. (name : List ℕ) → f y ≡ Some name → list_any (λ n. bytes_eq n name) (own ∷ filter_map f xs) ≡ true)
+      (λ name e. let same : own ≡ name = (let both : Some own ≡ Some name = sym is ∙ e in cc) in
+          or_left (bytes_eq own name) (list_any (λ n. bytes_eq n name) (filter_map f xs)) (equal_texts own name same)),
+      each_weaken (λ y. (name : List ℕ) → f y ≡ Some name → list_any (λ n. bytes_eq n name) (filter_map f xs) ≡ true)
+          (λ y. (name : List ℕ) → f y ≡ Some name → list_any (λ n. bytes_eq n name) (own ∷ filter_map f xs) ≡ true)
           (λ y h name e. or_right (bytes_eq own name) (list_any (λ n. bytes_eq n name) (filter_map f xs)) (h name e)) xs later,
     )
 
@@ -268,11 +283,13 @@ each_place : {A : Type 0} (f : A → Option ℕ) (xs : List A) → Each (λ x. (
 each_place f [] = tt
 each_place {A = A} f (x ∷ xs) = by (f x) refl (each_place f xs)
   where
-    by : (o : Option ℕ) → f x ≡ o → Each (λ y. (q : ℕ) → f y ≡ Some q → has (filter_map f xs) q ≡ true) xs → Each (λ y. (q : ℕ) → f y ≡ Some q → has (cons_option o (filter_map f xs)) q ≡ true) (x ∷ xs)
+    by : (o : Option ℕ) → f x ≡ o → Each (λ y. (q : ℕ) → f y ≡ Some q → has (filter_map f xs) q ≡ true) xs
+        → Each (λ y. (q : ℕ) → f y ≡ Some q → has (cons_option o (filter_map f xs)) q ≡ true) (x ∷ xs)
     by None is later = ((λ q e. let no : None ≡ Some q = sym is ∙ e in absurd cc), later)
     by (Some own) is later = (
       (λ q e. let same : own ≡ q = (let both : Some own ≡ Some q = sym is ∙ e in cc) in or_left (nat_eq q own) (has (filter_map f xs) q) (eq-eqb q own (sym same))),
-      each_weaken (λ y. (q : ℕ) → f y ≡ Some q → has (filter_map f xs) q ≡ true) (λ y. (q : ℕ) → f y ≡ Some q → has (own ∷ filter_map f xs) q ≡ true) (λ y h q e. or_right (nat_eq q own) (has (filter_map f xs) q) (h q e)) xs later,
+      each_weaken (λ y. (q : ℕ) → f y ≡ Some q → has (filter_map f xs) q ≡ true) (λ y. (q : ℕ) → f y ≡ Some q → has (own ∷ filter_map f xs) q ≡ true)
+          (λ y h q e. or_right (nat_eq q own) (has (filter_map f xs) q) (h q e)) xs later,
     )
 
 -- a use where null cannot stand makes its variable a required one
@@ -281,7 +298,8 @@ required_used (value_node v place) u p e at strict = by v.value e
   where
     of_variable : (name : List ℕ) (o : Option PlaceTree) → place ≡ o → name ≡ u.name → o ≡ Some p → required_in o (variable name) ≡ Some u.name
     of_variable name None is same_name at = absurd cc
-    of_variable name (Some q) is same_name at = let same : p ≡ q = (let both : Some q ≡ Some p = at in cc) in rw (subst (λ (x : PlaceTree). coercion.is_non_null x.ty ≡ true) same strict) (ap Some same_name)
+    of_variable name (Some q) is same_name at = let same : p ≡ q = (let both : Some q ≡ Some p = at in cc) in
+        rw (subst (λ (x : PlaceTree). coercion.is_non_null x.ty ≡ true) same strict) (ap Some same_name)
 
     by : (w : ValueTree) → use_in v.at place w ≡ Some u → required_in place w ≡ Some u.name
     by (variable name) e =
@@ -304,7 +322,8 @@ length_mapped f g (x ∷ xs) = ap suc (length_mapped f g xs)
 abbrev pub DefaultsWrite : List VarDefTree → Type 0
 DefaultsWrite vs = Each (λ (v : VarDefTree). has_default v.default ≡ true → is_some (default_value v.default) ≡ true) vs
 
-module _ (s : SchemaTree) (plain : NoDefaults s) (d : DocumentTree) (of_doc : DocHolds s d) (of_fields : FieldsHold s d) (op : ℕ) (o : OperationTree) (here : slice_get d op ≡ Some (operation o)) (constants : DefaultsWrite o.vars)
+module _ (s : SchemaTree) (plain : NoDefaults s) (d : DocumentTree) (of_doc : DocHolds s d) (of_fields : FieldsHold s d) (op : ℕ) (o : OperationTree)
+    (here : slice_get d op ≡ Some (operation o)) (constants : DefaultsWrite o.vars)
     (given : List (List ℕ × JsonTree)) (vars : List VarTree) (due : values_due s (is_required s d op) given o.vars ≡ Ok vars) where
   abbrev parts : List PartTree
   parts = document_parts s d
@@ -332,7 +351,8 @@ module _ (s : SchemaTree) (plain : NoDefaults s) (d : DocumentTree) (of_doc : Do
       let k = not_none (variable_named o.vars u.name) (at_if_none (is_none (variable_named o.vars u.name)) u.at defined) in
       let r = found_at (λ (w : VarDefTree). bytes_eq w.name u.name) 0 o.vars k.0 k.1 in
       let v : VarDefTree = r.1 in
-      let there : option_and_then (slice_get o.vars) (variable_named o.vars u.name) ≡ Some v = ap (option_and_then (slice_get o.vars)) k.1 ∙ (ap (slice_get o.vars) (let place : k.0 ≡ r.0 = omega (arith, r.2) in place) ∙ r.3) in
+      let there : option_and_then (slice_get o.vars) (variable_named o.vars u.name) ≡ Some v = ap (option_and_then (slice_get o.vars)) k.1
+      ∙ (ap (slice_get o.vars) (let place : k.0 ≡ r.0 = omega (arith, r.2) in place) ∙ r.3) in
       let test : at_if (is_wrong_type (resolved s v.ty) (has_default v.default) u.place) u.at ≡ None =
       ap (option_and_then (λ (w : VarDefTree). at_if (is_wrong_type (resolved s w.ty) (has_default w.default) u.place) u.at)) (sym there) ∙ allowed in
       let right : is_wrong_type (resolved s v.ty) (has_default v.default) (Some p) ≡ false =
@@ -342,11 +362,13 @@ module _ (s : SchemaTree) (plain : NoDefaults s) (d : DocumentTree) (of_doc : Do
       by v named (resolved s v.ty) right value (each_at (λ (v : VarDefTree). has_default v.default ≡ true → is_some (default_value v.default) ≡ true) o.vars r.0 v r.3 constants)
     where
       by : (v : VarDefTree) → u.name ≡ v.name → (t : Option TypeRefTree) → is_wrong_type t (has_default v.default) (Some p) ≡ false
-          → value_if_known s v.at (is_required s d op v.name) t (given_value given v) ≡ Ok (var_value vars u.name) → (has_default v.default ≡ true → is_some (default_value v.default) ≡ true) → VarFits s vars u.name p
+          → value_if_known s v.at (is_required s d op v.name) t (given_value given v) ≡ Ok (var_value vars u.name) → (has_default v.default ≡ true → is_some (default_value v.default) ≡ true)
+          → VarFits s vars u.name p
       by v same_name None right value writes = absurd cc
       by v same_name (Some r) right value writes =
           let is = value_is s plain v.at (is_required s d op v.name) r (given_value given v) (var_value vars u.name) value in
-          let fits = at_place s plain (is_required s d op v.name) (has_default v.default) r p (given_value given v) (λ yes. ap (is_required s d op) (sym same_name) ∙ strict (non_null_same p.ty ∙ yes)) (has_value v writes)
+          let fits = at_place s plain (is_required s d op v.name) (has_default v.default) r p (given_value given v)
+          (λ yes. ap (is_required s d op) (sym same_name) ∙ strict (non_null_same p.ty ∙ yes)) (has_value v writes)
           (var_value vars u.name) is (not_false (is_allowed r (has_default v.default) p) right) in
           record { typed = fits.typed; given = fits.given }
 
@@ -374,7 +396,8 @@ module _ (s : SchemaTree) (plain : NoDefaults s) (d : DocumentTree) (of_doc : Do
     all_defined =
         let all = at_none (in_operation (undefined_in (all_uses parts)) g) d op (operation o) of_doc.defined here in
         let one = least_has (λ j. least_of (undefined_use (variable_named o.vars)) (uses_at (all_uses parts) j)) reach i all in_reach in
-        each_given (λ u. undefined_use (variable_named o.vars) u ≡ None) use_of nodes (least_none (undefined_use (variable_named o.vars)) (uses_of nodes) (ap (least_of (undefined_use (variable_named o.vars))) (sym same_uses) ∙ one))
+        each_given (λ u. undefined_use (variable_named o.vars) u ≡ None) use_of nodes
+        (least_none (undefined_use (variable_named o.vars)) (uses_of nodes) (ap (least_of (undefined_use (variable_named o.vars))) (sym same_uses) ∙ one))
 
     all_allowed : Each Allowed nodes
     all_allowed =
@@ -387,7 +410,8 @@ module _ (s : SchemaTree) (plain : NoDefaults s) (d : DocumentTree) (of_doc : Do
     all_required =
         let same : required_at parts i ≡ required_names nodes = mapped_at (part_of s) (λ (p : PartTree). required_names p.nodes) d i x at in
         each_weaken (λ n. (name : List ℕ) → required_of n ≡ Some name → list_any (λ y. bytes_eq y name) (filter_map required_of nodes) ≡ true) Required
-        (λ n h name e. any_has (λ place. list_any (λ y. bytes_eq y name) (required_at parts place)) reach i in_reach (ap (list_any (λ y. bytes_eq y name)) same ∙ h name e)) nodes (each_among required_of nodes)
+        (λ n h name e. any_has (λ place. list_any (λ y. bytes_eq y name) (required_at parts place)) reach i in_reach (ap (list_any (λ y. bytes_eq y name)) same ∙ h name e)) nodes
+        (each_among required_of nodes)
 
     all_used : Each (UseFits s vars) nodes
     all_used =

@@ -122,10 +122,12 @@ leaf_flat s t j y kept flat e = by (type_at s t) refl e
         cases (inr h) = subst (IsFlat s t) (sym h.1) (number h.0 (ap (λ o. is_some (option_and_then (λ (x : TypeTree). leaf_by s t x.origin (int h.0)) o)) is ∙ h.2))
 
 bool_flat : (s : SchemaTree) (t : ℕ) (b : Bool) (y : JsonTree) → leaf_value s t (bool b) ≡ Some y → IsFlat s t y
-bool_flat s t b y e = leaf_flat s t (bool b) y (λ o e. inl (bool_kept s t b y o e)) (λ h. record { of_base = λ r same. subst (λ u. is_some (leaf_value s u (bool b)) ≡ true) (sym same) h; not_null = refl }) e
+bool_flat s t b y e = leaf_flat s t (bool b) y (λ o e. inl (bool_kept s t b y o e))
+    (λ h. record { of_base = λ r same. subst (λ u. is_some (leaf_value s u (bool b)) ≡ true) (sym same) h; not_null = refl }) e
 
 int_flat : (s : SchemaTree) (t : ℕ) (n : ℤ) (y : JsonTree) → leaf_value s t (int n) ≡ Some y → IsFlat s t y
-int_flat s t n y e = leaf_flat s t (int n) y (λ o e. inl (int_kept s t n y o e)) (λ h. record { of_base = λ r same. subst (λ u. is_some (leaf_value s u (int n)) ≡ true) (sym same) h; not_null = refl }) e
+int_flat s t n y e = leaf_flat s t (int n) y (λ o e. inl (int_kept s t n y o e))
+    (λ h. record { of_base = λ r same. subst (λ u. is_some (leaf_value s u (int n)) ≡ true) (sym same) h; not_null = refl }) e
 
 text_flat : (s : SchemaTree) (t : ℕ) (x : List ℕ) (y : JsonTree) → leaf_value s t (str x) ≡ Some y → IsFlat s t y
 text_flat s t x y e = leaf_flat s t (str x) y (λ o e. text_by s t x y o e) (λ h. record { of_base = λ r same. subst (λ u. is_some (leaf_value s u (str x)) ≡ true) (sym same) h; not_null = refl }) e

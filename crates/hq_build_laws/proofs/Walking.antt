@@ -71,7 +71,8 @@ use Rattle.hq_build_laws.proofs.Places.{At, Schemed, TypeIs, type_is, IsField, F
 use Rattle.hq_build_laws.proofs.Shapes.{FieldIs, FieldShape, LooksAt, is_looked, Shaped}
 use Rattle.hq_build_laws.proofs.Standing.{introspection_at}
 
-module _ (tables : List Table) (m : MetaTree) (metadata_fits : fits tables m ≡ true) (role : Role) (schemed : Schemed tables m role) (shaped : Each (Shaped tables m role) (role_schema tables m role).types)
+module _ (tables : List Table) (m : MetaTree) (metadata_fits : fits tables m ≡ true) (role : Role) (schemed : Schemed tables m role)
+    (shaped : Each (Shaped tables m role) (role_schema tables m role).types)
     (differ : Each TypeDiffers (role_schema tables m role).types) (vars : List VarTree) (d : DocumentTree) (reach : List ℕ) where
   abbrev s : Schema
   s = schema_of tables m
@@ -138,12 +139,15 @@ module _ (tables : List Table) (m : MetaTree) (metadata_fits : fits tables m ≡
 
   module _ (place t : ℕ) (h : FieldHead) (empty : Bool) (f : IsKnown place h empty) where
     -- a field whose arguments are lawful, and what follows is
-    one_building : {A : Type 0} → Lawful (by_origin c t f.def.args h.args f.def.origin) → (next : Known → Due A) → ((x : FieldArguments) → by_origin c t f.def.args h.args f.def.origin ≡ Ok x → IsBuilding (next (f.def, x)))
+    one_building : {A : Type 0} → Lawful (by_origin c t f.def.args h.args f.def.origin) → (next : Known → Due A)
+        → ((x : FieldArguments) → by_origin c t f.def.args h.args f.def.origin ≡ Ok x → IsBuilding (next (f.def, x)))
         → IsBuilding (and_then next (known_due c place t h empty))
     one_building {A = A} lawful next step =
-        subst (λ (o : Option FieldTree). IsBuilding (and_then next (known_of c t h empty o))) (sym f.known) (by (is_complete R f.def empty) f.complete (by_origin c t f.def.args h.args f.def.origin) lawful step)
+        subst (λ (o : Option FieldTree). IsBuilding (and_then next (known_of c t h empty o))) (sym f.known)
+        (by (is_complete R f.def empty) f.complete (by_origin c t f.def.args h.args f.def.origin) lawful step)
       where
-        by : (b : Bool) → b ≡ true → (r : Read FieldArguments) → Lawful r → ((x : FieldArguments) → r ≡ Ok x → IsBuilding (next (f.def, x))) → IsBuilding (and_then next (cond b (mapped (λ (x : FieldArguments). let y : Known = (f.def, x) in y) (at_field h.at r)) (refused rule.LeafFieldSelections h)))
+        by : (b : Bool) → b ≡ true → (r : Read FieldArguments) → Lawful r → ((x : FieldArguments) → r ≡ Ok x → IsBuilding (next (f.def, x)))
+            → IsBuilding (and_then next (cond b (mapped (λ (x : FieldArguments). let y : Known = (f.def, x) in y) (at_field h.at r)) (refused rule.LeafFieldSelections h)))
         by true e (Ok x) l g = g x refl
         by true e (Err (Rule q)) l g = l
         by true e (Err Memory) l g = l
@@ -158,7 +162,8 @@ module _ (tables : List Table) (m : MetaTree) (metadata_fits : fits tables m ≡
 
   -- ---- what one aggregate gives
 
-  taken_own : (t : ℕ) (args : List ArgTree) (u : ℕ) (r : TypeRefTree) (h : FieldHead) (place : ℕ) (o : FieldOrigin) → Reaches types r (column_target a u o) → Lawful (by_origin c t args h.args o) × IsBuilding (taken_by c place h o)
+  taken_own : (t : ℕ) (args : List ArgTree) (u : ℕ) (r : TypeRefTree) (h : FieldHead) (place : ℕ) (o : FieldOrigin) → Reaches types r (column_target a u o)
+      → Lawful (by_origin c t args h.args o) × IsBuilding (taken_by c place h o)
   taken_own t args u r h place (origin.Column k) at = (tt, tt)
   taken_own t args u r h place o at = absurd at
 
@@ -166,7 +171,8 @@ module _ (tables : List Table) (m : MetaTree) (metadata_fits : fits tables m ≡
       → Lawful (by_origin c t def.args h.args def.origin) × IsBuilding (taken_by c place h def.origin)
   one_taken t g u place at h def (own i) = taken_own t def.args u def.ty h place def.origin i.fits.reaches
   one_taken t g u place at h def (named is) =
-      subst (λ (x : FieldTree). Lawful (by_origin c t x.args h.args x.origin) × IsBuilding (taken_by c place h x.origin)) (sym is) (tt, mapped_building of.Typename (type_name_due R place h) (name_building place (type.Aggregated g u) h at))
+      subst (λ (x : FieldTree). Lawful (by_origin c t x.args h.args x.origin) × IsBuilding (taken_by c place h x.origin)) (sym is)
+      (tt, mapped_building of.Typename (type_name_due R place h) (name_building place (type.Aggregated g u) h at))
   one_taken t g u place at h def (of_schema root is n) = absurd (not_root place (type.Aggregated g u) at (λ e. cc) root)
   one_taken t g u place at h def (of_type root is n) = absurd (not_root place (type.Aggregated g u) at (λ e. cc) root)
 
@@ -175,38 +181,48 @@ module _ (tables : List Table) (m : MetaTree) (metadata_fits : fits tables m ≡
   taken_building (collected k h under others) g u place t at sound =
       let both = one_taken t g u place at h sound.0.def (field_found tables m role schemed place (type.Aggregated g u) h.name sound.0.def at sound.0.known) in
       then_building (λ (x : AggCol). mapped (with_taken k x) (taken_due c place t others)) (known_due c place t h (is_empty under) >>= λ (x : Known). taken_by c place h x.0.origin)
-      (one_building place t h (is_empty under) sound.0 both.0 (λ (x : Known). taken_by c place h x.0.origin) (λ x e. both.1)) (λ x e. mapped_building (with_taken k x) (taken_due c place t others) (taken_building others g u place t at sound.2))
+      (one_building place t h (is_empty under) sound.0 both.0 (λ (x : Known). taken_by c place h x.0.origin) (λ x e. both.1))
+      (λ x e. mapped_building (with_taken k x) (taken_due c place t others) (taken_building others g u place t at sound.2))
 
   -- ---- aggregate
 
   -- what is counted
   count_is : (args : List ArgTree) (h : FieldHead) (x : FieldArguments) → count_due c args h.args ≡ Ok x → IsBuilding (count_of h x)
   count_is args h x e =
-      let one = then_ok (λ column. flag_due (given_named c args h.args (codes "distinct")) >>= λ distinct. Ok (count column distinct)) (counted_due c (given_named c args h.args (codes "columns"))) x e in
+      let one = then_ok (λ column. flag_due (given_named c args h.args (codes "distinct")) >>= λ distinct. Ok (count column distinct))
+      (counted_due c (given_named c args h.args (codes "columns"))) x e in
       let two = then_ok (λ distinct. Ok (count one.0 distinct)) (flag_due (given_named c args h.args (codes "distinct"))) x one.2 in
       let same : count one.0 two.0 ≡ x = (let both : Ok (count one.0 two.0) ≡ Ok x = two.2 in cc) in
       subst (λ y. IsBuilding (count_of h y)) same tt
 
   module _ (u place : ℕ) (at : At types place (type.AggregateFields u)) (h : FieldHead) (under : CollectedTrees) (f : IsKnown place h (is_empty under)) (below : IsSound (base f.def.ty) under) where
     summary_own : Like f.def → Reaches types f.def.ty (over_target u f.def.origin) → Each (ArgFits types (over_args u f.def.origin)) f.def.args
-        → (o : FieldOrigin) → f.def.origin ≡ o → Lawful (by_origin c u f.def.args h.args o) × ((x : FieldArguments) → by_origin c u f.def.args h.args o ≡ Ok x → IsBuilding (summary_by c place h (f.def, x) (taken_due c (base f.def.ty) u under) o))
+        → (o : FieldOrigin) → f.def.origin ≡ o
+        → Lawful (by_origin c u f.def.args h.args o)
+        × ((x : FieldArguments) → by_origin c u f.def.args h.args o ≡ Ok x → IsBuilding (summary_by c place h (f.def, x) (taken_due c (base f.def.ty) u under) o))
     summary_own like reach_is fit origin.Count is =
         let shape : FieldIs tables m role origin.Count f.def.args f.def.ty = subst (λ o. FieldIs tables m role o f.def.args f.def.ty) is like.shape in
-        let args : Each (ArgFits types (over_args u origin.Count)) f.def.args = subst (λ o. Each (ArgFits types (over_args u o)) f.def.args) is fit in
-        (count_lawful tables m metadata_fits role schemed shaped vars d reach h.args u f.def.args shape args f.arguments, λ x e. mapped_building (λ (y : Option ℕ × Bool). take.Count y.0 y.1) (count_of h x) (count_is f.def.args h x e))
+        let args : Each (ArgFits types (over_args u origin.Count)) f.def.args = subst (λ o. Each (ArgFits types (over_args u o)) f.def.args) is fit in (
+          count_lawful tables m metadata_fits role schemed shaped vars d reach h.args u f.def.args shape args f.arguments,
+          λ x e. mapped_building (λ (y : Option ℕ × Bool). take.Count y.0 y.1)
+              (count_of h x) (count_is f.def.args h x e),
+        )
     summary_own like reach_is fit (origin.Aggregated g) is =
         let there : At types (base f.def.ty) (type.Aggregated g u) = subst (λ o. Reaches types f.def.ty (over_target u o)) is reach_is in
         (tt, λ x e. mapped_building (take.Columns g) (taken_due c (base f.def.ty) u under) (taken_building under g u (base f.def.ty) u there below))
     summary_own like reach_is fit o is = absurd (subst (λ o. Reaches types f.def.ty (over_target u o)) is reach_is)
 
     abbrev SummaryWanted : FieldOrigin → Type 0
-    SummaryWanted o = Lawful (by_origin c u f.def.args h.args o) × ((x : FieldArguments) → by_origin c u f.def.args h.args o ≡ Ok x → IsBuilding (summary_by c place h (f.def, x) (taken_due c (base f.def.ty) u under) o))
+    SummaryWanted o = Lawful (by_origin c u f.def.args h.args o)
+        × ((x : FieldArguments) → by_origin c u f.def.args h.args o ≡ Ok x → IsBuilding (summary_by c place h (f.def, x) (taken_due c (base f.def.ty) u under) o))
 
     summary_wanted : (def : FieldTree) → f.def ≡ def → Found tables m role schemed place (type.AggregateFields u) h.name def → SummaryWanted f.def.origin
     summary_wanted def is (own i) =
         let j : IsField tables m role schemed (type.AggregateFields u) f.def = subst (IsField tables m role schemed (type.AggregateFields u)) (sym is) i in
         summary_own (field_like place (type.AggregateFields u) h.name f.def at f.known) j.fits.reaches j.fits.args f.def.origin refl
-    summary_wanted def is (named name) = subst SummaryWanted (sym (ap (λ (x : FieldTree). x.origin) (is ∙ name))) (tt, λ x e. mapped_building take.Typename (type_name_due R place h) (name_building place (type.AggregateFields u) h at))
+    summary_wanted def is (named name) =
+        subst SummaryWanted (sym (ap (λ (x : FieldTree). x.origin) (is ∙ name)))
+        (tt, λ x e. mapped_building take.Typename (type_name_due R place h) (name_building place (type.AggregateFields u) h at))
     summary_wanted def is (of_schema root n q) = absurd (not_root place (type.AggregateFields u) at (λ e. cc) root)
     summary_wanted def is (of_type root n q) = absurd (not_root place (type.AggregateFields u) at (λ e. cc) root)
 
@@ -218,7 +234,8 @@ module _ (tables : List Table) (m : MetaTree) (metadata_fits : fits tables m ≡
   summaries_building : (trees : CollectedTrees) (u place : ℕ) → At types place (type.AggregateFields u) → IsSound place trees → IsBuilding (summaries_due c place u trees)
   summaries_building no_collected u place at sound = tt
   summaries_building (collected k h under others) u place at sound =
-      then_building (λ (x : AggField). mapped (with_summary k x) (summaries_due c place u others)) (known_due c place u h (is_empty under) >>= λ (x : Known). summary_by c place h x (taken_due c (leads_to x) u under) x.0.origin)
+      then_building (λ (x : AggField). mapped (with_summary k x) (summaries_due c place u others))
+      (known_due c place u h (is_empty under) >>= λ (x : Known). summary_by c place h x (taken_due c (leads_to x) u under) x.0.origin)
       (one_summary u place at h under sound.0 sound.1) (λ x e. mapped_building (with_summary k x) (summaries_due c place u others) (summaries_building others u place at sound.2))
 
   -- ---- introspection
@@ -264,21 +281,25 @@ module _ (tables : List Table) (m : MetaTree) (metadata_fits : fits tables m ≡
     abbrev LookWanted : FieldOrigin → Type 0
     LookWanted o =
         Lawful (by_origin c t f.def.args h.args o)
-        × ((x : FieldArguments) → by_origin c t f.def.args h.args o ≡ Ok x → IsBuilding (flag_by h (f.def, x) o >>= λ deprecated. mapped (look h.name None deprecated) (looks_due c (base f.def.ty) t under)))
+        × ((x : FieldArguments) → by_origin c t f.def.args h.args o ≡ Ok x
+        → IsBuilding (flag_by h (f.def, x) o >>= λ deprecated. mapped (look h.name None deprecated) (looks_due c (base f.def.ty) t under)))
 
     look_own : Reaches types f.def.ty (introspection_target f.def.origin) → (o : FieldOrigin) → f.def.origin ≡ o → LookWanted o
     look_own reach_is origin.Introspection is =
-        let shape : FieldIs tables m role origin.Introspection f.def.args f.def.ty = subst (λ o. FieldIs tables m role o f.def.args f.def.ty) is (field_like place type.Introspection h.name f.def at f.known).shape in (
+        let shape : FieldIs tables m role origin.Introspection f.def.args f.def.ty =
+        subst (λ o. FieldIs tables m role o f.def.args f.def.ty) is (field_like place type.Introspection h.name f.def at f.known).shape in (
           introspection_lawful tables m metadata_fits role schemed shaped vars d reach h.args f.def.args shape.0 f.arguments,
           λ x e. mapped_building (look h.name None (deprecated_of x)) (looks_due c (base f.def.ty) t under) (below_looks t f.def under shape.1 f.complete again),
         )
     look_own reach_is o is = absurd (subst (λ o. Reaches types f.def.ty (introspection_target o)) is reach_is)
 
     look_wanted : (def : FieldTree) → f.def ≡ def → Found tables m role schemed place type.Introspection h.name def → LookWanted f.def.origin
-    look_wanted def is (own i) = let j : IsField tables m role schemed type.Introspection f.def = subst (IsField tables m role schemed type.Introspection) (sym is) i in look_own j.fits.reaches f.def.origin refl
+    look_wanted def is (own i) = let j : IsField tables m role schemed type.Introspection f.def = subst (IsField tables m role schemed type.Introspection) (sym is) i in
+        look_own j.fits.reaches f.def.origin refl
     look_wanted def is (named name) =
         let string : LooksAt f.def.ty = subst (λ (x : FieldTree). LooksAt x.ty) (sym (is ∙ name)) (fixed.Scalar ty.Text, refl, refl) in
-        subst LookWanted (sym (ap (λ (x : FieldTree). x.origin) (is ∙ name))) (tt, λ x e. mapped_building (look h.name None false) (looks_due c (base f.def.ty) t under) (below_looks t f.def under string f.complete again))
+        subst LookWanted (sym (ap (λ (x : FieldTree). x.origin) (is ∙ name)))
+        (tt, λ x e. mapped_building (look h.name None false) (looks_due c (base f.def.ty) t under) (below_looks t f.def under string f.complete again))
     look_wanted def is (of_schema root n q) = absurd (not_root place type.Introspection at (λ e. cc) root)
     look_wanted def is (of_type root n q) = absurd (not_root place type.Introspection at (λ e. cc) root)
 
@@ -291,7 +312,8 @@ module _ (tables : List Table) (m : MetaTree) (metadata_fits : fits tables m ≡
   looks_building no_collected place t at sound = tt
   looks_building (collected k h under others) place t at sound =
       then_building (λ x. mapped (looks k x) (looks_due c place t others)) (known_due c place t h (is_empty under) >>= look_of h (λ (x : Known). looks_due c (leads_to x) t under))
-      (one_look place t at h under sound.0 (λ there. looks_building under (base sound.0.def.ty) t there sound.1)) (λ x e. mapped_building (looks k x) (looks_due c place t others) (looks_building others place t at sound.2))
+      (one_look place t at h under sound.0 (λ there. looks_building under (base sound.0.def.ty) t there sound.1))
+      (λ x e. mapped_building (looks k x) (looks_due c place t others) (looks_building others place t at sound.2))
 
   -- ---- fields at rows, and parts of aggregates
 
@@ -344,30 +366,40 @@ module _ (tables : List Table) (m : MetaTree) (metadata_fits : fits tables m ≡
     -- a field at a row of table t
     row_wanted : Reaches types f.def.ty (row_target a t f.def.origin) → Each (ArgFits types (row_args a t f.def.origin)) f.def.args → (o : FieldOrigin) → f.def.origin ≡ o → Wanted o
     row_wanted reach_is fit o is =
-        by o (subst (λ o. Reaches types f.def.ty (row_target a t o)) is reach_is) (subst (λ o. Each (ArgFits types (row_args a t o)) f.def.args) is fit) (subst (λ o. FieldIs tables m role o f.def.args f.def.ty) is like.shape)
+        by o (subst (λ o. Reaches types f.def.ty (row_target a t o)) is reach_is) (subst (λ o. Each (ArgFits types (row_args a t o)) f.def.args) is fit)
+        (subst (λ o. FieldIs tables m role o f.def.args f.def.ty) is like.shape)
       where
         there : (r : ℕ) (q : Rel) → a.rel t r ≡ Some q → q.remote ≡ (rel s t r).remote
         there r q found = sym (ap (λ (y : Rel). y.remote) (rel_at tables m metadata_fits role t r q found).0)
 
         object_at_row : (r : ℕ) (q : Rel) → a.rel t r ≡ Some q → (b : Bool) → Reaches types f.def.ty (where_holds b (to (type.Rows q.remote))) → Wanted (origin.Object r)
         object_at_row r q found false at = absurd at
-        object_at_row r q found true at =
-            (tt, λ x e. mapped_building (object r) (fields_due c (base f.def.ty) (rel s t r).remote under) (inner.rows (base f.def.ty) (rel s t r).remote (subst (λ u. At types (base f.def.ty) (type.Rows u)) (there r q found) at) below))
+        object_at_row r q found true at = (
+          tt,
+          λ x e. mapped_building (object r) (fields_due c (base f.def.ty) (rel s t r).remote under)
+              (inner.rows (base f.def.ty) (rel s t r).remote (subst (λ u. At types (base f.def.ty) (type.Rows u)) (there r q found) at) below),
+        )
 
         list_at_row : (r : ℕ) (q : Rel) → a.rel t r ≡ Some q → ((first : ℕ) × (f.def.args ≡ list_args first)) → Each (ArgFits types (list_target (Some q.remote))) f.def.args
             → (b : Bool) → Reaches types f.def.ty (where_holds b (to (type.Rows q.remote))) → Wanted (origin.«List» r)
         list_at_row r q found shape fit false at = absurd at
         list_at_row r q found shape fit true at =
-            let u : ℕ = (rel s t r).remote in
-            (rows_lawful u shape (subst (λ v. Each (ArgFits types (list_target (Some v))) f.def.args) (there r q found) fit), list_asked u (Some r) (subst (λ v. At types (base f.def.ty) (type.Rows v)) (there r q found) at))
+            let u : ℕ = (rel s t r).remote in (
+              rows_lawful u shape (subst (λ v. Each (ArgFits types (list_target (Some v))) f.def.args) (there r q found) fit),
+              list_asked u (Some r)
+                  (subst (λ v. At types (base f.def.ty) (type.Rows v)) (there r q found) at),
+            )
 
         aggregate_at_row : (r : ℕ) (q : Rel) → a.rel t r ≡ Some q → ((first : ℕ) × (f.def.args ≡ list_args first)) → Each (ArgFits types (list_target (Some q.remote))) f.def.args
             → (b g : Bool) → Reaches types f.def.ty (where_holds b (where_holds g (to (type.Aggregate q.remote)))) → Wanted (origin.ListAggregate r)
         aggregate_at_row r q found shape fit false g at = absurd at
         aggregate_at_row r q found shape fit true false at = absurd at
         aggregate_at_row r q found shape fit true true at =
-            let u : ℕ = (rel s t r).remote in
-            (rows_lawful u shape (subst (λ v. Each (ArgFits types (list_target (Some v))) f.def.args) (there r q found) fit), aggregate_asked u (Some r) (subst (λ v. At types (base f.def.ty) (type.Aggregate v)) (there r q found) at))
+            let u : ℕ = (rel s t r).remote in (
+              rows_lawful u shape (subst (λ v. Each (ArgFits types (list_target (Some v))) f.def.args) (there r q found) fit),
+              aggregate_asked u (Some r)
+                  (subst (λ v. At types (base f.def.ty) (type.Aggregate v)) (there r q found) at),
+            )
 
         by : (o : FieldOrigin) → Reaches types f.def.ty (row_target a t o) → Each (ArgFits types (row_args a t o)) f.def.args → FieldIs tables m role o f.def.args f.def.ty → Wanted o
         by (origin.Column k) at fit shape = (tt, λ x e. tt)
@@ -394,7 +426,8 @@ module _ (tables : List Table) (m : MetaTree) (metadata_fits : fits tables m ≡
         one_building place t h (is_empty under) f both.0 (asked_field c place t h (below_of t under)) both.1
       where
         by : (def : FieldTree) → f.def ≡ def → Found tables m role schemed place (type.Rows t) h.name def → Wanted f.def.origin
-        by def is (own i) = let j : IsField tables m role schemed (type.Rows t) f.def = subst (IsField tables m role schemed (type.Rows t)) (sym is) i in row_wanted j.fits.reaches j.fits.args f.def.origin refl
+        by def is (own i) = let j : IsField tables m role schemed (type.Rows t) f.def = subst (IsField tables m role schemed (type.Rows t)) (sym is) i in
+            row_wanted j.fits.reaches j.fits.args f.def.origin refl
         by def is (named name) = subst Wanted (sym (ap (λ (x : FieldTree). x.origin) (is ∙ name))) (name_wanted (type.Rows t) at)
         by def is (of_schema root n q) = absurd (not_root place (type.Rows t) at (λ e. cc) root)
         by def is (of_type root n q) = absurd (not_root place (type.Rows t) at (λ e. cc) root)
@@ -410,19 +443,23 @@ module _ (tables : List Table) (m : MetaTree) (metadata_fits : fits tables m ≡
     part_wanted origin.Nodes at = (tt, λ x e. mapped_building nodes (fields_due c (base f.def.ty) t under) (inner.rows (base f.def.ty) t at below))
     part_wanted o at = absurd at
 
-    one_part : At types place (type.Aggregate t) → IsBuilding (known_due c place t h (is_empty under) >>= λ (k : Known). part_by c place h (summaries_due c (leads_to k) t under) (fields_due c (leads_to k) t under) k.0.origin)
+    one_part : At types place (type.Aggregate t)
+        → IsBuilding (known_due c place t h (is_empty under) >>= λ (k : Known). part_by c place h (summaries_due c (leads_to k) t under) (fields_due c (leads_to k) t under) k.0.origin)
     one_part at =
         let both = by f.def refl (field_found tables m role schemed place (type.Aggregate t) h.name f.def at f.known) in
         one_building place t h (is_empty under) f both.0 (λ (k : Known). part_by c place h (summaries_due c (leads_to k) t under) (fields_due c (leads_to k) t under) k.0.origin) both.1
       where
         by : (def : FieldTree) → f.def ≡ def → Found tables m role schemed place (type.Aggregate t) h.name def → PartWanted f.def.origin
-        by def is (own i) = let j : IsField tables m role schemed (type.Aggregate t) f.def = subst (IsField tables m role schemed (type.Aggregate t)) (sym is) i in part_wanted f.def.origin j.fits.reaches
-        by def is (named name) = subst PartWanted (sym (ap (λ (x : FieldTree). x.origin) (is ∙ name))) (tt, λ x e. mapped_building part_typename (type_name_due R place h) (name_building place (type.Aggregate t) h at))
+        by def is (own i) = let j : IsField tables m role schemed (type.Aggregate t) f.def = subst (IsField tables m role schemed (type.Aggregate t)) (sym is) i in
+            part_wanted f.def.origin j.fits.reaches
+        by def is (named name) = subst PartWanted (sym (ap (λ (x : FieldTree). x.origin) (is ∙ name)))
+            (tt, λ x e. mapped_building part_typename (type_name_due R place h) (name_building place (type.Aggregate t) h at))
         by def is (of_schema root n q) = absurd (not_root place (type.Aggregate t) at (λ e. cc) root)
         by def is (of_type root n q) = absurd (not_root place (type.Aggregate t) at (λ e. cc) root)
 
     -- a root field
-    key_asked : (u : ℕ) → At types (base f.def.ty) (type.Rows u) → (x : FieldArguments) → mapped key (key_due c f.def.args h.args u) ≡ Ok x → IsBuilding (mapped (key_head u) (key_of h x) >>= with_below h (below_of t under (f.def, x)))
+    key_asked : (u : ℕ) → At types (base f.def.ty) (type.Rows u) → (x : FieldArguments) → mapped key (key_due c f.def.args h.args u) ≡ Ok x
+        → IsBuilding (mapped (key_head u) (key_of h x) >>= with_below h (below_of t under (f.def, x)))
     key_asked u at x e =
         let one = mapped_ok key (key_due c f.def.args h.args u) x e in
         subst (λ (y : FieldArguments). IsBuilding (mapped (key_head u) (key_of h y) >>= with_below h (below_of t under (f.def, y)))) one.2
@@ -430,7 +467,8 @@ module _ (tables : List Table) (m : MetaTree) (metadata_fits : fits tables m ≡
 
     root_wanted : Reaches types f.def.ty (root_target a f.def.origin) → Each (ArgFits types (root_args a f.def.origin)) f.def.args → (o : FieldOrigin) → f.def.origin ≡ o → Wanted o
     root_wanted reach_is fit o is =
-        by o (subst (λ o. Reaches types f.def.ty (root_target a o)) is reach_is) (subst (λ o. Each (ArgFits types (root_args a o)) f.def.args) is fit) (subst (λ o. FieldIs tables m role o f.def.args f.def.ty) is like.shape)
+        by o (subst (λ o. Reaches types f.def.ty (root_target a o)) is reach_is) (subst (λ o. Each (ArgFits types (root_args a o)) f.def.args) is fit)
+        (subst (λ o. FieldIs tables m role o f.def.args f.def.ty) is like.shape)
       where
         by : (o : FieldOrigin) → Reaches types f.def.ty (root_target a o) → Each (ArgFits types (root_args a o)) f.def.args → FieldIs tables m role o f.def.args f.def.ty → Wanted o
         by (origin.Rows u) at fit shape = seen (a.seen u) at
@@ -447,7 +485,11 @@ module _ (tables : List Table) (m : MetaTree) (metadata_fits : fits tables m ≡
           where
             seen : (b : Bool) → Reaches types f.def.ty (where_holds b (to (type.Rows u))) → Wanted (origin.RowByKey u)
             seen false at = absurd at
-            seen true at = (mapped_lawful key (key_due c f.def.args h.args u) (keys_lawful tables m metadata_fits role schemed shaped vars d reach h.args u f.def.args shape like.apart f.arguments f.required), key_asked u at)
+            seen true at = (
+              mapped_lawful key (key_due c f.def.args h.args u)
+                  (keys_lawful tables m metadata_fits role schemed shaped vars d reach h.args u f.def.args shape like.apart f.arguments f.required),
+              key_asked u at,
+            )
         by origin.NoQueries at fit shape = (tt, λ x e. tt)
         by o at fit shape = absurd at
 
@@ -456,24 +498,32 @@ module _ (tables : List Table) (m : MetaTree) (metadata_fits : fits tables m ≡
     looks_below leads = below_looks t f.def under leads f.complete (λ there. looks_building under (base f.def.ty) t there below)
 
     schema_wanted : f.def ≡ schema_field → Wanted origin.Schema
-    schema_wanted is = (tt, λ x e. mapped_building (λ (fs : IntrospectionTrees). introspect (look h.name None false fs)) (looks_due c (base f.def.ty) t under) (looks_below (subst (λ (x : FieldTree). LooksAt x.ty) (sym is) (fixed.Schema, refl, refl))))
+    schema_wanted is = (
+      tt,
+      λ x e. mapped_building (λ (fs : IntrospectionTrees). introspect (look h.name None false fs)) (looks_due c (base f.def.ty) t under)
+          (looks_below (subst (λ (x : FieldTree). LooksAt x.ty) (sym is) (fixed.Schema, refl, refl))),
+    )
 
     type_wanted : f.def ≡ type_field → Wanted origin.«Type»
     type_wanted is = (
       subst (λ (l : List ArgTree). Lawful (mapped type_name (text_due (given_named c l h.args (codes "name"))))) (sym same)
           (mapped_lawful type_name (text_due (given_named c type_field.args h.args (codes "name")))
-          (text_lawful tables m metadata_fits role schemed shaped vars d reach h.args (subst (λ (l : List ArgTree). Each (Good R d reach vars) (arguments_nodes R (Some l) h.args)) same f.arguments) (subst (λ (l : List ArgTree). lacks_any h.args l ≡ false) same f.required))),
+          (text_lawful tables m metadata_fits role schemed shaped vars d reach h.args
+          (subst (λ (l : List ArgTree). Each (Good R d reach vars) (arguments_nodes R (Some l) h.args)) same f.arguments)
+          (subst (λ (l : List ArgTree). lacks_any h.args l ≡ false) same f.required))),
       asked,
     )
       where
         same : f.def.args ≡ type_field.args
         same = ap (λ (x : FieldTree). x.args) is
 
-        asked : (x : FieldArguments) → mapped type_name (text_due (given_named c f.def.args h.args (codes "name"))) ≡ Ok x → IsBuilding (mapped (λ name. introspect_head (Some name)) (type_name_of h x) >>= with_below h (below_of t under (f.def, x)))
+        asked : (x : FieldArguments) → mapped type_name (text_due (given_named c f.def.args h.args (codes "name"))) ≡ Ok x
+            → IsBuilding (mapped (λ name. introspect_head (Some name)) (type_name_of h x) >>= with_below h (below_of t under (f.def, x)))
         asked x e =
             let one = mapped_ok type_name (text_due (given_named c f.def.args h.args (codes "name"))) x e in
             subst (λ (y : FieldArguments). IsBuilding (mapped (λ name. introspect_head (Some name)) (type_name_of h y) >>= with_below h (below_of t under (f.def, y)))) one.2
-            (mapped_building (λ (fs : IntrospectionTrees). introspect (look h.name (Some one.0) false fs)) (looks_due c (base f.def.ty) t under) (looks_below (subst (λ (x : FieldTree). LooksAt x.ty) (sym is) (fixed.«Type», refl, refl))))
+            (mapped_building (λ (fs : IntrospectionTrees). introspect (look h.name (Some one.0) false fs)) (looks_due c (base f.def.ty) t under)
+            (looks_below (subst (λ (x : FieldTree). LooksAt x.ty) (sym is) (fixed.«Type», refl, refl))))
 
     one_root : At types place type.Query → IsBuilding (known_due c place t h (is_empty under) >>= asked_field c place t h (below_of t under))
     one_root at =
@@ -481,7 +531,8 @@ module _ (tables : List Table) (m : MetaTree) (metadata_fits : fits tables m ≡
         one_building place t h (is_empty under) f both.0 (asked_field c place t h (below_of t under)) both.1
       where
         by : (def : FieldTree) → f.def ≡ def → Found tables m role schemed place type.Query h.name def → Wanted f.def.origin
-        by def is (own i) = let j : IsField tables m role schemed type.Query f.def = subst (IsField tables m role schemed type.Query) (sym is) i in root_wanted j.fits.reaches j.fits.args f.def.origin refl
+        by def is (own i) = let j : IsField tables m role schemed type.Query f.def = subst (IsField tables m role schemed type.Query) (sym is) i in
+            root_wanted j.fits.reaches j.fits.args f.def.origin refl
         by def is (named name) = subst Wanted (sym (ap (λ (x : FieldTree). x.origin) (is ∙ name))) (name_wanted type.Query at)
         by def is (of_schema root name q) = subst Wanted (sym (ap (λ (x : FieldTree). x.origin) (is ∙ name))) (schema_wanted (is ∙ name))
         by def is (of_type root name q) = subst Wanted (sym (ap (λ (x : FieldTree). x.origin) (is ∙ name))) (type_wanted (is ∙ name))
@@ -495,10 +546,12 @@ module _ (tables : List Table) (m : MetaTree) (metadata_fits : fits tables m ≡
       (one_row place u h under inner sound.0 sound.1 (field_like place (type.Rows u) h.name sound.0.def at sound.0.known) at)
       (λ x e. mapped_building (field k x) (fields_due c place u others) (rest.rows place u at sound.2))
 
-  parts_of_all : (k : List ℕ) (h : FieldHead) (under others : CollectedTrees) → Inner under → Inner others → (place u : ℕ) → At types place (type.Aggregate u) → IsSound place (collected k h under others)
+  parts_of_all : (k : List ℕ) (h : FieldHead) (under others : CollectedTrees) → Inner under → Inner others → (place u : ℕ) → At types place (type.Aggregate u)
+      → IsSound place (collected k h under others)
       → IsBuilding (parts_due c place u (collected k h under others))
   parts_of_all k h under others inner rest place u at sound =
-      then_building (λ x. mapped (part k x) (parts_due c place u others)) (known_due c place u h (is_empty under) >>= λ (x : Known). part_by c place h (summaries_due c (leads_to x) u under) (fields_due c (leads_to x) u under) x.0.origin)
+      then_building (λ x. mapped (part k x) (parts_due c place u others))
+      (known_due c place u h (is_empty under) >>= λ (x : Known). part_by c place h (summaries_due c (leads_to x) u under) (fields_due c (leads_to x) u under) x.0.origin)
       (one_part place u h under inner sound.0 sound.1 (field_like place (type.Aggregate u) h.name sound.0.def at sound.0.known) at)
       (λ x e. mapped_building (part k x) (parts_due c place u others) (rest.parts place u at sound.2))
 
@@ -514,5 +567,6 @@ module _ (tables : List Table) (m : MetaTree) (metadata_fits : fits tables m ≡
   roots_building no_collected t sound = tt
   roots_building (collected k h under others) t sound =
       then_building (λ x. mapped (field k x) (fields_due c R.query t others)) (known_due c R.query t h (is_empty under) >>= asked_field c R.query t h (below_of t under))
-      (one_root R.query t h under (inner_building under) sound.0 sound.1 (field_like R.query type.Query h.name sound.0.def (root_at tables m role schemed) sound.0.known) (root_at tables m role schemed))
+      (one_root R.query t h under (inner_building under) sound.0 sound.1 (field_like R.query type.Query h.name sound.0.def (root_at tables m role schemed) sound.0.known)
+      (root_at tables m role schemed))
       (λ x e. mapped_building (field k x) (fields_due c R.query t others) (roots_building others t sound.2))

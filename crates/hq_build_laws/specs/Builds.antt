@@ -20,7 +20,7 @@ use Rattle.hq_rules_fields.specs.First.{first_field_fault}
 use Rattle.hq_ask.specs.Due.{build_due}
 use Rattle.hq_build_laws.specs.Refusing.{IsBuilding}
 
--- a default is a constant: no variable (2.10)
+-- a default is a constant: no variable (GraphQL October 2021, 2.10)
 abbrev pub is_constant : ValueTree → Bool
 is_constant (variable name) = false
 is_constant v = true
