@@ -2,7 +2,9 @@
 use Rattle.std.proofs.Common.{◌≡◌, ◌∙◌, refl, sym, ap, subst, ℕ, List, [], ◌∷◌, map, find, Bool, true, false, cond, not, ◌&&◌, Option, Some, None, ok_or, is_some, option_map, option_and_then, bytes_eq, codes}
 use Rattle.std.specs.List.{list_any}
 use Rattle.std.specs.Option.{option_map_or}
-use Rattle.std.proofs.lemmas.Bool.{and_parts, or_parts}
+use Rattle.std.proofs.lemmas.Bool.{and_parts, or_parts, or_left, or_right}
+use Rattle.hq_terms.proofs.Names.{names_equal}
+use Rattle.hq_overlap_sets.proofs.ValueLemmas.{true_bytes}
 use Rattle.hq_base.specs.Due.{and_then}
 use Rattle.hq_base.specs.Json.{JsonTree}
 use Rattle.hq_base.specs.Json as json
@@ -53,7 +55,7 @@ use Rattle.hq_arguments.specs.Sorts.{by_sorts, order_by_due}
 use Rattle.hq_arguments.specs.Where.{by_filter, where_due}
 use Rattle.hq_arguments.specs.declared.refusal.ArgRefusal.TheVariants.{Rule}
 use Rattle.hq_terms.specs.SchemaNames.{all_names_differ}
-use Rattle.hq_build_laws.proofs.BuildingSteps.{map_some, and_then_some, same_text, equal_texts}
+use Rattle.hq_build_laws.proofs.BuildingSteps.{map_some, and_then_some}
 use Rattle.hq_build_laws.proofs.Filters.{scalar_at, filter_lawful}
 use Rattle.hq_build_laws.proofs.Items.{found_each}
 use Rattle.hq_build_laws.proofs.Lawful.{Lawful, then_lawful, mapped_lawful, each_lawful}
@@ -62,7 +64,6 @@ use Rattle.hq_build_laws.proofs.Orders.{columns_lawful, matched_lawful, one_lawf
 use Rattle.hq_build_laws.proofs.Places.{Schemed}
 use Rattle.hq_build_laws.proofs.Scalars.{scalar_is, flag_is, text_is, rows_lawful, key_lawful}
 use Rattle.hq_build_laws.proofs.Shapes.{KeyArg, Shaped}
-use Rattle.hq_build_laws.proofs.Usage.{or_left, or_right}
 use Rattle.hq_build_laws.proofs.Values.{IsOf}
 
 -- ---- names that differ
@@ -91,7 +92,7 @@ differ_found p (y ∷ args) x differ e =
 
     by : not (list_any (bytes_eq y.name) (map (λ (z : ArgTree). z.name) args)) ≡ true → (b : Bool) → cond b (Some y) (find p args) ≡ Some x
         → (find p args ≡ Some x → arg_in args x.name ≡ Some x) → arg_in (y ∷ args) x.name ≡ Some x
-    by new true e again = let is : y ≡ x = cc in rw (ap (λ (z : ArgTree). bytes_eq z.name x.name) is ∙ equal_texts x.name x.name refl) (ap Some is)
+    by new true e again = let is : y ≡ x = cc in rw (ap (λ (z : ArgTree). bytes_eq z.name x.name) is ∙ true_bytes x.name x.name refl) (ap Some is)
     by new false e again = rw (other new e (bytes_eq y.name x.name) refl) (again e)
 
 -- ---- an argument that is given
@@ -159,7 +160,7 @@ module _ (s : SchemaTree) (d : DocumentTree) (reach : List ℕ) (vars : List Var
         let source : source_of vars x.value.value ≡ Some four.0 = ap (λ v. source_of v x.value.value) (sym same) ∙ four.1 in
         let named_so = (found_each (λ (y : ArgumentTree). Unit {0}) (λ (y : ArgumentTree). bytes_eq y.name name) xs x one.1 (each_all (λ (y : ArgumentTree). Unit {0}) (λ y. tt) xs)).1 in
         let here : GivenIs s (record { arg = two.0; value = three.0 }) = record { of = subst (IsOf s two.0.ty) is.0 (value_of name x one.1 two.0 two.1 four.0 source); not_null = is.1 } in
-        (subst (GivenIs s) three.2 here, subst (λ n. arg_in args n ≡ Some g.arg) (same_text x.name name named_so) (two.1 ∙ ap (λ (r : Given). Some r.arg) three.2))
+        (subst (GivenIs s) three.2 here, subst (λ n. arg_in args n ≡ Some g.arg) (names_equal x.name name named_so) (two.1 ∙ ap (λ (r : Given). Some r.arg) three.2))
 
     -- a required argument is given
     pub required_given : (c : Context) → c.vars ≡ vars → (a : ArgTree) → is_non_null a.ty ≡ true → a.default_false ≡ false → arg_in args a.name ≡ Some a → lacks xs a ≡ false
@@ -186,7 +187,7 @@ module _ (s : SchemaTree) (d : DocumentTree) (reach : List ℕ) (vars : List Var
         one : (x : ArgumentTree) → argument_named xs a.name ≡ Some x → (g : Given) × (given c a x ≡ Some g) × (g.arg ≡ a) × GivenIs s g
         one x found =
             let named_so = (found_each (λ (y : ArgumentTree). Unit {0}) (λ (y : ArgumentTree). bytes_eq y.name a.name) xs x found (each_all (λ (y : ArgumentTree). Unit {0}) (λ y. tt) xs)).1 in
-            let here : arg_in args x.name ≡ Some a = ap (arg_in args) (same_text x.name a.name named_so) ∙ known in
+            let here : arg_in args x.name ≡ Some a = ap (arg_in args) (names_equal x.name a.name named_so) ∙ known in
             let w = written_is a.name x found a here in
             let j = some_of (source_of vars x.value.value)
             (source_some x.value.value (λ name is.
@@ -263,7 +264,7 @@ module _ (tables : List Table) (m : MetaTree) (metadata_fits : fits tables m ≡
         by None is g e h = absurd cc
         by (Some x) is g e h =
             let named_so = (found_each (λ (y : ArgumentTree). Unit {0}) (λ (y : ArgumentTree). bytes_eq y.name (codes "name")) xs x is (each_all (λ (y : ArgumentTree). Unit {0}) (λ y. tt) xs)).1 in
-            let here : arg_in type_field.args x.name ≡ Some (arg (codes "name") (non_null (fixed string)) stands.TypeName) = ap (arg_in type_field.args) (same_text x.name (codes "name") named_so) in
+            let here : arg_in type_field.args x.name ≡ Some (arg (codes "name") (non_null (fixed string)) stands.TypeName) = ap (arg_in type_field.args) (names_equal x.name (codes "name") named_so) in
             subst (λ (o : Option Given). Lawful (text_due o)) (sym (ap (option_and_then (λ a. given c a x)) here ∙ e)) (some (str_in g.value) h)
 
     rows_of_lawful : (args : List ArgTree) → Each FineHere (arguments_nodes R (Some args) xs) → (name : List ℕ) → ((x : ArgTree) → arg_in args name ≡ Some x → x.ty ≡ fixed int)

@@ -1,4 +1,4 @@
--- Steps that gave a value: what came before each; and texts that are equal.
+-- Steps that gave a value: what came before each.
 use Rattle.std.proofs.Common.{◌≡◌, refl, ap, ℕ, List, Bool, true, false, cond, Option, Some, None, Result, Ok, Err, ok_or, option_map, option_and_then, bytes_eq}
 use Rattle.std.proofs.lemmas.Slice.Eq.{bytes_eq-Decides}
 use Rattle.hq_base.specs.Due.{mapped, and_then}
@@ -31,10 +31,3 @@ map_some f None y e = cc
 pub and_then_some : {X Y : Type 0} (f : X → Option Y) (o : Option X) (y : Y) → option_and_then f o ≡ Some y → (x : X) × (o ≡ Some x) × (f x ≡ Some y)
 and_then_some f (Some x) y e = (x, refl, e)
 and_then_some f None y e = cc
-
--- texts that are equal
-pub same_text : (x y : List ℕ) → bytes_eq x y ≡ true → x ≡ y
-same_text x y h = (bytes_eq-Decides x y).0 h
-
-pub equal_texts : (x y : List ℕ) → x ≡ y → bytes_eq x y ≡ true
-equal_texts x y h = (bytes_eq-Decides x y).1 h

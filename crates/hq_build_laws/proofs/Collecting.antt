@@ -3,9 +3,11 @@
 use Rattle.std.proofs.Common.{◌≡◌, ◌∙◌, refl, sym, ap, subst, ℕ, zero, suc, ◌+◌, ◌<◌, arith, List, [], ◌∷◌, ◌++◌, length, Bool, true, false, cond, ◌&&◌, ◌==◌, Option, Some, None, is_some, is_none, option_map, option_and_then, slice_get, bytes_eq, inr}
 use Rattle.std.specs.List.{Contains}
 use Rattle.std.specs.Option.{option_to_list, option_map_or}
-use Rattle.std.proofs.lemmas.Bool.{eqb-true}
+use Rattle.std.proofs.lemmas.Bool.{eqb-true, or_left, or_right, not-false}
 use Rattle.std.proofs.lemmas.List.Elements.{Contains-append_left, Contains-append_right}
 use Rattle.std.proofs.lemmas.Option.{slice_get_within}
+use Rattle.hq_terms.proofs.Names.{names_equal}
+use Rattle.hq_overlap_sets.proofs.ValueLemmas.{true_bytes}
 use Rattle.hq_base.specs.Lists.{Each}
 use Rattle.hq_base.proofs.Lists.{each_weaken}
 use Rattle.hq_schema.specs.Look.{type_at}
@@ -37,21 +39,18 @@ use Rattle.hq_collect.specs.Groups.{Group, key_or, response_key, grouped, select
 use Rattle.hq_collect.specs.Tree.{CollectedTrees, no_collected, collected, is_empty, fields_of, collected_down}
 use Rattle.hq_collect.proofs.Kept.{collect_kept}
 use Rattle.hq_ask.specs.Known.{is_complete}
-use Rattle.hq_build_laws.proofs.BuildingSteps.{and_then_some, same_text, equal_texts}
+use Rattle.hq_build_laws.proofs.BuildingSteps.{and_then_some}
 use Rattle.hq_build_laws.proofs.Items.{each_append}
-use Rattle.hq_build_laws.proofs.Literals.{Good, each_split, not_none, not_false}
+use Rattle.hq_build_laws.proofs.Literals.{Good, each_split, not_none}
 use Rattle.hq_build_laws.proofs.Numbered.{IsAt, at_front, at_back, at_one, count_of, counts_of, definition_at}
 use Rattle.hq_build_laws.proofs.Unviolated.{at_if_none}
-use Rattle.hq_build_laws.proofs.Usage.{found_at, or_left, or_right}
+use Rattle.hq_build_laws.proofs.Usage.{found_at}
 
 -- ---- small steps
 
-and_false : (b : Bool) → (true && b) ≡ false → b ≡ false
-and_false b h = h
-
 -- known types that are no others are the same
 same_type : (t : ℕ) (o : Option ℕ) (u : ℕ) → o ≡ Some u → are_other (Some t) o ≡ false → t ≡ u
-same_type t o u is h = let other : are_other (Some t) (Some u) ≡ false = ap (are_other (Some t)) (sym is) ∙ h in eqb-true t u (not_false (t == u) other)
+same_type t o u is h = let other : are_other (Some t) (Some u) ≡ false = ap (are_other (Some t)) (sym is) ∙ h in eqb-true t u (not-false (t == u) other)
 
 -- an object type at a place is at that place
 pub object_same : (s : SchemaTree) (t u : ℕ) → object_at s t ≡ Some u → t ≡ u
@@ -260,7 +259,7 @@ module _ (s : SchemaTree) (d : DocumentTree) (reach : List ℕ) (vars : List Var
           where
             by : (b : Bool) → bytes_eq (response_key f) g.key ≡ b → Each GroupIn (grouped gs (response_key f) f)
                 → Each GroupIn (cond b (record { key = g.key; first = g.first; others = g.others ++ f ∷ [] } ∷ gs) (g ∷ grouped gs (response_key f) f))
-            by true is later = ((h.0.0, each_append (FieldIn g.key) g.others (f ∷ []) h.0.1 ((same_text (response_key f) g.key is, x), tt)), h.1)
+            by true is later = ((h.0.0, each_append (FieldIn g.key) g.others (f ∷ []) h.0.1 ((names_equal (response_key f) g.key is, x), tt)), h.1)
             by false is later = (h.0, later)
 
         groups_in : (w : ℕ) (ss : List SelectionTree) → Each Stands ss → Each GroupIn (collect w r ss none).groups
@@ -284,8 +283,8 @@ module _ (s : SchemaTree) (d : DocumentTree) (reach : List ℕ) (vars : List Var
               by (bytes_eq f.0.name g.0.name) refl (λ other. no_overlap a b met (keys, inr (refl, other)))
             where
               by : (c : Bool) → bytes_eq f.0.name g.0.name ≡ c → ((SameLabel (overlap.label_of f.0) (overlap.label_of g.0) → ⊥) → ⊥) → f.0.name ≡ g.0.name
-              by true is clash = same_text f.0.name g.0.name is
-              by false is clash = absurd (clash (λ label. let no : true ≡ false = sym (equal_texts f.0.name g.0.name label.0) ∙ is in cc))
+              by true is clash = names_equal f.0.name g.0.name is
+              by false is clash = absurd (clash (λ label. let no : true ≡ false = sym (true_bytes f.0.name g.0.name label.0) ∙ is in cc))
 
           -- the sets below the fields of a key
           abbrev Below : (key : List ℕ) → ℕ → Type 0

@@ -24,13 +24,6 @@ pub each_filter_map : {A B : Type 0} (P : B → Type 0) (Q : A → Type 0) (f : 
 each_filter_map P Q f step [] h = tt
 each_filter_map P Q f step (x ∷ xs) h = each_cons_option P (f x) (filter_map f xs) (step x h.0) (each_filter_map P Q f step xs h.1)
 
-pub each_filter : {A : Type 0} (P : A → Type 0) (p : A → Bool) (xs : List A) → Each P xs → Each P (filter p xs)
-each_filter P p [] h = tt
-each_filter P p (x ∷ xs) h =
-    let later = each_filter P p xs h.1 in
-    let by : (b : Bool) → Each P (cond b (x ∷ filter p xs) (filter p xs)) = elim [ true ↦ (h.0, later) | false ↦ later ] in
-    by (p x)
-
 -- a fact of all items, by a test
 pub each_of : {A : Type 0} (p : A → Bool) (xs : List A) → list_all p xs ≡ true → Each (λ x. p x ≡ true) xs
 each_of p [] h = tt

@@ -70,7 +70,6 @@ use Rattle.hq_build_laws.proofs.Lawful.{then_building}
 use Rattle.hq_build_laws.proofs.Places.{Schemed}
 use Rattle.hq_build_laws.proofs.Reaching.{start_reached}
 use Rattle.hq_build_laws.proofs.Shapes.{Shaped, types_shaped}
-use Rattle.hq_build_laws.proofs.Standing.{types_stand}
 use Rattle.hq_build_laws.proofs.Unviolated.{DocHolds, FieldsHold, doc_holds, fields_hold}
 use Rattle.hq_build_laws.proofs.Usage.{DefaultsWrite, length_mapped, nodes_good}
 use Rattle.hq_build_laws.proofs.Values.{NoDefaults}
@@ -195,7 +194,7 @@ module _ (tables : List Table) (m : MetaTree) (session : Session) where
       g = graph_of (fragment_named d) (document_parts R d)
 
       schemed : Schemed tables m role
-      schemed = record { fit = leads; stand = types_stand tables m role (and_parts _ _ (and_parts _ _ (and_parts _ _ metadata_fits).0).0).0 }
+      schemed = record { fit = leads }
 
       no_overlap : (a b : overlap.FieldTree) → Reached (document_sets R d) a b → Violates a b → ⊥
       no_overlap a b met clash = subst (λ (x : Option ℕ). AtMost x (later a b)) k.of_fields.overlap ((first d).least a b met clash)

@@ -10,7 +10,7 @@ use Rattle.hq_base.specs.declared.value.Ty.{Ty}
 use Rattle.hq_base.specs.declared.value.Ty.TheVariants as ty
 use Rattle.hq_base.specs.declared.value.Val.TheVariants as val
 use Rattle.std.specs.Str.Parse.{signed_digits_value}
-use Rattle.std.proofs.lemmas.Bool.{ltb-true, lt-ltb}
+use Rattle.std.proofs.lemmas.Bool.{ltb-true, lt-ltb, not-false, not-true}
 use Rattle.hq_terms.specs.Reading.{is_whole_number, whole_number}
 use Rattle.hq_terms.specs.Database.{int_fits}
 use Rattle.hq_terms.proofs.Fitting.{whole_fits}
@@ -144,14 +144,6 @@ pub each_split : {A : Type 0} (P : A → Type 0) (xs ys : List A) → Each P (xs
 each_split P [] ys h = (tt, h)
 each_split P (x ∷ xs) ys h = let rest = each_split P xs ys h.1 in ((h.0, rest.0), rest.1)
 
-pub not_false : (b : Bool) → not b ≡ false → b ≡ true
-not_false true h = refl
-not_false false h = absurd cc
-
-pub not_true : (b : Bool) → not b ≡ true → b ≡ false
-not_true true h = absurd cc
-not_true false h = refl
-
 pub some_of : {A : Type 0} (o : Option A) → is_some o ≡ true → (x : A) × (o ≡ Some x)
 some_of None h = absurd cc
 some_of (Some x) h = (x, refl)
@@ -166,7 +158,7 @@ module _ (s : SchemaTree) (d : DocumentTree) (reach : List ℕ) (vars : List Var
 
   -- a place takes the value that stands there
   taken : (p : PlaceTree) (v : PlacedTree) → Fine (value_node v (Some p)) → takes s p.ty v.value ≡ true
-  taken p v h = not_false (takes s p.ty v.value) (at_if_none (not (takes s p.ty v.value)) v.at (h.holds.fields rule.ValuesOfCorrectType))
+  taken p v h = not-false (takes s p.ty v.value) (at_if_none (not (takes s p.ty v.value)) v.at (h.holds.fields rule.ValuesOfCorrectType))
 
   with_are : (p : PlaceTree) (o : Option JsonTree) (js : List JsonTree) → ((j : JsonTree) → o ≡ Some j → IsOf s p.ty j) → AreOf s p.ty (elements_of js) → AreOf s p.ty (elements_of (with_element o js))
   with_are p None js here later = later
@@ -189,7 +181,7 @@ module _ (s : SchemaTree) (d : DocumentTree) (reach : List ℕ) (vars : List Var
     literal_is (bool b) at p h inside j e = let same : json.bool b ≡ j = cc in subst (IsOf s p.ty) same (bool_has s (base p.ty) b (taken p (record { at = at; value = bool b }) h))
     literal_is null at p h inside j e =
         let same : json.null ≡ j = cc in
-        subst (IsOf s p.ty) same (not_true (is_non_null p.ty) (taken p (record { at = at; value = null }) h))
+        subst (IsOf s p.ty) same (not-true (is_non_null p.ty) (taken p (record { at = at; value = null }) h))
     literal_is (enum name) at p h inside j e = let same : json.str name ≡ j = cc in subst (IsOf s p.ty) same (enum_has s (base p.ty) name (taken p (record { at = at; value = enum name }) h))
     literal_is (list vs) at p h inside j e =
         let same : json.arr (elements_of (element_sources vars vs)) ≡ j = cc in

@@ -3,6 +3,7 @@ use Rattle.std.proofs.Common.{◌≡◌, ◌∙◌, refl, sym, ap, subst, ℕ, �
 use Rattle.std.specs.List.{list_all}
 use Rattle.std.proofs.lemmas.List.Quantifiers.{position-Some}
 use Rattle.std.proofs.lemmas.Option.{slice_get-get_or}
+use Rattle.hq_terms.proofs.Names.{names_equal}
 use Rattle.hq_base.specs.Due.{mapped, and_then}
 use Rattle.hq_base.specs.Json.{JsonTree, null, bool, int, str, arr, obj, ElementTrees, no_element, element, MemberTrees, no_member, member}
 use Rattle.hq_base.specs.Lists.{Each}
@@ -37,7 +38,6 @@ use Rattle.hq_arguments.specs.Sorts.{direction_named, direction_in, sort_by, col
 use Rattle.hq_arguments.specs.declared.sorts.Direction.{Direction}
 use Rattle.hq_gql_tree.specs.declared.rule.RuleId.TheVariants.{ValuesOfCorrectType, SortEntries, DistinctOrder, CountColumns}
 use Rattle.hq_arguments.specs.declared.refusal.ArgRefusal.TheVariants.{Rule}
-use Rattle.hq_build_laws.proofs.BuildingSteps.{same_text}
 use Rattle.hq_build_laws.proofs.Filters.{input_same, shaped_at, input_shaped, no_leaf}
 use Rattle.hq_build_laws.proofs.Items.{each_at}
 use Rattle.hq_build_laws.proofs.Lawful.{Lawful, then_lawful, mapped_lawful, each_lawful}
@@ -188,7 +188,7 @@ module _ (tables : List Table) (m : MetaTree) (metadata_fits : fits tables m ≡
       let known : is_some (direction_named v) ≡ true =
       each_at (λ (v : List ℕ). is_some (direction_named v) ≡ true) vs i.0 v (slice_get-get_or vs i.0 [] within.0)
       (subst (Each (λ (v : List ℕ). is_some (direction_named v) ≡ true)) (sym same) directions_known) in
-      subst (λ n. is_some (direction_named n) ≡ true) (same_text v name within.1) known
+      subst (λ n. is_some (direction_named n) ≡ true) (names_equal v name within.1) known
 
   -- a sort by a column
   column_lawful_sort : (through : List ℕ) (k p : ℕ) → At types p type.Directions → (j : JsonTree) → (r : TypeRefTree) → base r ≡ p → element_type r ≡ None → IsOf R r j

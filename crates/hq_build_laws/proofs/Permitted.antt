@@ -1,4 +1,4 @@
--- What a role's access says of the tables: columns and relationships that it permits are there, and the request may use them.
+-- What a role's access says of the tables: columns and relationships that it permits are there.
 use Rattle.std.proofs.Common.{◌≡◌, ◌∙◌, refl, sym, ap, subst, ℕ, List, [], ◌∷◌, length, Bool, true, false, ◌==◌, ◌||◌, nat_lt, Option, Some, None, is_some, option_map, slice_get}
 use Rattle.std.specs.Prelude.{unwrap_or}
 use Rattle.std.specs.List.{list_any}
@@ -79,27 +79,6 @@ module _ (tables : List Table) (m : MetaTree) (metadata_fits : fits tables m ≡
     abbrev a : Access
     a = access_of m role
 
-    abbrev ok : Allowed
-    ok = allowed_to role m s
-
-    -- ---- the request may use what the schema permits
-
-    pub column_allowed : (t c : ℕ) → a.column t c ≡ true → ok.column t c ≡ true
-    column_allowed t c h = by (permission role m t) h
-      where
-        by : (o : Option Permission) → option_map_or (λ p. list_any (λ d. d == c) p.columns) o false ≡ true → list_any (λ d. d == c) (permitted_columns o) ≡ true
-        by None h = absurd (false≢true h)
-        by (Some p) h = h
-
-    pub aggregates_allowed : (t : ℕ) → a.aggregates t ≡ true → ok.aggregates t ≡ true
-    aggregates_allowed t h = by (permission role m t) h
-      where
-        by : (o : Option Permission) → option_map_or (λ p. p.aggregations) o false ≡ true → has_aggregates o ≡ true
-        by None h = absurd (false≢true h)
-        by (Some p) h = h
-
-    -- ---- it is there
-
     -- a permitted column has a type
     pub column_typed : (t c : ℕ) → a.column t c ≡ true → column_ty s t c ≡ Some (column s t c).ty
     column_typed t c h = by (permission role m t) refl h
@@ -117,9 +96,3 @@ module _ (tables : List Table) (m : MetaTree) (metadata_fits : fits tables m ≡
         let rels : (table s t).rels ≡ k.rels = ap (λ u. u.rels) (table_present tables m t x.0 x.1) ∙ ap (λ o. unwrap_or (option_map (λ (j : TrackedTree). j.rels) o) []) found.1 in
         let here : slice_get (table s t).rels r ≡ Some q = ap (λ l. slice_get l r) rels ∙ found.2 in
         (get_or_from_slice_get (table s t).rels r q no_rel here, ap is_some here)
-
-    -- the request may use a relationship to a table that the role may see
-    pub rel_allowed : (t r : ℕ) (q : Rel) → a.rel t r ≡ Some q → a.seen q.remote ≡ true → ok.relationship t r ≡ true
-    rel_allowed t r q h seen =
-        let at = rel_at t r q h in
-        rw (at.1) (subst (λ (p : Rel). is_some (permission role m p.remote) ≡ true) (sym at.0) seen)

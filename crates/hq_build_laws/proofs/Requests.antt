@@ -84,8 +84,7 @@ module _ (tables : List Table) (meta : MetaTree) (session : Session) (body : Lis
       ∙ (ap (λ r. r >>= after_text v.json) v.found ∙ (ap (λ r. r >>= after_document v.json) v.parsed ∙ (ap (λ r. r >>= λ valid. operation_ask R tables meta session v.json valid) v.valid
       ∙ (ap (λ r. r >>= after_operation v.json v.document) v.chosen ∙ ap (λ r. r >>= λ variables. ask_due R tables meta session v.document v.operation variables) v.valued))))
 
-  pub valid_faults : ((d : DocumentTree) (name : Option (List ℕ)) (given : Option JsonTree) (op : ℕ) (vars : List VarTree) → ValidBuilds tables meta session d name given op vars)
-      → ((e : ℕ) (us : List Token) → Parses e us (parsed e us)) → (f : RequestFault) → ValidFaults tables meta session body f
+  pub valid_faults : ValidBuilds tables meta session → ((e : ℕ) (us : List Token) → Parses e us (parsed e us)) → (f : RequestFault) → ValidFaults tables meta session body f
   valid_faults builds parses f catalog fit v e =
       let none = no_fault (first_doc_fault R v.document) (first_field_fault R v.document) v.document v.document v.valid in
       let read = then_ok (λ tokens. refused_as of_parse (parsed (length v.text) tokens)) (refused_as of_lex (tokens_of v.text)) v.document v.parsed in
@@ -93,5 +92,5 @@ module _ (tables : List Table) (meta : MetaTree) (session : Session) (body : Lis
       let constants = document_constant v.document read.0 spelled.0 v.operation in
       let choice = value_is of_fault (chosen v.document (operation_name v.json)) v.operation v.chosen in
       let valued = value_is of_coerce (variables_due R v.document v.operation (member_in v.json (codes "variables"))) v.variables v.valued in
-      let built = builds v.document (operation_name v.json) (member_in v.json (codes "variables")) v.operation v.variables catalog fit none.0 none.1 choice constants valued in
+      let built = builds catalog fit v.document (operation_name v.json) (member_in v.json (codes "variables")) v.operation v.variables none.0 none.1 choice constants valued in
       fault_building (build_due v.document v.operation v.variables R tables meta session) f built (ap fault_in (sym (valid_is v)) ∙ e)

@@ -2,10 +2,10 @@
 use Rattle.std.proofs.Common.{◌≡◌, ◌∙◌, refl, sym, ap, subst, ℕ, ◌+◌, ◌<◌, arith, List, [], ◌∷◌, ◌++◌, length, map, filter, find, flat_map, Bool, true, false, cond, not, ◌==◌, ◌||◌, Option, Some, None, option_map, option_and_then, slice_get, IfSome, eq-eqb, codes, get_or}
 use Rattle.std.specs.List.{filter_map, list_all, list_any, cons_option}
 use Rattle.std.specs.Option.{option_map_or}
-use Rattle.std.proofs.lemmas.Bool.{eqb-true}
+use Rattle.std.proofs.lemmas.Bool.{eqb-true, or_left, or_right}
 use Rattle.std.proofs.lemmas.Option.{slice_get_within, slice_get-get_or, get_or_from_slice_get}
 use Rattle.hq_base.specs.Lists.{Each, all_differ}
-use Rattle.hq_base.proofs.Lists.{each_all, each_weaken}
+use Rattle.hq_base.proofs.Lists.{each_all, each_weaken, each_passes}
 use Rattle.hq_base.specs.declared.aggregate.Aggregate.{Aggregate as OneAggregate}
 use Rattle.hq_base.specs.declared.value.Ty.{Ty}
 use Rattle.hq_terms.specs.Filters.{column_ty}
@@ -54,7 +54,6 @@ use Rattle.hq_build_laws.proofs.Items.{each_append, each_filter_map, each_flat_m
 use Rattle.hq_build_laws.proofs.Permitted.{column_typed, entry, entry_parts}
 use Rattle.hq_build_laws.proofs.Standing.{IsShown, tables_shown, placed_shown, firsts_are, none_new}
 use Rattle.hq_build_laws.proofs.BuildingSteps.{map_some}
-use Rattle.hq_build_laws.proofs.Usage.{or_left, or_right}
 
 -- ---- lists
 
@@ -62,15 +61,6 @@ use Rattle.hq_build_laws.proofs.Usage.{or_left, or_right}
 each_mapped : {A B : Type 0} (P : B → Type 0) (Q : A → Type 0) (f : A → B) → ((x : A) → Q x → P (f x)) → (xs : List A) → Each Q xs → Each P (map f xs)
 each_mapped P Q f step [] h = tt
 each_mapped P Q f step (x ∷ xs) h = (step x h.0, each_mapped P Q f step xs h.1)
-
--- items that a filter keeps pass it
-filter_passes : {A : Type 0} (p : A → Bool) (xs : List A) → Each (λ x. p x ≡ true) (filter p xs)
-filter_passes p [] = tt
-filter_passes p (x ∷ xs) = by (p x) refl (filter_passes p xs)
-  where
-    by : (b : Bool) → p x ≡ b → Each (λ x. p x ≡ true) (filter p xs) → Each (λ x. p x ≡ true) (cond b (x ∷ filter p xs) (filter p xs))
-    by true is later = (is, later)
-    by false is later = later
 
 -- each number of a list is one of it
 each_member : (xs : List ℕ) → Each (λ k. list_any (λ d. d == k) xs ≡ true) xs
@@ -381,7 +371,7 @@ module _ (tables : List Table) (m : MetaTree) (role : Role) where
     fixed_shaped ps h OrderBy = record { inputs = tt; plain = tt; fields = tt; values = refl; kind = refl }
     fixed_shaped ps h (Comparison t) = record {
       inputs = each_mapped (InputIs (type.Comparison t)) (λ o. is_operator_of t o ≡ true) (operator_arg t) (λ o g. (g, refl)) (filter (is_operator_of t) all_operators)
-          (filter_passes (is_operator_of t) all_operators);
+          (each_passes (is_operator_of t) all_operators);
       plain = each_map (λ (a : ArgTree). a.default_false ≡ false) (operator_arg t) (λ o. refl) (filter (is_operator_of t) all_operators);
       fields = tt;
       values = refl;

@@ -4,7 +4,9 @@ use Rattle.std.specs.List.{filter_map, list_any, cons_option, position_from}
 use Rattle.std.specs.Map.{lookup}
 use Rattle.std.proofs.lemmas.Option.{slice_get_within}
 use Rattle.std.specs.Option.{option_or}
-use Rattle.std.proofs.lemmas.Bool.{and_parts, eqb-true, cases_eq}
+use Rattle.std.proofs.lemmas.Bool.{and_parts, or_parts, eqb-true, cases_eq, or_left, or_right, not-false}
+use Rattle.hq_terms.proofs.Names.{names_equal}
+use Rattle.hq_overlap_sets.proofs.ValueLemmas.{true_bytes}
 use Rattle.hq_base.specs.Due.{mapped}
 use Rattle.hq_base.specs.Json.{JsonTree}
 use Rattle.hq_base.specs.Lists.{Each}
@@ -28,31 +30,15 @@ use Rattle.hq_coerce.specs.Due.{refused, default_value, given_value, checked_val
 use Rattle.hq_coerce.specs.Required.{required_in, required_of, required_names, required_at, is_required}
 use Rattle.hq_coerce.specs.Variables.{VarTree, var_value}
 use Rattle.hq_rules_doc.specs.Operations.{variable_name, repeated_variable}
-use Rattle.hq_build_laws.proofs.BuildingSteps.{mapped_ok, then_ok, same_text, equal_texts}
+use Rattle.hq_build_laws.proofs.BuildingSteps.{mapped_ok, then_ok}
 use Rattle.hq_build_laws.proofs.Items.{each_at}
-use Rattle.hq_build_laws.proofs.Literals.{VarFits, UseFits, Good, not_false, not_none}
+use Rattle.hq_build_laws.proofs.Literals.{VarFits, UseFits, Good, not_none}
 use Rattle.hq_build_laws.proofs.Reaching.{reached_closed}
 use Rattle.hq_build_laws.proofs.Unviolated.{earlier_parts, at_if_none, least_none, each_unmap, each_both, DocHolds, FieldsHold, Holds, nodes_hold}
 use Rattle.hq_build_laws.proofs.Compatible.{compatible_is}
 use Rattle.hq_build_laws.proofs.Values.{IsOf, NoDefaults, strict_is, coerced_is, non_null_same}
 
 -- ---- what is not found among some
-
-pub or_left : (a b : Bool) → a ≡ true → (a || b) ≡ true
-or_left true b h = refl
-or_left false b h = absurd cc
-
-pub or_right : (a b : Bool) → b ≡ true → (a || b) ≡ true
-or_right true b h = refl
-or_right false b h = h
-
-or_first : (a b : Bool) → (a || b) ≡ false → a ≡ false
-or_first true b h = absurd cc
-or_first false b h = refl
-
-or_last : (a b : Bool) → (a || b) ≡ false → b ≡ false
-or_last true b h = absurd cc
-or_last false b h = h
 
 least_has : (f : ℕ → Option ℕ) (xs : List ℕ) (j : ℕ) → least_of f xs ≡ None → has xs j ≡ true → f j ≡ None
 least_has f [] j h in_xs = absurd cc
@@ -109,7 +95,7 @@ unrepeated before (n ∷ ns) h =
     let both = earlier_parts (at_if (list_any (λ x. bytes_eq x n.name) before) n.at) (repeat_behind (n.name ∷ before) ns) h in (
       at_if_none (list_any (λ x. bytes_eq x n.name) before) n.at both.0,
       each_weaken (λ (k : NameTree). list_any (λ x. bytes_eq x k.name) (n.name ∷ before) ≡ false) (λ (k : NameTree). list_any (λ x. bytes_eq x k.name) before ≡ false)
-          (λ k h. or_last (bytes_eq n.name k.name) (list_any (λ x. bytes_eq x k.name) before) h) ns (unrepeated (n.name ∷ before) ns both.1),
+          (λ k h. (or_parts (bytes_eq n.name k.name) (list_any (λ x. bytes_eq x k.name) before) h).1) ns (unrepeated (n.name ∷ before) ns both.1),
     )
 
 -- variables behind one have other names
@@ -117,7 +103,7 @@ others_differ : (own name : List ℕ) (before : List (List ℕ)) (vs : List VarD
     → Each (λ (v : VarDefTree). bytes_eq v.name name ≡ false) vs
 others_differ own name before vs same h =
     each_weaken (λ (v : VarDefTree). list_any (λ x. bytes_eq x v.name) (own ∷ before) ≡ false) (λ (v : VarDefTree). bytes_eq v.name name ≡ false)
-    (λ v h. other v (or_first (bytes_eq own v.name) (list_any (λ x. bytes_eq x v.name) before) h)) vs
+    (λ v h. other v (or_parts (bytes_eq own v.name) (list_any (λ x. bytes_eq x v.name) before) h).0) vs
     (each_unmap (λ (n : NameTree). list_any (λ x. bytes_eq x n.name) (own ∷ before) ≡ false) variable_name vs (unrepeated (own ∷ before) (map variable_name vs) h))
   where
     other : (v : VarDefTree) → bytes_eq own v.name ≡ false → bytes_eq v.name name ≡ false
@@ -126,8 +112,8 @@ others_differ own name before vs same h =
         by : (b : Bool) → bytes_eq v.name name ≡ b → b ≡ false
         by false is = refl
         by true is =
-            let equal : own ≡ v.name = same_text own name same ∙ sym (same_text v.name name is) in
-            let yes : true ≡ false = sym (equal_texts own v.name equal) ∙ differs in
+            let equal : own ≡ v.name = names_equal own name same ∙ sym (names_equal v.name name is) in
+            let yes : true ≡ false = sym (true_bytes own v.name equal) ∙ differs in
             absurd cc
 
 -- ---- the value of a variable
@@ -272,7 +258,7 @@ each_among {A = A} f (x ∷ xs) = by (f x) refl (each_among f xs)
     by None is later = ((λ name e. let no : None ≡ Some name = sym is ∙ e in absurd cc), later)
     by (Some own) is later = (
       (λ name e. let same : own ≡ name = (let both : Some own ≡ Some name = sym is ∙ e in cc) in
-          or_left (bytes_eq own name) (list_any (λ n. bytes_eq n name) (filter_map f xs)) (equal_texts own name same)),
+          or_left (bytes_eq own name) (list_any (λ n. bytes_eq n name) (filter_map f xs)) (true_bytes own name same)),
       each_weaken (λ y. (name : List ℕ) → f y ≡ Some name → list_any (λ n. bytes_eq n name) (filter_map f xs) ≡ true)
           (λ y. (name : List ℕ) → f y ≡ Some name → list_any (λ n. bytes_eq n name) (own ∷ filter_map f xs) ≡ true)
           (λ y h name e. or_right (bytes_eq own name) (list_any (λ n. bytes_eq n name) (filter_map f xs)) (h name e)) xs later,
@@ -358,7 +344,7 @@ module _ (s : SchemaTree) (plain : NoDefaults s) (d : DocumentTree) (of_doc : Do
       let right : is_wrong_type (resolved s v.ty) (has_default v.default) (Some p) ≡ false =
       ap (is_wrong_type (resolved s v.ty) (has_default v.default)) (sym at) ∙ at_if_none (is_wrong_type (resolved s v.ty) (has_default v.default) u.place) u.at test in
       let value = value_due_of s plain (is_required s d op) given u.name o.vars vars [] unique due v r.4 in
-      let named : u.name ≡ v.name = sym (same_text v.name u.name r.5) in
+      let named : u.name ≡ v.name = sym (names_equal v.name u.name r.5) in
       by v named (resolved s v.ty) right value (each_at (λ (v : VarDefTree). has_default v.default ≡ true → is_some (default_value v.default) ≡ true) o.vars r.0 v r.3 constants)
     where
       by : (v : VarDefTree) → u.name ≡ v.name → (t : Option TypeRefTree) → is_wrong_type t (has_default v.default) (Some p) ≡ false
@@ -369,7 +355,7 @@ module _ (s : SchemaTree) (plain : NoDefaults s) (d : DocumentTree) (of_doc : Do
           let is = value_is s plain v.at (is_required s d op v.name) r (given_value given v) (var_value vars u.name) value in
           let fits = at_place s plain (is_required s d op v.name) (has_default v.default) r p (given_value given v)
           (λ yes. ap (is_required s d op) (sym same_name) ∙ strict (non_null_same p.ty ∙ yes)) (has_value v writes)
-          (var_value vars u.name) is (not_false (is_allowed r (has_default v.default) p) right) in
+          (var_value vars u.name) is (not-false (is_allowed r (has_default v.default) p) right) in
           record { typed = fits.typed; given = fits.given }
 
   -- the facts of each node of a definition that is reached, or stands at a place

@@ -28,13 +28,17 @@ is_constant v = true
 abbrev pub has_constant : VarDefTree → Bool
 has_constant v = option_map_or (λ p. is_constant p.value) v.default true
 
--- Over a catalog and a metadata that fits it: where a document violates no rule for the schema of the session's role, the query that is
--- asked for has constants as defaults, as each that is parsed has, and its variables are coerced, the request is built, or one of
--- these rules is broken.
-abbrev pub ValidBuilds : List Table → MetaTree → Session → DocumentTree → (name : Option (List ℕ)) → (given : Option JsonTree) → (op : ℕ) → List VarTree → Type 0
-ValidBuilds tables m session d name given op vars =
-    is_catalog tables ≡ true → fits tables m ≡ true
-    → first_doc_fault (role_schema tables m (role_of session.role)) d ≡ None → first_field_fault (role_schema tables m (role_of session.role)) d ≡ None
+-- A document violates no rule for the schema of the session's role, the query that is asked for has constants as defaults, as each
+-- that is parsed has, and its variables are coerced: the request is built, or one of these rules is broken.
+abbrev pub DocumentBuilds : List Table → MetaTree → Session → DocumentTree → (name : Option (List ℕ)) → (given : Option JsonTree) → (op : ℕ) → List VarTree → Type 0
+DocumentBuilds tables m session d name given op vars =
+    first_doc_fault (role_schema tables m (role_of session.role)) d ≡ None → first_field_fault (role_schema tables m (role_of session.role)) d ≡ None
     → chosen d name ≡ Ok op → Each (λ v. has_constant v ≡ true) (variables_of (operation_at d op))
     → variables_due (role_schema tables m (role_of session.role)) d op given ≡ Ok vars
     → IsBuilding (build_due d op vars (role_schema tables m (role_of session.role)) tables m session)
+
+-- over a catalog and a metadata that fits it, so is each such document
+abbrev pub ValidBuilds : List Table → MetaTree → Session → Type 0
+ValidBuilds tables m session =
+    is_catalog tables ≡ true → fits tables m ≡ true
+    → (d : DocumentTree) (name : Option (List ℕ)) (given : Option JsonTree) (op : ℕ) (vars : List VarTree) → DocumentBuilds tables m session d name given op vars

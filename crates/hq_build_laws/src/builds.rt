@@ -1,11 +1,8 @@
 //! The law, the contract of a function that does nothing.
-ghost use Rattle.std.specs.Prelude.{ℕ, List as Items, Option as Maybe};
-ghost use Rattle.hq_base.specs.Json.{JsonTree};
+ghost use Rattle.std.specs.Prelude.{List as Items};
 ghost use Rattle.hq_terms.specs.Meta.{MetaTree};
 ghost use Rattle.hq_terms.specs.declared.session.Session.{Session as Caller};
 ghost use Rattle.hq_terms.specs.declared.table.Table.{Table as CatalogTable};
-ghost use Rattle.hq_gql_tree.specs.Documents.{DocumentTree};
-ghost use Rattle.hq_coerce.specs.Variables.{VarTree};
 ghost use Rattle.hq_build_laws.specs.Builds.{ValidBuilds};
 
 use hq_overlap_sets::the_place_is_first;
@@ -15,7 +12,7 @@ use hq_roles::{leads_where_permitted, names_differ};
 /// are coerced, building the request gives it, or breaks a limit (F32), lacks a session variable (F33, F34), or asks for what arguments
 /// may not (F36 to F41).
 pub fn valid_builds()
-    ensures { (tables : Items CatalogTable) (m : MetaTree) (session : Caller) (d : DocumentTree) (name : Maybe (Items ℕ)) (given : Maybe JsonTree) (op : ℕ) (vars : Items VarTree) → ValidBuilds tables m session d name given op vars }
+    ensures { (tables : Items CatalogTable) (m : MetaTree) (session : Caller) → ValidBuilds tables m session }
 {
     leads_where_permitted();
     names_differ();
