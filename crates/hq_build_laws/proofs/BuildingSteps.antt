@@ -1,6 +1,5 @@
 -- Steps that gave a value: what came before each.
-use Rattle.std.proofs.Common.{◌≡◌, refl, ap, ℕ, List, Bool, true, false, cond, Option, Some, None, Result, Ok, Err, ok_or, option_map, option_and_then, bytes_eq}
-use Rattle.std.proofs.lemmas.Slice.Eq.{bytes_eq-Decides}
+use Rattle.std.proofs.Common.{◌≡◌, refl, ap, Bool, true, false, cond, Option, Some, None, Result, Ok, Err, ok_or, option_map, option_and_then}
 use Rattle.hq_base.specs.Due.{mapped, and_then}
 
 -- a value under f was f of a value

@@ -18,7 +18,6 @@ use Rattle.hq_terms.specs.declared.table.Column.{Column}
 use Rattle.hq_terms.specs.declared.table.Table.{Table}
 use Rattle.hq_terms.proofs.Permitting.{permission_fits}
 use Rattle.hq_terms.proofs.Places.{table_present, at_0}
-use Rattle.hq_ask_tree.specs.Allowed.{Allowed, allowed_to, permitted_columns, has_aggregates}
 use Rattle.hq_roles.specs.Access.{Access, access_of}
 use Rattle.hq_build_laws.proofs.Items.{each_of, found_each}
 use Rattle.hq_build_laws.proofs.BuildingSteps.{and_then_some}

@@ -1,5 +1,5 @@
 -- The fields, arguments and inputs that are found at a place of a role's schema, by what the type there stands for.
-use Rattle.std.proofs.Common.{◌≡◌, ◌∙◌, refl, sym, ap, subst, ℕ, List, [], ◌∷◌, length, Bool, true, false, cond, ◌==◌, Option, Some, None, Ok, option_map, option_and_then, slice_get, position, bytes_eq, codes}
+use Rattle.std.proofs.Common.{◌≡◌, ◌∙◌, refl, sym, ap, subst, ℕ, List, [], ◌∷◌, Bool, true, false, cond, ◌==◌, Option, Some, None, option_map, option_and_then, slice_get, bytes_eq, codes}
 use Rattle.std.specs.Option.{option_or}
 use Rattle.std.proofs.lemmas.Bool.{eqb-true}
 use Rattle.hq_terms.proofs.Names.{names_equal}
@@ -7,7 +7,7 @@ use Rattle.hq_base.specs.Lists.{Each}
 use Rattle.hq_terms.specs.Meta.{MetaTree}
 use Rattle.hq_terms.specs.declared.role.Role.{Role}
 use Rattle.hq_terms.specs.declared.table.Table.{Table}
-use Rattle.hq_schema.specs.Look.{arg_in, field_in, field_of, input_field_of, enum_column_of}
+use Rattle.hq_schema.specs.Look.{arg_in, field_in, field_of, input_field_of}
 use Rattle.hq_schema.specs.Schema.{ArgTree, FieldTree, TypeTree, SchemaTree}
 use Rattle.hq_schema.specs.declared.origin.TypeOrigin.{TypeOrigin}
 use Rattle.hq_schema.specs.declared.origin.TypeOrigin.TheVariants as type
@@ -15,12 +15,10 @@ use Rattle.hq_role_schema.specs.FixedTypes.{fixed_type}
 use Rattle.hq_role_schema.specs.RoleSchema.{role_schema}
 use Rattle.hq_role_schema.specs.Root.{type_name_field, schema_field, type_field}
 use Rattle.hq_roles.specs.Access.{Access, access_of}
-use Rattle.hq_roles.specs.Leads.{ArgFits, FieldFits, TypeFits, ColumnsFit, input_target}
+use Rattle.hq_roles.specs.Leads.{ArgFits, FieldFits, TypeFits, input_target}
 use Rattle.hq_gql_nodes.specs.Known.{known_field, meta_field}
-use Rattle.hq_gql_tree.specs.Selections.{FieldHead}
-use Rattle.hq_ask.specs.Known.{name_of_type, type_name_due}
 use Rattle.hq_build_laws.proofs.Items.{each_at, found_each}
-use Rattle.hq_build_laws.proofs.BuildingSteps.{map_some, and_then_some}
+use Rattle.hq_build_laws.proofs.BuildingSteps.{map_some}
 
 -- a type of this meaning stands at the place
 abbrev pub At : List TypeTree → (place : ℕ) → TypeOrigin → Type 0

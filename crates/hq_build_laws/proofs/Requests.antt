@@ -7,7 +7,6 @@ use Rattle.hq_ask.specs.Due.{build_due}
 use Rattle.hq_ask_tree.specs.Request.{AskTree}
 use Rattle.hq_coerce.specs.Choice.{chosen}
 use Rattle.hq_coerce.specs.Due.{variables_due}
-use Rattle.hq_coerce.specs.Variables.{VarTree}
 use Rattle.hq_coerce.specs.declared.refusal.CoerceRefusal.{CoerceRefusal}
 use Rattle.hq_coerce.specs.declared.refusal.CoerceRefusal.TheVariants as coerce
 use Rattle.hq_faults.specs.Faults.{rule_of}

@@ -1,16 +1,12 @@
 -- The tables that a role's schema shows, and the places of the types that each schema has.
-use Rattle.std.proofs.Common.{◌≡◌, ◌∙◌, refl, sym, ap, subst, ℕ, ◌+◌, List, [], ◌∷◌, ◌++◌, Bool, true, false, cond, not, ◌==◌, Option, Some, None, is_some, option_map, option_and_then, slice_get, find, flat_map, codes, append_assoc, append-nil, eq-eqb, IfSome}
-use Rattle.std.specs.Prelude.{unwrap_or}
+use Rattle.std.proofs.Common.{◌≡◌, ◌∙◌, refl, ap, subst, ℕ, ◌+◌, List, [], ◌∷◌, ◌++◌, Bool, true, false, not, ◌==◌, Option, Some, None, option_map, option_and_then, slice_get, find, append_assoc, eq-eqb, IfSome}
 use Rattle.std.specs.List.{list_any}
 use Rattle.std.proofs.lemmas.Bool.{and_parts, not-true, or_parts}
 use Rattle.std.proofs.lemmas.List.Folds.{list_any-append}
 use Rattle.hq_base.specs.Lists.{Each, all_differ}
 use Rattle.hq_base.proofs.Lists.{each_all}
-use Rattle.hq_base.specs.Aggregates.{aggregate_suffix, is_aggregate_of, given_type}
-use Rattle.hq_base.specs.declared.aggregate.Aggregate.{Aggregate as OneAggregate}
-use Rattle.hq_base.specs.declared.value.Ty.{Ty}
 use Rattle.hq_base.specs.declared.value.Ty.TheVariants as ty
-use Rattle.hq_terms.specs.Filters.{column_ty, of_type}
+use Rattle.hq_terms.specs.Filters.{column_ty}
 use Rattle.hq_terms.specs.Meta.{MetaTree, TrackedTree, tracked_table}
 use Rattle.hq_terms.specs.Permission.{Mask, Permission, permission}
 use Rattle.hq_terms.specs.Schema.{Schema, schema_of}
@@ -18,28 +14,17 @@ use Rattle.hq_terms.specs.declared.role.Role.{Role}
 use Rattle.hq_terms.specs.declared.table.Column.{Column}
 use Rattle.hq_terms.specs.declared.table.Table.{Table}
 use Rattle.hq_terms.proofs.Places.{table_present}
-use Rattle.hq_schema.specs.Fixed.{all_fixed, fixed_place}
-use Rattle.hq_schema.specs.Schema.{FieldTree, TypeTree}
+use Rattle.hq_schema.specs.Fixed.{fixed_place}
 use Rattle.hq_schema.specs.declared.fixed.Fixed.{Fixed}
 use Rattle.hq_schema.specs.declared.fixed.Fixed.TheVariants.{Scalar, OrderBy, Comparison, Schema as SchemaType, «Type» as TypeType, Field, InputValue, EnumValue, Directive, TypeKind, DirectiveLocation, QueryRoot}
-use Rattle.hq_schema.specs.declared.origin.FieldOrigin.{FieldOrigin}
-use Rattle.hq_schema.specs.declared.origin.FieldOrigin.TheVariants as field
-use Rattle.hq_schema.specs.declared.origin.TypeOrigin.{TypeOrigin}
-use Rattle.hq_schema.specs.declared.origin.TypeOrigin.TheVariants as type
-use Rattle.hq_schema.specs.declared.part.Part.{Part}
-use Rattle.hq_schema.specs.declared.part.Part.TheVariants.{Rows, Filter, Sort, Columns, Aggregate, AggregateFields, Aggregated}
-use Rattle.hq_role_schema.specs.Fields.{column_field, column_fields, part_fields}
-use Rattle.hq_role_schema.specs.FixedTypes.{fixed_type, fixed_types, fixed_fields}
-use Rattle.hq_role_schema.specs.Placed.{parts_of, part_count, placed, placed_from, links_from}
-use Rattle.hq_role_schema.specs.References.{fixed, plain_field}
-use Rattle.hq_role_schema.specs.RoleSchema.{part_type, table_types, role_schema}
-use Rattle.hq_role_schema.specs.Shown.{under_name, shown_table, shown_entry, shown_tables, has_aggregate}
-use Rattle.hq_role_schema.specs.declared.shown.Link.{Link}
+use Rattle.hq_role_schema.specs.FixedTypes.{fixed_type}
+use Rattle.hq_role_schema.specs.Placed.{part_count, placed, placed_from}
+use Rattle.hq_role_schema.specs.RoleSchema.{role_schema}
+use Rattle.hq_role_schema.specs.Shown.{under_name, shown_table, shown_entry, shown_tables}
 use Rattle.hq_role_schema.specs.declared.shown.PlacedTable.{PlacedTable}
 use Rattle.hq_role_schema.specs.declared.shown.ShownColumn.{ShownColumn}
 use Rattle.hq_role_schema.specs.declared.shown.ShownTable.{ShownTable}
-use Rattle.hq_ask_tree.specs.TypeNames.{row_type_name}
-use Rattle.hq_build_laws.proofs.Items.{each_append, each_filter_map, each_flat_map, each_map}
+use Rattle.hq_build_laws.proofs.Items.{each_filter_map}
 
 -- ---- each entry of a metadata is the first one of its table
 
