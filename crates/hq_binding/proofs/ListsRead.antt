@@ -7,7 +7,7 @@ use Rattle.hq_base.specs.declared.value.Ty.{Ty}
 use Rattle.hq_base.specs.declared.value.Val.{Val}
 use Rattle.hq_terms.specs.SessionLists.{elements_from, element_value, element_values}
 use Rattle.hq_binding.specs.SessionReading.{read_on, if_over, Follows}
-use Rattle.hq_terms.specs.Tests.{Test}
+use Rattle.hq_terms.specs.declared.test.Test.{Test}
 use Rattle.hq_terms.specs.declared.bexp.Operand.{Operand}
 use Rattle.hq_terms.specs.declared.bexp.Operand.TheVariants.{Const}
 use Rattle.hq_binding.specs.declared.session_list.Next.{Next}

@@ -33,5 +33,6 @@ module _ (s : Schema) (m : Mode) (b : BexpTree) where
   remote_of t p r u n next tie look pred is tie-is u-is n-is = rw (is, tie-is, u-is, n-is) refl
 
   -- such a row by itself
-  pub row_of : (u n t p next : ℕ) (look : Look) (pred : PredTree) → pred ≡ counted_at u n tree.always → n ≡ next → pred ≡ predicate (exists_in u b) s m look t p next
-  row_of u n t p next look pred is n-is = rw (is, n-is) refl
+  pub row_of : (u n t p next : ℕ) (tie : PredTree) (look : Look) (pred : PredTree) → pred ≡ counted_at u n tie → tie ≡ tree.always → n ≡ next
+      → pred ≡ predicate (exists_in u b) s m look t p next
+  row_of u n t p next tie look pred is tie-is n-is = rw (is, tie-is, n-is) refl

@@ -99,7 +99,7 @@ fn remote_row<C: Counted>(
     let n = take_number(next)?;
     let remote = context.remote(t, r);
     let link = link(alloc, context, t, r, p, n)?;
-    counted_row(alloc, context, counted, remote, n, link, inner, next)
+    counted_row(alloc, context, counted, remote, n, inner, link, next)
 }
 
 // Some row of table u counts and meets the inner expression.
@@ -118,7 +118,7 @@ fn some_row<C: Counted>(
         OnOk result (next.new ≡ next.old + numbers (exists_in u (bexp_view inner.now)) s (C.mode s (context_rights context.now)) 0) }
 {
     let n = take_number(next)?;
-    counted_row(alloc, context, counted, u, n, Pred::True, inner, next)
+    counted_row(alloc, context, counted, u, n, inner, Pred::True, next)
 }
 
 // Some row of table u at the alias of number n is tied to what stands around, counts and meets the inner expression.
@@ -129,8 +129,8 @@ fn counted_row<C: Counted>(
     counted: &C,
     u: TableId,
     n: u64,
-    tie: Pred,
     inner: &Bexp,
+    tie: Pred,
     next: &mut u64,
 ) -> Result<Pred, Memory>
     requires { next.old ≡ n + 1 }

@@ -36,7 +36,8 @@ fn tracked<'a>(catalog: &'a Catalog, node: &Node<'_>) -> Option<&'a Table> {
 }
 
 // What an element of a member of this name is to be.
-static ELEMENTS: [(&str, &str); 10] = [
+static ELEMENTS: [(&str, &str); 11] = [
+    ("sources", "a list of one source"),
     ("tables", "an object with a member \"table\""),
     ("columns", "the name of a column"),
     ("foreign_key_constraint_on", "the name of a column"),
@@ -254,7 +255,7 @@ fn no_foreign_key(words: &mut Words, node: &Node<'_>, catalog: &Catalog) {
 fn repeated_role(words: &mut Words, node: &Node<'_>) {
     words.put("role ");
     node.put_value(words);
-    words.put(if node.name() == b"role_name" {
+    words.put(if node.name() == b"role_name".as_slice() {
         " is inherited already"
     } else {
         " has a permission on this table already"

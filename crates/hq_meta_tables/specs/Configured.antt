@@ -1,6 +1,6 @@
 -- The names that the configuration of a table gives (Hasura v2, metadata format: TableConfig). A null counts as absent at
 -- every member.
-use Rattle.std.specs.Prelude.{ℕ, List, [], ◌∷◌, ◌++◌, map, Bool, not, ◌&&◌, is_some, Option, Some, None, option_and_then, unwrap_or, Result, Ok, Err, if◌then◌else◌, bytes_eq, codes}
+use Rattle.std.specs.Prelude.{ℕ, List, [], ◌++◌, map, Bool, not, ◌&&◌, Option, Some, None, option_and_then, unwrap_or, Result, Ok, if◌then◌else◌, bytes_eq, codes}
 use Rattle.hq_base.specs.Due.{◌>>=◌, mapped}
 use Rattle.hq_base.specs.Json.{JsonTree}
 use Rattle.hq_base.specs.Look.{str_in, object_in}

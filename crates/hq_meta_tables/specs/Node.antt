@@ -1,5 +1,5 @@
 -- Nodes of a metadata file that must be of a kind: Shape at the node's path where it is absent or of another.
-use Rattle.std.specs.Prelude.{ℕ, List, [], ◌∷◌, Bool, is_some, Option, Some, None, option_and_then, ok_or, Result, Ok, Err, if◌then◌else◌}
+use Rattle.std.specs.Prelude.{ℕ, List, [], Bool, is_some, Option, Some, None, option_and_then, ok_or, Result, Ok, Err, if◌then◌else◌}
 use Rattle.hq_base.specs.Due.{◌>>=◌, mapped}
 use Rattle.hq_base.specs.Json.{JsonTree, null}
 use Rattle.hq_base.specs.Look.{str_in, array_in, object_in, member_in}

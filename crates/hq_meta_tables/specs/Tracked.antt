@@ -1,6 +1,6 @@
 -- The tracked tables with the names that their entries give, without relationships and permissions (Hasura v2, metadata
 -- format: TableEntry).
-use Rattle.std.specs.Prelude.{ℕ, List, [], map, ◌==◌, Option, Some, None, ok_or, slice_get, Result, Ok, Err, if◌then◌else◌}
+use Rattle.std.specs.Prelude.{ℕ, List, [], map, ◌==◌, Option, Some, ok_or, slice_get, Result, Ok, Err, if◌then◌else◌}
 use Rattle.std.specs.List.{list_any}
 use Rattle.hq_base.specs.Due.{◌>>=◌}
 use Rattle.hq_base.specs.Json.{JsonTree}

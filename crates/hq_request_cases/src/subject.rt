@@ -9,6 +9,7 @@ pub enum About {
     Shop,
     ReachingFilters,
     InheritedRoles,
+    Masks,
     Relationships,
     Aggregates,
     Introspection,
@@ -26,12 +27,13 @@ pub enum About {
 
 impl About {
     /// Each subject, in the order of its line.
-    pub const ALL: [About; 17] = [
+    pub const ALL: [About; 19] = [
         About::Worked,
         About::Blog,
         About::Shop,
         About::ReachingFilters,
         About::InheritedRoles,
+        About::Masks,
         About::Relationships,
         About::Aggregates,
         About::Introspection,
@@ -56,6 +58,7 @@ impl Subject for About {
             About::Shop => "shop",
             About::ReachingFilters => "reaching_filters",
             About::InheritedRoles => "inherited_roles",
+            About::Masks => "masks",
             About::Relationships => "relationships",
             About::Aggregates => "aggregates",
             About::Introspection => "introspection",

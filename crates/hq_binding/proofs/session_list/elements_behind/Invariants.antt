@@ -1,6 +1,6 @@
 use Rattle.std.proofs.Common.{◌≡◌, [], drop}
 use Rattle.hq_terms.specs.SessionLists.{elements_from}
-use Rattle.hq_terms.specs.SessionReading.{read_on}
+use Rattle.hq_binding.specs.SessionReading.{read_on}
 use Rattle.hq_terms.specs.declared.session_list.Place.TheVariants.{Before}
 use Rattle.hq_binding.proofs.session_list.elements_behind.Given as goal
 

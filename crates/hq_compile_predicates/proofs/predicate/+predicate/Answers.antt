@@ -1,9 +1,12 @@
-use Rattle.std.proofs.Common.{◌∙◌, ℕ, ◌+◌, List, [], ◌∷◌, map, drop, refl, sym, ap}
+use Rattle.std.proofs.Common.{◌≡◌, ◌∙◌, ℕ, ◌+◌, List, [], ◌∷◌, map, drop, refl, rules, sym, ap}
 use Rattle.std.proofs.lemmas.Result.{IfOk-weaker}
 use Rattle.hq_terms.specs.Bexp.{bexp_view, bexps_of}
 use Rattle.hq_terms.specs.Schema.{table}
 use Rattle.hq_terms.specs.declared.bexp.Bexp.{Bexp}
+use Rattle.hq_sql_tree.specs.Tree.{always}
 use Rattle.hq_sql_tree.specs.View.{pred_view}
+use Rattle.hq_sql_tree.specs.declared.select.Pred.{the_lemmas}
+use Rattle.hq_sql_tree.specs.declared.select.Pred.TheVariants.{True}
 use Rattle.hq_compiled.specs.Looks.{own_look}
 use Rattle.hq_compiled.specs.Predicates.{numbers, numbers_all, predicate, predicates}
 use Rattle.hq_compile_context.specs.Contexts.{context_schema, context_rights}
@@ -21,7 +24,7 @@ counted_row-returns-clause-predicate g t c =
     let look = λ (places : List MaskPlace). look_in places (table s c.args.u).columns c.args.n in
     IfOk-weaker c.some_exists.result _ _
     (λ pred is. counted_of s m (bexp_view c.args.inner.now) c.args.u c.args.n c.args.next.now c.masks.new.next c.with_guard.new.next (pred_view c.args.tie)
-    _ (look c.as_slice-places.result.now) _ _ _ pred
+    _ (look c.as_slice-places.result.now) _ _ _ (pred_view pred)
     is c.in_ok-inner.ensures.predicate c.in_ok-members-2.ensures.numbers c.in_ok-members-2.ensures.members c.in_ok-members.ensures
     (ap look c.as_slice-places.ensures ∙ c.in_ok-parts.ensures.looks) c.in_ok-parts.ensures.joins c.in_ok-parts.ensures.numbers c.requires)
     c.some_exists.ensures
@@ -34,15 +37,16 @@ remote_row-returns-clause-predicate g t c =
     let columns = (table s c.args.t).columns in
     IfOk-weaker c.counted_row.result _ _
     (λ pred is. remote_of s m (bexp_view c.args.inner.now) c.args.t c.args.p c.args.r c.remote-remote.result c.in_ok-n.n c.args.next.now _
-    (own_look columns c.args.p) pred is c.in_ok-link.ensures c.remote-remote.ensures c.in_ok-n.ensures.taken)
+    (own_look columns c.args.p) (pred_view pred) is c.in_ok-link.ensures c.remote-remote.ensures c.in_ok-n.ensures.taken)
     c.counted_row.ensures.predicate
 
 pub some_row-returns-clause-predicate : goal.some_row-returns-clause-predicate
 some_row-returns-clause-predicate g t c =
     let s = context_schema c.args.context.now in
     let m = g.C.Counted.mode s (context_rights c.args.context.now) in
+    let untied : pred_view True ≡ always = search (rules, the_lemmas) in
     IfOk-weaker c.counted_row.result _ _
-    (λ pred is. row_of s m (bexp_view c.args.inner.now) c.args.u c.in_ok-n.n 0 0 c.args.next.now (own_look [] 0) pred is c.in_ok-n.ensures.taken)
+    (λ pred is. row_of s m (bexp_view c.args.inner.now) c.args.u c.in_ok-n.n 0 0 c.args.next.now (pred_view True) (own_look [] 0) (pred_view pred) is untied c.in_ok-n.ensures.taken)
     c.counted_row.ensures.predicate
 
 -- a condition is made, and the loop goes on behind it and its numbers
