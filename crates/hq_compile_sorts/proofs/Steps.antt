@@ -10,7 +10,7 @@ use Rattle.hq_compiled.specs.Names.{join_alias}
 use Rattle.hq_compiled.specs.Predicates.{link}
 use Rattle.hq_compiled.specs.Rights.{Rights}
 use Rattle.hq_compiled.specs.Selects.{filter_from, behind_filter}
-use Rattle.hq_compiled.specs.Sorts.{last_used, sort_place, sort_numbers, sort_joins}
+use Rattle.hq_compiled.specs.Sorts.{last_used, sort_place, sort_joins}
 use Rattle.hq_compile_tables.specs.Selects.{first_row}
 use Rattle.hq_compile_tables.specs.Shown.{look_in}
 use Rattle.hq_compile_tables.specs.declared.shown.MaskPlace.{MaskPlace}
