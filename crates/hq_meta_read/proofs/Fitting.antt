@@ -290,3 +290,7 @@ passes_sound tables path js m n q catalog is_m is_n is_q sound = tables_sound_sa
 -- inherited roles change no filter
 pub inherited_sound : (tables : List Table) (q : MetaTree) (is : List Inherited) → TablesSound tables q q.tracked → TablesSound tables (with_inherited q is) q.tracked
 inherited_sound tables q is sound = tables_sound_same tables (with_inherited q is) q q.tracked (record { schema = refl; tracked = λ u. refl }) sound
+
+-- nor do they change names
+pub inherited_names : (tables : List Table) (q : MetaTree) (is : List Inherited) → names_differ (schema_of tables q) q ≡ true → names_differ (schema_of tables (with_inherited q is)) (with_inherited q is) ≡ true
+inherited_names tables q is differ = differ

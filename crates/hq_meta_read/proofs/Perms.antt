@@ -1,5 +1,5 @@
 -- What permissions say but for their filters.
-use Rattle.std.proofs.Common.{◌≡◌, ◌∙◌, ℕ, ℤ, pos, negsuc, ◌^◌, List, [], ◌∷◌, ◌++◌, filter, Bool, true, false, cond, not, Option, Some, None, slice_get, codes, Ok, Err, refl, ap}
+use Rattle.std.proofs.Common.{◌≡◌, ◌∙◌, ℕ, ℤ, pos, negsuc, ◌^◌, List, [], ◌∷◌, ◌++◌, Bool, true, false, cond, not, Option, Some, None, slice_get, codes, Ok, Err, refl, ap}
 use Rattle.std.specs.Prelude.{IfOk, ⊤, is_some, nat_lt, bytes_eq}
 use Rattle.std.specs.List.{AllByRecursion, list_all, list_any}
 use Rattle.hq_base.specs.Due.{and_then}

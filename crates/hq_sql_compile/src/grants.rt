@@ -7,13 +7,33 @@ ghost use Rattle.hq_ask_tree.specs.Request.{ask_view, bound_view, grants_in};
 ghost use Rattle.hq_compiled.specs.Rights.{rights_of};
 ghost use Rattle.hq_compile_context.specs.Contexts.{rights_in};
 ghost use Rattle.hq_sql_compile.specs.GrantedTrees.{granted_view, granted_under, granted_for, granted_all};
-ghost use Rattle.hq_terms.specs.PermView.{permission_view};
+ghost use Rattle.hq_terms.specs.PermView.{mask_view, permission_view};
 
 use hq_ask_tree::{Ask, Bound};
 use hq_base::{List, Memory};
 use hq_compile_context::{Granted, GrantedList};
-use hq_terms::{Catalog, Meta, PermView, Role};
+use hq_terms::{Catalog, Mask, MaskList, Meta, PermView, Role};
 use std::alloc::Global;
+
+fn copied_mask(alloc: Global, mask: &Mask) -> Result<Mask, Memory>
+    ensures { IfOk result (λ copy. mask_view copy ≡ mask_view mask.now) }
+{
+    let shown = mask.shown.copy(alloc)?;
+    Ok(Mask {
+        col: mask.col,
+        shown,
+    })
+}
+
+fn copied_masks(alloc: Global, masks: &[Mask]) -> Result<MaskList, Memory>
+    ensures { IfOk result (λ copies. map mask_view copies.items ≡ map mask_view masks.now) }
+{
+    let mut copies = Vec::new(alloc);
+    for mask in masks {
+        copies.push(copied_mask(alloc, mask)?)?;
+    }
+    Ok(copies)
+}
 
 // The most rows of a list, by a permission that is let go.
 fn limit_of(permission: PermView) -> Option<u64>
@@ -33,12 +53,13 @@ fn with_permission(
         None => Ok(None),
         Some(permission) => {
             let limit = limit_of(permission);
+            let masks = copied_masks(alloc, &bound.masks)?;
             let filter = bound.filter.copy(alloc)?;
             Ok(Some(Granted {
                 table: bound.table,
                 filter,
                 limit,
-                masks: Vec::new(alloc),
+                masks,
             }))
         }
     }

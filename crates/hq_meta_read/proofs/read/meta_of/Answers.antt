@@ -9,4 +9,4 @@ use Rattle.hq_meta_read.proofs.read.meta_of.Goals as goal
 pub tracked_of-requires : goal.tracked_of-requires
 tracked_of-requires c =
     all_seen Shallow json_view c.in_ok-version.entries.now
-    (IfOk-at_ok ShallowEntries (ap table_entries (sym c.unwrapped.ensures) ∙ c.in_ok-version.ensures) (table_entries-shallow (json_view c.args.json.now) c.requires))
+    (IfOk-at_ok ShallowEntries (ap table_entries (sym c.unwrapped-top.ensures) ∙ c.in_ok-version.ensures) (table_entries-shallow (json_view c.args.json.now) c.requires))
