@@ -1,7 +1,8 @@
 use Rattle.std.proofs.Common.{◌∙◌, ℕ, ◌+◌, ◌++◌, List, [], ◌∷◌, map, drop, refl, sym, ap}
 use Rattle.std.proofs.lemmas.Result.{IfOk-weaker, on_ok_weaker}
 use Rattle.hq_ask_tree.specs.Arguments.{arguments_view}
-use Rattle.hq_ask_tree.specs.Fields.{keyed_field_view, keyed_part_view}
+use Rattle.hq_ask_tree.specs.Fields.{field_view, keyed_field_view, keyed_part_view}
+use Rattle.hq_ask_tree.specs.declared.field.AskField.{AskField}
 use Rattle.hq_ask_tree.specs.declared.field.KeyedAggPart.{KeyedAggPart}
 use Rattle.hq_ask_tree.specs.declared.field.KeyedAskField.{KeyedAskField}
 use Rattle.hq_terms.specs.Schema.{table}
@@ -113,6 +114,27 @@ list_join-returns-clause-numbers t c =
     c.as_slice.result.now c.as_slice-2.result.now c.in_ok-push_fields.ensures.numbers c.in_ok-body.ensures.numbers (c.as_slice-2.ensures ∙ c.in_ok-used.ensures)
     (c.as_slice.ensures ∙ c.in_ok-outs.ensures) c.list_table-table.ensures c.in_ok-n.ensures.taken)
     c.one_join.ensures
+
+-- the joins of a list, and the numbers that they take, are those of its field
+pub push_joins-returns-in_ok-join-in-List-clause-joins : goal.push_joins-returns-in_ok-join-in-List-clause-joins
+push_joins-returns-in_ok-join-in-List-clause-joins t c =
+    let s = context_schema c.args.context.now in
+    let g = context_rights c.args.context.now in
+    let n = c.args.next.now in
+    let joins : List JoinTree = map join_view c.args.joins.now.items in
+    on_ok_weaker c.push_join-in-List.result
+    (λ is. is ∙ ap (λ (js : List JoinTree). joins ++ js)
+    (c.in_ok-join-in-List.ensures.join ∙ ap (λ (f : AskField). field_joins (field_view f) s g c.args.t c.args.p n) (sym c.in-List.is)))
+    c.push_join-in-List.ensures
+
+pub push_joins-returns-in_ok-join-in-List-clause-numbers : goal.push_joins-returns-in_ok-join-in-List-clause-numbers
+push_joins-returns-in_ok-join-in-List-clause-numbers t c =
+    let s = context_schema c.args.context.now in
+    let g = context_rights c.args.context.now in
+    let n = c.args.next.now in
+    on_ok_weaker c.push_join-in-List.result
+    (λ is. c.in_ok-join-in-List.ensures.numbers ∙ ap (λ (f : AskField). n + field_numbers (field_view f) s g c.args.t) (sym c.in-List.is))
+    c.push_join-in-List.ensures
 
 -- what a field adds is what stood first in what was left
 pub push_fields-loop-keyed-preserved : goal.push_fields-loop-keyed-preserved
