@@ -56,7 +56,7 @@ module _ (cs : List ℕ) (s : Schema) (t p : ℕ) where
       let k = own_numbers m.shown s t in
       let rest = used_of cs ms in
       let go : (b : Bool) → mask_numbers (cond b (m ∷ rest) rest) s t ≡ mask_numbers (cond b (m ∷ []) []) s t + mask_numbers rest s t =
-      elim [ true ↦ omega arith | false ↦ refl ] in
+      elim [ true ↦ omega arith | false ↦ omega arith ] in
       go (is_used m.column cs)
 
   -- ---- one mask, which is added where its column is used

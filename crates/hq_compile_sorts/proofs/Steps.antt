@@ -1,5 +1,6 @@
 -- The join of the first relationship of a sort key, put together from its parts.
-use Rattle.std.proofs.Common.{◌≡◌, ℕ, ◌+◌, List, [], ◌∷◌, ◌++◌, false, refl, arith}
+use Rattle.std.proofs.Common.{◌≡◌, ◌∙◌, ℕ, ◌-◌, ◌≤◌, List, [], ◌∷◌, ◌++◌, length, get_or, take, drop, false, refl, ap, arith}
+use Rattle.std.proofs.lemmas.List.{take_all}
 use Rattle.hq_terms.specs.Schema.{Schema, table, rel}
 use Rattle.hq_sql_tree.specs.Tree.{JoinTree, OutTree, PredTree}
 use Rattle.hq_compiled.specs.Conditions.{with_member, where_of}
@@ -9,10 +10,15 @@ use Rattle.hq_compiled.specs.Names.{join_alias}
 use Rattle.hq_compiled.specs.Predicates.{link}
 use Rattle.hq_compiled.specs.Rights.{Rights}
 use Rattle.hq_compiled.specs.Selects.{filter_from, behind_filter}
-use Rattle.hq_compiled.specs.Sorts.{last_used, sort_place, sort_numbers, sort_joins}
+use Rattle.hq_compiled.specs.Sorts.{last_used, sort_place, sort_joins}
 use Rattle.hq_compile_tables.specs.Selects.{first_row}
 use Rattle.hq_compile_tables.specs.Shown.{look_in}
 use Rattle.hq_compile_tables.specs.declared.shown.MaskPlace.{MaskPlace}
+
+-- the first relationship and the others are all
+pub first_and_rest : (rs : List ℕ) (r : ℕ) → 1 ≤ length rs → r ≡ get_or rs 0 r → r ∷ take (length rs - 1) (drop 1 rs) ≡ rs
+first_and_rest [] r h e = absurd (omega (arith, h))
+first_and_rest (q ∷ rs) r h e = ap (λ (qs : List ℕ). r ∷ qs) (take_all (length (q ∷ rs) - 1) rs (omega arith)) ∙ ap (λ (k : ℕ). k ∷ rs) e
 
 module _ (s : Schema) (g : Rights) (t p r c next : ℕ) (rest : List ℕ) where
   -- the parts by the names that they have in the code
@@ -27,8 +33,3 @@ module _ (s : Schema) (g : Rights) (t p r c next : ℕ) (rest : List ℕ) where
       → all ≡ sort_joins (r ∷ rest) s g t p next c
   step_of v n m cs places all joins inner members outs is inner-is outs-is v-is n-is m-is look-is joins-is members-is cs-is =
       rw (is, inner-is, outs-is, v-is, n-is, m-is, look-is, joins-is, members-is, cs-is) refl
-
-  -- the numbers that it takes
-  pub step_numbers : (v m k : ℕ) (cs : List ℕ) → k ≡ m + sort_numbers rest s g v c → m ≡ behind_filter s g (rel s t r).remote cs next → v ≡ (rel s t r).remote → cs ≡ last_used rest c
-      → k ≡ next + sort_numbers (r ∷ rest) s g t c
-  step_numbers v m k cs is m-is v-is cs-is = rw (is, m-is, v-is, cs-is) (omega arith)

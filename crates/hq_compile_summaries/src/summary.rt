@@ -9,7 +9,7 @@ ghost use Rattle.hq_compiled.specs.Aggregates.{needed, needed_cell, taken_value,
 ghost use Rattle.hq_compiled.specs.Lists.{list_used, list_rows, children_from};
 ghost use Rattle.hq_compiled.specs.Masks.{shown_look};
 ghost use Rattle.hq_compile_context.specs.Contexts.{context_schema, context_rights};
-ghost use Rattle.hq_compile_tables.specs.Shown.{look_of};
+ghost use Rattle.hq_compile_tables.specs.Shown.{look_in, look_of};
 ghost use Rattle.hq_compile_lists.specs.Starts.{start_tie};
 
 use crate::needs::{needed, place_of, some_aggregate};
@@ -19,7 +19,7 @@ use hq_compile_context::{
     Context, RowUse, fold_alias, needed_name, row_limit, unit_name, value_name,
 };
 use hq_compile_lists::{ListStart, fold, list_body, list_rows, list_used, object, one_row};
-use hq_compile_tables::{Shown, is_text, shown_column, table_shown};
+use hq_compile_tables::{MaskPlace, Shown, is_text, shown_column, table_shown};
 use hq_sql_tree::{Agg, Expr, ExprPair, ExprPairList, Out, OutList, Select};
 use hq_terms::{ColId, Column, TableId};
 use std::alloc::Global;
@@ -239,6 +239,22 @@ fn needed_outputs(alloc: Global, shown: &Shown, needed: &[ColId]) -> Result<OutL
     }
 }
 
+// The needed columns as outputs of rows of table t at the alias of number n, behind the joins of masks.
+fn row_outputs(
+    alloc: Global,
+    context: &Context,
+    t: TableId,
+    n: u64,
+    places: &[MaskPlace],
+    needed: &[ColId],
+) -> Result<OutList, Memory>
+    ensures { let look = look_in places.now (table (context_schema context.now) t).columns n in
+        IfOk result (λ outs. map out_view outs.items ≡ needed_outputs look needed.now) }
+{
+    let shown = table_shown(context, t, n, places);
+    needed_outputs(alloc, &shown, needed)
+}
+
 // The selected rows, without the permission's limit, whose outputs are the needed columns.
 fn needed_rows(
     alloc: Global,
@@ -258,8 +274,8 @@ fn needed_rows(
 {
     let used = list_used(alloc, context, t, start.args, needed)?;
     let body = list_body(alloc, context, start, t, n, used.as_slice(), next)?;
-    let shown = table_shown(context, t, n, body.masks.places.as_slice());
-    let outs = needed_outputs(alloc, &shown, needed)?;
+    let places = body.masks.places.as_slice();
+    let outs = row_outputs(alloc, context, t, n, places, needed)?;
     let limit = row_limit(context, t, RowUse::Aggregate, start.args.limit);
     let offset = start.args.offset;
     list_rows(

@@ -1,5 +1,5 @@
 -- A built request is a typed request of its session.
-use Rattle.std.proofs.Common.{◌≡◌, ◌∙◌, ap, subst, ℕ, ◌≤◌, arith, List, [], length, true, ◌&&◌, Option, Some, None, Result, Ok, Err}
+use Rattle.std.proofs.Common.{◌≡◌, ◌∙◌, ap, subst, ℕ, ◌≤◌, arith, List, length, true, ◌&&◌, Option, Some, None, Result, Ok, Err}
 use Rattle.std.proofs.lemmas.Bool.{and_parts, and_from}
 use Rattle.hq_base.specs.Due.{◌>>=◌}
 use Rattle.hq_base.specs.Lists.{Each}

@@ -1,5 +1,5 @@
 -- What a role's access says of the tables: columns and relationships that it permits are there, and the request may use them.
-use Rattle.std.proofs.Common.{◌≡◌, ◌∙◌, refl, sym, ap, subst, ℕ, List, [], ◌∷◌, length, Bool, true, false, ◌==◌, ◌||◌, nat_lt, Option, Some, None, is_some, option_map, option_and_then, slice_get}
+use Rattle.std.proofs.Common.{◌≡◌, ◌∙◌, refl, sym, ap, subst, ℕ, List, [], ◌∷◌, length, Bool, true, false, ◌==◌, ◌||◌, nat_lt, Option, Some, None, is_some, option_map, slice_get}
 use Rattle.std.specs.Prelude.{unwrap_or}
 use Rattle.std.specs.List.{list_any}
 use Rattle.std.specs.Option.{option_map_or}

@@ -3,3 +3,4 @@ mod Joins
 mod Requests
 mod RootFields
 mod SortCounts
+mod Views

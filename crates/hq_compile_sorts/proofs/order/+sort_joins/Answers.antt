@@ -1,27 +1,23 @@
-use Rattle.std.proofs.Common.{◌∙◌, map}
+use Rattle.std.proofs.Common.{◌∙◌, ℕ, List, map, ap}
 use Rattle.std.proofs.lemmas.Result.{IfOk-weaker}
 use Rattle.hq_sql_tree.specs.View.{join_view}
+use Rattle.hq_compiled.specs.Sorts.{sort_joins}
 use Rattle.hq_compile_context.specs.Contexts.{context_schema, context_rights}
-use Rattle.hq_compile_sorts.proofs.Steps.{step_of, step_numbers}
+use Rattle.hq_compile_sorts.proofs.Steps.{first_and_rest, step_of}
 use Rattle.hq_compile_sorts.proofs.order.+sort_joins.Goals as goal
 
 -- the join of the first relationship, with those behind it
-pub returns-clause-joins : goal.returns-clause-joins
-returns-clause-joins t c =
+pub returns-in_ok-inner-in-len1-up-clause-joins : goal.returns-in_ok-inner-in-len1-up-clause-joins
+returns-in_ok-inner-in-len1-up-clause-joins t c =
     let s = context_schema c.args.context.now in
     let g = context_rights c.args.context.now in
-    let first = c.in_ok-first.first in
-    let is_first = c.in_ok-first.ensures in
+    let first = c.in_ok-first-in-len1-up.first in
+    let is_first = c.in_ok-first-in-len1-up.ensures in
+    let column = c.args.column in
+    let next = c.args.next.now in
+    let all = first_and_rest c.args.through.now c.r-item.result c.in-len1-up.len_at_least c.r-item.is in
     IfOk-weaker c.step_joins.result _ _
-    (λ joins is. step_of s g c.args.t c.args.p c.r-item.result c.args.column c.args.next.now _ first.table first.number c.remote_row.new.next c.as_slice.result.now first.masks.places (map join_view joins.items) _ _ _ _
-    is c.in_ok-inner.ensures.joins c.in_ok-outs.ensures is_first.table is_first.number is_first.numbers is_first.looks is_first.joins is_first.members (c.as_slice.ensures ∙ c.in_ok-used.ensures))
-    c.step_joins.ensures
-
-pub returns-clause-numbers : goal.returns-clause-numbers
-returns-clause-numbers t c =
-    let first = c.in_ok-first.first in
-    let is_first = c.in_ok-first.ensures in
-    IfOk-weaker c.step_joins.result _ _
-    (λ joins is. step_numbers (context_schema c.args.context.now) (context_rights c.args.context.now) c.args.t c.args.p c.r-item.result c.args.column c.args.next.now _ first.table c.remote_row.new.next _ c.as_slice.result.now
-    c.in_ok-inner.ensures.numbers is_first.numbers is_first.table (c.as_slice.ensures ∙ c.in_ok-used.ensures))
+    (λ joins is. step_of s g c.args.t c.args.p c.r-item.result column next _ first.table first.number c.remote_row.new.next c.as_slice.result.now first.masks.places (map join_view joins.items) _ _ _ _
+    is c.in_ok-inner-in-len1-up.ensures.joins c.in_ok-outs-in-len1-up.ensures is_first.table is_first.number is_first.numbers is_first.looks is_first.joins is_first.members (c.as_slice.ensures ∙ c.in_ok-used-in-len1-up.ensures)
+    ∙ ap (λ (rs : List ℕ). sort_joins rs s g c.args.t c.args.p next column) all)
     c.step_joins.ensures

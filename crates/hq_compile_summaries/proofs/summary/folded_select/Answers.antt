@@ -3,6 +3,7 @@ use Rattle.hq_terms.specs.Schema.{table}
 use Rattle.hq_terms.specs.declared.table.Column.{Column}
 use Rattle.hq_ask_tree.specs.Arguments.{arguments_view}
 use Rattle.hq_sql_tree.specs.View.{select_view}
+use Rattle.hq_compiled.specs.Lists.{list_used, children_from}
 use Rattle.hq_compile_context.specs.Contexts.{context_schema, context_rights}
 use Rattle.hq_compile_lists.specs.Starts.{start_tie}
 use Rattle.hq_compile_summaries.proofs.Selects.{folded_of, output_of}
@@ -21,3 +22,12 @@ returns-clause-select c =
     let out = c.in_ok-out.ensures ∙ ap (λ (columns : List Column). output_of columns n c.as_slice-2.result.now fs) c.columns.ensures
     ∙ ap (λ (cs : List ℕ). output_of (table s t).columns n cs fs) (c.as_slice-2.ensures ∙ sym c.as_slice.ensures) in
     folded_of s g t n a tie fs needs _ _ _ _ c.fold.ensures (ap select_view c.in_ok-rows-2.ensures.ok ∙ c.in_ok-rows.ensures.select) out c.in_ok-alias.ensures (c.as_slice.ensures ∙ c.in_ok-needs.ensures)
+
+pub returns-clause-numbers : goal.returns-clause-numbers
+returns-clause-numbers c =
+    let s = context_schema c.args.context.now in
+    let g = context_rights c.args.context.now in
+    let t = c.args.t in
+    let n = c.args.n in
+    let a = arguments_view c.args.start.now.args.now in
+    c.in_ok-rows.ensures.numbers ∙ ap (λ (needs : List ℕ). children_from s g t (list_used s t a needs) a n) (c.as_slice.ensures ∙ c.in_ok-needs.ensures)

@@ -1,7 +1,7 @@
 use Rattle.std.proofs.Common.{◌∙◌, ℕ, ◌+◌, ◌++◌, List, [], ◌∷◌, map, drop, refl, sym, ap}
 use Rattle.std.proofs.lemmas.Result.{IfOk-weaker, on_ok_weaker}
 use Rattle.hq_ask_tree.specs.Arguments.{arguments_view}
-use Rattle.hq_ask_tree.specs.Fields.{keyed_field_view, keyed_part_view}
+use Rattle.hq_ask_tree.specs.Fields.{FieldTree, field_view, keyed_field_view, keyed_part_view}
 use Rattle.hq_ask_tree.specs.declared.field.KeyedAggPart.{KeyedAggPart}
 use Rattle.hq_ask_tree.specs.declared.field.KeyedAskField.{KeyedAskField}
 use Rattle.hq_terms.specs.Schema.{table}
@@ -15,6 +15,7 @@ use Rattle.hq_compile_tables.specs.Shown.{look_in}
 use Rattle.hq_compile_tables.specs.declared.shown.MaskPlace.{MaskPlace}
 use Rattle.hq_compile_lists.specs.Starts.{start_origin, start_table, start_tie}
 use Rattle.hq_compile_tables.proofs.Loops.{rest-more, count-more}
+use Rattle.hq_sql_compile.proofs.Views.{list_seen}
 use Rattle.hq_sql_compile.proofs.Joins.{first_of, object_of, key_of, list_of, object_numbers, key_numbers, list_numbers_of}
 use Rattle.hq_sql_compile.specs.Fields.{fields_view, parts_view}
 use Rattle.hq_sql_compile.proofs.fields.+fields.Goals as goal
@@ -113,6 +114,28 @@ list_join-returns-clause-numbers t c =
     c.as_slice.result.now c.as_slice-2.result.now c.in_ok-push_fields.ensures.numbers c.in_ok-body.ensures.numbers (c.as_slice-2.ensures ∙ c.in_ok-used.ensures)
     (c.as_slice.ensures ∙ c.in_ok-outs.ensures) c.list_table-table.ensures c.in_ok-n.ensures.taken)
     c.one_join.ensures
+
+-- the joins of a list, and the numbers that they take, are those of its field
+pub push_joins-returns-in_ok-join-in-List-clause-joins : goal.push_joins-returns-in_ok-join-in-List-clause-joins
+push_joins-returns-in_ok-join-in-List-clause-joins t c =
+    let s = context_schema c.args.context.now in
+    let g = context_rights c.args.context.now in
+    let n = c.args.next.now in
+    let l = c.in-List in
+    let joins : List JoinTree = map join_view c.args.joins.now.items in
+    let seen = ap field_view l.is ∙ list_seen l.table l.rel l.args l.fields in
+    on_ok_weaker c.push_join-in-List.result
+    (λ is. is ∙ ap (λ (js : List JoinTree). joins ++ js) (c.in_ok-join-in-List.ensures.join ∙ ap (λ (f : FieldTree). field_joins f s g c.args.t c.args.p n) (sym seen)))
+    c.push_join-in-List.ensures
+
+pub push_joins-returns-in_ok-join-in-List-clause-numbers : goal.push_joins-returns-in_ok-join-in-List-clause-numbers
+push_joins-returns-in_ok-join-in-List-clause-numbers t c =
+    let s = context_schema c.args.context.now in
+    let g = context_rights c.args.context.now in
+    let n = c.args.next.now in
+    let l = c.in-List in
+    let seen = ap field_view l.is ∙ list_seen l.table l.rel l.args l.fields in
+    on_ok_weaker c.push_join-in-List.result (λ is. c.in_ok-join-in-List.ensures.numbers ∙ ap (λ (f : FieldTree). n + field_numbers f s g c.args.t) (sym seen)) c.push_join-in-List.ensures
 
 -- what a field adds is what stood first in what was left
 pub push_fields-loop-keyed-preserved : goal.push_fields-loop-keyed-preserved
