@@ -1,5 +1,5 @@
 -- What an engine answers, by its catalog and its metadata.
-use Rattle.std.specs.Prelude.{◌≡◌, ℕ, List, Option, Some, None, Result}
+use Rattle.std.specs.Prelude.{◌≡◌, ℕ, List, true, Option, Some, None, Result}
 use Rattle.hq_ask_tree.specs.Request.{AskTree}
 use Rattle.hq_terms.specs.Database.{Row}
 use Rattle.hq_terms.specs.Grants.{grants_of}
@@ -11,6 +11,9 @@ use Rattle.hq_engine.specs.Asking.{asked_text}
 use Rattle.hq_engine.specs.Replies.{due_reply}
 use Rattle.hq_request.specs.Request.{request_due, first_fault}
 use Rattle.hq_engine.specs.declared.engine.Engine.{Engine}
+use Rattle.hq_build_laws.specs.Faults.{IsValid}
+use Rattle.hq_build_laws.specs.Refusing.{is_of_building}
+use Rattle.hq_faults.specs.Faults.{rule_of}
 use Rattle.hq_faults.specs.declared.faults.RequestFault.{RequestFault}
 use Rattle.hq_request.specs.declared.refusal.RequestRefusal.{RequestRefusal}
 
@@ -21,6 +24,12 @@ engine_request engine session body = request_due engine.catalog.tables (meta_vie
 -- its first fault, where it has one
 abbrev pub engine_fault : Engine → Session → (body : List ℕ) → Option RequestFault
 engine_fault engine session body = first_fault engine.catalog.tables (meta_view engine.meta) session body
+
+-- where it is read, its document violates no rule and its variables are coerced, that fault is one of building: of a limit on its size
+-- (F32), of a session variable (F33, F34), or of what arguments ask for (F36 to F41)
+abbrev pub FaultsOfBuilding : Engine → Session → (body : List ℕ) → Type 0
+FaultsOfBuilding engine session body =
+    IsValid engine.catalog.tables (meta_view engine.meta) session body → (f : RequestFault) → engine_fault engine session body ≡ Some f → is_of_building (rule_of f) ≡ true
 
 -- the text that is asked for it, where one is
 abbrev pub engine_text : Engine → Session → (body : List ℕ) → Option (List ℕ)

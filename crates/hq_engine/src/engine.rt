@@ -8,6 +8,7 @@ use crate::{EngineRefusal, Stated, replies_agree};
 use hq_answer::Answer;
 use hq_ask_tree::Ask;
 use hq_base::{Memory, Reply};
+use hq_build_laws::valid_faults;
 use hq_link::Database;
 use hq_reply::{data_reply, fault_reply, tables_are_resolved};
 use hq_request::{RequestRefusal, request};
@@ -48,7 +49,7 @@ impl Engine {
     ghost use Rattle.hq_terms.specs.Permission.{role_of};
     ghost use Rattle.hq_terms.specs.Schema.{schema_of};
     ghost use Rattle.hq_engine.specs.Asking.{Asks, statement_text};
-    ghost use Rattle.hq_engine.specs.Engines.{IsDueOverEach, engine_agree, engine_fault, engine_reply, engine_request, engine_text};
+    ghost use Rattle.hq_engine.specs.Engines.{FaultsOfBuilding, IsDueOverEach, engine_agree, engine_fault, engine_reply, engine_request, engine_text};
     ghost use Rattle.hq_engine.specs.Failures.{TellsDatabase};
     ghost use Rattle.hq_engine.specs.Replies.{IsOverEach, due_object};
     ghost use Rattle.hq_engine.specs.Statements.{HasStatement};
@@ -158,6 +159,13 @@ impl Engine {
         Ok(self.reply(alloc, session, request, tables)?)
     }
 
+    // What the fault of a request may be once its document violates no rule and its variables are coerced.
+    fn faults_of_building(&self, session: &Session, body: &[u8])
+        ensures { FaultsOfBuilding self.now session.now body.now }
+    {
+        valid_faults();
+    }
+
     /// The reply to a request of a session, over a database of the engine's catalog. The body has at most 1,048,576 bytes.
     /// A request with a table field asks the database exactly one text; any other request and a fault ask none.
     pub fn answer<D: Database>(
@@ -178,6 +186,9 @@ impl Engine {
         // A reply tells a fault exactly where the request has one, and then the first.
         ensures kind { IfOk result (λ reply. tells_fault reply.body ≡ is_some (engine_fault self.now session.now body.now)) }
         ensures fault { IfOk result (λ reply. IfSome (engine_fault self.now session.now body.now) (λ f. reply.body ≡ fault_text f)) }
+
+        // Behind validation and variables, the fault is one of F32 to F34 and F36 to F41.
+        ensures building { FaultsOfBuilding self.now session.now body.now }
 
         // Over each database that the session cannot tell apart from this one, the same reply is due.
         ensures alike { IfOk result (λ reply. IfSome (D.database db.old) (λ d. (e : Items (Items Row)) →
@@ -202,6 +213,7 @@ impl Engine {
         ensures later { D.faults db.old ≤ D.faults db.new }
     {
         replies_agree();
+        self.faults_of_building(session, body);
         match self.request(alloc, session, body) {
             Ok(request) => self.data(alloc, session, &request, db),
             Err(RequestRefusal::Fault(fault)) => Ok(fault_reply(alloc, &fault)?),

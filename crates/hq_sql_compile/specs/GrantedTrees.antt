@@ -19,9 +19,12 @@ pub record GrantedTree : Type 0 where
 abbrev pub granted_view : Granted → GrantedTree
 granted_view g = record { table = g.table; filter = bexp_view g.filter; limit = g.limit; masks = map mask_view g.masks.items }
 
--- what is granted of a touched table under the role's permission
+-- what is granted of a touched table under this limit, and under the role's permission
+abbrev pub granted_with : BoundTree → Option ℕ → GrantedTree
+granted_with b limit = record { table = b.table; filter = b.filter; limit = limit; masks = b.masks }
+
 abbrev pub granted_under : BoundTree → Permission → GrantedTree
-granted_under b p = record { table = b.table; filter = b.filter; limit = p.limit; masks = b.masks }
+granted_under b p = granted_with b p.limit
 
 -- nothing of a table beyond the catalog, or where the role has no permission
 abbrev pub granted_for : Role → List Table → MetaTree → BoundTree → Option GrantedTree

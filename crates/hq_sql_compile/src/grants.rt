@@ -6,13 +6,15 @@ ghost use Rattle.hq_terms.specs.Permission.{option_list};
 ghost use Rattle.hq_ask_tree.specs.Request.{ask_view, bound_view, grants_in};
 ghost use Rattle.hq_compiled.specs.Rights.{rights_of};
 ghost use Rattle.hq_compile_context.specs.Contexts.{rights_in};
-ghost use Rattle.hq_sql_compile.specs.GrantedTrees.{granted_view, granted_under, granted_for, granted_all};
-ghost use Rattle.hq_terms.specs.PermView.{mask_view, permission_view};
+ghost use Rattle.hq_limits.specs.Limits.{rows_of};
+ghost use Rattle.hq_sql_compile.specs.GrantedTrees.{granted_view, granted_with, granted_for, granted_all};
+ghost use Rattle.hq_terms.specs.PermView.{mask_view};
 
 use hq_ask_tree::{Ask, Bound};
 use hq_base::{List, Memory};
 use hq_compile_context::{Granted, GrantedList};
-use hq_terms::{Catalog, Mask, MaskList, Meta, PermView, Role};
+use hq_limits::{Limit, limit_of};
+use hq_terms::{Catalog, Mask, MaskList, Meta, Role};
 use std::alloc::Global;
 
 fn copied_mask(alloc: Global, mask: &Mask) -> Result<Mask, Memory>
@@ -35,30 +37,19 @@ fn copied_masks(alloc: Global, masks: &[Mask]) -> Result<MaskList, Memory>
     Ok(copies)
 }
 
-// The most rows of a list, by a permission that is let go.
-fn limit_of(permission: PermView) -> Option<u64>
-    ensures { result ≡ permission.limit }
+// What is granted of a touched table under this limit, where the role has a permission on it.
+fn with_limit(alloc: Global, bound: &Bound, limit: Option<Limit>) -> Result<Option<Granted>, Memory>
+    ensures { IfOk result (λ g. option_map granted_view g ≡ option_map (granted_with (bound_view bound.now)) (rows_of limit)) }
 {
-    permission.limit
-}
-
-fn with_permission(
-    alloc: Global,
-    bound: &Bound,
-    permission: Option<PermView>,
-) -> Result<Option<Granted>, Memory>
-    ensures { IfOk result (λ g. option_map granted_view g ≡ option_map (granted_under (bound_view bound.now)) (option_map permission_view permission)) }
-{
-    match permission {
+    match limit {
         None => Ok(None),
-        Some(permission) => {
-            let limit = limit_of(permission);
-            let masks = copied_masks(alloc, &bound.masks)?;
+        Some(limit) => {
             let filter = bound.filter.copy(alloc)?;
+            let masks = copied_masks(alloc, &bound.masks)?;
             Ok(Some(Granted {
                 table: bound.table,
                 filter,
-                limit,
+                limit: limit.rows,
                 masks,
             }))
         }
@@ -77,10 +68,7 @@ fn granted_for(
 {
     match catalog.table(bound.table) {
         None => Ok(None),
-        Some(_) => {
-            let permission = meta.perm(alloc, role, bound.table)?;
-            with_permission(alloc, bound, permission)
-        }
+        Some(_) => with_limit(alloc, bound, limit_of(meta, role, bound.table)),
     }
 }
 
