@@ -154,9 +154,10 @@ module _ (tables : List Table) (m : MetaTree) (session : Session) (a : AskTree) 
     column_granted t c i h =
         let lt : t < length s = (fit t fitting i.told i.is).there in
         let is : grant g t ≡ i.given = ap (λ o. unwrap_or o no_grant) (granted_at t lt ∙ i.grants) in
-        let kept : i.told.columns ≡ i.given.columns = (bound_keeps s session.vars t i.told i.given i.binds).0 in
-        (has_column t c (holds_among (HasColumn s t) i.told.columns c (fit t fitting i.told i.is).columns h),
-        ap (λ (p : Permission). list_any (λ d. d == c) p.columns) is ∙ sym (ap (list_any (λ d. d == c)) kept) ∙ h)
+        let kept : i.told.columns ≡ i.given.columns = (bound_keeps s session.vars t i.told i.given i.binds).0 in (
+          has_column t c (holds_among (HasColumn s t) i.told.columns c (fit t fitting i.told i.is).columns h),
+          ap (λ (p : Permission). list_any (λ d. d == c) p.columns) is ∙ sym (ap (list_any (λ d. d == c)) kept) ∙ h,
+        )
 
     pub ready : (t : ℕ) → IsGranted t → Ready s g t
     ready t i =
@@ -177,16 +178,19 @@ module _ (tables : List Table) (m : MetaTree) (session : Session) (a : AskTree) 
           rest = stand.is_key.rest;
           keyed = stand.is_key.keyed;
           differ = stand.is_key.differ;
-          masks = all_masks t i is i.given.masks (ap (λ (p : Permission). p.masks) is) masks.among (among_itself (columns_of i.given.masks)) (own_of_each i.given.masks masks.rise);
+          masks = subst (Each (IsMask s g t)) (sym (ap (λ (p : Permission). p.masks) is))
+              (all_masks t i is i.given.masks (ap (λ (p : Permission). p.masks) is) masks.among (among_itself (columns_of i.given.masks)) (own_of_each i.given.masks masks.rise));
         }
       where
         all_masks : (t : ℕ) (i : IsGranted t) → grant g t ≡ i.given → (ms : List Mask) → (grant g t).masks ≡ i.given.masks → Each (λ c. list_any (λ d. d == c) i.given.columns ≡ true) (columns_of ms)
             → Each (λ c. list_any (λ d. d == c) (columns_of i.given.masks) ≡ true) (columns_of ms) → Each (λ x. mask_of i.given.masks x.column ≡ x.shown) ms → Each (IsMask s g t) ms
         all_masks t i is [] same among masked own = tt
-        all_masks t i is (x ∷ ms) same among masked own =
-            (record {
-              has = holds_among (Has s t) i.given.columns x.column (columns_there t i) among.0;
-              permitted = ap (λ (p : Permission). list_any (λ d. d == x.column) p.columns) is ∙ among.0;
-              masked = ap (λ l. list_any (λ y. y.column == x.column) l) same ∙ sym (any_map_of (λ d. d == x.column) (λ (y : Mask). y.column) i.given.masks) ∙ masked.0;
-              is = ap (λ l. mask_of l x.column) same ∙ own.0;
-            }, all_masks t i is ms same among.1 masked.1 own.1)
+        all_masks t i is (x ∷ ms) same among masked own = (
+          record {
+            has = holds_among (Has s t) i.given.columns x.column (columns_there t i) among.0;
+            permitted = ap (λ (p : Permission). list_any (λ d. d == x.column) p.columns) is ∙ among.0;
+            masked = ap (λ l. list_any (λ y. y.column == x.column) l) same ∙ sym (any_map_of (λ d. d == x.column) (λ (y : Mask). y.column) i.given.masks) ∙ masked.0;
+            is = ap (λ l. mask_of l x.column) same ∙ own.0;
+          },
+          all_masks t i is ms same among.1 masked.1 own.1,
+        )

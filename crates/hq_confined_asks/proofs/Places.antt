@@ -80,7 +80,7 @@ each_at P [] t n lt = absurd (omega arith)
 each_at P (x ∷ tables) zero n lt = n.0
 each_at P (x ∷ tables) (suc t) n lt = each_at P tables t n.1 (omega arith)
 
-numbered_length : {A B : Type 0} (f : ℕ → A → B) (k : ℕ) (xs : List A) → length (numbered f k xs) ≡ length xs
+pub numbered_length : {A B : Type 0} (f : ℕ → A → B) (k : ℕ) (xs : List A) → length (numbered f k xs) ≡ length xs
 numbered_length f k [] = refl
 numbered_length f k (x ∷ xs) = ap suc (numbered_length f (suc k) xs)
 

@@ -273,6 +273,21 @@ module _ (s : Schema) (g h : Grants) where
       let later = second_each Same (one_part_tables p s u) (part_tables ps s u) e in
       λ i. record { name = key; value = part_value p n } ∷ parts_values_same ps u a (n + part_numbers_same p u a own here i) own later i
 
+  -- a list of rows with the joins of their fields
+  list_join_same : (o : Origin) (a : ListArguments) (fs : FieldTrees) (t p n : ℕ) → Are (list_tables a s (origin_table o s t)) → Are (tables_of fs s (origin_table o s t))
+      → ((k : ℕ) → fields_joins fs s G (origin_table o s t) n k ≡ fields_joins fs s H (origin_table o s t) n k)
+      → list_join s G o t p a fs n (fields_joins fs s G (origin_table o s t) n (kids_from s G (origin_table o s t) a fs n)) ∷ []
+      ≡ list_join s H o t p a fs n (fields_joins fs s H (origin_table o s t) n (kids_from s H (origin_table o s t) a fs n)) ∷ []
+  list_join_same o a fs t p n own e kids =
+      let u : ℕ = origin_table o s t in
+      let cs : List ℕ = list_used s u a (fields_used fs) in
+      λ i. record {
+        select = list_select_same a u cs own n (origin_tie o s t p n) (fields_values_same fs (shown_look s (by (own.0 i)) u cs n) u (children_from_same a u cs own n i) e i)
+            (kids (children_from_same a u cs own n i) i) i;
+        alias = join_alias n;
+      }
+      ∷ []
+
   mutual
     fields_joins_same : (fs : FieldTrees) (t p n : ℕ) → Are (tables_of fs s t) → fields_joins fs s G t p n ≡ fields_joins fs s H t p n
     fields_joins_same no_field t p n e = refl
@@ -297,7 +312,8 @@ module _ (s : Schema) (g h : Grants) where
         ∷ []
     field_joins_same (list o a fs) t p n e =
         let u : ℕ = origin_table o s t in
-        list_join_same o a fs t p n (first_each Same (list_tables a s u) (tables_of fs s u) e) (second_each Same (list_tables a s u) (tables_of fs s u) e)
+        let later = second_each Same (list_tables a s u) (tables_of fs s u) e in
+        list_join_same o a fs t p n (first_each Same (list_tables a s u) (tables_of fs s u) e) later (λ k. fields_joins_same fs u n k later)
     field_joins_same (by_key u key fs) t p n e =
         let cs : List ℕ = key_used s u fs in
         λ i. record {
@@ -315,20 +331,6 @@ module _ (s : Schema) (g h : Grants) where
         λ i. record { select = parts_select n (parts_values_same ps u a (n + 1) own later i) (parts_joins_same ps o t p a (n + 1) own later i); alias = join_alias n } ∷ []
     field_joins_same (introspect f) t p n e = refl
 
-    -- a list of rows with the joins of their fields
-    list_join_same : (o : Origin) (a : ListArguments) (fs : FieldTrees) (t p n : ℕ) → Are (list_tables a s (origin_table o s t)) → Are (tables_of fs s (origin_table o s t))
-        → list_join s G o t p a fs n (fields_joins fs s G (origin_table o s t) n (kids_from s G (origin_table o s t) a fs n)) ∷ []
-        ≡ list_join s H o t p a fs n (fields_joins fs s H (origin_table o s t) n (kids_from s H (origin_table o s t) a fs n)) ∷ []
-    list_join_same o a fs t p n own e =
-        let u : ℕ = origin_table o s t in
-        let cs : List ℕ = list_used s u a (fields_used fs) in
-        λ i. record {
-          select = list_select_same a u cs own n (origin_tie o s t p n) (fields_values_same fs (shown_look s (by (own.0 i)) u cs n) u (children_from_same a u cs own n i) e i)
-              (fields_joins_same fs u n (children_from_same a u cs own n i) e i) i;
-          alias = join_alias n;
-        }
-        ∷ []
-
     parts_joins_same : (ps : PartTrees) (o : Origin) (t p : ℕ) (a : ListArguments) (n : ℕ) → Are (list_tables a s (origin_table o s t)) → Are (part_tables ps s (origin_table o s t))
         → parts_joins ps s G o t p a n ≡ parts_joins ps s H o t p a n
     parts_joins_same no_part o t p a n own e = refl
@@ -342,7 +344,7 @@ module _ (s : Schema) (g h : Grants) where
         → part_joins q s G o t p a n ≡ part_joins q s H o t p a n
     part_joins_same (summary fs) o t p a n own e =
         λ i. record { select = summary_select_same fs a (origin_table o s t) n (origin_tie o s t p n) own i; alias = join_alias n } ∷ []
-    part_joins_same (nodes fs) o t p a n own e = list_join_same o a fs t p n own e
+    part_joins_same (nodes fs) o t p a n own e = list_join_same o a fs t p n own e (λ k. fields_joins_same fs (origin_table o s t) n k e)
     part_joins_same (part_typename name) o t p a n own e = refl
 
   -- ---- statements

@@ -73,7 +73,7 @@ module _ (s : Schema) (g : Grants) (ok : ask.Allowed) (B : ℕ → Type 0) (read
         go (is_of_nothing tested (operands_of vs))
     own_columns (through r b) t u = tt
     own_columns (exists_in v b) t u = tt
-    own_columns (two_columns l op r) t u = (u.0, u.1, tt)
+    own_columns (two_columns l op r) t u = (u.0, (u.1, tt))
 
     all_columns : (bs : BexpTrees) (t : ℕ) → UsesConditions bs s ok t → May t (columns_in_all bs)
     all_columns no_bexp t u = tt
@@ -235,9 +235,10 @@ module _ (s : Schema) (g : Grants) (ok : ask.Allowed) (B : ℕ → Type 0) (read
     parts_allowed : (ps : PartTrees) (u : ℕ) (a : ListArguments) → UsesArguments a s ok u → Each B (list_tables a s u) → EveryPart (UsesHere s ok) (UsesPart ok) ps s u → Each B (part_tables ps s u)
         → length (list_sorts s u a) ≤ 2 ^ 64 → AreFewParts ps s u → AllowedParts ps s g u a
     parts_allowed no_part u a w own h e sorts few = tt
-    parts_allowed (part key p ps) u a w own h e sorts few =
-        (part_allowed p u a w own h.0 h.1 (first_each B (one_part_tables p s u) (part_tables ps s u) e) sorts few.0,
-        parts_allowed ps u a w own h.2 (second_each B (one_part_tables p s u) (part_tables ps s u) e) sorts few.1)
+    parts_allowed (part key p ps) u a w own h e sorts few = (
+      part_allowed p u a w own h.0 h.1 (first_each B (one_part_tables p s u) (part_tables ps s u) e) sorts few.0,
+      parts_allowed ps u a w own h.2 (second_each B (one_part_tables p s u) (part_tables ps s u) e) sorts few.1,
+    )
 
     part_allowed : (p : PartTree) (u : ℕ) (a : ListArguments) → UsesArguments a s ok u → Each B (list_tables a s u) → UsesPart ok u p → BelowPart (UsesHere s ok) (UsesPart ok) p s u → Each B (one_part_tables p s u)
         → length (list_sorts s u a) ≤ 2 ^ 64 → IsFewPart p s u → AllowedPart p s g u a
