@@ -1,0 +1,2 @@
+pub mod Confining
+pub mod Said
