@@ -3,5 +3,7 @@
 
 mod confining;
 mod judging;
+mod laws;
 
 pub use confining::confine;
+pub use laws::{one_line_is_due, own_statements_are_confined};
