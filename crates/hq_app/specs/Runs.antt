@@ -2,9 +2,10 @@
 use Rattle.std.specs.Prelude.{◌≡◌, ◌≢◌, ◌⊎◌, ◌||◌, ℕ, Bool, true, false, Option, Some, None, Ok, Err, IfErr, IfSome}
 use Rattle.hq_outside.specs.Causes.{Rose}
 use Rattle.hq_words.specs.declared.command.Command.{Command}
-use Rattle.hq_words.specs.declared.command.Command.TheVariants.{Query, Sql, Explain, Check, Serve, Live, Gen, Show}
+use Rattle.hq_words.specs.declared.command.Command.TheVariants.{Query, Sql, Explain, Confine, Check, Serve, Live, Gen, Show}
 use Rattle.hq_commands.specs.Ending.{Answer, Ends, NotDatabase, status_of, told_line}
 use Rattle.hq_explain_command.specs.Explaining.{Explains, explain_output}
+use Rattle.hq_confine_command.specs.Confining.{Confines}
 use Rattle.hq_commands.specs.Generating.{GenEnds}
 use Rattle.hq_paged_commands.specs.Disks.{DiskFailed, paged_output}
 use Rattle.hq_commands.specs.Output.{query_output, sql_output}
@@ -23,6 +24,7 @@ abbrev pub reads_input : Option Command → Bool
 reads_input (Some (Query dir headers paged)) = true
 reads_input (Some (Sql dir headers)) = true
 reads_input (Some (Explain dir headers)) = true
+reads_input (Some (Confine dir headers)) = true
 reads_input command = false
 
 -- whether it opens the door
@@ -50,7 +52,7 @@ uses_disk (Some (Query dir headers paged)) = paged
 uses_disk (Some (Serve dir port connections secret unauthorized paged)) = paged
 uses_disk command = false
 
--- The answer is the due one, as far as it says what was due: of a query, of `sql` and of `explain` over told files and a told input,
+-- The answer is the due one, as far as it says what was due: of a query, of `sql`, `explain` and `confine` over told files and a told input,
 -- of a check over told files, of `serve` and `live` over what the directory holds, of `gen`, and of a page. With tables on a disk it is the same where
 -- this tells its bytes. A check and a page tell no fault. Words that ask for no command are bad, unless memory is wanted.
 abbrev pub Runs : {L T : Type 0} → Option Command → (before after : Outside L T) → Answer → Type 0
@@ -64,6 +66,8 @@ Runs (Some (Sql dir headers)) before after answer =
     IfSome before.files.told (λ files. IfSome before.input.told (λ text. Ends before.out.told after.out.told (sql_output dir headers files text) answer))
 Runs (Some (Explain dir headers)) before after answer =
     IfSome before.files.told (λ files. IfSome before.input.told (λ text. Explains before.out.told after.out.told (explain_output dir headers files text) answer))
+Runs (Some (Confine dir headers)) before after answer =
+    IfSome before.files.told (λ files. IfSome before.input.told (λ text. Confines dir headers files text before.out.told after.out.told answer))
 Runs (Some (Check dir)) before after answer =
     IfSome before.files.told (λ files. Ends before.out.told after.out.told (check_output dir files) answer) × (answer ≢ Ok Faulty)
 Runs (Some (Serve dir port connections secret unauthorized true)) before after answer =
@@ -114,6 +118,7 @@ ReadCause (Some (Query dir headers true)) before after = ThenInput (FilesOrDiskR
 ReadCause (Some (Query dir headers false)) before after = ThenInput (FilesRose before after) before after
 ReadCause (Some (Sql dir headers)) before after = ThenInput (FilesRose before after) before after
 ReadCause (Some (Explain dir headers)) before after = ThenInput (FilesRose before after) before after
+ReadCause (Some (Confine dir headers)) before after = ThenInput (FilesRose before after) before after
 ReadCause (Some (Check dir)) before after = FilesRose before after
 ReadCause (Some (Serve dir port connections secret unauthorized true)) before after = ThenDoor (FilesOrDiskRose before after) before after
 ReadCause (Some (Serve dir port connections secret unauthorized false)) before after = ThenDoor (FilesRose before after) before after

@@ -1,6 +1,7 @@
 -- What is due where the text of a request is told.
-use Rattle.std.proofs.Common.{◌≡◌, ◌≤◌, ◌∙◌, ℕ, List, length, true, Option, Some, None, Result, Ok, Err, ap}
-use Rattle.std.specs.Prelude.{codes, is_ok}
+use Rattle.std.proofs.Common.{◌≡◌, ◌≤◌, ◌∙◌, ℕ, List, length, true, Option, Some, None, IfSome, Result, Ok, Err, ap, sym, subst}
+use Rattle.std.specs.Prelude.{codes, is_ok, OnOk}
+use Rattle.std.proofs.lemmas.Result.{on_ok_weaker}
 use Rattle.hq_ask_tree.specs.Request.{AskTree}
 use Rattle.hq_terms.specs.Meta.{MetaTree, meta_view}
 use Rattle.hq_terms.specs.declared.session.Session.{Session}
@@ -13,8 +14,15 @@ use Rattle.hq_engine.specs.declared.engine.Engine.{Engine}
 use Rattle.hq_faults.specs.declared.faults.RequestFault.{RequestFault}
 use Rattle.hq_request.specs.declared.refusal.RequestRefusal.{RequestRefusal}
 use Rattle.hq_request.specs.declared.refusal.RequestRefusal.TheVariants as request
-use Rattle.hq_commands.specs.Ending.{Output}
+use Rattle.hq_loading.specs.Loading.{Described, description_due, refused_as}
+use Rattle.hq_outside.specs.Streams.{ReadsAll}
+use Rattle.hq_outside.specs.declared.files.File.{File}
+use Rattle.hq_session.specs.Sessions.{session_of}
+use Rattle.hq_session.specs.declared.header.Header.{Header}
+use Rattle.hq_commands.specs.Ending.{Answer, Output}
 use Rattle.hq_commands.specs.Output.{line_text, stated_output, statement_output}
+use Rattle.hq_commands.specs.Refusals.{of_loading}
+use Rattle.hq_commands.specs.Stating.{HasStatementFor, HasStatementOver}
 use Rattle.hq_commands.specs.declared.done.Done.TheVariants.{Answered, Faulty}
 use Rattle.hq_commands.specs.declared.refusal.Refusal.{Refusal}
 use Rattle.hq_commands.specs.declared.reply.TheConstants.{INPUT_LIMIT}
@@ -48,3 +56,32 @@ module _ (engine : Engine) (session : Session) (body : List ℕ) (short : length
 
   pub fault_is_due : (f : RequestFault) → fault_in (engine_request engine session body) ≡ Some f → due ≡ Ok (record { done = Faulty; bytes = Some (fault_text f) })
   fault_is_due f h = within_short body _ short ∙ fault_due (engine_text engine session body) (engine_request engine session body) f h
+
+-- ---- what the text is good for
+
+-- of all that was read
+pub statement_read : (tables : List Table) (meta : MetaTree) (session : Session) (left : Option (List ℕ)) (body text : List ℕ) (answer : Answer) → IfSome left (λ l. ReadsAll INPUT_LIMIT l (Ok body)) → text ≡ body
+    → OnOk answer (HasStatementFor tables meta session text) → IfSome left (λ l. OnOk answer (HasStatementFor tables meta session l))
+statement_read tables meta session None body text answer read is has = tt
+statement_read tables meta session (Some l) body text answer read is has = subst (λ t. OnOk answer (HasStatementFor tables meta session t)) (is ∙ read.0) has
+
+-- over what an engine was made of
+pub statement_by : (session : Session) (left : Option (List ℕ)) (tables ts : List Table) (meta m : MetaTree) (answer : Answer) → ts ≡ tables → m ≡ meta
+    → IfSome left (λ text. OnOk answer (HasStatementFor ts m session text)) → IfSome left (λ text. OnOk answer (HasStatementFor tables meta session text))
+statement_by session None tables ts meta m answer same_tables same_meta h = tt
+statement_by session (Some text) tables ts meta m answer same_tables same_meta h =
+    subst (λ (k : MetaTree). OnOk answer (HasStatementFor tables k session text)) same_meta (subst (λ (k : List Table). OnOk answer (HasStatementFor k m session text)) same_tables h)
+
+-- over what a folder describes
+pub statement_over : (folder : Option (List File)) (dir : List ℕ) (headers : List Header) (d : Described) (session : Session) (left : Option (List ℕ)) (answer : Answer) → session ≡ session_of headers
+    → IfSome folder (λ fs. description_due fs dir ≡ Ok d) → IfSome left (λ text. OnOk answer (HasStatementFor d.tables d.meta session text))
+    → IfSome folder (λ fs. IfSome left (λ text. OnOk answer (HasStatementOver dir headers fs text)))
+statement_over None dir headers d session left answer who holds h = tt
+statement_over (Some fs) dir headers d session None answer who holds h = tt
+statement_over (Some fs) dir headers d session (Some text) answer who holds h =
+    on_ok_weaker answer
+    (λ has e q.
+    let found : Ok d ≡ Ok e = sym (ap (λ r. refused_as of_loading r) holds) ∙ q in
+    let same : d ≡ e = cc in
+    subst (λ (x : Described). HasStatementFor x.tables x.meta (session_of headers) text) same (subst (λ (s : Session). HasStatementFor d.tables d.meta s text) who has))
+    h

@@ -6,3 +6,4 @@ pub mod Ending
 pub mod Check
 pub mod Generating
 pub mod Showing
+pub mod Stating

@@ -1,9 +1,10 @@
 //! The text of SQL that is asked for one request.
-ghost use Rattle.std.specs.Prelude.{◌≡◌, ◌≢◌, ◌≤◌, ◌⊎◌, length, IsErrOf, IfSome, IfErr, Err, Ok, Some};
+ghost use Rattle.std.specs.Prelude.{◌≡◌, ◌≢◌, ◌≤◌, ◌⊎◌, length, IsErrOf, IfSome, IfErr, OnOk, Err, Ok, Some};
 ghost use Rattle.hq_outside.specs.Causes.{Rose};
 ghost use Rattle.hq_terms.specs.Meta.{meta_view};
 ghost use Rattle.hq_commands.specs.Ending.{Ends, Silent, NotDatabase};
 ghost use Rattle.hq_commands.specs.Output.{line_text, sql_output, statement_output};
+ghost use Rattle.hq_commands.specs.Stating.{HasStatementFor, HasStatementOver};
 
 use crate::calling::caller;
 use crate::reply::INPUT_LIMIT;
@@ -50,6 +51,7 @@ fn state_over<K: Sink>(
 ) -> Result<Done, Refusal>
     requires { length body.now ≤ INPUT_LIMIT }
     ensures told { Ends (K.written out.old) (K.written out.new) (statement_output engine.now.catalog.tables (meta_view engine.now.meta) session.now body.now) result }
+    ensures statement { OnOk result (HasStatementFor engine.now.catalog.tables (meta_view engine.now.meta) session.now body.now) }
     ensures silent { Silent (K.written out.old) (K.written out.new) result }
     ensures read { result ≢ Err Refusal.ReadFailed }
     ensures write { IsErrOf result Refusal.WriteFailed → Rose (K.faults out.old) (K.faults out.new) }
@@ -74,6 +76,7 @@ pub fn state_to<S: Source, K: Sink>(
 ) -> Result<Done, Refusal>
     ensures told { IfSome (S.left input.old) (λ left. Ends (K.written out.old) (K.written out.new)
         (statement_output engine.now.catalog.tables (meta_view engine.now.meta) session.now left) result) }
+    ensures statement { IfSome (S.left input.old) (λ left. OnOk result (HasStatementFor engine.now.catalog.tables (meta_view engine.now.meta) session.now left)) }
     ensures silent { Silent (K.written out.old) (K.written out.new) result }
     ensures read { IsErrOf result Refusal.ReadFailed → Rose (S.faults input.old) (S.faults input.new) }
     ensures write { IsErrOf result Refusal.WriteFailed → Rose (K.faults out.old) (K.faults out.new) }
@@ -96,6 +99,7 @@ fn state<S: Source, K: Sink>(
 ) -> Result<Done, Refusal>
     ensures told { IfSome (S.left input.old) (λ left. Ends (K.written out.old) (K.written out.new)
         (statement_output description.catalog.tables (meta_view description.meta) session.now left) result) }
+    ensures statement { IfSome (S.left input.old) (λ left. OnOk result (HasStatementFor description.catalog.tables (meta_view description.meta) session.now left)) }
     ensures silent { Silent (K.written out.old) (K.written out.new) result }
     ensures read { IsErrOf result Refusal.ReadFailed → Rose (S.faults input.old) (S.faults input.new) }
     ensures write { IsErrOf result Refusal.WriteFailed → Rose (K.faults out.old) (K.faults out.new) }
@@ -120,6 +124,7 @@ pub fn sql<F: Files, S: Source, K: Sink>(
 ) -> Result<Done, Refusal>
     ensures told { IfSome (F.folder files.old) (λ folder. IfSome (S.left input.old) (λ left.
         Ends (K.written out.old) (K.written out.new) (sql_output dir.now headers.now folder left) result)) }
+    ensures statement { IfSome (F.folder files.old) (λ folder. IfSome (S.left input.old) (λ left. OnOk result (HasStatementOver dir.now headers.now folder left))) }
     ensures silent { Silent (K.written out.old) (K.written out.new) result }
     ensures words { IsErrOf result Refusal.BadWords → ⊥ }
     ensures read { IsErrOf result Refusal.ReadFailed →

@@ -6,6 +6,7 @@ use Rattle.hq_ask_tree.specs.Request.{AskTree}
 use Rattle.hq_ask_tree.specs.Resolve.{resolved}
 use Rattle.hq_ask_tree.specs.Root.{table_fields}
 use Rattle.hq_compiled.specs.Asked.{asked_statement}
+use Rattle.hq_confined_asks.specs.Asks.{IsAskedConfined}
 use Rattle.hq_link.specs.Typed.{IsTyped}
 use Rattle.hq_reply.specs.RootObject.{has_table_field}
 use Rattle.hq_request.specs.declared.refusal.RequestRefusal.{RequestRefusal}
@@ -20,11 +21,12 @@ use Rattle.hq_terms.specs.Schema.{schema_of}
 use Rattle.hq_terms.specs.declared.session.Session.{Session}
 use Rattle.hq_terms.specs.declared.table.Table.{Table}
 
--- the text spells the statement, which is well-formed for the catalog, and whose meaning over every database of the catalog is the
--- object of the root fields that start at a table
+-- the text spells the statement, which is well-formed for the catalog and confined for the session, and whose meaning over every
+-- database of the catalog is the object of the root fields that start at a table
 pub record IsStatement (tables : List Table) (meta : MetaTree) (session : Session) (ask : AskTree) : Type 0 where
   pub spelled : Spells (select_text (asked_statement tables meta ask)) (asked_statement tables meta ask)
   pub typed : IsTyped tables (asked_statement tables meta ask)
+  pub confined : IsAskedConfined tables meta session ask
   pub means : (d : List (List Row)) → is_database tables d ≡ true
       → meaning (asked_statement tables meta ask) (record { tables = tables; database = d }) ≡ resolved (table_fields ask.fields) (schema_of tables meta) (grants_of session tables meta) d
 

@@ -224,7 +224,8 @@ impl Engine {
     // What is asked for a request of a session.
     fn stated(&self, alloc: Global, session: &Session, request: &Ask) -> Result<Stated, Memory>
         requires { IsOfSession self.now.catalog.tables (meta_view self.now.meta) session.now (ask_view request.now) }
-        ensures { States (statement_text self.now.catalog.tables (meta_view self.now.meta) (ask_view request.now)) (Ok (ask_view request.now)) result }
+        ensures states { States (statement_text self.now.catalog.tables (meta_view self.now.meta) (ask_view request.now)) (Ok (ask_view request.now)) result }
+        ensures statement { OnOk result (HasStatement self.now.catalog.tables (meta_view self.now.meta) session.now (Ok (ask_view request.now))) }
     {
         match statement_text(alloc, &self.catalog, &self.meta, session, request)? {
             Some(text) => Ok(Stated::Text(text)),
@@ -235,7 +236,10 @@ impl Engine {
     /// The text that `answer` asks for a request, or why it asks none. The body has at most 1,048,576 bytes.
     pub fn statement(&self, alloc: Global, session: &Session, body: &[u8]) -> Result<Stated, Memory>
         requires { length body.now ≤ 1048576 }
-        ensures { States (engine_text self.now session.now body.now) (engine_request self.now session.now body.now) result }
+        ensures states { States (engine_text self.now session.now body.now) (engine_request self.now session.now body.now) result }
+
+        // That text spells the compiled statement. It is confined for the session: the checker of statements says yes to it.
+        ensures statement { OnOk result (HasStatement self.now.catalog.tables (meta_view self.now.meta) session.now (engine_request self.now session.now body.now)) }
     {
         match self.request(alloc, session, body) {
             Ok(request) => self.stated(alloc, session, &request),

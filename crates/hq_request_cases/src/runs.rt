@@ -4,7 +4,7 @@ use crate::directory::{failing, folder};
 use crate::links::{door, push_links};
 use crate::talks::{hall, push_talks};
 use hq_app::{Ran, World, run};
-use hq_base::Txt;
+use hq_base::{Bytes, List, Txt};
 use hq_case::{Case, Stop, Words, push_bytes};
 use hq_memory::{MemDisk, MemDoor, MemFiles, MemSink, MemSource};
 use hq_messages::MemHall;
@@ -101,17 +101,75 @@ fn paged(alloc: Global, words: &[Txt]) -> Result<Option<Vec<Txt>>, Stop> {
     Ok(Some(paged))
 }
 
+// The words of a query with another command in its place, where they are a query's.
+fn of_query(alloc: Global, words: &[Txt], command: &[u8]) -> Result<Option<Vec<Txt>>, Stop> {
+    let [query, rest @ ..] = words else {
+        return Ok(None);
+    };
+    if query.as_str() != "query" {
+        return Ok(None);
+    }
+    let mut others = Vec::new(alloc);
+    others.push(Txt::of(alloc, command)?)?;
+    for word in rest {
+        if word.as_str() != "--paged" {
+            others.push(word.copy(alloc)?)?;
+        }
+    }
+    Ok(Some(others))
+}
+
+// The text of the statement that a query asks, where it asks one.
+fn statement(rt: &HostRuntime, case: &Case, words: &[Txt]) -> Result<Option<Bytes>, Stop> {
+    let Some(words) = of_query(rt.alloc(), words, b"sql")? else {
+        return Ok(None);
+    };
+    let left = run(rt.alloc(), words.as_slice(), world(rt, case)?);
+    let text = left.world.out.bytes();
+    if left.status != 0 || text == b"none\n" {
+        return Ok(None);
+    }
+    Ok(Some(Bytes::from_slice(rt.alloc(), text)?))
+}
+
+// What the checker of statements says of a query's statement for its own caller.
+fn checked(rt: &HostRuntime, case: &Case, words: &[Txt]) -> Result<Option<String>, Stop> {
+    let Some(text) = statement(rt, case, words)? else {
+        return Ok(None);
+    };
+    let Some(words) = of_query(rt.alloc(), words, b"confine")? else {
+        return Ok(None);
+    };
+    let mut world = world(rt, case)?;
+    world.input = MemSource::new(text, List::new(rt.alloc()));
+    let mut told = Words::new(rt.alloc());
+    push_run(rt.alloc(), case, words.as_slice(), world, &mut told);
+    Ok(Some(told.told()?))
+}
+
+// Adds what the checker of statements says of a query's statement, where that is no yes.
+fn push_doubt(rt: &HostRuntime, case: &Case, words: &[Txt], out: &mut Words) -> Result<(), Stop> {
+    if let Some(told) = checked(rt, case, words)? {
+        if told.as_str() != "0: yes\n" {
+            out.push_pair(" | its statement ", told.as_str());
+        }
+    }
+    Ok(())
+}
+
 // Whether one of the words asks for pages.
 fn is_paged(words: &[Txt]) -> bool {
     words.iter().any(|word| word.as_str() == "--paged")
 }
 
 /// The status of a run, what it wrote, the line that it told, and what each link got and each talk was sent. A query and a `serve` that do not ask for
-/// pages run once more with them: what comes of that follows where it is something else.
+/// pages run once more with them: what comes of that follows where it is something else. So does what the checker of statements says of a query's
+/// statement for its own caller, where that is no yes.
 pub fn tell_outcome(rt: &HostRuntime, case: &Case, out: &mut Words) -> Result<(), Stop> {
     let words = case.texts(rt.alloc(), "words")?;
     let told = outcome(rt, case, words.as_slice())?;
     out.push(told.as_str());
+    push_doubt(rt, case, words.as_slice(), out)?;
     if is_paged(words.as_slice()) {
         return Ok(());
     }

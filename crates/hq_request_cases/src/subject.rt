@@ -19,6 +19,7 @@ pub enum About {
     Directories,
     Runs,
     Explain,
+    Confine,
     Serving,
     Live,
     Statements,
@@ -27,7 +28,7 @@ pub enum About {
 
 impl About {
     /// Each subject, in the order of its line.
-    pub const ALL: [About; 19] = [
+    pub const ALL: [About; 20] = [
         About::Worked,
         About::Blog,
         About::Shop,
@@ -43,6 +44,7 @@ impl About {
         About::Directories,
         About::Runs,
         About::Explain,
+        About::Confine,
         About::Serving,
         About::Live,
         About::Statements,
@@ -68,6 +70,7 @@ impl Subject for About {
             About::Directories => "directories",
             About::Runs => "runs",
             About::Explain => "explain",
+            About::Confine => "confine",
             About::Serving => "serving",
             About::Live => "live",
             About::Statements => "statements",

@@ -33,6 +33,7 @@ fn push_command(command: &Command, out: &mut Words) {
         }
         Command::Sql { dir, headers } => push_request("sql ", dir, headers, out),
         Command::Explain { dir, headers } => push_request("explain ", dir, headers, out),
+        Command::Confine { dir, headers } => push_request("confine ", dir, headers, out),
         Command::Check { dir } => out.push_pair("check ", dir.as_str()),
         Command::Gen { n } => {
             out.push("gen ");

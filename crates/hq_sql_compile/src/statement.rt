@@ -18,6 +18,7 @@ ghost use Rattle.hq_sql_text.specs.Readable.{is_readable};
 ghost use Rattle.hq_compiled.specs.Fields.{fields_numbers};
 ghost use Rattle.hq_compiled.specs.Statement.{statement};
 ghost use Rattle.hq_compiled.specs.Asked.{asked_statement, IsHeld};
+ghost use Rattle.hq_confined_asks.specs.Asks.{IsAskedConfined};
 ghost use Rattle.hq_compile_context.specs.Contexts.{context_schema, context_rights};
 ghost use Rattle.hq_sql_compile.specs.Fields.{fields_view};
 
@@ -29,6 +30,7 @@ use hq_base::Memory;
 use hq_compile_context::Context;
 use hq_compile_lists::{object, one_row};
 use hq_compiled::{requests_are_asked, requests_mean_resolved};
+use hq_confined_asks::session_statements_are_confined;
 use hq_sql_tree::Select;
 use hq_terms::{Catalog, Meta, Scope, TableId};
 use std::alloc::Global;
@@ -85,10 +87,15 @@ pub fn compile(alloc: Global, ask: &Ask, catalog: &Catalog, meta: &Meta) -> Resu
         is_database catalog.now.tables d ≡ true →
         meaning (asked_statement catalog.now.tables (meta_view meta.now) (ask_view ask.now)) (record { tables = catalog.now.tables; database = d })
         ≡ resolved (table_fields (ask_view ask.now).fields) (schema_of catalog.now.tables (meta_view meta.now)) (grants_of session catalog.now.tables (meta_view meta.now)) d) }
+
+    // It is confined for that session: the checker of statements says yes to it.
+    ensures confined { OnOk result ((session : Caller) → IsFor (schema_of catalog.now.tables (meta_view meta.now)) (meta_view meta.now) session (ask_view ask.now) →
+        IsAskedConfined catalog.now.tables (meta_view meta.now) session (ask_view ask.now)) }
 {
     let select = asked(alloc, ask, catalog, meta)?;
     select.fits();
     requests_are_asked();
     requests_mean_resolved();
+    session_statements_are_confined();
     Ok(select)
 }

@@ -6,7 +6,7 @@ use Rattle.std.specs.Prelude.{[], ◌∷◌, Option, Some, None, IfSome, Result,
 use Rattle.clap.specs.Words.{Row, Text, first_of}
 use Rattle.hq_base.specs.Due.{Gives}
 use Rattle.hq_words.specs.declared.command.Command.{Command}
-use Rattle.hq_words.specs.declared.command.Command.TheVariants.{Query, Sql, Explain, Check, Gen, Show}
+use Rattle.hq_words.specs.declared.command.Command.TheVariants.{Query, Sql, Explain, Confine, Check, Gen, Show}
 use Rattle.hq_words.specs.declared.refusal.WordsRefusal.{WordsRefusal}
 use Rattle.hq_words.specs.declared.refusal.WordsRefusal.TheVariants.{BadWords, Memory}
 use Rattle.hq_words.specs.Grammar.{query_faults, query_rows, check_faults, check_rows, serve_faults, serve_rows, live_faults, live_rows, gen_faults, gen_rows}
@@ -69,10 +69,11 @@ few_named name words =
     few_cond (bytes_eq name (codes "query")) _ _ query (
     few_cond (bytes_eq name (codes "sql")) _ _ (few_map (λ r. Sql r.0 r.1) (request_of words) (λ r. tt {0})) (
     few_cond (bytes_eq name (codes "explain")) _ _ (few_map (λ r. Explain r.0 r.1) (request_of words) (λ r. tt {0})) (
+    few_cond (bytes_eq name (codes "confine")) _ _ (few_map (λ r. Confine r.0 r.1) (request_of words) (λ r. tt {0})) (
     few_cond (bytes_eq name (codes "check")) _ _ check (
     few_cond (bytes_eq name (codes "serve")) _ _ serve (
     few_cond (bytes_eq name (codes "live")) _ _ live (
-    few_cond (bytes_eq name (codes "gen")) _ _ gen (few_page name words)))))))
+    few_cond (bytes_eq name (codes "gen")) _ _ gen (few_page name words))))))))
 
 -- those of the command that words ask for
 pub few_asked : (words : List Text) → Few (command_of words)

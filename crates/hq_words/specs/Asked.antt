@@ -7,7 +7,7 @@ use Rattle.clap.specs.Words.{Kinds, Row, Text, first_of, all_of, one_of}
 use Rattle.hq_session.specs.Fields.{header_in}
 use Rattle.hq_session.specs.declared.header.Header.{Header}
 use Rattle.hq_words.specs.declared.command.Command.{Command}
-use Rattle.hq_words.specs.declared.command.Command.TheVariants.{Query, Sql, Explain, Check, Serve, Live, Gen, Show}
+use Rattle.hq_words.specs.declared.command.Command.TheVariants.{Query, Sql, Explain, Confine, Check, Serve, Live, Gen, Show}
 use Rattle.hq_words.specs.Grammar.{request_faults, request_rows, query_faults, query_rows, check_faults, check_rows, serve_faults, serve_rows, live_faults, live_rows, gen_faults, gen_rows}
 use Rattle.hq_words.specs.Pages.{page_named}
 
@@ -120,10 +120,11 @@ command_named name words =
     cond (bytes_eq name (codes "query")) (query_of words) (
     cond (bytes_eq name (codes "sql")) (option_map (λ r. Sql r.0 r.1) (request_of words)) (
     cond (bytes_eq name (codes "explain")) (option_map (λ r. Explain r.0 r.1) (request_of words)) (
+    cond (bytes_eq name (codes "confine")) (option_map (λ r. Confine r.0 r.1) (request_of words)) (
     cond (bytes_eq name (codes "check")) (check_of words) (
     cond (bytes_eq name (codes "serve")) (serve_of words) (
     cond (bytes_eq name (codes "live")) (live_of words) (
-    cond (bytes_eq name (codes "gen")) (gen_of words) (page_of name words)))))))
+    cond (bytes_eq name (codes "gen")) (gen_of words) (page_of name words))))))))
 
 -- the command that words ask for
 abbrev pub command_of : List Text → Option Command

@@ -44,7 +44,7 @@ bare s = record s { no_binary_name = true; disable_help_flag = true; disable_ver
 abbrev pub bare_app : Text → App
 bare_app name = on_top bare (new_app name)
 
--- sql DIR [HEADER]... and explain DIR [HEADER]...
+-- sql DIR [HEADER]..., explain DIR [HEADER]... and confine DIR [HEADER]...
 abbrev pub request_app : App
 request_app = with_rule (with_rule (bare_app (codes "request")) dir_rule) headers_rule
 

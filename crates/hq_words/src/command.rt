@@ -33,6 +33,11 @@ pub enum Command {
         dir: Txt,
         headers: Headers,
     },
+    /// To say whether a statement can show more than the caller of the headers may see.
+    Confine {
+        dir: Txt,
+        headers: Headers,
+    },
     /// To check a directory.
     Check {
         dir: Txt,
@@ -75,7 +80,7 @@ fn request_from(alloc: Global, matches: &ArgMatches<'_>) -> Result<(Txt, Headers
     Ok((dir, headers))
 }
 
-// The directory and the headers of the words behind `sql` or `explain`.
+// The directory and the headers of the words behind `sql`, `explain` or `confine`.
 fn request(alloc: Global, words: &[Txt]) -> Result<(Txt, Headers), WordsRefusal>
     ensures { Gives (λ request. request) WordsRefusal.Memory (ok_or (request_of words.now) WordsRefusal.BadWords) result }
 {
@@ -208,6 +213,10 @@ fn command_named(alloc: Global, name: &str, words: &[Txt]) -> Result<Command, Wo
         "explain" => {
             let (dir, headers) = request(alloc, words)?;
             Ok(Command::Explain { dir, headers })
+        }
+        "confine" => {
+            let (dir, headers) = request(alloc, words)?;
+            Ok(Command::Confine { dir, headers })
         }
         "check" => check(alloc, words),
         "serve" => serve(alloc, words),

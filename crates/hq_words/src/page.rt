@@ -15,6 +15,7 @@ pub const USAGE: &str = "\
 hq query DIR [HEADER]... [--paged]    answers the request on the standard input over the directory, for the caller of the headers
 hq sql DIR [HEADER]...      writes the text of SQL that query would ask
 hq explain DIR [HEADER]...  tells in words what is wrong with the request or the directory, and where, or what the request asks
+hq confine DIR [HEADER]...  says whether the SQL on the standard input can show more than the caller may see, and where
 hq check DIR                reads the directory, and writes what it holds
 hq serve DIR --port P --connections N [--admin-secret S] [--unauthorized-role R] [--paged]    serves N connections of HTTP at 127.0.0.1
 hq live DIR --port P --connections N [--admin-secret S] [--unauthorized-role R]    talks of live queries over N WebSockets at 127.0.0.1
@@ -26,14 +27,14 @@ A HEADER is one word, as \"X-Hasura-Role: user\"; without a role the caller is a
 With --paged the tables are kept in the file hq.pages of the directory instead of in memory.
 
 Status  0  done
-        1  the request has a fault, which the reply tells
+        1  the request has a fault, which the reply tells, or confine does not say yes
         2  bad words
         3  a file of the directory is absent, too large or refused
         4  a read failed, or the port could not be opened
         5  a write failed
         6  the file of --paged failed while a request was answered
         7  out of memory
-        8  the request is longer than 1,048,576 bytes
+        8  the input is longer than 1,048,576 bytes
 ";
 
 /// The program's line, and the kit's as `rt version` has it, which stands in README too.

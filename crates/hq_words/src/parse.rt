@@ -26,7 +26,7 @@ fn parse<'a>(command: Command<'a>, words: &'a [Txt]) -> Result<ArgMatches<'a>, W
     }
 }
 
-/// What the words behind `sql` or `explain` say.
+/// What the words behind `sql`, `explain` or `confine` say.
 pub fn request_matches<'a>(alloc: Global, words: &'a [Txt]) -> Result<ArgMatches<'a>, WordsRefusal>
     ensures { Parses (request_faults words.entry.now) (request_rows words.entry.now) result }
 {

@@ -21,3 +21,7 @@ returns-clause-readable c = statement_is_readable (asked_statement c.args.catalo
 pub returns-clause-means : goal.returns-clause-means
 returns-clause-means c session d is database =
     c.requests_mean_resolved.ensures c.args.catalog.now.tables (meta_view c.args.meta.now) session (ask_view c.args.ask.now) d c.args.catalog.now.valid database c.requires.request is c.in_ok-select.ensures.held
+
+pub returns-clause-confined : goal.returns-clause-confined
+returns-clause-confined c session is =
+    c.session_statements_are_confined.ensures c.args.catalog.now.tables (meta_view c.args.meta.now) session (ask_view c.args.ask.now) c.args.catalog.now.valid c.requires.fit c.requires.request is c.in_ok-select.ensures.held

@@ -1,0 +1,6 @@
+mod Same
+mod Using
+mod Places
+mod Masked
+mod Granted
+mod Asks
