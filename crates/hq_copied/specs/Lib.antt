@@ -1,1 +1,8 @@
-pub mod Renumbering
+pub mod Links
+pub mod Sources
+pub mod Extras
+pub mod Tables
+pub mod Metadata
+pub mod Rows
+pub mod Refusals
+pub mod Copied

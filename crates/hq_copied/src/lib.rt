@@ -1,3 +1,6 @@
-//! A redacted copy of a database for a session: what it is, and that it answers each request of the session as the database does.
+//! A redacted copy of a database for a session: what it is.
 #![tactic(auto)]
 
+mod refusal;
+
+pub use refusal::CopyRefusal;
