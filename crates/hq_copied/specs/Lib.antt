@@ -6,3 +6,4 @@ pub mod Metadata
 pub mod Rows
 pub mod Refusals
 pub mod Copied
+pub mod Laws
