@@ -1,0 +1,8 @@
+pub mod Square
+pub mod Numbers
+mod Worked
+pub mod Places
+pub mod Found
+pub mod Names
+pub mod Reader
+pub mod BySource

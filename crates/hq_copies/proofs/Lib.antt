@@ -1,0 +1,7 @@
+mod Viewed
+mod Granted
+mod Refused
+mod Cells
+mod Order
+mod Copy
+mod Answers

@@ -1,0 +1,6 @@
+//! A redacted copy answers each request of a session as the database does.
+#![tactic(auto)]
+
+mod laws;
+
+pub use laws::copies_answer;
