@@ -1,0 +1,5 @@
+mod Texts
+mod Printed
+mod Ordered
+mod Valued
+mod Worked
