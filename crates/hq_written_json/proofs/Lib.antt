@@ -1,5 +1,6 @@
-mod Texts
-mod Printed
-mod Ordered
-mod Valued
+pub mod Texts
+pub mod Printed
+pub mod Ordered
+pub mod Valued
+pub mod Building
 mod Worked
