@@ -1,0 +1,7 @@
+pub mod Lists
+pub mod Places
+pub mod Clean
+pub mod Shapes
+pub mod Tests
+pub mod Resolving
+pub mod Whole
