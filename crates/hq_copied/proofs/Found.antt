@@ -28,7 +28,7 @@ module _ (role : Role) (m : MetaTree) where
       let rest : List Source = sources_in role m ks in
       let at : List Source → Option Source = find (λ o. o.entry.table == t) in
       let go : (b : Bool) → (k.table == t) ≡ b → (o : Option Permission) → permission role m k.table ≡ o
-          → at (with_source k o rest) ≡ option_map (source_of p) (cond b (Some k) (find (λ j. j.table == t) ks)) =
+      → at (with_source k o rest) ≡ option_map (source_of p) (cond b (Some k) (find (λ j. j.table == t) ks)) =
       elim [
         | true ↦ λ e. elim [
           | None ↦ λ f. let none : permission role m t ≡ None = ap (permission role m) (sym (eqb-true k.table t e)) ∙ f in cc

@@ -87,7 +87,7 @@ places_within k (x ∷ xs) =
     let before : k < k + suc (length xs) = omega arith in (
       (here, before),
       each_weaken (λ c. (suc k ≤ c) × (c < suc k + length xs)) (λ c. (k ≤ c) × (c < k + suc (length xs)))
-      (λ c h. let least = h.0 in let most = h.1 in let low : k ≤ c = omega arith in let high : c < k + suc (length xs) = omega arith in (low, high)) _ (places_within (suc k) xs),
+          (λ c h. let least = h.0 in let most = h.1 in let low : k ≤ c = omega arith in let high : c < k + suc (length xs) = omega arith in (low, high)) _ (places_within (suc k) xs),
     )
 
 place_within : {A : Type 0} (k : ℕ) (xs : List A) (c : ℕ) → k ≤ c → c < k + length xs → list_any (λ d. d == c) (places k xs) ≡ true
@@ -119,7 +119,7 @@ pub front_places : {A B : Type 0} (cs : List A) (xs ys : List B) → length xs �
 front_places cs xs ys e =
     let test : ℕ → Bool = λ c. list_any (λ d. d == c) (places 0 cs) in
     let front : filter test (places 0 xs) ≡ places 0 cs =
-        filter_all test (places 0 xs) (each_weaken _ _ (λ c h. let most = h.1 in place_within 0 cs c (omega arith) (omega arith)) _ (places_within 0 xs)) ∙ places_long 0 xs cs e in
+    filter_all test (places 0 xs) (each_weaken _ _ (λ c h. let most = h.1 in place_within 0 cs c (omega arith) (omega arith)) _ (places_within 0 xs)) ∙ places_long 0 xs cs e in
     let rest : filter test (places (0 + length xs) ys) ≡ [] =
-        none_pass test (places (0 + length xs) ys) (each_weaken _ _ (λ c h. let least = h.0 in place_beyond 0 cs c (omega arith)) _ (places_within (0 + length xs) ys)) in
+    none_pass test (places (0 + length xs) ys) (each_weaken _ _ (λ c h. let least = h.0 in place_beyond 0 cs c (omega arith)) _ (places_within (0 + length xs) ys)) in
     ap (filter test) (places_append 0 xs ys) ∙ filter-append test (places 0 xs) (places (0 + length xs) ys) ∙ ap₂ (λ a b. a ++ b) front rest ∙ append_nil (places 0 cs)

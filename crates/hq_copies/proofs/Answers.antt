@@ -29,8 +29,8 @@ schema_long m k (t ∷ ts) = ap suc (schema_long m (suc k) ts)
 pub copy_answers : (tables : List Table) (m : MetaTree) (session : Session) (d : List (List Row)) (a : AskTree) (c : Copied)
     → ViewsDecide tables m session a d
     → AnsweredAlike a.fields (schema_of tables m) (schema_of (copy_of tables m session (view (schema_of tables m) (grants_of session tables m) d)).tables (copy_of tables m session (view (schema_of tables m) (grants_of session tables m) d)).meta)
-      (numbers (role_of session.role) m (schema_of tables m)) (view (schema_of tables m) (grants_of session tables m) d) (allowed_to (role_of session.role) m (schema_of tables m)) (limits (grants_of session tables m))
-      (reader_grants (copy_of tables m session (view (schema_of tables m) (grants_of session tables m) d))) (copy_of tables m session (view (schema_of tables m) (grants_of session tables m) d)).rows
+    (numbers (role_of session.role) m (schema_of tables m)) (view (schema_of tables m) (grants_of session tables m) d) (allowed_to (role_of session.role) m (schema_of tables m)) (limits (grants_of session tables m))
+    (reader_grants (copy_of tables m session (view (schema_of tables m) (grants_of session tables m) d))) (copy_of tables m session (view (schema_of tables m) (grants_of session tables m) d)).rows
     → CopyAnswers tables m session d a c
 copy_answers tables m session d a c views alike fit done same request =
     let s : Schema = schema_of tables m in
@@ -40,7 +40,7 @@ copy_answers tables m session d a c views alike fit done same request =
     let none = causes_absent (role_of session.role) m s session.vars (seen_in v) made.0 in
     let long : length tables ≡ length s = sym (schema_long m 0 tables) in
     let uses : UsesAll a.fields s (allowed_to (role_of session.role) m s) (length s) =
-        subst (UsesAll a.fields s (allowed_to (role_of session.role) m s)) long (subst (λ r. UsesAll a.fields s (allowed_to r m s) (length tables)) same request.uses) in
+    subst (UsesAll a.fields s (allowed_to (role_of session.role) m s)) long (subst (λ r. UsesAll a.fields s (allowed_to r m s) (length tables)) same request.uses) in
     views same request
     ∙ alike (is_copy tables m session d fit none) (limits_are tables m session d fit none) (subst (AllStand a.fields s) long request.stand) uses
     ∙ ap (λ k. resolved (fields_over a.fields s (numbers (role_of session.role) m s) (length s)) (schema_of k.tables k.meta) (reader_grants k) k.rows) made.1

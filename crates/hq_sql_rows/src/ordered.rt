@@ -10,13 +10,13 @@ ghost use Rattle.hq_sql_rows.specs.Ordered.{IsKey, OrdersBy, HasOrder, Finds, wa
 ghost use Rattle.hq_sql_rows.specs.Positions.{rows_at, FindsArranged};
 ghost use Rattle.hq_sql_rows.specs.declared.scope.Scope.{Scope as InScope};
 
-use crate::positions::{Positions, looked_at};
-use hq_base::{Memory, Txt};
-use hq_index::Index;
 use crate::equations::{is_column, is_first, is_joined};
+use crate::positions::{Positions, looked_at};
 use crate::scope::{Scope, Source};
 use crate::stages::Parts;
 use crate::stored::Stored;
+use hq_base::{Memory, Txt};
+use hq_index::Index;
 use hq_sql_tree::{Join, Order};
 use hq_tables::Rows;
 use hq_terms::{ColId, Table};

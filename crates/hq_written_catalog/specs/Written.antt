@@ -23,10 +23,10 @@ name_at columns c = name_in (slice_get columns c)
 -- a column: its name, its type and whether it may hold NULL
 abbrev pub column_json : Column → JsonTree
 column_json c = object (
-  (field_name field.Name, str c.name)
-  ∷ (field_name field.ColumnType, str (catalog_name c.ty))
-  ∷ (field_name field.Nullable, bool c.nullable)
-  ∷ [])
+    (field_name field.Name, str c.name)
+    ∷ (field_name field.ColumnType, str (catalog_name c.ty))
+    ∷ (field_name field.Nullable, bool c.nullable)
+    ∷ [])
 
 -- the schema, the name and the columns of a table, where it is there
 abbrev pub schema_in : Option Table → List ℕ
@@ -48,20 +48,20 @@ table_ref t = object ((field_name field.Schema, str (schema_in t)) ∷ (field_na
 -- a foreign key: its columns, the table that they refer to, and the columns of that table
 abbrev pub foreign_json : List Table → Table → ForeignKey → JsonTree
 foreign_json tables t f = object (
-  (field_name field.Columns, texts (map (name_at t.columns) f.columns))
-  ∷ (field_name field.Table, table_ref (slice_get tables f.remote))
-  ∷ (field_name field.References, texts (map (name_at (columns_in (slice_get tables f.remote))) f.references))
-  ∷ [])
+    (field_name field.Columns, texts (map (name_at t.columns) f.columns))
+    ∷ (field_name field.Table, table_ref (slice_get tables f.remote))
+    ∷ (field_name field.References, texts (map (name_at (columns_in (slice_get tables f.remote))) f.references))
+    ∷ [])
 
 -- a table
 abbrev pub table_json : List Table → Table → JsonTree
 table_json tables t = object (
-  (field_name field.Schema, str t.schema)
-  ∷ (field_name field.Name, str t.name)
-  ∷ (field_name field.Columns, list (map column_json t.columns))
-  ∷ (field_name field.PrimaryKey, texts (map (name_at t.columns) t.key))
-  ∷ (field_name field.ForeignKeys, list (map (foreign_json tables t) t.foreign))
-  ∷ [])
+    (field_name field.Schema, str t.schema)
+    ∷ (field_name field.Name, str t.name)
+    ∷ (field_name field.Columns, list (map column_json t.columns))
+    ∷ (field_name field.PrimaryKey, texts (map (name_at t.columns) t.key))
+    ∷ (field_name field.ForeignKeys, list (map (foreign_json tables t) t.foreign))
+    ∷ [])
 
 -- the catalog
 abbrev pub catalog_json : List Table → JsonTree
