@@ -20,7 +20,7 @@ use hq_gql_nodes::{
 use hq_gql_tree::{Document, Fault, RuleId};
 use hq_rules_reach::no_fragment_cycles::no_fragment_cycles;
 use hq_rules_reach::no_unused_fragments::no_unused_fragments;
-use hq_rules_reach::variable_places_of;
+use hq_rules_reach::variable_use_fault;
 use hq_schema::{Schema, TypeRef};
 use std::alloc::Global;
 
@@ -128,17 +128,7 @@ fn variable_fault(
     )? {
         return Ok(Some(fault_at(RuleId::VariablesAreInputTypes, at)));
     }
-    let found = variable_places_of(alloc, schema, document, types, graph, parts)?;
-    if let Some(at) = found.undefined {
-        return Ok(Some(fault_at(RuleId::AllVariableUsesDefined, at)));
-    }
-    if let Some(at) = found.unused {
-        return Ok(Some(fault_at(RuleId::AllVariablesUsed, at)));
-    }
-    if let Some(at) = found.wrong {
-        return Ok(Some(fault_at(RuleId::AllVariableUsagesAreAllowed, at)));
-    }
-    Ok(None)
+    variable_use_fault(alloc, schema, document, types, graph, parts)
 }
 
 // The first fault, by what is found in the document beforehand.

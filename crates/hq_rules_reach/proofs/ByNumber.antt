@@ -1,7 +1,7 @@
 -- Uses told by the numbers of their names are those told by the names.
 use Rattle.std.proofs.Common.{◌≡◌, ◌<◌, ◌+◌, ◌∙◌, ◌⊎◌, inl, inr, cond, arith, ap, sym, refl, ℕ, zero, suc, get_or, List, [], ◌∷◌, ◌||◌, ◌==◌, Bool, true, false, Option, Some, None, bytes_eq, map, Vec, Global}
 use Rattle.std.specs.Prelude.{is_none, option_and_then, slice_get}
-use Rattle.std.specs.List.{All, list_any}
+use Rattle.std.specs.List.{All, list_any, position_from}
 use Rattle.std.specs.Option.{option_map_or}
 use Rattle.std.proofs.lemmas.Bool.{eqb-true, eq-eqb}
 use Rattle.std.proofs.lemmas.List.Elements.{All-head, All-tail, All-weaker}
@@ -14,6 +14,7 @@ use Rattle.hq_gql_nodes.specs.Known.{resolved}
 use Rattle.hq_gql_nodes.specs.Least.{earlier, at_if, least_of}
 use Rattle.hq_rules_reach.specs.declared.uses.Use.{Use}
 use Rattle.hq_rules_reach.specs.Uses.{UseTree, use_view, number_view, uses_view, numbers_view, uses_at, AreNumbers, Keeps, IsNumbered, AreNumbered}
+use Rattle.hq_rules_reach.specs.Fit.{is_number, ArePlaces}
 use Rattle.hq_rules_reach.specs.Variables.{numbered_place, undefined_use, is_wrong_type, has_default, wrong_use, is_used_in, is_number_used_in, is_marked, undefined_in, wrong_in, variable_named, unused_by, unused_in}
 use Rattle.hq_rules_reach.proofs.SameMembers.{same_test}
 
@@ -39,10 +40,6 @@ least_at f g number_of same [] h zero = refl
 least_at f g number_of same [] h (suc j) = refl
 least_at f g number_of same (us ∷ all) h zero = least_by f g number_of same us.items (All-head (λ (us : Vec Use Global). All (IsNumbered number_of) us.items) us all h)
 least_at f g number_of same (us ∷ all) h (suc j) = least_at f g number_of same all (All-tail (λ (us : Vec Use Global). All (IsNumbered number_of) us.items) us all h) j
-
--- the places of variables by the numbers of their names
-abbrev pub ArePlaces : Places → List (Option ℕ) → List VarDefTree → Type 0
-ArePlaces number_of places vars = (q : List ℕ) (n : ℕ) → number_of q ≡ Some n → numbered_place places n ≡ variable_named vars q
 
 pub undefined_numbered : (number_of : Places) (all : List (Vec Use Global)) (vars : List VarDefTree) (places : List (Option ℕ)) (definitions : List ℕ)
     → AreNumbered number_of all → ArePlaces number_of places vars
@@ -134,6 +131,27 @@ pub unused_numbered : (number_of : Places) (count : ℕ) (all : List (Vec Use Gl
 unused_numbered number_of count all vars marks definitions are numbered marked =
     ap (λ (t : List ℕ → Bool). least_of (unused_by t) vars)
     (fun_ext (λ (q : List ℕ). marked_by number_of count all definitions marks are numbered marked q (number_of q) refl))
+
+-- ---- places by numbers
+
+-- places that are noted by numbers are those of the variables by name
+pub are_places : (number_of : Places) (count : ℕ) (places : List (Option ℕ)) (vars : List VarDefTree) → AreNumbers number_of count
+    → ((n : ℕ) → numbered_place places n ≡ position_from (λ v. is_number (number_of v.name) n) 0 vars) → ArePlaces number_of places vars
+are_places number_of count places vars are noted q n e =
+    noted n ∙ ap (λ (p : VarDefTree → Bool). position_from p 0 vars) (fun_ext (λ (v : VarDefTree). told v (number_of v.name) refl))
+  where
+    told : (v : VarDefTree) (o : Option ℕ) → number_of v.name ≡ o → is_number o n ≡ bytes_eq v.name q
+    told v None h = sym (pair_other number_of v.name q n h e)
+    told v (Some m) h = sym (same_pair number_of count are v.name q m n h e)
+
+-- where no variable has a number none is noted
+pub none_noted : (p : VarDefTree → Bool) (k : ℕ) (vars : List VarDefTree) → list_any p vars ≡ false → position_from p k vars ≡ None
+none_noted p k [] none = refl
+none_noted p k (v ∷ vars) none = by_test (p v) none (none_noted p (k + 1) vars)
+  where
+    by_test : (b : Bool) → (b || list_any p vars) ≡ false → (list_any p vars ≡ false → position_from p (k + 1) vars ≡ None) → cond b (Some k) (position_from p (k + 1) vars) ≡ None
+    by_test true h behind = absurd (cc)
+    by_test false h behind = behind h
 
 -- ---- one more name with a number
 

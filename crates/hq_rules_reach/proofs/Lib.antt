@@ -3,5 +3,6 @@ mod Falls
 pub mod LeastBelow
 mod VariableLemmas
 mod ByNumber
+mod Summing
 mod AnySoFar
 pub mod LeastSoFar

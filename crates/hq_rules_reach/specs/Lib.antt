@@ -1,4 +1,6 @@
 pub mod Spreads
 pub mod Rises
 pub mod Uses
+pub mod Summaries
 pub mod Variables
+pub mod Fit

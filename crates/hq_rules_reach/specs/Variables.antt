@@ -3,8 +3,11 @@ use Rattle.std.specs.Prelude.{ℕ, List, [], ◌∷◌, Bool, false, not, ◌&&�
 use Rattle.std.specs.Option.{option_map_or}
 use Rattle.std.specs.List.{list_any, position_from}
 use Rattle.hq_schema.specs.Schema.{TypeRefTree, named, list_of, non_null, SchemaTree}
+use Rattle.hq_gql_tree.specs.declared.rule.RuleId.TheVariants as number
+use Rattle.hq_gql_tree.specs.declared.fault.Fault.{Fault}
 use Rattle.hq_gql_tree.specs.Values.{PlacedTree}
 use Rattle.hq_gql_tree.specs.Documents.{VarDefTree, DefinitionTree, operation, fragment, DocumentTree}
+use Rattle.hq_gql_nodes.specs.Faults.{or_later}
 use Rattle.hq_gql_nodes.specs.Known.{PlaceTree, is_non_null, is_null, resolved}
 use Rattle.hq_gql_nodes.specs.Least.{at_if, least_of}
 use Rattle.hq_gql_nodes.specs.Fragments.{Places}
@@ -109,3 +112,13 @@ no_unused_variables g all d = least_at (in_operation (unused_in all) g) d
 -- 5.8.5: a use whose variable's type does not go with its place, in an operation that reaches it
 abbrev pub variables_in_allowed_position : SchemaTree → Graph → List (List (UseTree (List ℕ))) → DocumentTree → Option ℕ
 variables_in_allowed_position s g all d = least_at (in_operation (wrong_in s all) g) d
+
+-- the fault of the first of the three rules that has a place, and that of a document
+abbrev pub use_fault : (undefined unused wrong : Option ℕ) → Option Fault
+use_fault undefined unused wrong =
+    or_later number.AllVariableUsesDefined undefined
+    (or_later number.AllVariablesUsed unused
+    (or_later number.AllVariableUsagesAreAllowed wrong None))
+
+abbrev pub variable_use_fault : SchemaTree → Graph → List (List (UseTree (List ℕ))) → DocumentTree → Option Fault
+variable_use_fault s g all d = use_fault (no_undefined_variables g all d) (no_unused_variables g all d) (variables_in_allowed_position s g all d)

@@ -8,8 +8,10 @@ mod no_undefined_variables;
 pub mod no_unused_fragments;
 mod no_unused_variables;
 mod numbers;
+mod summaries;
 mod uses;
+mod variable_places;
 mod variables;
 mod variables_in_allowed_position;
 
-pub use variables::{VariablePlaces, variable_places_of};
+pub use variables::variable_use_fault;

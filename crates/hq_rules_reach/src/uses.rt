@@ -6,9 +6,12 @@ ghost use Rattle.hq_gql_tree.specs.Values.{placed_view};
 ghost use Rattle.hq_gql_nodes.specs.Known.{place_view};
 ghost use Rattle.hq_gql_nodes.specs.Names.{get_name};
 ghost use Rattle.hq_gql_nodes.specs.Nodes.{node_view, part_view};
-ghost use Rattle.hq_rules_reach.specs.Uses.{use_view, use_in, use_of, uses_of, all_uses, uses_view, AreNumbers, Keeps, IsNumbered, AreNumbered};
+ghost use Rattle.hq_rules_reach.specs.Uses.{use_view, use_in, use_of, uses_of, all_uses, uses_view, AreNumbers, Keeps, IsNumbered};
+ghost use Rattle.hq_rules_reach.specs.Summaries.{IsSummary, AreSummaries};
+ghost use Rattle.hq_rules_reach.specs.Fit.{AreFit};
 
 use crate::numbers::Numbers;
+use crate::summaries::{each_ascends, summary};
 use hq_base::Memory;
 use hq_gql_nodes::{Node, Part, Place};
 use hq_gql_tree::{Placed, Value};
@@ -16,7 +19,7 @@ use std::alloc::Global;
 use std::collections::HashMap;
 
 /// A use of a variable, the number of its name, where it stands, and the place that takes its value.
-#[derive(Drop)]
+#[derive(Clone, Copy)]
 pub struct Use<'a> {
     pub name: &'a str,
     pub number: usize,
@@ -112,11 +115,13 @@ fn uses_of<'a>(
     Ok(uses)
 }
 
-/// The uses of variables in each part of a document, with the numbers of their names.
+/// The uses of variables in each part of a document that the rules need, with the numbers of their names.
 #[derive(Drop)]
 pub struct Uses<'a> {
     pub all: Vec<Vec<Use<'a>>>,
     pub numbers: Numbers<'a>,
+    /// Whether the uses of each part are known to stand in the order of the text.
+    pub ascending: bool,
 }
 
 fn no_numbers<'a>(alloc: Global) -> Numbers<'a>
@@ -128,16 +133,38 @@ fn no_numbers<'a>(alloc: Global) -> Numbers<'a>
     }
 }
 
-/// The uses in each part of a document.
+// The uses that the rules need of some nodes.
+fn summary_of<'a>(
+    alloc: Global,
+    numbers: &mut Numbers<'a>,
+    lasts: &mut Vec<usize>,
+    nodes: &[Node<'a>],
+) -> Result<Vec<Use<'a>>, Memory>
+    requires { AreNumbers (get_name numbers.old.names) numbers.old.count }
+    ensures numbers { OnOk result (AreNumbers (get_name numbers.new.names) numbers.new.count) }
+    ensures kept { OnOk result (Keeps (get_name numbers.old.names) (get_name numbers.new.names)) }
+    ensures numbered { IfOk result (λ uses. All (IsNumbered (get_name numbers.new.names)) uses.items) }
+    ensures summary { IfOk result (λ uses. IsSummary (map use_view uses.items) (uses_of (map node_view nodes.now))) }
+{
+    let uses = uses_of(alloc, &mut *numbers, nodes)?;
+    summary(alloc, &mut *lasts, &uses)
+}
+
+/// The uses that the rules need of each part of a document.
 pub fn all_uses<'a>(alloc: Global, parts: &[Part<'a>]) -> Result<Uses<'a>, Memory>
-    ensures numbers { IfOk result (λ uses. AreNumbers (get_name uses.numbers.names) uses.numbers.count) }
-    ensures numbered { IfOk result (λ uses. AreNumbered (get_name uses.numbers.names) uses.all.items) }
-    ensures uses { IfOk result (λ uses. uses_view uses.all.items ≡ all_uses (map part_view parts.now)) }
+    ensures fit { IfOk result (λ uses. AreFit uses) }
+    ensures summaries { IfOk result (λ uses. AreSummaries (uses_view uses.all.items) (all_uses (map part_view parts.now))) }
 {
     let mut numbers = no_numbers(alloc);
+    let mut lasts = Vec::new(alloc);
     let mut all = Vec::new(alloc);
     for part in parts {
-        all.push(uses_of(alloc, &mut numbers, &part.nodes)?)?;
+        all.push(summary_of(alloc, &mut numbers, &mut lasts, &part.nodes)?)?;
     }
-    Ok(Uses { all, numbers })
+    let ascending = each_ascends(&all);
+    Ok(Uses {
+        all,
+        numbers,
+        ascending,
+    })
 }

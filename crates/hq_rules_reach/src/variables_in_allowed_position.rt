@@ -9,7 +9,7 @@ ghost use Rattle.hq_rules_reach.specs.Uses.{number_view, uses_at, numbers_view};
 ghost use Rattle.hq_rules_reach.specs.Variables.{nullable, are_compatible, has_default, is_allowed, is_wrong_type, numbered_place, wrong_use};
 
 use crate::uses::Use;
-use crate::variables::variable_at;
+use crate::variable_places::variable_at;
 use hq_gql_nodes::{Place, at_if, earlier, is_non_null, is_null, type_at};
 use hq_gql_tree::{Placed, VarDef};
 use hq_schema::{Schema, TypeRef};

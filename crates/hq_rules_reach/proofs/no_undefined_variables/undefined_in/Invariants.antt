@@ -8,4 +8,4 @@ use Rattle.hq_rules_reach.proofs.no_undefined_variables.undefined_in.Given as go
 abbrev pub invariant-loop-at : goal.invariant-loop-at
 invariant-loop-at l =
     earlier l.least (least_of (λ j. least_of (undefined_use (numbered_place l.places)) (uses_at (numbers_view l.all) j)) (drop l.at-index l.definitions))
-    ≡ least_of (λ j. least_of (undefined_use (numbered_place l.places)) (uses_at (numbers_view l.all) j)) l.definitions
+    ≡ earlier l.initial.least (least_of (λ j. least_of (undefined_use (numbered_place l.places)) (uses_at (numbers_view l.all) j)) l.definitions)

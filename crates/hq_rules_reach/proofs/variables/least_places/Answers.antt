@@ -1,13 +1,20 @@
-use Rattle.std.proofs.Common.{◌∙◌, ap, [], get_or, arith, rules}
+use Rattle.std.proofs.Common.{◌≡◌, ◌∙◌, ap, sym, [], get_or, Option, Some, None, ℕ, refl, arith, rules}
 use Rattle.hq_schema.specs.Schema.{schema_view}
 use Rattle.hq_gql_tree.specs.Documents.{definition_view}
+use Rattle.hq_gql_nodes.specs.Least.{earlier}
 use Rattle.hq_gql_nodes.specs.Nodes.{variable_types}
 use Rattle.hq_gql_nodes.specs.Reach.{graph_view}
 use Rattle.hq_gql_nodes.proofs.Lists.{get_or-map_map}
 use Rattle.hq_rules_reach.specs.Uses.{uses_view}
 use Rattle.hq_rules_reach.specs.Variables.{undefined_in, unused_in, wrong_in, in_operation}
-use Rattle.hq_rules_reach.proofs.LeastBelow.{least_more}
+use Rattle.hq_rules_reach.proofs.LeastBelow.{least_with}
 use Rattle.hq_rules_reach.proofs.variables.least_places.Goals as goal
+
+-- the lesser of two places is none where both are
+none_before : (a b : Option ℕ) → earlier a b ≡ None → a ≡ None
+none_before None b h = refl
+none_before (Some a) None h = absurd (cc)
+none_before (Some a) (Some b) h = absurd (cc)
 
 pub places_at-requires-clause-types : goal.places_at-requires-clause-types
 places_at-requires-clause-types c =
@@ -23,8 +30,11 @@ loop-at-preserved c =
     let defs = c.args.document.now.definitions.items in
     let at = c.loop-at.at in
     let x = c.definition-item.result in
+    let found = c.in_ok-least.ensures in
     record {
-      undefined = c.earlier_places-least.ensures.undefined ∙ least_more (in_operation (undefined_in all) g) defs at x _ _ (omega arith) (search rules) c.loop-at.invariant.undefined c.in_ok-places.ensures.undefined;
-      unused = c.earlier_places-least.ensures.unused ∙ least_more (in_operation (unused_in all) g) defs at x _ _ (omega arith) (search rules) c.loop-at.invariant.unused c.in_ok-places.ensures.unused;
-      wrong = c.earlier_places-least.ensures.wrong ∙ least_more (in_operation (wrong_in (schema_view c.args.schema.now) all) g) defs at x _ _ (omega arith) (search rules) c.loop-at.invariant.wrong c.in_ok-places.ensures.wrong;
+      long = found.long ∙ c.loop-at.invariant.long;
+      clear = found.clear;
+      undefined = least_with (in_operation (undefined_in all) g) defs at x _ _ (omega arith) (search rules) c.loop-at.invariant.undefined found.undefined;
+      unused = λ h. least_with (in_operation (unused_in all) g) defs at x _ _ (omega arith) (search rules) (c.loop-at.invariant.unused (none_before _ _ (sym found.undefined ∙ h))) (found.unused h);
+      wrong = λ h. least_with (in_operation (wrong_in (schema_view c.args.schema.now) all) g) defs at x _ _ (omega arith) (search rules) (c.loop-at.invariant.wrong (none_before _ _ (sym found.undefined ∙ h))) (found.wrong h);
     }
