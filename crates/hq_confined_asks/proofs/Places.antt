@@ -1,12 +1,12 @@
 -- A table of the catalog stands in its schema under its name, and its columns under theirs; its key is of different columns.
-use Rattle.std.proofs.Common.{◌≡◌, ℕ, zero, suc, ◌+◌, ◌<◌, List, [], ◌∷◌, length, Bool, true, false, cond, not, ◌&&◌, ◌||◌, ◌==◌, Option, Some, None, bytes_eq, refl, sym, ap, subst, ◌∙◌, eqb-true, eq-eqb, arith}
-use Rattle.std.specs.Prelude.{slice_index_or, nat_lt, unwrap_or}
+use Rattle.std.proofs.Common.{◌≡◌, ℕ, zero, suc, ◌<◌, List, [], ◌∷◌, length, Bool, true, false, cond, not, ◌||◌, ◌==◌, Some, None, bytes_eq, refl, sym, ap, subst, ◌∙◌, eqb-true, eq-eqb, arith}
+use Rattle.std.specs.Prelude.{nat_lt, unwrap_or}
 use Rattle.std.specs.List.{prefix_len, list_any, list_all}
 use Rattle.std.proofs.lemmas.Bool.{lt-ltb, false≢true}
 use Rattle.hq_base.specs.Lists.{Each, all_differ}
 use Rattle.hq_terms.specs.Catalog.{is_catalog, is_table}
 use Rattle.hq_terms.specs.Meta.{MetaTree}
-use Rattle.hq_terms.specs.Schema.{Schema, SchemaTable, schema_table, numbered, schema_of, table, no_table, no_column}
+use Rattle.hq_terms.specs.Schema.{Schema, schema_table, numbered, schema_of, table}
 use Rattle.hq_terms.specs.declared.table.Column.{Column}
 use Rattle.hq_terms.specs.declared.table.Table.{Table}
 use Rattle.hq_compiled.specs.Fine.{Has}

@@ -15,7 +15,7 @@ use Rattle.hq_sql_tree.specs.Tree.{PredTree, OrderTree, OutTree, SelectTree, Joi
 use Rattle.hq_compiled.specs.Aggregates.{needed, needed_outputs, some_aggregate, summary_used, summary_pairs, summary_numbers, plain_select, summary_select}
 use Rattle.hq_compiled.specs.Conditions.{joined_by_and, joined_by_or, with_member, where_of}
 use Rattle.hq_compiled.specs.Fields.{fields_used, key_used, origin_tie, key_members, fields_numbers, field_numbers, parts_numbers, part_numbers, field_value, fields_values, part_value, parts_values, parts_select, kids_from, list_join, fields_joins, field_joins, parts_joins, part_joins}
-use Rattle.hq_compiled.specs.Lists.{once, list_sorts, list_used, where_numbers, sorts_from, children_from, list_numbers, distinct_columns, list_rows, list_outputs, list_select}
+use Rattle.hq_compiled.specs.Lists.{once, list_sorts, list_used, sorts_from, children_from, list_numbers, distinct_columns, list_rows, list_outputs, list_select}
 use Rattle.hq_compiled.specs.Looks.{Look, own_look, cell_at}
 use Rattle.hq_compiled.specs.Masks.{extra, masks, shown_look, filter_numbers, filter_predicate, value_output, where_mode}
 use Rattle.hq_compiled.specs.Names.{table_alias, fold_alias, join_alias, value_name, key_name}

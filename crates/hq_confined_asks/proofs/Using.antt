@@ -1,5 +1,5 @@
 -- What uses what a role may use asks for what is granted, where what is touched is ready.
-use Rattle.std.proofs.Common.{◌≡◌, ℕ, ◌<◌, ◌≤◌, ◌^◌, List, [], ◌∷◌, ◌++◌, flat_map, length, Bool, true, false, cond, ◌||◌, ◌==◌, Option, Some, None, refl, sym, ap, subst, ◌∙◌}
+use Rattle.std.proofs.Common.{◌≡◌, ℕ, ◌<◌, ◌≤◌, ◌^◌, List, [], ◌∷◌, ◌++◌, flat_map, length, Bool, true, false, cond, ◌||◌, ◌==◌, Option, Some, None, refl, sym, subst}
 use Rattle.std.proofs.lemmas.Bool.{eqb-true, false≢true}
 use Rattle.hq_base.specs.Lists.{Each}
 use Rattle.hq_terms.specs.Bexp.{BexpTree, always, and_of, or_of, not_of, test, through, exists_in, two_columns, BexpTrees, no_bexp, bexp, operands_of}
@@ -26,7 +26,7 @@ use Rattle.hq_compiled.specs.Fine.{Has}
 use Rattle.hq_compiled.specs.Lists.{once, list_sorts, list_used}
 use Rattle.hq_compiled.specs.Looks.{is_used, add_new}
 use Rattle.hq_compiled.specs.Predicates.{columns_in, columns_in_all}
-use Rattle.hq_compiled.specs.Sorts.{Sort, last_used, used_sorts, shown_sorts, own_sorts}
+use Rattle.hq_compiled.specs.Sorts.{last_used, used_sorts, shown_sorts, own_sorts}
 use Rattle.hq_compiled.proofs.Once.{each_once}
 use Rattle.hq_confined.specs.Members.{is_permitted}
 use Rattle.hq_confined.specs.Ready.{Ready, Permits, Leads, Allowed, AllAllowed, AllowedChain, AllowedSort, AllowedList, AllowedOrigin, AllowedFields, AllowedField, AllowedParts, AllowedPart}
