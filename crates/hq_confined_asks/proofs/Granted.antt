@@ -104,7 +104,8 @@ module _ (tables : List Table) (m : MetaTree) (session : Session) (a : AskTree) 
 
   pub is_granted : a.role ≡ role_of session.role → (t : ℕ) → is_some (permission a.role m t) ≡ true → Touches t → IsGranted t
   is_granted role t some h =
-      let of_bind : (q : Permission) → permission (role_of session.role) m t ≡ Some q → (r : Result Permission BindRefusal) → bound_permission q s session.vars t ≡ r → is_some (result_ok r) ≡ true → IsGranted t =
+      let of_bind : (q : Permission) → permission (role_of session.role) m t ≡ Some q → (r : Result Permission BindRefusal) → bound_permission q s session.vars t ≡ r
+      → is_some (result_ok r) ≡ true → IsGranted t =
       λ q is. elim [
         | Ok p ↦ λ e f. record {
           told = q;
@@ -139,7 +140,8 @@ module _ (tables : List Table) (m : MetaTree) (session : Session) (a : AskTree) 
       where
         has : (cs : List Column) (c : ℕ) → is_some (option_map (λ x. x.ty) (slice_get cs c)) ≡ true → c < length cs
         has cs c e =
-            let go : (o : Option Column) → slice_get cs c ≡ o → is_some (option_map (λ x. x.ty) o) ≡ true → c < length cs = elim [ None ↦ λ f k. absurd (false≢true k) | Some x ↦ λ f k. slice_get_within cs c x f ] in
+            let go : (o : Option Column) → slice_get cs c ≡ o → is_some (option_map (λ x. x.ty) o) ≡ true → c < length cs =
+            elim [ None ↦ λ f k. absurd (false≢true k) | Some x ↦ λ f k. slice_get_within cs c x f ] in
             go (slice_get cs c) refl e
 
     -- all that is granted of a table is of columns that are there

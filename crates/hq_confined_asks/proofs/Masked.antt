@@ -68,7 +68,8 @@ module _ (ps : List Permission) where
   masks_rise [] h = tt
   masks_rise (c ∷ cs) h =
       let rest = masks_rise cs h.1 in
-      let go : (b : Bool) → Rises (columns_of (cond b [] (record { column = c; shown = either (filters_for c ps) } ∷ []) ++ masks_for ps cs)) = elim [ true ↦ rest | false ↦ (masks_have (λ d. c < d) cs h.0, rest) ] in
+      let go : (b : Bool) → Rises (columns_of (cond b [] (record { column = c; shown = either (filters_for c ps) } ∷ []) ++ masks_for ps cs)) =
+      elim [ true ↦ rest | false ↦ (masks_have (λ d. c < d) cs h.0, rest) ] in
       go (list_all (permits c) ps)
 
 -- each is among themselves

@@ -16,7 +16,8 @@ use Rattle.hq_compiled.proofs.Sound.{both, negated, table_at, schema_is, IsNamed
 use Rattle.hq_confined.specs.Origins.{is_named, table_place, column_place}
 
 -- the place of the first item that passes
-placed : {A : Type 0} (p : A → Bool) (xs : List A) (i : ℕ) → prefix_len (λ x. not (p x)) xs ≡ i → i < length xs → cond (nat_lt (prefix_len (λ x. not (p x)) xs) (length xs)) (Some (prefix_len (λ x. not (p x)) xs)) None ≡ Some i
+placed : {A : Type 0} (p : A → Bool) (xs : List A) (i : ℕ) → prefix_len (λ x. not (p x)) xs ≡ i → i < length xs
+    → cond (nat_lt (prefix_len (λ x. not (p x)) xs) (length xs)) (Some (prefix_len (λ x. not (p x)) xs)) None ≡ Some i
 placed p xs i is lt = ap (λ n. cond (nat_lt n (length xs)) (Some n) None) is ∙ ap (λ b. cond b (Some i) None) (lt-ltb i (length xs) lt)
 
 -- ---- tables
