@@ -35,22 +35,26 @@ by_memory IsDue (Some l) old new answer is = subst (EndsBy (IsDue l) old new) (s
 
 module _ (tables : List Table) (meta : MetaTree) (session : Session) where
   -- an input that is not read
-  pub unread : (left old : Option (List ℕ)) (e : InputRefusal) (answer : Answer) → answer ≡ Err (of_input e) → IfSome left (λ l. ReadsAll INPUT_LIMIT l (Err e)) → IfSome left (λ l. EndsBy (IsDueFor tables meta session l) old old answer)
+  pub unread : (left old : Option (List ℕ)) (e : InputRefusal) (answer : Answer) → answer ≡ Err (of_input e) → IfSome left (λ l. ReadsAll INPUT_LIMIT l (Err e))
+      → IfSome left (λ l. EndsBy (IsDueFor tables meta session l) old old answer)
   unread None old e answer is h = tt
   unread (Some l) old input.Failed answer is h = subst (EndsBy (IsDueFor tables meta session l) old old) (sym is) tt
   unread (Some l) old input.TooLong answer is h = subst (EndsBy (IsDueFor tables meta session l) old old) (sym is) (h, refl)
   unread (Some l) old input.Memory answer is h = subst (EndsBy (IsDueFor tables meta session l) old old) (sym is) tt
 
   -- what is said of all that was read
-  pub read_told : (left : Option (List ℕ)) (body text : List ℕ) (output : Output) (old new : Option (List ℕ)) (answer : Answer) → IfSome left (λ l. ReadsAll INPUT_LIMIT l (Ok body)) → text ≡ without_line_end body
+  pub read_told : (left : Option (List ℕ)) (body text : List ℕ) (output : Output) (old new : Option (List ℕ)) (answer : Answer) → IfSome left (λ l. ReadsAll INPUT_LIMIT l (Ok body))
+      → text ≡ without_line_end body
       → IsSaid tables meta session text output → Ends old new (Ok output) answer → IfSome left (λ l. EndsBy (IsDueFor tables meta session l) old new answer)
   read_told None body text output old new answer read is said ends = tt
   read_told (Some l) body text output old new answer read is said ends =
       said_ends (IsDueFor tables meta session l) old new output answer (read.1, subst (λ t. IsSaid tables meta session t output) (is ∙ ap without_line_end read.0) said) ends
 
 -- the same over what a folder describes
-pub over_folder : (folder : Option (List File)) (dir : List ℕ) (headers : List Header) (d : Described) (session : Session) (left old new : Option (List ℕ)) (answer : Answer) → session ≡ session_of headers
-    → IfSome folder (λ fs. description_due fs dir ≡ Ok d) → IfSome left (λ l. EndsBy (IsDueFor d.tables d.meta session l) old new answer) → IfSome folder (λ fs. IfSome left (λ l. Confines dir headers fs l old new answer))
+pub over_folder : (folder : Option (List File)) (dir : List ℕ) (headers : List Header) (d : Described) (session : Session) (left old new : Option (List ℕ)) (answer : Answer)
+    → session ≡ session_of headers
+    → IfSome folder (λ fs. description_due fs dir ≡ Ok d) → IfSome left (λ l. EndsBy (IsDueFor d.tables d.meta session l) old new answer)
+    → IfSome folder (λ fs. IfSome left (λ l. Confines dir headers fs l old new answer))
 over_folder None dir headers d session left old new answer who holds told = tt
 over_folder (Some fs) dir headers d session None old new answer who holds told = tt
 over_folder (Some fs) dir headers d session (Some l) old new answer who holds told =

@@ -54,11 +54,13 @@ end_dropped text =
     let at : get_or (line_text text) (length (line_text text) - 1) 0 ≡ 10 = get_or_at text 10 [] 0 (length (line_text text) - 1) (sym last) in
     ap (λ b. cond (b == 10) (take (length (line_text text) - 1) (line_text text)) (line_text text)) at ∙ take_at text (codes "\n") (length (line_text text) - 1) (sym last)
 
-said_yes : (tables : List Table) (meta : MetaTree) (session : Session) (ask : AskTree) → IsStatement tables meta session ask → IsSaid tables meta session (without_line_end (line_text (select_text (asked_statement tables meta ask)))) yes
+said_yes : (tables : List Table) (meta : MetaTree) (session : Session) (ask : AskTree) → IsStatement tables meta session ask
+    → IsSaid tables meta session (without_line_end (line_text (select_text (asked_statement tables meta ask)))) yes
 said_yes tables meta session ask is =
     let s : SelectTree = asked_statement tables meta ask in
     let line : IsSaid tables meta session (select_text s) yes =
-    inl (s, is.spelled, sym (ap (λ b. cond b (verdict_output (worst (faults (schema_of tables meta) (grants_of session tables meta) s))) not_typed) is.typed ∙ ap (λ fs. verdict_output (worst fs)) is.confined)) in
+    let told = verdict_output (worst (faults (schema_of tables meta) (grants_of session tables meta) s)) in
+    inl (s, is.spelled, sym (ap (λ b. cond b told not_typed) is.typed ∙ ap (λ fs. verdict_output (worst fs)) is.confined)) in
     subst (λ t. IsSaid tables meta session t yes) (sym (end_dropped (select_text s))) line
 
 abbrev Own : List Table → MetaTree → Session → (line : List ℕ) → Type 0
@@ -68,13 +70,15 @@ bytes_of : (a b : List ℕ) → ◌≡◌ {A = Result Output Refusal} (Ok (says 
 bytes_of a b e = cc
 
 -- of what a body makes
-own_made : (tables : List Table) (meta : MetaTree) (session : Session) (r : Result AskTree RequestRefusal) (line : List ℕ) → HasStatement tables meta session r → stated_output (text_for tables meta r) r ≡ Ok (says Answered line) → Own tables meta session line
+own_made : (tables : List Table) (meta : MetaTree) (session : Session) (r : Result AskTree RequestRefusal) (line : List ℕ) → HasStatement tables meta session r
+    → stated_output (text_for tables meta r) r ≡ Ok (says Answered line) → Own tables meta session line
 own_made tables meta session (Ok ask) line has e =
+    let own : List ℕ = select_text (asked_statement tables meta ask) in
     let go : (b : Bool) → has_table_field ask.fields ≡ b
-    → ◌≡◌ {A = Result Output Refusal} (Ok (says Answered (line_text (unwrap_or (cond b (Some (select_text (asked_statement tables meta ask))) None) (codes "none"))))) (Ok (says Answered line)) → Own tables meta session line =
+    → ◌≡◌ {A = Result Output Refusal} (Ok (says Answered (line_text (unwrap_or (cond b (Some own) None) (codes "none"))))) (Ok (says Answered line)) → Own tables meta session line =
     elim [
       | true ↦ λ is f.
-          let same : line_text (select_text (asked_statement tables meta ask)) ≡ line = bytes_of (line_text (select_text (asked_statement tables meta ask))) line f in
+          let same : line_text own ≡ line = bytes_of (line_text own) line f in
           inr (λ short. (short, subst (λ l. IsSaid tables meta session (without_line_end l) yes) same (said_yes tables meta session ask (has is))))
       | false ↦ λ is f. inl (sym (bytes_of (line_text (codes "none")) line f))
     ] in
@@ -83,7 +87,8 @@ own_made tables meta session (Err (request.Fault fault)) line has e = absurd cc
 own_made tables meta session (Err request.Memory) line has e = absurd cc
 
 -- of an input
-own_read : (tables : List Table) (meta : MetaTree) (session : Session) (text line : List ℕ) → HasStatementFor tables meta session text → statement_output tables meta session text ≡ Ok (says Answered line) → Own tables meta session line
+own_read : (tables : List Table) (meta : MetaTree) (session : Session) (text line : List ℕ) → HasStatementFor tables meta session text
+    → statement_output tables meta session text ≡ Ok (says Answered line) → Own tables meta session line
 own_read tables meta session text line has e =
     let r : Result AskTree RequestRefusal = request_due tables meta session text in
     let go : (b : Bool) → cond b (Err refusal.InputTooLong) (stated_output (text_for tables meta r) r) ≡ Ok (says Answered line) → Own tables meta session line =
@@ -94,7 +99,8 @@ own_read tables meta session text line has e =
 pub own_confined : (dir : List ℕ) (headers : List Header) (files : List File) (text : List ℕ) → OwnConfined dir headers files text
 own_confined dir headers files text has line e = by (description_of dir files) has e
   where
-    by : (o : Result Described Refusal) → ((d : Described) → o ≡ Ok d → HasStatementFor d.tables d.meta (session_of headers) text) → (o >>= λ d. statement_output d.tables d.meta (session_of headers) text) ≡ Ok (says Answered line)
+    by : (o : Result Described Refusal) → ((d : Described) → o ≡ Ok d → HasStatementFor d.tables d.meta (session_of headers) text)
+        → (o >>= λ d. statement_output d.tables d.meta (session_of headers) text) ≡ Ok (says Answered line)
         → (line ≡ line_text (codes "none")) ⊎ (length line ≤ INPUT_LIMIT → IsDueBehind headers line o (Ok yes))
     by (Ok d) h f = own_read d.tables d.meta (session_of headers) text line (h d refl) f
     by (Err r) h f = absurd cc

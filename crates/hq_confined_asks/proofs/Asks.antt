@@ -1,5 +1,5 @@
 -- The statement of a typed request of a session is confined for the session.
-use Rattle.std.proofs.Common.{◌≡◌, ℕ, ◌+◌, ◌<◌, ◌≤◌, ◌^◌, List, [], length, Bool, true, ◌==◌, Option, Some, None, is_some, refl, sym, ap, subst, ◌∙◌}
+use Rattle.std.proofs.Common.{◌≡◌, ℕ, ◌+◌, ◌<◌, ◌≤◌, ◌^◌, List, length, true, ◌==◌, Option, Some, None, is_some, refl, sym, ap, subst, ◌∙◌}
 use Rattle.std.specs.Prelude.{slice_get}
 use Rattle.std.specs.List.{list_any}
 use Rattle.std.proofs.lemmas.Bool.{and_parts, false≢true}
@@ -21,11 +21,10 @@ use Rattle.hq_ask_tree.specs.Allowed.{allowed_to, permitted_columns}
 use Rattle.hq_ask_tree.specs.Fields.{FieldTrees}
 use Rattle.hq_ask_tree.specs.Request.{AskTree, grants_in}
 use Rattle.hq_ask_tree.specs.Root.{table_fields}
-use Rattle.hq_ask_tree.specs.Sessions.{IsFor}
 use Rattle.hq_ask_tree.specs.Touched.{tables_of}
 use Rattle.hq_ask_tree.specs.Uses.{UsesAll}
 use Rattle.hq_ask_tree.specs.WellFormed.{IsRequest}
-use Rattle.hq_compiled.specs.Asked.{table_request, TablesAsked, IsHeld}
+use Rattle.hq_compiled.specs.Asked.{table_request, TablesAsked}
 use Rattle.hq_compiled.specs.Correct.{AreFew}
 use Rattle.hq_compiled.specs.Fields.{fields_numbers}
 use Rattle.hq_compiled.specs.Fine.{Has}
@@ -34,7 +33,7 @@ use Rattle.hq_confined.specs.Faults.{faults}
 use Rattle.hq_confined.specs.Laws.{AsksConfined}
 use Rattle.hq_confined.specs.Members.{is_permitted}
 use Rattle.hq_confined.specs.Ready.{Ready, AllowedFields}
-use Rattle.hq_confined_asks.specs.Asks.{IsAskedConfined, AsksAreConfined}
+use Rattle.hq_confined_asks.specs.Asks.{AsksAreConfined}
 use Rattle.hq_confined_asks.proofs.Granted as granting
 use Rattle.hq_confined_asks.proofs.Granted.{Touches, IsGranted, all_touched, same_grant, is_granted, column_granted}
 use Rattle.hq_confined_asks.proofs.Places.{numbered_length}

@@ -3,16 +3,15 @@ use Rattle.std.proofs.Common.{◌≡◌, ℕ, ◌<◌, List, [], ◌∷◌, map,
 use Rattle.std.specs.Prelude.{option_map, option_and_then, slice_get, slice_index_or, unwrap_or}
 use Rattle.std.specs.List.{list_any}
 use Rattle.std.specs.Result.{result_ok}
-use Rattle.std.proofs.lemmas.Bool.{and_parts, false≢true}
+use Rattle.std.proofs.lemmas.Bool.{false≢true}
 use Rattle.std.proofs.lemmas.Option.{unwrap_or-slice_get, slice_get-get_or, slice_get_within}
 use Rattle.hq_base.specs.Lists.{Each, firsts}
 use Rattle.hq_base.proofs.Lists.{each_weaken, any_map_of, firsts_any}
 use Rattle.hq_terms.specs.Binding.{bound_permission}
 use Rattle.hq_terms.specs.Catalog.{is_catalog}
-use Rattle.hq_terms.specs.Filters.{column_ty}
 use Rattle.hq_terms.specs.Fits.{fits}
 use Rattle.hq_terms.specs.Grants.{Grants, grant, grant_of, grants_of, no_grant}
-use Rattle.hq_terms.specs.Laws.{HasColumn, IsPermission, PermissionsFit}
+use Rattle.hq_terms.specs.Laws.{HasColumn, PermissionsFit}
 use Rattle.hq_terms.specs.Meta.{MetaTree}
 use Rattle.hq_terms.specs.Permission.{Mask, Permission, permission, role_of}
 use Rattle.hq_terms.specs.Permitted.{mask_of}
@@ -25,10 +24,10 @@ use Rattle.hq_terms.proofs.Places.{at_0}
 use Rattle.hq_ask_tree.specs.Request.{BoundTree, AskTree, bound_table, with_bound, grant_in, grants_in}
 use Rattle.hq_ask_tree.specs.Sessions.{IsFor, session_grant}
 use Rattle.hq_compiled.specs.Fine.{Has}
-use Rattle.hq_confined.specs.Members.{has_mask, is_permitted}
+use Rattle.hq_confined.specs.Members.{is_permitted}
 use Rattle.hq_confined.specs.Ready.{IsMask, Ready}
 use Rattle.hq_confined_asks.proofs.Masked.{AreMasks, columns_of, among_itself, permission_masks, bound_keeps, own_of_each}
-use Rattle.hq_confined_asks.proofs.Places.{Stands, stands}
+use Rattle.hq_confined_asks.proofs.Places.{stands}
 
 -- ---- lists
 
@@ -105,7 +104,8 @@ module _ (tables : List Table) (m : MetaTree) (session : Session) (a : AskTree) 
 
   pub is_granted : a.role ≡ role_of session.role → (t : ℕ) → is_some (permission a.role m t) ≡ true → Touches t → IsGranted t
   is_granted role t some h =
-      let of_bind : (q : Permission) → permission (role_of session.role) m t ≡ Some q → (r : Result Permission BindRefusal) → bound_permission q s session.vars t ≡ r → is_some (result_ok r) ≡ true → IsGranted t =
+      let of_bind : (q : Permission) → permission (role_of session.role) m t ≡ Some q → (r : Result Permission BindRefusal) → bound_permission q s session.vars t ≡ r
+      → is_some (result_ok r) ≡ true → IsGranted t =
       λ q is. elim [
         | Ok p ↦ λ e f. record {
           told = q;
@@ -140,7 +140,8 @@ module _ (tables : List Table) (m : MetaTree) (session : Session) (a : AskTree) 
       where
         has : (cs : List Column) (c : ℕ) → is_some (option_map (λ x. x.ty) (slice_get cs c)) ≡ true → c < length cs
         has cs c e =
-            let go : (o : Option Column) → slice_get cs c ≡ o → is_some (option_map (λ x. x.ty) o) ≡ true → c < length cs = elim [ None ↦ λ f k. absurd (false≢true k) | Some x ↦ λ f k. slice_get_within cs c x f ] in
+            let go : (o : Option Column) → slice_get cs c ≡ o → is_some (option_map (λ x. x.ty) o) ≡ true → c < length cs =
+            elim [ None ↦ λ f k. absurd (false≢true k) | Some x ↦ λ f k. slice_get_within cs c x f ] in
             go (slice_get cs c) refl e
 
     -- all that is granted of a table is of columns that are there

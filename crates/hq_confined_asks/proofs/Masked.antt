@@ -1,5 +1,5 @@
 -- The masks of what is granted of a table are each of another permitted column.
-use Rattle.std.proofs.Common.{◌≡◌, ℕ, suc, ◌+◌, ◌<◌, ◌≤◌, List, [], ◌∷◌, ◌++◌, length, map, filter, find, Bool, true, false, cond, ◌||◌, ◌==◌, Option, Some, None, Result, Ok, Err, bytes_eq, refl, sym, ap, subst, ◌∙◌, eqb-true, eq-eqb, arith}
+use Rattle.std.proofs.Common.{◌≡◌, ℕ, suc, ◌<◌, ◌≤◌, List, [], ◌∷◌, ◌++◌, map, filter, find, Bool, true, false, cond, ◌||◌, ◌==◌, Option, Some, None, Result, Ok, Err, bytes_eq, refl, sym, ap, subst, ◌∙◌, eq-eqb, arith}
 use Rattle.std.specs.List.{list_any, list_all}
 use Rattle.std.specs.Prelude.{option_and_then}
 use Rattle.std.proofs.lemmas.Bool.{ne_eqb}
@@ -68,7 +68,8 @@ module _ (ps : List Permission) where
   masks_rise [] h = tt
   masks_rise (c ∷ cs) h =
       let rest = masks_rise cs h.1 in
-      let go : (b : Bool) → Rises (columns_of (cond b [] (record { column = c; shown = either (filters_for c ps) } ∷ []) ++ masks_for ps cs)) = elim [ true ↦ rest | false ↦ (masks_have (λ d. c < d) cs h.0, rest) ] in
+      let go : (b : Bool) → Rises (columns_of (cond b [] (record { column = c; shown = either (filters_for c ps) } ∷ []) ++ masks_for ps cs)) =
+      elim [ true ↦ rest | false ↦ (masks_have (λ d. c < d) cs h.0, rest) ] in
       go (list_all (permits c) ps)
 
 -- each is among themselves

@@ -1,12 +1,12 @@
 -- A table of the catalog stands in its schema under its name, and its columns under theirs; its key is of different columns.
-use Rattle.std.proofs.Common.{◌≡◌, ℕ, zero, suc, ◌+◌, ◌<◌, List, [], ◌∷◌, length, Bool, true, false, cond, not, ◌&&◌, ◌||◌, ◌==◌, Option, Some, None, bytes_eq, refl, sym, ap, subst, ◌∙◌, eqb-true, eq-eqb, arith}
-use Rattle.std.specs.Prelude.{slice_index_or, nat_lt, unwrap_or}
+use Rattle.std.proofs.Common.{◌≡◌, ℕ, zero, suc, ◌<◌, List, [], ◌∷◌, length, Bool, true, false, cond, not, ◌||◌, ◌==◌, Some, None, bytes_eq, refl, sym, ap, subst, ◌∙◌, eqb-true, eq-eqb, arith}
+use Rattle.std.specs.Prelude.{nat_lt, unwrap_or}
 use Rattle.std.specs.List.{prefix_len, list_any, list_all}
 use Rattle.std.proofs.lemmas.Bool.{lt-ltb, false≢true}
 use Rattle.hq_base.specs.Lists.{Each, all_differ}
 use Rattle.hq_terms.specs.Catalog.{is_catalog, is_table}
 use Rattle.hq_terms.specs.Meta.{MetaTree}
-use Rattle.hq_terms.specs.Schema.{Schema, SchemaTable, schema_table, numbered, schema_of, table, no_table, no_column}
+use Rattle.hq_terms.specs.Schema.{Schema, schema_table, numbered, schema_of, table}
 use Rattle.hq_terms.specs.declared.table.Column.{Column}
 use Rattle.hq_terms.specs.declared.table.Table.{Table}
 use Rattle.hq_compiled.specs.Fine.{Has}
@@ -16,7 +16,8 @@ use Rattle.hq_compiled.proofs.Sound.{both, negated, table_at, schema_is, IsNamed
 use Rattle.hq_confined.specs.Origins.{is_named, table_place, column_place}
 
 -- the place of the first item that passes
-placed : {A : Type 0} (p : A → Bool) (xs : List A) (i : ℕ) → prefix_len (λ x. not (p x)) xs ≡ i → i < length xs → cond (nat_lt (prefix_len (λ x. not (p x)) xs) (length xs)) (Some (prefix_len (λ x. not (p x)) xs)) None ≡ Some i
+placed : {A : Type 0} (p : A → Bool) (xs : List A) (i : ℕ) → prefix_len (λ x. not (p x)) xs ≡ i → i < length xs
+    → cond (nat_lt (prefix_len (λ x. not (p x)) xs) (length xs)) (Some (prefix_len (λ x. not (p x)) xs)) None ≡ Some i
 placed p xs i is lt = ap (λ n. cond (nat_lt n (length xs)) (Some n) None) is ∙ ap (λ b. cond b (Some i) None) (lt-ltb i (length xs) lt)
 
 -- ---- tables

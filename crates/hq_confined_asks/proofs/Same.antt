@@ -15,7 +15,7 @@ use Rattle.hq_sql_tree.specs.Tree.{PredTree, OrderTree, OutTree, SelectTree, Joi
 use Rattle.hq_compiled.specs.Aggregates.{needed, needed_outputs, some_aggregate, summary_used, summary_pairs, summary_numbers, plain_select, summary_select}
 use Rattle.hq_compiled.specs.Conditions.{joined_by_and, joined_by_or, with_member, where_of}
 use Rattle.hq_compiled.specs.Fields.{fields_used, key_used, origin_tie, key_members, fields_numbers, field_numbers, parts_numbers, part_numbers, field_value, fields_values, part_value, parts_values, parts_select, kids_from, list_join, fields_joins, field_joins, parts_joins, part_joins}
-use Rattle.hq_compiled.specs.Lists.{once, list_sorts, list_used, where_numbers, sorts_from, children_from, list_numbers, distinct_columns, list_rows, list_outputs, list_select}
+use Rattle.hq_compiled.specs.Lists.{once, list_sorts, list_used, sorts_from, children_from, list_numbers, distinct_columns, list_rows, list_outputs, list_select}
 use Rattle.hq_compiled.specs.Looks.{Look, own_look, cell_at}
 use Rattle.hq_compiled.specs.Masks.{extra, masks, shown_look, filter_numbers, filter_predicate, value_output, where_mode}
 use Rattle.hq_compiled.specs.Names.{table_alias, fold_alias, join_alias, value_name, key_name}
@@ -69,7 +69,8 @@ module _ (s : Schema) (g h : Grants) where
     all_numbers_same : (bs : BexpTrees) (t : ℕ) → Are (conditions_tables bs s t) → numbers_all bs s (where_mode s G) t ≡ numbers_all bs s (where_mode s H) t
     all_numbers_same no_bexp t e = refl
     all_numbers_same (bexp b bs) t e =
-        λ i. numbers_same b t (first_each Same (condition_tables b s t) (conditions_tables bs s t) e) i + all_numbers_same bs t (second_each Same (condition_tables b s t) (conditions_tables bs s t) e) i
+        λ i. numbers_same b t (first_each Same (condition_tables b s t) (conditions_tables bs s t) e) i
+        + all_numbers_same bs t (second_each Same (condition_tables b s t) (conditions_tables bs s t) e) i
 
   mutual
     predicate_same : (b : BexpTree) (look : Look) (t p n : ℕ) → Are (condition_tables b s t) → predicate b s (where_mode s G) look t p n ≡ predicate b s (where_mode s H) look t p n
@@ -190,7 +191,8 @@ module _ (s : Schema) (g h : Grants) where
     pub list_numbers_same : list_numbers s G u cs a ≡ list_numbers s H u cs a
     list_numbers_same = λ i. 1 + extra s (by (e.0 i)) u cs + filter_numbers s (by (e.0 i)) u + numbers_same a.wanted u wanted_are i + sorts_numbers_same (list_sorts s u a) u sorts_are i
 
-    pub list_rows_same : (n : ℕ) (tie : PredTree) (limit : Option ℕ) (outs : List OutTree) (children : List JoinTree) → list_rows s G u cs a n tie limit outs children ≡ list_rows s H u cs a n tie limit outs children
+    pub list_rows_same : (n : ℕ) (tie : PredTree) (limit : Option ℕ) (outs : List OutTree) (children : List JoinTree)
+        → list_rows s G u cs a n tie limit outs children ≡ list_rows s H u cs a n tie limit outs children
     list_rows_same n tie limit outs children =
         λ i. tree.rows (distinct_columns (table s u).columns (shown_look s (by (e.0 i)) u cs n) (once a).distinct) outs
         (tree.table (table s u).schema (table s u).name (table_alias n))

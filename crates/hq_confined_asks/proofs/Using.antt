@@ -1,5 +1,5 @@
 -- What uses what a role may use asks for what is granted, where what is touched is ready.
-use Rattle.std.proofs.Common.{◌≡◌, ℕ, ◌<◌, ◌≤◌, ◌^◌, List, [], ◌∷◌, ◌++◌, flat_map, length, Bool, true, false, cond, ◌||◌, ◌==◌, Option, Some, None, refl, sym, ap, subst, ◌∙◌}
+use Rattle.std.proofs.Common.{◌≡◌, ℕ, ◌<◌, ◌≤◌, ◌^◌, List, [], ◌∷◌, ◌++◌, flat_map, length, Bool, true, false, cond, ◌||◌, ◌==◌, Option, Some, None, refl, sym, subst}
 use Rattle.std.proofs.lemmas.Bool.{eqb-true, false≢true}
 use Rattle.hq_base.specs.Lists.{Each}
 use Rattle.hq_terms.specs.Bexp.{BexpTree, always, and_of, or_of, not_of, test, through, exists_in, two_columns, BexpTrees, no_bexp, bexp, operands_of}
@@ -26,7 +26,7 @@ use Rattle.hq_compiled.specs.Fine.{Has}
 use Rattle.hq_compiled.specs.Lists.{once, list_sorts, list_used}
 use Rattle.hq_compiled.specs.Looks.{is_used, add_new}
 use Rattle.hq_compiled.specs.Predicates.{columns_in, columns_in_all}
-use Rattle.hq_compiled.specs.Sorts.{Sort, last_used, used_sorts, shown_sorts, own_sorts}
+use Rattle.hq_compiled.specs.Sorts.{last_used, used_sorts, shown_sorts, own_sorts}
 use Rattle.hq_compiled.proofs.Once.{each_once}
 use Rattle.hq_confined.specs.Members.{is_permitted}
 use Rattle.hq_confined.specs.Ready.{Ready, Permits, Leads, Allowed, AllAllowed, AllowedChain, AllowedSort, AllowedList, AllowedOrigin, AllowedFields, AllowedField, AllowedParts, AllowedPart}
@@ -123,7 +123,8 @@ module _ (s : Schema) (g : Grants) (ok : ask.Allowed) (B : ℕ → Type 0) (read
       let later : List ℕ = flat_map (λ j. path_tables j.through s t) ks in
       ((u.0, first_each B (path_tables k.through s t) later e), told_entries ks t u.1 (second_each B (path_tables k.through s t) later e))
 
-  all_entries : (ks : List SortKey) (distinct : List ℕ) (t : ℕ) → UsesSorts ks s ok t → Each B (flat_map (λ k. path_tables k.through s t) ks) → May t distinct → Each (Entry t) (sorts_or ks (ascending distinct))
+  all_entries : (ks : List SortKey) (distinct : List ℕ) (t : ℕ) → UsesSorts ks s ok t → Each B (flat_map (λ k. path_tables k.through s t) ks) → May t distinct
+      → Each (Entry t) (sorts_or ks (ascending distinct))
   all_entries [] distinct t u e d = plain_entries distinct t d
   all_entries (k ∷ ks) distinct t u e d = told_entries (k ∷ ks) t u e
 
@@ -225,7 +226,8 @@ module _ (s : Schema) (g : Grants) (ok : ask.Allowed) (B : ℕ → Type 0) (read
         let own = first_each B (list_tables a s v) (tables_of fs s v) e in
         (origin_allowed o t u.0 own.0, list_allowed a v (fields_used fs) u.1 own (all_used fs v ub) few.0, fields_allowed fs v ub (second_each B (list_tables a s v) (tables_of fs s v) e) few.1)
     field_allowed (by_key v key fs) t u ub e few =
-        (ready v u.0 e.0, permitted v (key_used s v fs) e.0 (each_both (λ c. ok.column v c ≡ true) (table s v).key (fields_used fs) (told (table s v).key v u.1) (all_used fs v ub)), fields_allowed fs v ub e.1 few)
+        let used = each_both (λ c. ok.column v c ≡ true) (table s v).key (fields_used fs) (told (table s v).key v u.1) (all_used fs v ub) in
+        (ready v u.0 e.0, permitted v (key_used s v fs) e.0 used, fields_allowed fs v ub e.1 few)
     field_allowed (aggregate o a ps) t u ub e few =
         let v : ℕ = origin_table o s t in
         let own = first_each B (list_tables a s v) (part_tables ps s v) e in
@@ -240,7 +242,8 @@ module _ (s : Schema) (g : Grants) (ok : ask.Allowed) (B : ℕ → Type 0) (read
       parts_allowed ps u a w own h.2 (second_each B (one_part_tables p s u) (part_tables ps s u) e) sorts few.1,
     )
 
-    part_allowed : (p : PartTree) (u : ℕ) (a : ListArguments) → UsesArguments a s ok u → Each B (list_tables a s u) → UsesPart ok u p → BelowPart (UsesHere s ok) (UsesPart ok) p s u → Each B (one_part_tables p s u)
+    part_allowed : (p : PartTree) (u : ℕ) (a : ListArguments) → UsesArguments a s ok u → Each B (list_tables a s u) → UsesPart ok u p → BelowPart (UsesHere s ok) (UsesPart ok) p s u
+        → Each B (one_part_tables p s u)
         → length (list_sorts s u a) ≤ 2 ^ 64 → IsFewPart p s u → AllowedPart p s g u a
     part_allowed (summary fs) u a w own h hb e sorts few = list_allowed a u (needed fs []) w own (needed_columns fs [] u h tt) sorts
     part_allowed (nodes fs) u a w own h hb e sorts few = (list_allowed a u (fields_used fs) w own (all_used fs u hb) sorts, fields_allowed fs u hb e few)
