@@ -1,0 +1,3 @@
+//! A redacted copy is a database: its catalog is one, its metadata fits it, and its rows are valid.
+#![tactic(auto)]
+
