@@ -37,7 +37,7 @@ tracked_first (k ∷ ks) h =
 
 module _ (role : Role) (m : MetaTree) where
   -- what the entries have, their sources have
-  each_source_in : (P : TrackedTree → Type 0) (Q : Source → Type 0) → ((k : TrackedTree) (p : Permission) → permission role m k.table ≡ Some p → P k → Q (record { entry = k; permission = p }))
+  pub each_source_in : (P : TrackedTree → Type 0) (Q : Source → Type 0) → ((k : TrackedTree) (p : Permission) → permission role m k.table ≡ Some p → P k → Q (record { entry = k; permission = p }))
       → (ks : List TrackedTree) → Each P ks → Each Q (sources_in role m ks)
   each_source_in P Q f [] h = tt
   each_source_in P Q f (k ∷ ks) h =

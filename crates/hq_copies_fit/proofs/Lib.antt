@@ -10,3 +10,5 @@ mod Named
 mod Metas
 mod Values
 mod Rows
+mod Readable
+mod Answers
