@@ -80,7 +80,7 @@ places_long k [] (y ∷ ys) e = absurd (omega arith)
 places_long k (x ∷ xs) [] e = absurd (omega arith)
 places_long k (x ∷ xs) (y ∷ ys) e = let shorter : length xs ≡ length ys = omega arith in ap (λ l. k ∷ l) (places_long (suc k) xs ys shorter)
 
-places_within : {A : Type 0} (k : ℕ) (xs : List A) → Each (λ c. (k ≤ c) × (c < k + length xs)) (places k xs)
+pub places_within : {A : Type 0} (k : ℕ) (xs : List A) → Each (λ c. (k ≤ c) × (c < k + length xs)) (places k xs)
 places_within k [] = tt
 places_within k (x ∷ xs) =
     let here : k ≤ k = omega arith in

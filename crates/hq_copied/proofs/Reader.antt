@@ -31,7 +31,7 @@ given_columns q [] c rest e = cc
 given_columns q (d ∷ cs) c rest e = refl
 
 module _ (role : Role) (m : MetaTree) (s : Schema) (o : Source) (h : HasColumns o.entry o.permission) where
-  names_free : Each (λ n. is_free_name n ≡ true) (copied_names role m s o)
+  pub names_free : Each (λ n. is_free_name n ≡ true) (copied_names role m s o)
   names_free =
       each_append (λ n. is_free_name n ≡ true) (map (λ c. slice_index_or o.entry.column_names c []) o.permission.columns) (map extra_name (extras_of role m s o.permission o.entry.table))
       (each_map (λ n. is_free_name n ≡ true) (λ c. slice_index_or o.entry.column_names c []) o.permission.columns h.free)

@@ -41,7 +41,7 @@ map_length : {A B : Type 0} (f : A → B) (xs : List A) → length (map f xs) �
 map_length f [] = refl
 map_length f (x ∷ xs) = ap suc (map_length f xs)
 
-found_there : {A : Type 0} (p : A → Bool) (xs : List A) → list_any p xs ≡ true → (x : A) × (find p xs ≡ Some x)
+pub found_there : {A : Type 0} (p : A → Bool) (xs : List A) → list_any p xs ≡ true → (x : A) × (find p xs ≡ Some x)
 found_there p [] h = absurd (false≢true h)
 found_there p (y ∷ ys) h =
     let go : (b : Bool) → (b || list_any p ys) ≡ true → (x : _) × (cond b (Some y) (find p ys) ≡ Some x) =
@@ -98,37 +98,48 @@ module _ (role : Role) (m : MetaTree) (s : Schema) (S : Sees ℕ) (o : Source) w
   abbrev cells_front : ℕ → List Val
   cells_front i = map (λ c. value_of (S.cell o.entry.table i c)) o.permission.columns
 
-  pub permitted_cell : (i c : ℕ) → list_any (λ d. d == c) o.permission.columns ≡ true → row_cell (copied_row role m s S o i) (place_in o.permission.columns c) ≡ cell_of (value_of (S.cell o.entry.table i c))
-  permitted_cell i c h =
-      ap cell_of (present (copied_row role m s S o i) (place_in o.permission.columns c) val.Null (value_of (S.cell o.entry.table i c))
+  -- the value of a permitted column
+  pub permitted_value : (i c : ℕ) → list_any (λ d. d == c) o.permission.columns ≡ true → slice_index_or (copied_row role m s S o i) (place_in o.permission.columns c) val.Null ≡ value_of (S.cell o.entry.table i c)
+  permitted_value i c h =
+      present (copied_row role m s S o i) (place_in o.permission.columns c) val.Null (value_of (S.cell o.entry.table i c))
       (got_front (cells_front i) (map (extra_value s S i) (extras_of role m s o.permission o.entry.table)) (place_in o.permission.columns c) (value_of (S.cell o.entry.table i c))
-      (got_map (λ c. value_of (S.cell o.entry.table i c)) o.permission.columns (place_in o.permission.columns c) ∙ ap (option_map (λ c. value_of (S.cell o.entry.table i c))) (place_holds o.permission.columns c h))))
+      (got_map (λ c. value_of (S.cell o.entry.table i c)) o.permission.columns (place_in o.permission.columns c) ∙ ap (option_map (λ c. value_of (S.cell o.entry.table i c))) (place_holds o.permission.columns c h)))
 
-  pub extra_cell : (i j : ℕ) (e : Extra) → slice_get (extras_of role m s o.permission o.entry.table) j ≡ Some e → row_cell (copied_row role m s S o i) (length o.permission.columns + j) ≡ cell_of (extra_value s S i e)
-  extra_cell i j e h =
+  pub permitted_cell : (i c : ℕ) → list_any (λ d. d == c) o.permission.columns ≡ true → row_cell (copied_row role m s S o i) (place_in o.permission.columns c) ≡ cell_of (value_of (S.cell o.entry.table i c))
+  permitted_cell i c h = ap cell_of (permitted_value i c h)
+
+  -- the value of an added one
+  pub added_value : (i j : ℕ) (e : Extra) → slice_get (extras_of role m s o.permission o.entry.table) j ≡ Some e → slice_index_or (copied_row role m s S o i) (length o.permission.columns + j) val.Null ≡ extra_value s S i e
+  added_value i j e h =
       let long : length (cells_front i) ≡ length o.permission.columns = map_length _ o.permission.columns in
-      ap cell_of (present (copied_row role m s S o i) (length o.permission.columns + j) val.Null (extra_value s S i e)
+      present (copied_row role m s S o i) (length o.permission.columns + j) val.Null (extra_value s S i e)
       (ap (λ n. slice_get (copied_row role m s S o i) (n + j)) (sym long)
       ∙ got_back (cells_front i) (map (extra_value s S i) (extras_of role m s o.permission o.entry.table)) j
       ∙ got_map (extra_value s S i) (extras_of role m s o.permission o.entry.table) j
-      ∙ ap (option_map (extra_value s S i)) h))
+      ∙ ap (option_map (extra_value s S i)) h)
+
+  pub extra_cell : (i j : ℕ) (e : Extra) → slice_get (extras_of role m s o.permission o.entry.table) j ≡ Some e → row_cell (copied_row role m s S o i) (length o.permission.columns + j) ≡ cell_of (extra_value s S i e)
+  extra_cell i j e h = ap cell_of (added_value i j e h)
 
   -- the position stands behind the ends of links
-  pub position_cell : (i : ℕ) → keeps_key o.permission (table s o.entry.table).key ≡ false → row_cell (copied_row role m s S o i) (length o.permission.columns + length (ends_of role m s o.entry.table)) ≡ int (pos (suc i))
-  position_cell i h =
+  pub position_value : (i : ℕ) → keeps_key o.permission (table s o.entry.table).key ≡ false → slice_index_or (copied_row role m s S o i) (length o.permission.columns + length (ends_of role m s o.entry.table)) val.Null ≡ val.Int (pos (suc i))
+  position_value i h =
       let t : ℕ = o.entry.table in
       let zeroth : length (ends_of role m s t) ≡ length (ends_of role m s t) + 0 = omega arith in
       let at : slice_get (extras_of role m s o.permission t) (length (ends_of role m s t)) ≡ Some row_position =
-      ap (slice_get (extras_of role m s o.permission t)) zeroth
-      ∙ got_back (ends_of role m s t) (cond (keeps_key o.permission (table s t).key) [] (row_position ∷ [])) 0
-      ∙ ap (λ b. slice_get (cond b [] (row_position ∷ [])) 0) h in
-      extra_cell i (length (ends_of role m s t)) row_position at
+          ap (slice_get (extras_of role m s o.permission t)) zeroth
+          ∙ got_back (ends_of role m s t) (cond (keeps_key o.permission (table s t).key) [] (row_position ∷ [])) 0
+          ∙ ap (λ b. slice_get (cond b [] (row_position ∷ [])) 0) h in
+      added_value i (length (ends_of role m s t)) row_position at
+
+  pub position_cell : (i : ℕ) → keeps_key o.permission (table s o.entry.table).key ≡ false → row_cell (copied_row role m s S o i) (length o.permission.columns + length (ends_of role m s o.entry.table)) ≡ int (pos (suc i))
+  position_cell i h = ap cell_of (position_value i h)
 
 -- ---- the ends of links
 
 module _ (role : Role) (m : MetaTree) (s : Schema) where
   -- a link of a source stands among all
-  link_there : (o : Source) → IsSource role m o → (r : ℕ) → list_any (λ q. q == r) (kept_relationships role m s o.entry.table) ≡ true
+  pub link_there : (o : Source) → IsSource role m o → (r : ℕ) → list_any (λ q. q == r) (kept_relationships role m s o.entry.table) ≡ true
       → list_any (λ j. same_link j (record { table = o.entry.table; relationship = r })) (links role m s) ≡ true
   link_there o is r h =
       let l : Link = record { table = o.entry.table; relationship = r } in
@@ -140,7 +151,7 @@ module _ (role : Role) (m : MetaTree) (s : Schema) where
       any_on qs g = let same : (o.entry.table == o.entry.table) ≡ true = eq-eqb o.entry.table o.entry.table refl in subst (λ b. list_any (λ q. b && (q == r)) qs ≡ true) (sym same) g
 
   -- its own end stands in its table
-  from_there : (t : ℕ) (l : Link) → l.table ≡ t → (k : ℕ) (ls : List Link) → list_any (λ j. same_link j l) ls ≡ true → list_any (is_from_end l) (ends_from s t k ls) ≡ true
+  pub from_there : (t : ℕ) (l : Link) → l.table ≡ t → (k : ℕ) (ls : List Link) → list_any (λ j. same_link j l) ls ≡ true → list_any (is_from_end l) (ends_from s t k ls) ≡ true
   from_there t l at k [] h = absurd (false≢true h)
   from_there t l at k (j ∷ ls) h =
       let rest : List Extra = ends_from s t (suc k) ls in
@@ -149,7 +160,7 @@ module _ (role : Role) (m : MetaTree) (s : Schema) where
         | true ↦ λ e g.
             let own : (j.table == t) ≡ true = eq-eqb j.table t (eqb-true j.table l.table (and_parts (j.table == l.table) (j.relationship == l.relationship) e).0 ∙ at) in
             let here : list_any (is_from_end l) (ends_at s t k j) ≡ true =
-            ap (λ b. list_any (is_from_end l) (cond b (from_end k j ∷ []) [] ++ cond (link_remote s j == t) (to_end k j ∷ []) [])) own ∙ or_left (same_link j l) _ e in
+                ap (λ b. list_any (is_from_end l) (cond b (from_end k j ∷ []) [] ++ cond (link_remote s j == t) (to_end k j ∷ []) [])) own ∙ or_left (same_link j l) _ e in
             list_any-append (is_from_end l) (ends_at s t k j) rest ∙ or_left (list_any (is_from_end l) (ends_at s t k j)) (list_any (is_from_end l) rest) here
         | false ↦ λ e g.
             list_any-append (is_from_end l) (ends_at s t k j) rest ∙ or_right (list_any (is_from_end l) (ends_at s t k j)) (list_any (is_from_end l) rest) (from_there t l at (suc k) ls g)
@@ -163,7 +174,7 @@ module _ (role : Role) (m : MetaTree) (s : Schema) where
       ap₂ (λ t r. (rel s t r).remote) (eqb-true j.table l.table both.0) (eqb-true j.relationship l.relationship both.1)
 
   -- its remote end stands in the remote table
-  to_there : (t : ℕ) (l : Link) → link_remote s l ≡ t → (k : ℕ) (ls : List Link) → list_any (λ j. same_link j l) ls ≡ true → list_any (is_to_end l) (ends_from s t k ls) ≡ true
+  pub to_there : (t : ℕ) (l : Link) → link_remote s l ≡ t → (k : ℕ) (ls : List Link) → list_any (λ j. same_link j l) ls ≡ true → list_any (is_to_end l) (ends_from s t k ls) ≡ true
   to_there t l at k [] h = absurd (false≢true h)
   to_there t l at k (j ∷ ls) h =
       let rest : List Extra = ends_from s t (suc k) ls in
@@ -173,9 +184,9 @@ module _ (role : Role) (m : MetaTree) (s : Schema) where
             let far : (link_remote s j == t) ≡ true = eq-eqb (link_remote s j) t (one_remote j l e ∙ at) in
             let own : List Extra = cond (j.table == t) (from_end k j ∷ []) [] in
             let end : list_any (is_to_end l) (cond (link_remote s j == t) (to_end k j ∷ []) []) ≡ true =
-            ap (λ b. list_any (is_to_end l) (cond b (to_end k j ∷ []) [])) far ∙ or_left (same_link j l) _ e in
+                ap (λ b. list_any (is_to_end l) (cond b (to_end k j ∷ []) [])) far ∙ or_left (same_link j l) _ e in
             let here : list_any (is_to_end l) (ends_at s t k j) ≡ true =
-            list_any-append (is_to_end l) own (cond (link_remote s j == t) (to_end k j ∷ []) []) ∙ or_right (list_any (is_to_end l) own) _ end in
+                list_any-append (is_to_end l) own (cond (link_remote s j == t) (to_end k j ∷ []) []) ∙ or_right (list_any (is_to_end l) own) _ end in
             list_any-append (is_to_end l) (ends_at s t k j) rest ∙ or_left (list_any (is_to_end l) (ends_at s t k j)) (list_any (is_to_end l) rest) here
         | false ↦ λ e g.
             list_any-append (is_to_end l) (ends_at s t k j) rest ∙ or_right (list_any (is_to_end l) (ends_at s t k j)) (list_any (is_to_end l) rest) (to_there t l at (suc k) ls g)
@@ -197,7 +208,7 @@ module _ (role : Role) (m : MetaTree) (s : Schema) where
       ap₂ (λ t r. number_value (to_number (S.linked t r) (S.rows t) (S.rows (rel s t r).remote) i)) (eqb-true j.table l.table both.0) (eqb-true j.relationship l.relationship both.1)
   to_value S i l row_position h = absurd (false≢true h)
 
-  width_is : (o : Source) → IsSource role m o → width role m o.entry.table ≡ length o.permission.columns
+  pub width_is : (o : Source) → IsSource role m o → width role m o.entry.table ≡ length o.permission.columns
   width_is o is = ap (λ p. unwrap_or (option_map (λ q. length q.columns) p) 0) is.seen
 
   -- the cell of the own end of a kept relationship

@@ -105,18 +105,18 @@ module _ (tables : List Table) (m : MetaTree) (session : Session) (d : List (Lis
     -- ---- what is granted
 
     -- the bound permission of a source
-    bound_of : (o : Source) → IsSource role m o → (q : Permission) × (bound_permission o.permission s session.vars o.entry.table ≡ Ok q)
+    pub bound_of : (o : Source) → IsSource role m o → (q : Permission) × (bound_permission o.permission s session.vars o.entry.table ≡ Ok q)
     bound_of o is = binds (bound_permission o.permission s session.vars o.entry.table) (each_at (λ o. filter_refusal s session.vars o ≡ None) (sources role m) (at o) o none.bind is.place)
 
     there : (o : Source) → IsSource role m o → o.entry.table < length s
     there o is = (permission_fits tables m role o.entry.table fit o.permission is.seen).there
 
-    granted_is : (o : Source) (is : IsSource role m o) → grant g o.entry.table ≡ (bound_of o is).0
+    pub granted_is : (o : Source) (is : IsSource role m o) → grant g o.entry.table ≡ (bound_of o is).0
     granted_is o is =
         let b = bound_of o is in
         ap (λ p. unwrap_or p no_grant) (granted_there session tables m o.entry.table o.permission b.0 (there o is) is.seen b.1)
 
-    kept_is : (o : Source) (is : IsSource role m o) → KeptBound o.permission (bound_of o is).0
+    pub kept_is : (o : Source) (is : IsSource role m o) → KeptBound o.permission (bound_of o is).0
     kept_is o is = let b = bound_of o is in kept_bound o.permission b.0 s session.vars o.entry.table b.1
 
     -- what the reader is granted of its copy
@@ -135,7 +135,7 @@ module _ (tables : List Table) (m : MetaTree) (session : Session) (d : List (Lis
         ∙ ap (map (copied_row role m s (seen_in v) o)) (seen_positions s g d o.entry.table)
 
     -- the columns that are granted
-    granted_column : (o : Source) → IsSource role m o → (c : ℕ) → list_any (λ k. k == c) o.permission.columns ≡ true → list_any (λ k. k == c) (grant g o.entry.table).columns ≡ true
+    pub granted_column : (o : Source) → IsSource role m o → (c : ℕ) → list_any (λ k. k == c) o.permission.columns ≡ true → list_any (λ k. k == c) (grant g o.entry.table).columns ≡ true
     granted_column o is c a = ap (λ p. list_any (λ k. k == c) p.columns) (granted_is o is) ∙ ap (λ l. list_any (λ k. k == c) l) (kept_is o is).columns ∙ a
 
     -- the cell of a permitted column is the cell that is shown
@@ -147,7 +147,7 @@ module _ (tables : List Table) (m : MetaTree) (session : Session) (d : List (Lis
         ∙ shown_value _ (slice_index_or x c val.Null)
 
     -- where the key is kept, its columns are permitted and have no masks
-    key_shows : (o : Source) → IsSource role m o → keeps_key o.permission (table s o.entry.table).key ≡ true → list_any (has_mask o.permission) (table s o.entry.table).key ≡ false
+    pub key_shows : (o : Source) → IsSource role m o → keeps_key o.permission (table s o.entry.table).key ≡ true → list_any (has_mask o.permission) (table s o.entry.table).key ≡ false
     key_shows o is kept =
         let refused = not_refused _ _ (each_at (λ o. masked_key_refusal role m s o ≡ None) (sources role m) (at o) o none.keys is.place) in
         sym (ap (λ b. b && list_any (has_mask o.permission) (table s o.entry.table).key) kept) ∙ refused

@@ -1,7 +1,7 @@
-mod Viewed
-mod Granted
-mod Refused
-mod Cells
-mod Order
-mod Copy
-mod Answers
+pub mod Viewed
+pub mod Granted
+pub mod Refused
+pub mod Cells
+pub mod Order
+pub mod Copy
+pub mod Answers

@@ -72,7 +72,7 @@ positions_ascend c i j x y e f h =
 -- ---- the order of permitted rows by a key whose columns show
 
 -- a column without a mask always shows
-no_mask : (ms : List Mask) (c : ℕ) → list_any (λ m. m.column == c) ms ≡ false → mask_of ms c ≡ always
+pub no_mask : (ms : List Mask) (c : ℕ) → list_any (λ m. m.column == c) ms ≡ false → mask_of ms c ≡ always
 no_mask [] c h = refl
 no_mask (m ∷ ms) c h = let both = or_parts (m.column == c) (list_any (λ k. k.column == c) ms) h in ap (λ b. cond b m.shown (mask_of ms c)) both.0 ∙ no_mask ms c both.1
 

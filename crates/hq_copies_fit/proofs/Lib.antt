@@ -1,0 +1,14 @@
+mod Apart
+mod Texts
+mod Held
+mod Unkept
+mod Extras
+mod Columns
+mod Catalogs
+mod Entries
+mod Named
+mod Metas
+mod Values
+mod Rows
+mod Readable
+mod Answers

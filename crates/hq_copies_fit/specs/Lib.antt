@@ -1,0 +1,2 @@
+pub mod ReadableNames
+pub mod Laws
