@@ -55,14 +55,14 @@ clean_nothing = refl
 -- ---- the parts
 
 -- the columns' names are clean
-abbrev CleanColumns : List Column → Type 0
+abbrev pub CleanColumns : List Column → Type 0
 CleanColumns columns = list_all (λ c. is_clean c.name) columns ≡ true
 
 -- and the table's
-abbrev clean_table : Table → Bool
+abbrev pub clean_table : Table → Bool
 clean_table t = is_clean t.schema && is_clean t.name && list_all (λ c. is_clean c.name) t.columns
 
-name_clean : (columns : List Column) (k : ℕ) → CleanColumns columns → is_clean (name_at columns k) ≡ true
+pub name_clean : (columns : List Column) (k : ℕ) → CleanColumns columns → is_clean (name_at columns k) ≡ true
 name_clean columns k h =
     let go : (o : Option Column) → slice_get columns k ≡ o → is_clean (name_in o) ≡ true = elim [
       | None ↦ λ e. clean_nothing
@@ -70,7 +70,7 @@ name_clean columns k h =
     ] in
     go (slice_get columns k) refl
 
-names_clean : (columns : List Column) (ks : List ℕ) → CleanColumns columns → list_all is_clean (map (name_at columns) ks) ≡ true
+pub names_clean : (columns : List Column) (ks : List ℕ) → CleanColumns columns → list_all is_clean (map (name_at columns) ks) ≡ true
 names_clean columns [] h = refl
 names_clean columns (k ∷ ks) h = and_from _ _ (name_clean columns k h) (names_clean columns ks h)
 
@@ -82,7 +82,7 @@ columns_readable [] h = tt
 columns_readable (c ∷ cs) h = let p = and_parts _ _ h in (column_readable c p.0, columns_readable cs p.1)
 
 -- what is told of a table is clean, where the table is there and where it is not
-ref_clean : (o : Option Table) → ((t : Table) → o ≡ Some t → clean_table t ≡ true) → (is_clean (schema_in o) ≡ true) × (is_clean (table_name_in o) ≡ true) × CleanColumns (columns_in o)
+pub ref_clean : (o : Option Table) → ((t : Table) → o ≡ Some t → clean_table t ≡ true) → (is_clean (schema_in o) ≡ true) × (is_clean (table_name_in o) ≡ true) × CleanColumns (columns_in o)
 ref_clean None h = (clean_nothing, clean_nothing, refl)
 ref_clean (Some t) h = let p = and_parts _ _ (h t refl) in let q = and_parts _ _ p.0 in (q.0, q.1, p.1)
 

@@ -82,7 +82,7 @@ differ_weaken same wide step (x ∷ xs) h =
     let p = and_parts _ _ h in
     rw (any_weaken (same x) (wide x) (step x) xs (not_true _ p.0)) (differ_weaken same wide step xs p.1)
 
-any_map : {A B : Type 0} (p : B → Bool) (f : A → B) (xs : List A) → list_any p (map f xs) ≡ list_any (λ x. p (f x)) xs
+pub any_map : {A B : Type 0} (p : B → Bool) (f : A → B) (xs : List A) → list_any p (map f xs) ≡ list_any (λ x. p (f x)) xs
 any_map p f [] = refl
 any_map p f (x ∷ xs) = ap (λ b. p (f x) || b) (any_map p f xs)
 

@@ -43,7 +43,7 @@ abbrev same_table : WrittenTable → WrittenTable → Bool
 same_table w v = bytes_eq w.schema v.schema && bytes_eq w.name v.name
 
 -- such tables have one full name
-one_name : (t u : Table) → (bytes_eq t.schema u.schema && bytes_eq t.name u.name) ≡ true → bytes_eq (catalog.full_name t) (catalog.full_name u) ≡ true
+pub one_name : (t u : Table) → (bytes_eq t.schema u.schema && bytes_eq t.name u.name) ≡ true → bytes_eq (catalog.full_name t) (catalog.full_name u) ≡ true
 one_name t u h =
     let p = and_parts _ _ h in
     let schema : t.schema ≡ u.schema = (bytes_decides t.schema u.schema).0 p.0 in

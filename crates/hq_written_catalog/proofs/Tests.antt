@@ -98,7 +98,7 @@ no_repeat earlier (name ∷ names) h =
     rw (none_before bytes_eq earlier names name h) (no_repeat (earlier ++ name ∷ []) names (rw (append_assoc earlier (name ∷ []) names) h))
 
 -- the names of different key columns differ
-key_names : (columns : List Column) (key : List ℕ) → differ columns ≡ true → all_differ (λ c d. c == d) key ≡ true → Each (IsPlace columns) key → all_differ bytes_eq (map (name_at columns) key) ≡ true
+pub key_names : (columns : List Column) (key : List ℕ) → differ columns ≡ true → all_differ (λ c d. c == d) key ≡ true → Each (IsPlace columns) key → all_differ bytes_eq (map (name_at columns) key) ≡ true
 key_names columns key h apart there = differ_map bytes_eq (name_at columns) key ∙ go key apart there
   where
     others : (k : ℕ) (ks : List ℕ) → IsPlace columns k → Each (IsPlace columns) ks → list_any (λ d. k == d) ks ≡ false → list_any (λ d. bytes_eq (name_at columns k) (name_at columns d)) ks ≡ false

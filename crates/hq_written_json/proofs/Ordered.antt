@@ -37,7 +37,7 @@ Differ (m ∷ ms) = Each (Apart m) ms × Differ ms
 abbrev AllApart : List Member → List Member → Type 0
 AllApart ms ns = Each (λ m. Each (Apart m) ns) ms
 
-by_name_total : IsTotalOrder (by_name {A = JsonTree})
+pub by_name_total : IsTotalOrder (by_name {A = JsonTree})
 by_name_total = on_total (λ m. m.0) nat_list_cmp_total
 
 turned : (m n : Member) → Apart m n → Apart n m
