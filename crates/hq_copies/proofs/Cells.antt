@@ -127,9 +127,9 @@ module _ (role : Role) (m : MetaTree) (s : Schema) (S : Sees ℕ) (o : Source) w
       let t : ℕ = o.entry.table in
       let zeroth : length (ends_of role m s t) ≡ length (ends_of role m s t) + 0 = omega arith in
       let at : slice_get (extras_of role m s o.permission t) (length (ends_of role m s t)) ≡ Some row_position =
-          ap (slice_get (extras_of role m s o.permission t)) zeroth
-          ∙ got_back (ends_of role m s t) (cond (keeps_key o.permission (table s t).key) [] (row_position ∷ [])) 0
-          ∙ ap (λ b. slice_get (cond b [] (row_position ∷ [])) 0) h in
+      ap (slice_get (extras_of role m s o.permission t)) zeroth
+      ∙ got_back (ends_of role m s t) (cond (keeps_key o.permission (table s t).key) [] (row_position ∷ [])) 0
+      ∙ ap (λ b. slice_get (cond b [] (row_position ∷ [])) 0) h in
       added_value i (length (ends_of role m s t)) row_position at
 
   pub position_cell : (i : ℕ) → keeps_key o.permission (table s o.entry.table).key ≡ false → row_cell (copied_row role m s S o i) (length o.permission.columns + length (ends_of role m s o.entry.table)) ≡ int (pos (suc i))
@@ -160,7 +160,7 @@ module _ (role : Role) (m : MetaTree) (s : Schema) where
         | true ↦ λ e g.
             let own : (j.table == t) ≡ true = eq-eqb j.table t (eqb-true j.table l.table (and_parts (j.table == l.table) (j.relationship == l.relationship) e).0 ∙ at) in
             let here : list_any (is_from_end l) (ends_at s t k j) ≡ true =
-                ap (λ b. list_any (is_from_end l) (cond b (from_end k j ∷ []) [] ++ cond (link_remote s j == t) (to_end k j ∷ []) [])) own ∙ or_left (same_link j l) _ e in
+            ap (λ b. list_any (is_from_end l) (cond b (from_end k j ∷ []) [] ++ cond (link_remote s j == t) (to_end k j ∷ []) [])) own ∙ or_left (same_link j l) _ e in
             list_any-append (is_from_end l) (ends_at s t k j) rest ∙ or_left (list_any (is_from_end l) (ends_at s t k j)) (list_any (is_from_end l) rest) here
         | false ↦ λ e g.
             list_any-append (is_from_end l) (ends_at s t k j) rest ∙ or_right (list_any (is_from_end l) (ends_at s t k j)) (list_any (is_from_end l) rest) (from_there t l at (suc k) ls g)
@@ -184,9 +184,9 @@ module _ (role : Role) (m : MetaTree) (s : Schema) where
             let far : (link_remote s j == t) ≡ true = eq-eqb (link_remote s j) t (one_remote j l e ∙ at) in
             let own : List Extra = cond (j.table == t) (from_end k j ∷ []) [] in
             let end : list_any (is_to_end l) (cond (link_remote s j == t) (to_end k j ∷ []) []) ≡ true =
-                ap (λ b. list_any (is_to_end l) (cond b (to_end k j ∷ []) [])) far ∙ or_left (same_link j l) _ e in
+            ap (λ b. list_any (is_to_end l) (cond b (to_end k j ∷ []) [])) far ∙ or_left (same_link j l) _ e in
             let here : list_any (is_to_end l) (ends_at s t k j) ≡ true =
-                list_any-append (is_to_end l) own (cond (link_remote s j == t) (to_end k j ∷ []) []) ∙ or_right (list_any (is_to_end l) own) _ end in
+            list_any-append (is_to_end l) own (cond (link_remote s j == t) (to_end k j ∷ []) []) ∙ or_right (list_any (is_to_end l) own) _ end in
             list_any-append (is_to_end l) (ends_at s t k j) rest ∙ or_left (list_any (is_to_end l) (ends_at s t k j)) (list_any (is_to_end l) rest) here
         | false ↦ λ e g.
             list_any-append (is_to_end l) (ends_at s t k j) rest ∙ or_right (list_any (is_to_end l) (ends_at s t k j)) (list_any (is_to_end l) rest) (to_there t l at (suc k) ls g)

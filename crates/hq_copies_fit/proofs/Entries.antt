@@ -145,7 +145,7 @@ order_kept f test k (x ∷ xs) at h =
     let same : k + 0 ≡ k = omega arith in
     let here : x.many ≡ (f k).many = let first = at 0 in let is : x.many ≡ (f (k + 0)).many = cc in is ∙ ap (λ i. (f i).many) same in
     let next : (j : ℕ) → slice_get (map (λ r. r.many) xs) j ≡ option_map (λ x. (f (suc k + j)).many) (slice_get xs j) =
-        λ j. let step : k + suc j ≡ suc k + j = omega arith in at (suc j) ∙ ap (λ i. option_map (λ x. (f i).many) (slice_get xs j)) step in
+    λ j. let step : k + suc j ≡ suc k + j = omega arith in at (suc j) ∙ ap (λ i. option_map (λ x. (f i).many) (slice_get xs j)) step in
     let cases : (c : Bool) → x.many ≡ c → cond c (list_all (λ q. q.many) xs) (objects_first xs) ≡ true → (b : Bool) → objects_first (map f (cond b (k ∷ places_from test (suc k) xs) (places_from test (suc k) xs))) ≡ true =
     elim [
       | true ↦ λ e g. elim [
@@ -227,10 +227,10 @@ module _ (tables : List Table) (m : MetaTree) (role : Role) (fit : fits tables m
       let name : is_free_name (rel s t r).name ≡ true = ap (λ (y : Rel). is_free_name y.name) is ∙ (and_parts _ _ (and_parts _ _ (and_parts _ _ fits_x).0).0).0 in
       let far : is_some (permission role m (rel s t r).remote) ≡ true = ap (λ (y : Rel). is_some (permission role m y.remote)) is ∙ seen in
       let copied : is_some (tracked_table k (table_place os (rel s t r).remote)) ≡ true =
-          by_source role m (λ v. is_some (tracked_table k (table_place os v)) ≡ true) (λ w isw. ap is_some (entry_at role m s (table_place os w.entry.table) w isw.place)) (rel s t r).remote far in
+      by_source role m (λ v. is_some (tracked_table k (table_place os v)) ≡ true) (λ w isw. ap is_some (entry_at role m s (table_place os w.entry.table) w isw.place)) (rel s t r).remote far in
       let ends : can_pair (column_ty z u (copied_pair role m s t r).own) (column_ty z (table_place os (rel s t r).remote) (copied_pair role m s t r).remote) ≡ true =
-          ap₂ can_pair (from_ty u o at h r kept)
-          (by_source role m (λ v. (rel s t r).remote ≡ v → column_ty z (table_place os v) (copied_pair role m s t r).remote ≡ Some Bigint) (λ w isw e. to_ty o h r kept w isw e) (rel s t r).remote far refl) in
+      ap₂ can_pair (from_ty u o at h r kept)
+      (by_source role m (λ v. (rel s t r).remote ≡ v → column_ty z (table_place os v) (copied_pair role m s t r).remote ≡ Some Bigint) (λ w isw e. to_ty o h r kept w isw e) (rel s t r).remote far refl) in
       and_from _ _ (and_from _ _ (and_from _ _ name copied) refl) (and_from _ _ ends refl)
 
   rels_fit : (u : ℕ) (o : Source) → slice_get os u ≡ Some o → Held tables m role o → Each (λ x. fits_rel z k u x ≡ true) (map (copied_rel role m s o.entry.table) (kept_relationships role m s o.entry.table))
@@ -253,13 +253,13 @@ module _ (tables : List Table) (m : MetaTree) (role : Role) (fit : fits tables m
       let t : ℕ = o.entry.table in
       let cs : List Column = copied_columns role m s p t in
       let columns : Each (λ c. is_some (column_ty z u c) ≡ true) (places 0 p.columns) =
-          each_weaken (λ c. (0 ≤ c) × (c < 0 + length p.columns)) (λ c. is_some (column_ty z u c) ≡ true)
-          (λ c g. let most = g.1 in
-          let inside : c < length cs = omega (arith, length-append (map (copied_column s p t) p.columns) (map extra_column (extras_of role m s p t)), map_length (copied_column s p t) p.columns) in
-          ap (λ x. is_some (option_map (λ (y : Column). y.ty) (slice_get x.columns c))) (table_at role m s u o at)
-          ∙ ap (λ w. is_some (option_map (λ (y : Column). y.ty) w)) (slice_get-get_or cs c no_column inside)) (places 0 p.columns) (places_within 0 p.columns) in
+      each_weaken (λ c. (0 ≤ c) × (c < 0 + length p.columns)) (λ c. is_some (column_ty z u c) ≡ true)
+      (λ c g. let most = g.1 in
+      let inside : c < length cs = omega (arith, length-append (map (copied_column s p t) p.columns) (map extra_column (extras_of role m s p t)), map_length (copied_column s p t) p.columns) in
+      ap (λ x. is_some (option_map (λ (y : Column). y.ty) (slice_get x.columns c))) (table_at role m s u o at)
+      ∙ ap (λ w. is_some (option_map (λ (y : Column). y.ty) w)) (slice_get-get_or cs c no_column inside)) (places 0 p.columns) (places_within 0 p.columns) in
       let limits : Each (λ (q : PermTree). limit_fits q.limit ≡ true) o.entry.perms =
-          each_weaken (λ q. fits_perm s m t q ≡ true) (λ (q : PermTree). limit_fits q.limit ≡ true) (λ q g. (and_parts _ _ (and_parts _ _ g).0).1) o.entry.perms h.entry.perms in
+      each_weaken (λ q. fits_perm s m t q ≡ true) (λ (q : PermTree). limit_fits q.limit ≡ true) (λ q g. (and_parts _ _ (and_parts _ _ g).0).1) o.entry.perms h.entry.perms in
       and_from _ _ (and_from _ _ (and_from _ _ (and_from _ _ (and_from _ _ refl (all_each (λ c. is_some (column_ty z u c)) (places 0 p.columns) columns)) refl) refl) (limit_is o.entry limits role m.inherited p h.given)) refl
 
   got_within : {A : Type 0} (xs : List A) (i : ℕ) (x : A) → slice_get xs i ≡ Some x → i < length xs
@@ -278,13 +278,20 @@ module _ (tables : List Table) (m : MetaTree) (role : Role) (fit : fits tables m
       let es : List Extra = extras_of role m s p t in
       let inside : nat_lt u (length z) ≡ true = lt-ltb u (length z) (omega (arith, got_within os u o at, schema_long k 0 (copied_tables role m s), map_length (copied_table role m s) os)) in
       let names : length (copied_names role m s o) ≡ length (copied_columns role m s p t) =
-          omega (arith, length-append (map (λ c. slice_index_or o.entry.column_names c []) p.columns) (map extra_name es), length-append (map (copied_column s p t) p.columns) (map extra_column es),
-          map_length (λ c. slice_index_or o.entry.column_names c []) p.columns, map_length extra_name es, map_length (copied_column s p t) p.columns, map_length extra_column es) in
+      omega (
+        arith,
+        length-append (map (λ c. slice_index_or o.entry.column_names c []) p.columns) (map extra_name es),
+        length-append (map (copied_column s p t) p.columns) (map extra_column es),
+        map_length (λ c. slice_index_or o.entry.column_names c []) p.columns,
+        map_length extra_name es,
+        map_length (copied_column s p t) p.columns,
+        map_length extra_column es,
+      ) in
       let long : (length (copied_names role m s o) == length (table z u).columns) ≡ true = eq-eqb _ _ (names ∙ sym (ap (λ x. length x.columns) (table_at role m s u o at))) in
       let order : objects_first (map (copied_rel role m s t) (kept_relationships role m s t)) ≡ true =
-          order_kept (copied_rel role m s t) (λ (r : Rel). is_some (permission role m r.remote)) 0 (table s t).rels
-          (λ j. let zeroth : 0 + j ≡ j = omega arith in many_at (table s t).rels j ∙ ap (λ i. option_map (λ x. (rel s t i).many) (slice_get (table s t).rels j)) (sym zeroth))
-          (ap objects_first (rels_are o h) ∙ h.entry.order) in
+      order_kept (copied_rel role m s t) (λ (r : Rel). is_some (permission role m r.remote)) 0 (table s t).rels
+      (λ j. let zeroth : 0 + j ≡ j = omega arith in many_at (table s t).rels j ∙ ap (λ i. option_map (λ x. (rel s t i).many) (slice_get (table s t).rels j)) (sym zeroth))
+      (ap objects_first (rels_are o h) ∙ h.entry.order) in
       and_from _ _ (and_from _ _ (and_from _ _ (and_from _ _ (and_from _ _ (and_from _ _ (and_from _ _ inside h.entry.name) long) h.entry.roots)
       (all_each (fits_rel z k u) (map (copied_rel role m s t) (kept_relationships role m s t)) (rels_fit u o at h))) order) refl) (and_from _ _ (perm_fits u o at h) refl)
     where

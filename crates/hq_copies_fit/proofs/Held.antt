@@ -32,7 +32,7 @@ tracked_first (k ∷ ks) h =
     let here : (k.table == k.table) ≡ true = eq-eqb k.table k.table refl in (
       ap (λ b. cond b (Some k) (find (λ j. j.table == k.table) ks)) here,
       each_both (λ j. (k.table == j.table) ≡ false) (λ j. find (λ i. i.table == j.table) ks ≡ Some j) (λ j. find (λ i. i.table == j.table) (k ∷ ks) ≡ Some j)
-      (λ j e f. ap (λ b. cond b (Some k) (find (λ i. i.table == j.table) ks)) e ∙ f) ks h.0 (tracked_first ks h.1),
+          (λ j e f. ap (λ b. cond b (Some k) (find (λ i. i.table == j.table) ks)) e ∙ f) ks h.0 (tracked_first ks h.1),
     )
 
 module _ (role : Role) (m : MetaTree) where

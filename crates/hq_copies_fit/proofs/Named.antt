@@ -48,8 +48,8 @@ not_repeated known (n ∷ ns) h =
     let here = not_refused _ _ both.0 in
     let later = not_repeated (known ++ n ∷ []) ns both.1 in
     let apart : Each (λ x. (list_any (bytes_eq x) known ≡ false) × (bytes_eq x n ≡ false)) ns =
-        each_weaken (λ x. list_any (bytes_eq x) (known ++ n ∷ []) ≡ false) _
-        (λ x g. let parts = or_parts (list_any (bytes_eq x) known) (bytes_eq x n || false) (sym (list_any-append (bytes_eq x) known (n ∷ [])) ∙ g) in (parts.0, (or_parts (bytes_eq x n) false parts.1).0)) ns later.0 in
+    each_weaken (λ x. list_any (bytes_eq x) (known ++ n ∷ []) ≡ false) _
+    (λ x g. let parts = or_parts (list_any (bytes_eq x) known) (bytes_eq x n || false) (sym (list_any-append (bytes_eq x) known (n ∷ [])) ∙ g) in (parts.0, (or_parts (bytes_eq x n) false parts.1).0)) ns later.0 in
     ((here, each_weaken _ (λ x. list_any (bytes_eq x) known ≡ false) (λ x g. g.0) ns apart), (each_weaken _ (λ x. bytes_eq n x ≡ false) (λ x g. bytes_turn x n g.1) ns apart, later.1))
 
 -- ---- lists by their places
@@ -230,9 +230,9 @@ module _ (tables : List Table) (m : MetaTree) (role : Role) (fit : fits tables m
         let es : List (List ℕ) = map extra_name (extras_of role m s o.permission t) in
         let rs : List (List ℕ) = flat_map rel_fields (map (rel s t) qs) in
         let are : fields_of k (copied_entry role m s u o) ≡ (own_names o ++ es) ++ rs =
-            ap₂ (λ a b. a ++ flat_map rel_fields b) (names_are u o h) (rels_stand u o h) ∙ ap (λ l. (own_names o ++ es) ++ l) (fields_kept t qs) in
+        ap₂ (λ a b. a ++ flat_map rel_fields b) (names_are u o h) (rels_stand u o h) ∙ ap (λ l. (own_names o ++ es) ++ l) (fields_kept t qs) in
         let original : Apart bytes_eq (own_names o ++ rs) =
-            apart_sub bytes_eq (own_names o ++ rs) (fields_of m o.entry) (sub_append (own_names o) (column_names_of o.entry) rs (flat_map rel_fields (rels_in_schema m o.entry)) (names_some o h) (sub_made rel_fields _ _ (rels_some o h))) (original_differs o h).0 in
+        apart_sub bytes_eq (own_names o ++ rs) (fields_of m o.entry) (sub_append (own_names o) (column_names_of o.entry) rs (flat_map rel_fields (rels_in_schema m o.entry)) (names_some o h) (sub_made rel_fields _ _ (rels_some o h))) (original_differs o h).0 in
         ap all_names_differ are
         ∙ apart_differ bytes_eq ((own_names o ++ es) ++ rs)
         (apart_between bytes_eq (own_names o) es rs original (apart_map bytes_eq extra_name (extras_of role m s o.permission t) (extras_differ o)) (own_unlike o h) (rels_unlike o h))
@@ -246,14 +246,14 @@ module _ (tables : List Table) (m : MetaTree) (role : Role) (fit : fits tables m
         let es : List (List ℕ) = map extra_name extras in
         let rs : List (List ℕ) = map (λ (r : Rel). r.name) (map (rel s t) qs) in
         let are : inputs_of k (copied_entry role m s u o) ≡ ((fixed_inputs ++ own_names o) ++ es) ++ rs =
-            ap₂ (λ a b. fixed_inputs ++ a ++ map (λ (r : Rel). r.name) b) (names_are u o h) (rels_stand u o h)
-            ∙ ap (λ l. fixed_inputs ++ (own_names o ++ es) ++ l) (inputs_kept t qs)
-            ∙ sym (append_assoc fixed_inputs (own_names o ++ es) rs) ∙ ap (λ l. l ++ rs) (sym (append_assoc fixed_inputs (own_names o) es)) in
+        ap₂ (λ a b. fixed_inputs ++ a ++ map (λ (r : Rel). r.name) b) (names_are u o h) (rels_stand u o h)
+        ∙ ap (λ l. fixed_inputs ++ (own_names o ++ es) ++ l) (inputs_kept t qs)
+        ∙ sym (append_assoc fixed_inputs (own_names o ++ es) rs) ∙ ap (λ l. l ++ rs) (sym (append_assoc fixed_inputs (own_names o) es)) in
         let original : Apart bytes_eq ((fixed_inputs ++ own_names o) ++ rs) =
-            subst (Apart bytes_eq) (sym (append_assoc fixed_inputs (own_names o) rs))
-            (apart_sub bytes_eq (fixed_inputs ++ (own_names o ++ rs)) (inputs_of m o.entry)
-            (sub_append fixed_inputs fixed_inputs (own_names o ++ rs) (column_names_of o.entry ++ map (λ (r : Rel). r.name) (rels_in_schema m o.entry)) (sub_same fixed_inputs)
-            (sub_append (own_names o) (column_names_of o.entry) rs (map (λ (r : Rel). r.name) (rels_in_schema m o.entry)) (names_some o h) (sub_map (λ (r : Rel). r.name) _ _ (rels_some o h)))) (original_differs o h).1) in
+        subst (Apart bytes_eq) (sym (append_assoc fixed_inputs (own_names o) rs))
+        (apart_sub bytes_eq (fixed_inputs ++ (own_names o ++ rs)) (inputs_of m o.entry)
+        (sub_append fixed_inputs fixed_inputs (own_names o ++ rs) (column_names_of o.entry ++ map (λ (r : Rel). r.name) (rels_in_schema m o.entry)) (sub_same fixed_inputs)
+        (sub_append (own_names o) (column_names_of o.entry) rs (map (λ (r : Rel). r.name) (rels_in_schema m o.entry)) (names_some o h) (sub_map (λ (r : Rel). r.name) _ _ (rels_some o h)))) (original_differs o h).1) in
         let fixed : (name : List ℕ) → is_kept_name name ≡ false → Each (λ y. bytes_eq name y ≡ false) es = λ name g. each_image (λ y. bytes_eq name y ≡ false) extra_name extras (each_all _ (λ e. unkept_differs name e g) extras) in
         ap all_names_differ are
         ∙ apart_differ bytes_eq (((fixed_inputs ++ own_names o) ++ es) ++ rs)

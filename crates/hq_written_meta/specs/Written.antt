@@ -45,18 +45,18 @@ column_configs k columns = sort by_name (map (column_config k columns) (shown_co
 -- the names of the root fields
 abbrev pub roots_json : RootNames → JsonTree
 roots_json r = object (
-  (field_name field.Select, str r.select)
-  ∷ (field_name field.SelectByPk, str r.select_by_pk)
-  ∷ (field_name field.SelectAggregate, str r.select_aggregate)
-  ∷ [])
+    (field_name field.Select, str r.select)
+    ∷ (field_name field.SelectByPk, str r.select_by_pk)
+    ∷ (field_name field.SelectAggregate, str r.select_aggregate)
+    ∷ [])
 
 -- the GraphQL names of a table
 abbrev pub configuration_json : TrackedTree → List Column → JsonTree
 configuration_json k columns = object (
-  (field_name field.CustomName, str k.name)
-  ∷ (field_name field.ColumnConfig, object (column_configs k columns))
-  ∷ (field_name field.CustomRootFields, roots_json k.roots)
-  ∷ [])
+    (field_name field.CustomName, str k.name)
+    ∷ (field_name field.ColumnConfig, object (column_configs k columns))
+    ∷ (field_name field.CustomRootFields, roots_json k.roots)
+    ∷ [])
 
 -- ---- relationships
 
@@ -67,16 +67,16 @@ pair_json own remote p = (name_at own p.own, str (name_at remote p.remote))
 -- the remote table, and the pairs
 abbrev pub link_json : List Table → (own : List Column) → Rel → JsonTree
 link_json tables own r = object (
-  (field_name field.RemoteTable, table_ref (slice_get tables r.remote))
-  ∷ (field_name field.ColumnMapping, object (map (pair_json own (columns_of tables r.remote)) r.pairs))
-  ∷ [])
+    (field_name field.RemoteTable, table_ref (slice_get tables r.remote))
+    ∷ (field_name field.ColumnMapping, object (map (pair_json own (columns_of tables r.remote)) r.pairs))
+    ∷ [])
 
 -- a relationship
 abbrev pub rel_json : List Table → (own : List Column) → Rel → JsonTree
 rel_json tables own r = object (
-  (field_name field.Name, str r.name)
-  ∷ (field_name field.Using, object ((field_name field.ManualConfiguration, link_json tables own r) ∷ []))
-  ∷ [])
+    (field_name field.Name, str r.name)
+    ∷ (field_name field.Using, object ((field_name field.ManualConfiguration, link_json tables own r) ∷ []))
+    ∷ [])
 
 -- ---- permissions
 
@@ -88,9 +88,9 @@ limit_member (Some n) = (field_name field.Limit, int (pos n)) ∷ []
 -- what a role may see
 abbrev pub permission_json : List Column → PermTree → JsonTree
 permission_json columns p = object (
-  (field_name field.Columns, texts (map (name_at columns) p.cols))
-  ∷ (field_name field.Filter, object [])
-  ∷ (limit_member p.limit ++ (field_name field.AllowAggregations, bool p.aggregations) ∷ []))
+    (field_name field.Columns, texts (map (name_at columns) p.cols))
+    ∷ (field_name field.Filter, object [])
+    ∷ (limit_member p.limit ++ (field_name field.AllowAggregations, bool p.aggregations) ∷ []))
 
 -- a select permission of a role
 abbrev pub perm_json : List Column → PermTree → JsonTree
@@ -103,20 +103,20 @@ abbrev pub tracked_json : List Table → TrackedTree → JsonTree
 tracked_json tables k =
     let columns = columns_of tables k.table in
     object (
-      (field_name field.Table, table_ref (slice_get tables k.table))
-      ∷ (field_name field.Configuration, configuration_json k columns)
-      ∷ (field_name field.ObjectRelationships, list (map (rel_json tables columns) (filter (λ r. not r.many) k.rels)))
-      ∷ (field_name field.ArrayRelationships, list (map (rel_json tables columns) (filter (λ r. r.many) k.rels)))
-      ∷ (field_name field.SelectPermissions, list (map (perm_json columns) k.perms))
-      ∷ [])
+    (field_name field.Table, table_ref (slice_get tables k.table))
+    ∷ (field_name field.Configuration, configuration_json k columns)
+    ∷ (field_name field.ObjectRelationships, list (map (rel_json tables columns) (filter (λ r. not r.many) k.rels)))
+    ∷ (field_name field.ArrayRelationships, list (map (rel_json tables columns) (filter (λ r. r.many) k.rels)))
+    ∷ (field_name field.SelectPermissions, list (map (perm_json columns) k.perms))
+    ∷ [])
 
 -- the one source
 abbrev pub source_json : List Table → MetaTree → JsonTree
 source_json tables m = object (
-  (field_name field.Name, str (codes "default"))
-  ∷ (field_name field.Kind, str (codes "postgres"))
-  ∷ (field_name field.Tables, list (map (tracked_json tables) m.tracked))
-  ∷ [])
+    (field_name field.Name, str (codes "default"))
+    ∷ (field_name field.Kind, str (codes "postgres"))
+    ∷ (field_name field.Tables, list (map (tracked_json tables) m.tracked))
+    ∷ [])
 
 -- the metadata
 abbrev pub meta_json : List Table → MetaTree → JsonTree
