@@ -1,14 +1,13 @@
 //! What is said of a text: the line of a verdict, or of why there is none.
-ghost use Rattle.std.specs.Prelude.{◌≡◌, IfOk, IfSome, IfNone, true};
+ghost use Rattle.std.specs.Prelude.{◌≡◌, IfOk, IfSome, IfNone};
 ghost use Rattle.hq_sql_text.specs.Readable.{Spells};
 ghost use Rattle.hq_sql_tree.specs.Tree.{SelectTree};
 ghost use Rattle.hq_sql_tree.specs.View.{select_view};
-ghost use Rattle.hq_terms.specs.Fits.{fits};
 ghost use Rattle.hq_terms.specs.Meta.{meta_view};
 ghost use Rattle.hq_commands.specs.declared.done.Done.TheVariants.{Answered, Faulty};
 ghost use Rattle.hq_confine_command.specs.Confining.{IsSaid, no_line, tree_output, verdict_output, without_line_end};
 ghost use Rattle.hq_confine_command.specs.Said.{said_view};
-ghost use Rattle.hq_confine.specs.Verdicts.{told_fault};
+ghost use Rattle.hq_confine.specs.Verdicts.{told};
 
 use hq_base::{Bytes, Memory, Txt};
 use hq_commands::Done;
@@ -50,7 +49,7 @@ fn said(alloc: Global, done: Done, line: &[u8]) -> Result<Said, Memory>
 
 // What is said by a verdict.
 fn said_by(alloc: Global, verdict: &Verdict) -> Result<Said, Memory>
-    ensures { IfOk result (λ said. said_view said ≡ verdict_output (told_fault verdict.now)) }
+    ensures { IfOk result (λ said. said_view said ≡ verdict_output (told verdict.now)) }
 {
     match verdict {
         Verdict::Yes => said(alloc, Done::Answered, b"yes\n"),
@@ -72,7 +71,6 @@ fn judged(
     meta: &Meta,
     session: &Session,
 ) -> Result<Said, Memory>
-    requires { fits catalog.now.tables (meta_view meta.now) ≡ true }
     ensures { IfOk result (λ said. said_view said ≡ tree_output catalog.now.tables (meta_view meta.now) session.now (select_view statement.now)) }
 {
     if !well_formed(alloc, statement, catalog)? {
@@ -112,7 +110,6 @@ pub fn judge(
     meta: &Meta,
     session: &Session,
 ) -> Result<Said, Memory>
-    requires { fits catalog.now.tables (meta_view meta.now) ≡ true }
     ensures { IfOk result (λ said. IsSaid catalog.now.tables (meta_view meta.now) session.now text.now (said_view said)) }
 {
     match statement_in(alloc, text)? {
