@@ -4,7 +4,6 @@ ghost use Rattle.hq_sql_text.specs.Readable.{Spells};
 ghost use Rattle.hq_sql_tree.specs.Tree.{SelectTree};
 ghost use Rattle.hq_sql_tree.specs.View.{select_view};
 ghost use Rattle.hq_terms.specs.Meta.{meta_view};
-ghost use Rattle.hq_commands.specs.declared.done.Done.TheVariants.{Answered, Faulty};
 ghost use Rattle.hq_confine_command.specs.Confining.{IsSaid, no_line, tree_output, verdict_output, without_line_end};
 ghost use Rattle.hq_confine_command.specs.Said.{said_view};
 ghost use Rattle.hq_confine.specs.Verdicts.{told};
