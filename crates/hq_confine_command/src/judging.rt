@@ -4,7 +4,7 @@ ghost use Rattle.hq_sql_text.specs.Readable.{Spells};
 ghost use Rattle.hq_sql_tree.specs.Tree.{SelectTree};
 ghost use Rattle.hq_sql_tree.specs.View.{select_view};
 ghost use Rattle.hq_terms.specs.Meta.{meta_view};
-ghost use Rattle.hq_confine_command.specs.Confining.{IsSaid, no_line, tree_output, verdict_output, without_line_end};
+ghost use Rattle.hq_confine_command.specs.Confining.{IsSaid, no_line, says, tree_output, verdict_output, without_line_end};
 ghost use Rattle.hq_confine_command.specs.Said.{said_view};
 ghost use Rattle.hq_confine.specs.Verdicts.{told};
 
@@ -39,8 +39,8 @@ fn no_line(alloc: Global, rule: u8, alias: &Txt) -> Result<Bytes, Memory>
 }
 
 // A line that tells this.
-fn said(alloc: Global, done: Done, line: &[u8]) -> Result<Said, Memory>
-    ensures { IfOk result (λ said. (said.done ≡ done) × (said.line ≡ line.now)) }
+fn fixed_line(alloc: Global, done: Done, line: &[u8]) -> Result<Said, Memory>
+    ensures { IfOk result (λ said. said_view said ≡ says done line.now) }
 {
     let line = Bytes::from_slice(alloc, line)?;
     Ok(Said { done, line })
@@ -51,7 +51,7 @@ fn said_by(alloc: Global, verdict: &Verdict) -> Result<Said, Memory>
     ensures { IfOk result (λ said. said_view said ≡ verdict_output (told verdict.now)) }
 {
     match verdict {
-        Verdict::Yes => said(alloc, Done::Answered, b"yes\n"),
+        Verdict::Yes => fixed_line(alloc, Done::Answered, b"yes\n"),
         Verdict::No { rule, alias } => {
             let line = no_line(alloc, *rule, alias)?;
             Ok(Said {
@@ -73,7 +73,7 @@ fn judged(
     ensures { IfOk result (λ said. said_view said ≡ tree_output catalog.now.tables (meta_view meta.now) session.now (select_view statement.now)) }
 {
     if !well_formed(alloc, statement, catalog)? {
-        return said(alloc, Done::Faulty, b"not typed\n");
+        return fixed_line(alloc, Done::Faulty, b"not typed\n");
     }
     let verdict = confine(alloc, statement, catalog, meta, session)?;
     said_by(alloc, &verdict)
@@ -95,9 +95,11 @@ fn statement_in(alloc: Global, text: &[u8]) -> Result<Option<Box<Select>>, Memor
 pub fn without_line_end(text: &[u8]) -> &[u8]
     ensures { result.now ≡ without_line_end text.now }
 {
-    match text {
-        [front @ .., b'\n'] => front,
-        _ => text,
+    let count = text.len();
+    if count > 0 && text[count - 1] == b'\n' {
+        &text[..count - 1]
+    } else {
+        text
     }
 }
 
@@ -113,6 +115,6 @@ pub fn judge(
 {
     match statement_in(alloc, text)? {
         Some(statement) => judged(alloc, &statement, catalog, meta, session),
-        None => said(alloc, Done::Faulty, b"not sql\n"),
+        None => fixed_line(alloc, Done::Faulty, b"not sql\n"),
     }
 }
