@@ -1,6 +1,6 @@
 //! A stand-in for the checker of statements.
 #![tactic(auto)]
 
-mod verdict;
+mod check;
 
-pub use verdict::{Verdict, confine};
+pub use check::{Verdict, confine};

@@ -1,14 +1,12 @@
 //! What is said of a text: the line of a verdict, or of why there is none.
-ghost use Rattle.std.specs.Prelude.{◌≡◌, IfOk, IfSome, IfNone, true};
+ghost use Rattle.std.specs.Prelude.{◌≡◌, IfOk, IfSome, IfNone};
 ghost use Rattle.hq_sql_text.specs.Readable.{Spells};
 ghost use Rattle.hq_sql_tree.specs.Tree.{SelectTree};
 ghost use Rattle.hq_sql_tree.specs.View.{select_view};
-ghost use Rattle.hq_terms.specs.Fits.{fits};
 ghost use Rattle.hq_terms.specs.Meta.{meta_view};
-ghost use Rattle.hq_commands.specs.declared.done.Done.TheVariants.{Answered, Faulty};
-ghost use Rattle.hq_confine_command.specs.Confining.{IsSaid, no_line, tree_output, verdict_output, without_line_end};
+ghost use Rattle.hq_confine_command.specs.Confining.{IsSaid, no_line, says, tree_output, verdict_output, without_line_end};
 ghost use Rattle.hq_confine_command.specs.Said.{said_view};
-ghost use Rattle.hq_confine.specs.Verdicts.{told_fault};
+ghost use Rattle.hq_confine.specs.Verdicts.{told};
 
 use hq_base::{Bytes, Memory, Txt};
 use hq_commands::Done;
@@ -41,8 +39,8 @@ fn no_line(alloc: Global, rule: u8, alias: &Txt) -> Result<Bytes, Memory>
 }
 
 // A line that tells this.
-fn said(alloc: Global, done: Done, line: &[u8]) -> Result<Said, Memory>
-    ensures { IfOk result (λ said. (said.done ≡ done) × (said.line ≡ line.now)) }
+fn fixed_line(alloc: Global, done: Done, line: &[u8]) -> Result<Said, Memory>
+    ensures { IfOk result (λ said. said_view said ≡ says done line.now) }
 {
     let line = Bytes::from_slice(alloc, line)?;
     Ok(Said { done, line })
@@ -50,10 +48,10 @@ fn said(alloc: Global, done: Done, line: &[u8]) -> Result<Said, Memory>
 
 // What is said by a verdict.
 fn said_by(alloc: Global, verdict: &Verdict) -> Result<Said, Memory>
-    ensures { IfOk result (λ said. said_view said ≡ verdict_output (told_fault verdict.now)) }
+    ensures { IfOk result (λ said. said_view said ≡ verdict_output (told verdict.now)) }
 {
     match verdict {
-        Verdict::Yes => said(alloc, Done::Answered, b"yes\n"),
+        Verdict::Yes => fixed_line(alloc, Done::Answered, b"yes\n"),
         Verdict::No { rule, alias } => {
             let line = no_line(alloc, *rule, alias)?;
             Ok(Said {
@@ -72,11 +70,10 @@ fn judged(
     meta: &Meta,
     session: &Session,
 ) -> Result<Said, Memory>
-    requires { fits catalog.now.tables (meta_view meta.now) ≡ true }
     ensures { IfOk result (λ said. said_view said ≡ tree_output catalog.now.tables (meta_view meta.now) session.now (select_view statement.now)) }
 {
     if !well_formed(alloc, statement, catalog)? {
-        return said(alloc, Done::Faulty, b"not typed\n");
+        return fixed_line(alloc, Done::Faulty, b"not typed\n");
     }
     let verdict = confine(alloc, statement, catalog, meta, session)?;
     said_by(alloc, &verdict)
@@ -98,9 +95,11 @@ fn statement_in(alloc: Global, text: &[u8]) -> Result<Option<Box<Select>>, Memor
 pub fn without_line_end(text: &[u8]) -> &[u8]
     ensures { result.now ≡ without_line_end text.now }
 {
-    match text {
-        [front @ .., b'\n'] => front,
-        _ => text,
+    let count = text.len();
+    if count > 0 && text[count - 1] == b'\n' {
+        &text[..count - 1]
+    } else {
+        text
     }
 }
 
@@ -112,11 +111,10 @@ pub fn judge(
     meta: &Meta,
     session: &Session,
 ) -> Result<Said, Memory>
-    requires { fits catalog.now.tables (meta_view meta.now) ≡ true }
     ensures { IfOk result (λ said. IsSaid catalog.now.tables (meta_view meta.now) session.now text.now (said_view said)) }
 {
     match statement_in(alloc, text)? {
         Some(statement) => judged(alloc, &statement, catalog, meta, session),
-        None => said(alloc, Done::Faulty, b"not sql\n"),
+        None => fixed_line(alloc, Done::Faulty, b"not sql\n"),
     }
 }
