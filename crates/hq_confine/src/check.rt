@@ -31,6 +31,5 @@ pub fn confine(
     ensures verdict { let tables = catalog.now.tables in let meta = meta_view meta.now in
         IfOk result (λ verdict. told verdict ≡ worst (faults (schema_of tables meta) (grants_of session.now tables meta) (select_view statement.now))) }
 {
-    let _ = (alloc, statement, catalog, meta, session);
     Err(Memory)
 }
