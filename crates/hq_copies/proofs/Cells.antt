@@ -1,6 +1,6 @@
 -- The cells of a copied row: a permitted column's is the cell of the view, and those of a link's two ends are its numbers.
 use Rattle.std.proofs.Common.{◌≡◌, ℕ, zero, suc, pos, ℤ, negsuc, ◌+◌, List, [], ◌∷◌, ◌++◌, map, flat_map, length, Bool, true, false, cond, ◌&&◌, ◌||◌, ◌==◌, Option, Some, None, refl, sym, ap, ap₂, ◌∙◌, subst, arith}
-use Rattle.std.proofs.lemmas.Bool.{eq-eqb, eqb-true, false≢true, and_parts, and_from, or_left, or_right, Decides}
+use Rattle.std.proofs.lemmas.Bool.{eq-eqb, eqb-true, false≢true, and_parts, and_from, or_left, or_right}
 use Rattle.std.proofs.lemmas.Bool.Decides.{Decides-int_eq}
 use Rattle.std.proofs.lemmas.List.Folds.{list_any-append, find_at}
 use Rattle.std.specs.List.{find, list_any, position_or_len}

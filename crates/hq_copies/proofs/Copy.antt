@@ -26,7 +26,7 @@ use Rattle.hq_terms.proofs.Permitting.{permission_fits}
 use Rattle.hq_terms.proofs.Places.{at_0, present}
 use Rattle.hq_ask_tree.specs.Allowed.{Allowed, allowed_to, permitted_columns}
 use Rattle.hq_ask_tree.specs.Uses.{UsesColumns}
-use Rattle.hq_copied.specs.Copied.{Copied, copy_of}
+use Rattle.hq_copied.specs.Copied.{copy_of}
 use Rattle.hq_copied.specs.Extras.{ends_of}
 use Rattle.hq_copied.specs.Links.{from_number, to_number, same_number}
 use Rattle.hq_copied.specs.Metadata.{reader, places, copied_meta, copied_entry, copied_pair, copied_rel}
@@ -153,23 +153,23 @@ module _ (tables : List Table) (m : MetaTree) (session : Session) (d : List (Lis
         sym (ap (λ b. b && list_any (has_mask o.permission) (table s o.entry.table).key) kept) ∙ refused
 
     -- a permitted row and the row of the copy that stands at its position
-    abbrev Copied : Source → Row → Row → Type 0
-    Copied o x y = (i : ℕ) × (slice_get (permitted s g d o.entry.table) i ≡ Some x) × (y ≡ copied_row role m s (seen_in v) o i)
+    abbrev RowOf : Source → Row → Row → Type 0
+    RowOf o x y = (i : ℕ) × (slice_get (permitted s g d o.entry.table) i ≡ Some x) × (y ≡ copied_row role m s (seen_in v) o i)
 
     -- both show the same cell in an unmasked column
-    same_shown : (o : Source) → IsSource role m o → (c : ℕ) (x y : Row) → list_any (λ k. k == c) o.permission.columns ≡ true → has_mask o.permission c ≡ false → Copied o x y
+    same_shown : (o : Source) → IsSource role m o → (c : ℕ) (x y : Row) → list_any (λ k. k == c) o.permission.columns ≡ true → has_mask o.permission c ≡ false → RowOf o x y
         → row_cell x c ≡ row_cell y (place_in o.permission.columns c)
-    same_shown o is c x y a open q =
-        let unmasked : has_mask (grant g o.entry.table) c ≡ false = ap (λ p. has_mask p c) (granted_is o is) ∙ (kept_is o is).masked c ∙ open in
+    same_shown o is c x y a plain q =
+        let unmasked : has_mask (grant g o.entry.table) c ≡ false = ap (λ p. has_mask p c) (granted_is o is) ∙ (kept_is o is).masked c ∙ plain in
         sym (ap (λ w. row_cell w (place_in o.permission.columns c)) q.2 ∙ cell_is o is c q.0 x a q.1 ∙ shows_all (grant g o.entry.table) s d o.entry.table x c unmasked)
 
     -- so they compare alike by the key
     key_agrees : (o : Source) → IsSource role m o → (cs : List ℕ) → keeps_key o.permission cs ≡ true → list_any (has_mask o.permission) cs ≡ false
-        → (x y u w : Row) → Copied o x y → Copied o u w → Each (λ c. (row_cell x c ≡ row_cell y (place_in o.permission.columns c)) × (row_cell u c ≡ row_cell w (place_in o.permission.columns c))) cs
-    key_agrees o is [] kept open x y u w q r = tt
-    key_agrees o is (c ∷ cs) kept open x y u w q r =
+        → (x y u w : Row) → RowOf o x y → RowOf o u w → Each (λ c. (row_cell x c ≡ row_cell y (place_in o.permission.columns c)) × (row_cell u c ≡ row_cell w (place_in o.permission.columns c))) cs
+    key_agrees o is [] kept plain x y u w q r = tt
+    key_agrees o is (c ∷ cs) kept plain x y u w q r =
         let both = and_parts (list_any (λ k. k == c) o.permission.columns) (keeps_key o.permission cs) kept in
-        let unmasked = or_parts (has_mask o.permission c) (list_any (has_mask o.permission) cs) open in
+        let unmasked = or_parts (has_mask o.permission c) (list_any (has_mask o.permission) cs) plain in
         ((same_shown o is c x y both.0 unmasked.0 q, same_shown o is c u w both.0 unmasked.0 r), key_agrees o is cs both.1 unmasked.1 x y u w q r)
 
     -- the rows of the copy ascend by its key
@@ -181,13 +181,13 @@ module _ (tables : List Table) (m : MetaTree) (session : Session) (d : List (Lis
         let row : ℕ → Row = copied_row role m s (seen_in v) o in
         let xs : List Row = permitted s g d t in
         let q : ℕ = length o.permission.columns + length (ends_of role m s t) in
-        let zipped : Zip (Copied o) xs (map row (places 0 xs)) =
-            subst (λ l. Zip (Copied o) l (map row (places 0 xs))) (map_itself xs)
-            (zip_images (λ x i. slice_get xs i ≡ Some x) (Copied o) (λ x. x) row (λ x i a. (i, a, refl)) xs (places 0 xs)
+        let zipped : Zip (RowOf o) xs (map row (places 0 xs)) =
+            subst (λ l. Zip (RowOf o) l (map row (places 0 xs))) (map_itself xs)
+            (zip_images (λ x i. slice_get xs i ≡ Some x) (RowOf o) (λ x. x) row (λ x i a. (i, a, refl)) xs (places 0 xs)
             (placed_places xs xs 0 (λ j. let zeroth : 0 + j ≡ j = omega arith in ap (slice_get xs) zeroth))) in
         let go : (b : Bool) → keeps_key o.permission key ≡ b → Ascends (columns_cmp (cond b (map f key) (q ∷ []))) (map row (places 0 xs)) =
         elim [
-          | true ↦ λ kept. ascends_image (Copied o) (columns_cmp key) (columns_cmp (map f key))
+          | true ↦ λ kept. ascends_image (RowOf o) (columns_cmp key) (columns_cmp (map f key))
               (λ x y u w a b. columns_agree f x y u w key (key_agrees o is key kept (key_shows o is kept) x y u w a b)) xs (map row (places 0 xs)) zipped (permitted_ascend s g d t)
           | false ↦ λ lost. ascends_places (columns_cmp (q ∷ [])) row
               (λ i j less. positions_ascend q i j (row i) (row j) (position_cell role m s (seen_in v) o i lost) (position_cell role m s (seen_in v) o j lost) less) 0 xs

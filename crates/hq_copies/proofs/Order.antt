@@ -98,7 +98,7 @@ permitted_ascend s g d t = ascends_filter (columns_cmp (table s t).key) (keeps (
 
 -- ascending rows are in the order of their key, and the filter that is always true leaves them all
 pub all_permitted : (s : Schema) (g : Grants) (d : List (List Row)) (t : ℕ) → (grant g t).filter ≡ always → Ascends (columns_cmp (table s t).key) (table_rows d t) → permitted s g d t ≡ table_rows d t
-all_permitted s g d t open up =
-    ap (λ e. filter (keeps e s (all_of s d) t) (by_key s d t)) open
+all_permitted s g d t plain up =
+    ap (λ e. filter (keeps e s (all_of s d) t) (by_key s d t)) plain
     ∙ filter_all (keeps always s (all_of s d) t) (by_key s d t) (each_all _ (λ x. refl) (by_key s d t))
     ∙ sort_ascending (columns_total (table s t).key) (table_rows d t) up

@@ -117,7 +117,7 @@ entry_rows : (b : Option Permission) (s : Schema) (d : List (List Row)) (t : ℕ
 entry_rows None s d t = rw (none_kept (by_key s d t)) refl
 entry_rows (Some p) s d t = refl
 
-seen_rows : (s : Schema) (g : Grants) (d : List (List Row)) (t : ℕ) → view_rows (view s g d) t ≡ cut_rows (grant g t) s d t
+pub seen_rows : (s : Schema) (g : Grants) (d : List (List Row)) (t : ℕ) → view_rows (view s g d) t ≡ cut_rows (grant g t) s d t
 seen_rows s g d t =
     let zeroth : 0 + t ≡ t = omega arith in
     ap (λ o. unwrap_or o []) (got_numbered (view_table s d) g 0 t None None (λ j. refl) ∙ ap (λ u. view_table s d u (slice_index_or g t None)) zeroth) ∙ entry_rows (slice_index_or g t None) s d t

@@ -242,14 +242,14 @@ module _ (tables : List Table) (m : MetaTree) (role : Role) (whole : is_catalog 
         elim [
           | true ↦ λ kept.
               let members : Each (λ c. list_any (λ d. d == c) p.columns ≡ true) key = each_of (λ c. list_any (λ d. d == c) p.columns) key kept in
-              let open : Each (λ c. has_mask p c ≡ false) key = each_none (has_mask p) key (sym (ap (λ b. b && list_any (has_mask p) key) kept) ∙ refused) in record {
+              let plain : Each (λ c. has_mask p c ≡ false) key = each_none (has_mask p) key (sym (ap (λ b. b && list_any (has_mask p) key) kept) ∙ refused) in record {
                 some = ap (nat_lt 0) (map_length f key) ∙ parts.key;
                 differ = apart_differ (λ c d. c == d) (map f key) (apart_map (λ c d. c == d) f key
                     (apart_on (λ c. list_any (λ d. d == c) p.columns ≡ true) (λ c d. c == d) (λ c d. f c == f d) (places_apart p.columns) key members parts.once));
                 holds = all_each (λ c. holds_no_null (slice_get cs c)) (map f key) (each_image (λ c. holds_no_null (slice_get cs c) ≡ true) f key
                     (each_both (λ c. (list_any (λ d. d == c) p.columns ≡ true) × (has_mask p c ≡ false)) (λ c. holds_no_null (slice_get (table s t).columns c) ≡ true) (λ c. holds_no_null (slice_get cs (f c)) ≡ true)
                     (λ c a b. ap holds_no_null (column_at role m s o c a.0) ∙ not_nullable o c a.1 b)
-                    key (each_both (λ c. list_any (λ d. d == c) p.columns ≡ true) (λ c. has_mask p c ≡ false) _ (λ c a b. (a, b)) key members open) parts.holds));
+                    key (each_both (λ c. list_any (λ d. d == c) p.columns ≡ true) (λ c. has_mask p c ≡ false) _ (λ c a b. (a, b)) key members plain) parts.holds));
               }
           | false ↦ λ lost. record {
             some = refl;
@@ -260,13 +260,13 @@ module _ (tables : List Table) (m : MetaTree) (role : Role) (whole : is_catalog 
         go (keeps_key p key) refl
       where
         not_nullable : (o : Source) (c : ℕ) → has_mask o.permission c ≡ false → holds_no_null (slice_get (table s o.entry.table).columns c) ≡ true → not ((column s o.entry.table c).nullable || has_mask o.permission c) ≡ true
-        not_nullable o c open old =
+        not_nullable o c plain old =
             let go : (w : Option Column) → slice_get (table s o.entry.table).columns c ≡ w → holds_no_null w ≡ true → (column s o.entry.table c).nullable ≡ false =
             elim [
               | None ↦ λ e g. absurd (false≢true g)
               | Some x ↦ λ e g. ap (λ (y : Column). y.nullable) (present (table s o.entry.table).columns c no_column x e) ∙ not-true x.nullable g
             ] in
-            ap₂ (λ a b. not (a || b)) (go (slice_get (table s o.entry.table).columns c) refl old) open
+            ap₂ (λ a b. not (a || b)) (go (slice_get (table s o.entry.table).columns c) refl old) plain
 
     -- ---- the whole
 

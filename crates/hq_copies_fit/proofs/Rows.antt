@@ -151,15 +151,15 @@ module _ (tables : List Table) (m : MetaTree) (session : Session) (d : List (Lis
     -- ---- rows
 
     -- a permitted row and the row of the copy
-    abbrev Copied : Source → Row → Row → Type 0
-    Copied o x y = (i : ℕ) × (slice_get (permitted s g d o.entry.table) i ≡ Some x) × (y ≡ copied_row role m s (seen_in v) o i)
+    abbrev RowOf : Source → Row → Row → Type 0
+    RowOf o x y = (i : ℕ) × (slice_get (permitted s g d o.entry.table) i ≡ Some x) × (y ≡ copied_row role m s (seen_in v) o i)
 
-    zipped : (o : Source) → Zip (Copied o) (permitted s g d o.entry.table) (map (copied_row role m s (seen_in v) o) (places 0 (permitted s g d o.entry.table)))
+    zipped : (o : Source) → Zip (RowOf o) (permitted s g d o.entry.table) (map (copied_row role m s (seen_in v) o) (places 0 (permitted s g d o.entry.table)))
     zipped o =
         let row : ℕ → Row = copied_row role m s (seen_in v) o in
         let xs : List Row = permitted s g d o.entry.table in
-        subst (λ l. Zip (Copied o) l (map row (places 0 xs))) (map_itself xs)
-        (zip_images (λ x i. slice_get xs i ≡ Some x) (Copied o) (λ x. x) row (λ x i a. (i, a, refl)) xs (places 0 xs)
+        subst (λ l. Zip (RowOf o) l (map row (places 0 xs))) (map_itself xs)
+        (zip_images (λ x i. slice_get xs i ≡ Some x) (RowOf o) (λ x. x) row (λ x i a. (i, a, refl)) xs (places 0 xs)
         (placed_places xs xs 0 (λ j. let zeroth : 0 + j ≡ j = omega arith in ap (slice_get xs) zeroth)))
 
     got_within : {A : Type 0} (xs : List A) (i : ℕ) (x : A) → slice_get xs i ≡ Some x → i < length xs
@@ -167,7 +167,7 @@ module _ (tables : List Table) (m : MetaTree) (session : Session) (d : List (Lis
     got_within (y ∷ ys) zero x h = omega arith
     got_within (y ∷ ys) (suc i) x h = omega (arith, got_within ys i x h)
 
-    each_row : (P : Row → Type 0) (o : Source) → ((i : ℕ) (x : Row) → slice_get (permitted s g d o.entry.table) i ≡ Some x → P (copied_row role m s (seen_in v) o i)) → (xs ys : List Row) → Zip (Copied o) xs ys → Each P ys
+    each_row : (P : Row → Type 0) (o : Source) → ((i : ℕ) (x : Row) → slice_get (permitted s g d o.entry.table) i ≡ Some x → P (copied_row role m s (seen_in v) o i)) → (xs ys : List Row) → Zip (RowOf o) xs ys → Each P ys
     each_row P o f [] [] z = tt
     each_row P o f [] (y ∷ ys) z = absurd z
     each_row P o f (x ∷ xs) [] z = absurd z
@@ -181,18 +181,18 @@ module _ (tables : List Table) (m : MetaTree) (session : Session) (d : List (Lis
     -- ---- keys
 
     -- where the key is kept, the row of the copy has its values
-    key_values : (o : Source) → Held tables m role o → (cs : List ℕ) → Each (λ c. (list_any (λ k. k == c) o.permission.columns ≡ true) × (has_mask o.permission c ≡ false)) cs → (x y : Row) → Copied o x y
+    key_values : (o : Source) → Held tables m role o → (cs : List ℕ) → Each (λ c. (list_any (λ k. k == c) o.permission.columns ≡ true) × (has_mask o.permission c ≡ false)) cs → (x y : Row) → RowOf o x y
         → map (λ c. slice_index_or y c val.Null) (map (place_in o.permission.columns) cs) ≡ map (λ c. slice_index_or x c val.Null) cs
     key_values o h [] k x y q = refl
     key_values o h (c ∷ cs) k x y q =
         let t : ℕ = o.entry.table in
         let i : ℕ = q.0 in
         let w : Val = slice_index_or x c val.Null in
-        let open : has_mask (grant g t) c ≡ false = ap (λ p. has_mask p c) (granted_is tables m session d fit none o h.is) ∙ (kept_is tables m session d fit none o h.is).masked c ∙ k.0.1 in
+        let plain : has_mask (grant g t) c ≡ false = ap (λ p. has_mask p c) (granted_is tables m session d fit none o h.is) ∙ (kept_is tables m session d fit none o h.is).masked c ∙ k.0.1 in
         let here : slice_index_or y (place_in o.permission.columns c) val.Null ≡ w =
             ap (λ r. slice_index_or r (place_in o.permission.columns c) val.Null) q.2
             ∙ permitted_value role m s (seen_in v) o i c k.0.0
-            ∙ ap value_of (seen_cell s g d t c i x (granted_column tables m session d fit none o h.is c k.0.0) q.1 ∙ ap (λ e. cond (keeps e s (all_of s d) t x) (cell_of w) null) (no_mask (grant g t).masks c open))
+            ∙ ap value_of (seen_cell s g d t c i x (granted_column tables m session d fit none o h.is c k.0.0) q.1 ∙ ap (λ e. cond (keeps e s (all_of s d) t x) (cell_of w) null) (no_mask (grant g t).masks c plain))
             ∙ value_back w in
         ap₂ (λ a l. a ∷ l) here (key_values o h cs k.1 x y q)
 
@@ -212,7 +212,7 @@ module _ (tables : List Table) (m : MetaTree) (session : Session) (d : List (Lis
               let shows : Each (λ c. (list_any (λ k. k == c) p.columns ≡ true) × (has_mask p c ≡ false)) key =
                   each_both (λ c. list_any (λ k. k == c) p.columns ≡ true) (λ c. has_mask p c ≡ false) _ (λ c a b. (a, b)) key
                   (each_of (λ c. list_any (λ k. k == c) p.columns) key kept) (each_none (has_mask p) key (key_shows tables m session d fit none o h.is kept)) in
-              apart_along (Copied o) (λ x y. same_values (values key x) (values key y)) (λ x y. same_values (values (map f key) x) (values (map f key) y))
+              apart_along (RowOf o) (λ x y. same_values (values key x) (values key y)) (λ x y. same_values (values (map f key) x) (values (map f key) y))
               (λ x y u w a b. ap₂ same_values (sym (key_values o h key shows x y a)) (sym (key_values o h key shows u w b))) xs (map row (places 0 xs)) (zipped o)
               (subst (λ k. Apart (λ x y. same_values (values k x) (values k y)) xs) (sym (ap (λ x. x.key) h.table_is)) (keys_differ o h))
           | false ↦ λ lost.
