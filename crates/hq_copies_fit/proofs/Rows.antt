@@ -26,7 +26,7 @@ use Rattle.hq_terms.specs.declared.role.Role.{Role}
 use Rattle.hq_terms.specs.declared.session.Session.{Session}
 use Rattle.hq_terms.specs.declared.table.Column.{Column}
 use Rattle.hq_terms.specs.declared.table.Table.{Table}
-use Rattle.hq_copied.specs.Extras.{Extra, from_end, to_end, row_position, ends_of, extras_of, extra_column}
+use Rattle.hq_copied.specs.Extras.{Extra, from_end, to_end, row_position, ends_of, extras_of, extra_name, extra_column}
 use Rattle.hq_copied.specs.Metadata.{places}
 use Rattle.hq_copied.specs.Rows.{value_of, extra_value, copied_row, rows_of, copied_rows}
 use Rattle.hq_copied.specs.Sources.{Source, sources, place_in, keeps_key, has_mask, link_remote}
@@ -129,9 +129,9 @@ module _ (tables : List Table) (m : MetaTree) (session : Session) (d : List (Lis
 
     -- the value of an added column
     added_fits : (i : ℕ) → i < 2 ^ 31 → (e : Extra) → value_fits (extra_column e) (extra_value s (seen_in v) i e) ≡ true
-    added_fits i small (from_end k l) = number_fits _ ((seen_in v).linked l.table l.relationship i) ((seen_in v).rows (link_remote s l)) (few_seen (link_remote s l))
+    added_fits i small (from_end k l) = number_fits (extra_name (from_end k l)) ((seen_in v).linked l.table l.relationship i) ((seen_in v).rows (link_remote s l)) (few_seen (link_remote s l))
     added_fits i small (to_end k l) =
-        number_fits _ (λ z. list_any (λ x. (seen_in v).linked l.table l.relationship x i && (seen_in v).linked l.table l.relationship x z) ((seen_in v).rows l.table)) ((seen_in v).rows (link_remote s l)) (few_seen (link_remote s l))
+        number_fits (extra_name (to_end k l)) (λ z. list_any (λ x. (seen_in v).linked l.table l.relationship x i && (seen_in v).linked l.table l.relationship x z) ((seen_in v).rows l.table)) ((seen_in v).rows (link_remote s l)) (few_seen (link_remote s l))
     added_fits i small row_position = small_number (suc i) (omega arith)
 
     each_member : (ns : List ℕ) → Each (λ n. list_any (λ q. q == n) ns ≡ true) ns

@@ -10,7 +10,7 @@ use Rattle.hq_base.specs.declared.value.Ty.TheVariants.{Bigint}
 use Rattle.hq_base.specs.declared.value.Val.{Val}
 use Rattle.hq_base.specs.declared.value.Val.TheVariants as val
 use Rattle.hq_base.proofs.Orders.{same_cell_equiv, same_value}
-use Rattle.hq_base.proofs.Sorts.{each_put, sort_length}
+use Rattle.hq_base.proofs.Sorts.{each_put, each_sort, sort_length}
 use Rattle.hq_terms.specs.Database.{Row, fits_bits, int_fits, value_fits, row_fits, key_of, same_values, are_rows, is_database}
 use Rattle.hq_terms.specs.declared.table.Column.{Column}
 use Rattle.hq_terms.specs.declared.table.Table.{Table}
@@ -104,11 +104,7 @@ module _ {A : Type 0} (same : A → A → Bool) (turn : (x y : A) → same x y �
   -- a sort leaves what differs
   pub sort_apart : (xs : List A) → Apart same xs → Apart same (sort R xs)
   sort_apart [] h = tt
-  sort_apart (x ∷ xs) h = put_apart x (sort R xs) (each_sorted xs h.0) (sort_apart xs h.1)
-    where
-      each_sorted : {x : A} (xs : List A) → Each (λ y. same x y ≡ false) xs → Each (λ y. same x y ≡ false) (sort R xs)
-      each_sorted {x} [] h = tt
-      each_sorted {x} (y ∷ ys) h = each_put R (λ w. same x w ≡ false) y h.0 (sort R ys) (each_sorted {x = x} ys h.1)
+  sort_apart (x ∷ xs) h = put_apart x (sort R xs) (each_sort R (λ y. same x y ≡ false) xs h.0) (sort_apart xs h.1)
 
 each_along : {A B : Type 0} (Q : A → B → Type 0) (P : A → Type 0) (N : B → Type 0) → ((x : A) (y : B) → Q x y → P x → N y) → (xs : List A) (ys : List B) → Zip Q xs ys → Each P xs → Each N ys
 each_along Q P N on [] [] z h = tt
