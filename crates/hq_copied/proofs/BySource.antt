@@ -1,12 +1,12 @@
 -- What holds of each table that a copy holds, by the source that it stands for.
-use Rattle.std.proofs.Common.{◌≡◌, ℕ, true, Bool, Option, Some, None, refl, sym, ap, ◌∙◌, subst}
+use Rattle.std.proofs.Common.{◌≡◌, ℕ, true, Option, Some, None, refl, ap, ◌∙◌, subst}
 use Rattle.std.proofs.lemmas.Bool.{false≢true}
 use Rattle.std.specs.Prelude.{is_some, slice_get}
 use Rattle.hq_terms.specs.Meta.{MetaTree, tracked_table}
 use Rattle.hq_terms.specs.Permission.{Permission, permission}
 use Rattle.hq_terms.specs.declared.role.Role.{Role}
 use Rattle.hq_copied.specs.Sources.{Source, sources, table_place}
-use Rattle.hq_copied.proofs.Found.{StandsFor, stands_for}
+use Rattle.hq_copied.proofs.Found.{stands_for}
 use Rattle.hq_copied.proofs.Names.{HasColumns, has_columns}
 
 pub something : {A : Type 0} (o : Option A) → is_some o ≡ true → (x : A) × (o ≡ Some x)

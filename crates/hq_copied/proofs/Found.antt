@@ -1,19 +1,24 @@
 -- Where a table of the original stands in a copy.
-use Rattle.std.proofs.Common.{◌≡◌, ℕ, zero, suc, ◌+◌, List, [], ◌∷◌, map, Bool, true, false, cond, ◌==◌, Option, Some, None, refl, sym, ap, ◌∙◌, subst, arith}
+use Rattle.std.proofs.Common.{◌≡◌, ℕ, zero, suc, ◌+◌, List, [], ◌∷◌, length, Bool, true, false, cond, ◌==◌, Option, Some, None, refl, sym, ap, ◌∙◌, subst, arith}
 use Rattle.std.proofs.lemmas.Bool.{eq-eqb, eqb-true, ne_eqb}
 use Rattle.std.proofs.lemmas.List.Folds.{find_at}
 use Rattle.std.specs.List.{find}
 use Rattle.std.specs.Prelude.{option_and_then, option_map, slice_get, unwrap_or}
 use Rattle.hq_terms.specs.Meta.{TrackedTree, MetaTree, tracked_table}
 use Rattle.hq_terms.specs.Permission.{Permission, permission, permission_in}
-use Rattle.hq_terms.specs.Schema.{Schema, SchemaTable, schema_of, schema_table, rels_of, table, numbered}
+use Rattle.hq_terms.specs.Schema.{Schema, schema_of, schema_table, table, numbered}
 use Rattle.hq_terms.specs.declared.role.Role.{Role}
 use Rattle.hq_terms.specs.declared.table.Table.{Table}
 use Rattle.hq_terms.proofs.Places.{table_present}
 use Rattle.hq_copied.specs.Metadata.{copied_entry, copied_meta}
 use Rattle.hq_copied.specs.Sources.{Source, with_source, sources_in, sources, table_place}
 use Rattle.hq_copied.specs.Tables.{copied_table, copied_tables}
-use Rattle.hq_copied.proofs.Places.{got_map, found_passes}
+use Rattle.hq_copied.proofs.Lists.{got_map, found_passes}
+
+-- a schema has the tables of its catalog
+pub schema_long : (m : MetaTree) (k : ℕ) (tables : List Table) → length (numbered (schema_table m) k tables) ≡ length tables
+schema_long m k [] = refl
+schema_long m k (t ∷ ts) = ap suc (schema_long m (suc k) ts)
 
 module _ (role : Role) (m : MetaTree) where
   abbrev source_of : Permission → TrackedTree → Source
@@ -46,7 +51,8 @@ module _ (role : Role) (m : MetaTree) where
   -- a table of which something is permitted is tracked
   tracked_there : (t : ℕ) (p : Permission) → permission role m t ≡ Some p → (k : TrackedTree) × (tracked_table m t ≡ Some k) × (permission_in role m.inherited k ≡ Some p)
   tracked_there t p h =
-      let go : (o : Option TrackedTree) → tracked_table m t ≡ o → option_and_then (permission_in role m.inherited) o ≡ Some p → (k : TrackedTree) × (tracked_table m t ≡ Some k) × (permission_in role m.inherited k ≡ Some p) =
+      let go : (o : Option TrackedTree) → tracked_table m t ≡ o → option_and_then (permission_in role m.inherited) o ≡ Some p → (k : TrackedTree) × (tracked_table m t ≡ Some k) ×
+      (permission_in role m.inherited k ≡ Some p) =
       elim [ None ↦ λ e g. cc | Some k ↦ λ e g. (k, e, g) ] in
       go (tracked_table m t) refl h
 
@@ -96,7 +102,8 @@ module _ (role : Role) (m : MetaTree) (s : Schema) where
 
   -- the table there
   pub table_at : (u : ℕ) (o : Source) → slice_get (sources role m) u ≡ Some o → table copied_schema u ≡ schema_table (copied_meta role m s) u (copied_table role m s o)
-  table_at u o h = table_present (copied_tables role m s) (copied_meta role m s) u (copied_table role m s o) (got_map (copied_table role m s) (sources role m) u ∙ ap (option_map (copied_table role m s)) h)
+  table_at u o h =
+      table_present (copied_tables role m s) (copied_meta role m s) u (copied_table role m s o) (got_map (copied_table role m s) (sources role m) u ∙ ap (option_map (copied_table role m s)) h)
 
   -- its relationships
   pub rels_at : (u : ℕ) (o : Source) → slice_get (sources role m) u ≡ Some o → (table copied_schema u).rels ≡ (copied_entry role m s u o).rels

@@ -1,17 +1,17 @@
 -- The GraphQL names of a copy's columns may all stand in a schema.
-use Rattle.std.proofs.Common.{◌≡◌, ℕ, zero, suc, ◌+◌, ◌<◌, List, [], ◌∷◌, ◌++◌, map, filter, Bool, true, false, cond, ◌&&◌, Option, Some, None, refl, sym, ap, ap₂, ◌∙◌, subst, arith}
-use Rattle.std.proofs.lemmas.Bool.{and_from, or_left, or_right, false≢true, lt-ltb, le-leb}
+use Rattle.std.proofs.Common.{◌≡◌, ℕ, zero, suc, ◌+◌, ◌<◌, List, [], ◌∷◌, ◌++◌, filter, Bool, true, false, cond, ◌&&◌, Option, Some, None, refl, sym, ap, ap₂, ◌∙◌, subst, arith}
+use Rattle.std.proofs.lemmas.Bool.{and_from, or_left, false≢true, lt-ltb, le-leb}
 use Rattle.std.proofs.lemmas.List.Folds.{list_all-append}
 use Rattle.std.specs.Char.{is_ascii_alphanumeric}
 use Rattle.std.specs.Fmt.{decimal, digits, digits_onto, digit_glyph}
 use Rattle.std.specs.List.{list_all, list_any}
-use Rattle.std.specs.Prelude.{codes, slice_index_or, find, option_and_then, nat_lt, nat_le, bytes_eq, ◌==◌, ◌≤◌, ◌/◌, ◌%◌}
+use Rattle.std.specs.Prelude.{codes, slice_index_or, find, option_and_then, nat_lt, bytes_eq, ◌==◌, ◌≤◌, ◌/◌, ◌%◌}
 use Rattle.hq_base.specs.Lists.{Each}
 use Rattle.hq_base.proofs.Lists.{each_filter}
 use Rattle.hq_terms.specs.Bexp.{always}
 use Rattle.hq_terms.specs.Meta.{PermTree, TrackedTree}
 use Rattle.hq_terms.specs.Names.{continues_name, is_free_name}
-use Rattle.hq_terms.specs.Permission.{Permission, with_columns, named_from, named_columns, admin_permission, told_permission, own_permission, permissions_of, combined, set_of, or_inherited, permission_in, permits, either, filters_of, limit_of, some_aggregate, masks_for, columns_of_any}
+use Rattle.hq_terms.specs.Permission.{Permission, with_columns, named_from, named_columns, told_permission, own_permission, permissions_of, combined, set_of, or_inherited, permission_in, permits, either, filters_of, limit_of, some_aggregate, masks_for, columns_of_any}
 use Rattle.hq_terms.specs.declared.meta.Inherited.{Inherited}
 use Rattle.hq_terms.specs.declared.role.Role.{Role}
 use Rattle.hq_terms.specs.declared.role.Role.TheVariants.{Admin, Named}
@@ -61,7 +61,8 @@ own_columns k name p e =
 
 combined_columns : (k : TrackedTree) (ps : List Permission) (p : Permission) → combined k ps ≡ Some p → HasColumns k p
 combined_columns k ps p e =
-    columns_given k (record { columns = []; filter = either (filters_of ps); limit = limit_of ps; aggregations = some_aggregate ps; masks = masks_for ps (columns_of_any k ps) }) (columns_of_any k ps) p
+    columns_given k (record { columns = []; filter = either (filters_of ps); limit = limit_of ps; aggregations = some_aggregate ps; masks = masks_for ps (columns_of_any k ps) })
+    (columns_of_any k ps) p
     (each_filter (IsFree k) (λ c. list_any (permits c) ps) (named_columns k) (columns_named k)) e
 
 pub has_columns : (role : Role) (is : List Inherited) (k : TrackedTree) (p : Permission) → permission_in role is k ≡ Some p → HasColumns k p

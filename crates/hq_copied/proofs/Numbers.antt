@@ -1,5 +1,5 @@
 -- Numbers link what is linked.
-use Rattle.std.proofs.Common.{◌≡◌, ℕ, ◌+◌, ◌<◌, List, [], ◌∷◌, Bool, true, false, cond, ◌&&◌, ◌||◌, ◌==◌, inl, inr, ⊎_elim, Option, Some, None, refl, sym, ap, ap₂, ◌∙◌, subst, arith}
+use Rattle.std.proofs.Common.{◌≡◌, ℕ, ◌+◌, ◌<◌, List, [], ◌∷◌, Bool, true, false, cond, ◌&&◌, ◌||◌, inl, inr, ⊎_elim, Option, Some, None, refl, sym, ap, ap₂, ◌∙◌, subst, arith}
 use Rattle.std.proofs.lemmas.Bool.{eq-eqb, eqb-true, false≢true, ne_eqb, and_parts, or_left, or_right}
 use Rattle.std.specs.List.{list_any, position_from}
 use Rattle.hq_terms.specs.Database.{Row}
@@ -47,7 +47,8 @@ module _ {B : Type 0} where
   place_meets p q k (z ∷ ys) h =
       let later : same_number (position_from p (k + 1) ys) (position_from q (k + 1) ys) ≡ true → (y : B) × Among y (z ∷ ys) × (p y ≡ true) × (q y ≡ true) =
       λ g. let found = place_meets p q (k + 1) ys g in (found.0, inr found.1, found.2, found.3) in
-      let here : (b c : Bool) → p z ≡ b → q z ≡ c → same_number (cond b (Some k) (position_from p (k + 1) ys)) (cond c (Some k) (position_from q (k + 1) ys)) ≡ true → (y : B) × Among y (z ∷ ys) × (p y ≡ true) × (q y ≡ true) =
+      let here : (b c : Bool) → p z ≡ b → q z ≡ c → same_number (cond b (Some k) (position_from p (k + 1) ys)) (cond c (Some k) (position_from q (k + 1) ys)) ≡ true → (y : B) × Among y (z ∷ ys) ×
+      (p y ≡ true) × (q y ≡ true) =
       elim [
         | true ↦ elim [ true ↦ λ e f g. (z, inl refl, e, f) | false ↦ λ e f g. absurd (false≢true (sym (not_before q (k + 1) k ys (omega arith)) ∙ g)) ]
         | false ↦ elim [
@@ -116,7 +117,8 @@ module _ {A B : Type 0} (linked : A → B → Bool) where
       let here : (b : Bool) → linked x y ≡ b → to_number linked (x ∷ xs) ys y ≡ cond b (from_number linked ys x) (first_from linked xs ys y) =
       elim [
         | true ↦ λ e. place_same _ (linked x) 1 ys (λ z n. shares_is linked (x ∷ xs) ys (λ x u y z mx mu my mz. square x u y z) x y (inl refl) m e z n)
-        | false ↦ λ e. place_same _ (λ z. list_any (λ u. linked u y && linked u z) xs) 1 ys (λ z n. ap (λ b. (b && linked x z) || list_any (λ u. linked u y && linked u z) xs) e) ∙ first_of xs ys square y m
+        | false ↦ λ e. place_same _ (λ z. list_any (λ u. linked u y && linked u z) xs) 1 ys (λ z n. ap (λ b. (b && linked x z) || list_any (λ u. linked u y && linked u z) xs) e)
+            ∙ first_of xs ys square y m
       ] in
       here (linked x y) refl
 

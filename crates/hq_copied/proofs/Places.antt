@@ -1,38 +1,15 @@
 -- Places in lists: what stands at the place of a number, and the places at which a test is true.
-use Rattle.std.proofs.Common.{◌≡◌, ℕ, zero, suc, ◌+◌, ◌≤◌, ◌<◌, List, [], ◌∷◌, ◌++◌, map, filter, length, Bool, true, false, cond, ◌||◌, ◌==◌, not, Option, Some, None, refl, sym, ap, ap₂, ◌∙◌, subst, arith}
+use Rattle.std.proofs.Common.{◌≡◌, ℕ, zero, suc, ◌+◌, ◌≤◌, ◌<◌, List, [], ◌∷◌, ◌++◌, filter, length, Bool, true, false, cond, ◌||◌, ◌==◌, Some, refl, sym, ap, ap₂, ◌∙◌, subst, arith}
 use Rattle.std.proofs.lemmas.Bool.{eq-eqb, eqb-true, ne_eqb, false≢true, or_left, or_right}
 use Rattle.std.proofs.lemmas.List.Elements.{filter-append}
 use Rattle.std.proofs.lemmas.List.Folds.{find_at}
-use Rattle.std.specs.List.{find, list_any, position_or_len}
-use Rattle.std.specs.Prelude.{option_map, slice_get, slice_index_or}
+use Rattle.std.specs.List.{find, list_any}
+use Rattle.std.specs.Prelude.{slice_get}
 use Rattle.hq_base.specs.Lists.{Each}
 use Rattle.hq_base.proofs.Lists.{filter_all, each_weaken}
-use Rattle.hq_terms.specs.Schema.{numbered}
 use Rattle.hq_terms.specs.View.{places_from}
 use Rattle.hq_copied.specs.Metadata.{places}
 use Rattle.hq_copied.specs.Sources.{place_in}
-
-module _ {A B : Type 0} where
-  pub got_map : (f : A → B) (xs : List A) (i : ℕ) → slice_get (map f xs) i ≡ option_map f (slice_get xs i)
-  got_map f [] i = refl
-  got_map f (x ∷ xs) zero = refl
-  got_map f (x ∷ xs) (suc i) = got_map f xs i
-
-  pub each_map : (P : B → Type 0) (f : A → B) (xs : List A) → Each (λ x. P (f x)) xs → Each P (map f xs)
-  each_map P f [] h = tt
-  each_map P f (x ∷ xs) h = (h.0, each_map P f xs h.1)
-
-pub each_append : {A : Type 0} (P : A → Type 0) (xs ys : List A) → Each P xs → Each P ys → Each P (xs ++ ys)
-each_append P [] ys h g = g
-each_append P (x ∷ xs) ys h g = (h.0, each_append P xs ys h.1 g)
-
--- what is found passes
-pub found_passes : {A : Type 0} (p : A → Bool) (xs : List A) (x : A) → find p xs ≡ Some x → p x ≡ true
-found_passes p [] x e = cc
-found_passes p (y ∷ ys) x e =
-    let go : (b : Bool) → p y ≡ b → cond b (Some y) (find p ys) ≡ Some x → p x ≡ true =
-    elim [ true ↦ λ h g. let same : y ≡ x = cc in subst (λ z. p z ≡ true) same h | false ↦ λ h g. found_passes p ys x g ] in
-    go (p y) refl e
 
 number_found : (ns : List ℕ) (n : ℕ) → list_any (λ m. m == n) ns ≡ true → find (λ m. m == n) ns ≡ Some n
 number_found [] n h = absurd (false≢true h)
@@ -56,7 +33,8 @@ kept_there test k (y ∷ ys) zero x e h =
     go (test y) (ap test same ∙ h)
 kept_there test k (y ∷ ys) (suc j) x e h =
     let next : suc k + j ≡ k + suc j = omega arith in
-    let later : list_any (λ q. q == (k + suc j)) (places_from test (suc k) ys) ≡ true = subst (λ i. list_any (λ q. q == i) (places_from test (suc k) ys) ≡ true) next (kept_there test (suc k) ys j x e h) in
+    let later : list_any (λ q. q == (k + suc j)) (places_from test (suc k) ys) ≡ true =
+    subst (λ i. list_any (λ q. q == i) (places_from test (suc k) ys) ≡ true) next (kept_there test (suc k) ys j x e h) in
     let go : (b : Bool) → list_any (λ q. q == (k + suc j)) (cond b (k ∷ places_from test (suc k) ys) (places_from test (suc k) ys)) ≡ true =
     elim [ true ↦ or_right (k == (k + suc j)) _ later | false ↦ later ] in
     go (test y)
@@ -90,7 +68,7 @@ places_within k (x ∷ xs) =
           (λ c h. let least = h.0 in let most = h.1 in let low : k ≤ c = omega arith in let high : c < k + suc (length xs) = omega arith in (low, high)) _ (places_within (suc k) xs),
     )
 
-place_within : {A : Type 0} (k : ℕ) (xs : List A) (c : ℕ) → k ≤ c → c < k + length xs → list_any (λ d. d == c) (places k xs) ≡ true
+pub place_within : {A : Type 0} (k : ℕ) (xs : List A) (c : ℕ) → k ≤ c → c < k + length xs → list_any (λ d. d == c) (places k xs) ≡ true
 place_within k [] c least most = absurd (omega arith)
 place_within k (x ∷ xs) c least most =
     let go : (b : Bool) → (k == c) ≡ b → (b || list_any (λ d. d == c) (places (suc k) xs)) ≡ true =
@@ -100,7 +78,7 @@ place_within k (x ∷ xs) c least most =
     ] in
     go (k == c) refl
 
-place_beyond : {A : Type 0} (k : ℕ) (xs : List A) (c : ℕ) → k + length xs ≤ c → list_any (λ d. d == c) (places k xs) ≡ false
+pub place_beyond : {A : Type 0} (k : ℕ) (xs : List A) (c : ℕ) → k + length xs ≤ c → list_any (λ d. d == c) (places k xs) ≡ false
 place_beyond k [] c least = refl
 place_beyond k (x ∷ xs) c least =
     let other : (k == c) ≡ false = ne_eqb k c (omega arith) in

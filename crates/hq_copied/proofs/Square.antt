@@ -3,14 +3,13 @@ use Rattle.std.proofs.Common.{◌≡◌, List, [], ◌∷◌, true, refl, sym, a
 use Rattle.std.proofs.lemmas.Bool.{and_parts, false≢true}
 use Rattle.hq_base.specs.Cells.{CellTree, cell_of, same_cell}
 use Rattle.hq_base.specs.declared.value.Val.{Val}
-use Rattle.hq_base.specs.declared.value.Val.TheVariants as val
 use Rattle.hq_base.proofs.Orders.{same_value}
 use Rattle.hq_terms.specs.Database.{Row}
 use Rattle.hq_terms.specs.Logic.{is_true, equal, order_between, tested}
 use Rattle.hq_terms.specs.Seen.{row_cell, linked_by}
 use Rattle.hq_terms.specs.declared.meta.Pair.{Pair}
 use Rattle.hq_terms.proofs.CellOrders.{cell_cmp_between}
-use Rattle.hq_copied.specs.Links.{Among, Square}
+use Rattle.hq_copied.specs.Links.{Square}
 
 -- cells that are equal, and so not NULL, are not distinct
 ordered_same : (a b : CellTree) (o : Option Ordering) → order_between a b ≡ o → is_true (tested is_eq o) ≡ true → same_cell a b ≡ true

@@ -1,14 +1,13 @@
 -- The columns that a copy adds to a table: two for each relationship between copied tables, one in its own table and one in the
 -- remote one, and the position where the key is not kept.
-use Rattle.std.specs.Prelude.{ℕ, suc, List, [], ◌∷◌, ◌++◌, Bool, true, false, cond, not, ◌==◌, codes}
+use Rattle.std.specs.Prelude.{ℕ, suc, List, [], ◌∷◌, ◌++◌, Bool, true, false, cond, ◌==◌, codes}
 use Rattle.std.specs.Fmt.{decimal}
 use Rattle.hq_base.specs.declared.value.Ty.TheVariants.{Bigint}
 use Rattle.hq_terms.specs.Meta.{MetaTree}
-use Rattle.hq_terms.specs.Permission.{Permission}
 use Rattle.hq_terms.specs.Schema.{Schema, table}
 use Rattle.hq_terms.specs.declared.role.Role.{Role}
 use Rattle.hq_terms.specs.declared.table.Column.{Column}
-use Rattle.hq_copied.specs.Sources.{Link, links, link_remote, same_link, keeps_key}
+use Rattle.hq_copied.specs.Sources.{Source, Link, links, link_remote, same_link, keeps_key}
 
 -- an added column: the own end of the link of this number, its remote end, or the position of the row
 pub data Extra : Type 0 where
@@ -29,9 +28,9 @@ ends_from s t k (l ∷ ls) = ends_at s t k l ++ ends_from s t (suc k) ls
 abbrev pub ends_of : Role → MetaTree → Schema → ℕ → List Extra
 ends_of role m s t = ends_from s t 1 (links role m s)
 
--- the columns that are added to table t
-abbrev pub extras_of : Role → MetaTree → Schema → Permission → ℕ → List Extra
-extras_of role m s p t = ends_of role m s t ++ cond (keeps_key p (table s t).key) [] (row_position ∷ [])
+-- the columns that are added to the table of a source
+abbrev pub extras_of : Role → MetaTree → Schema → Source → List Extra
+extras_of role m s o = ends_of role m s o.entry.table ++ cond (keeps_key o.permission (table s o.entry.table).key) [] (row_position ∷ [])
 
 -- the own end of a link, and the remote one
 abbrev pub is_from_end : Link → Extra → Bool

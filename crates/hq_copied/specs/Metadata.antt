@@ -1,6 +1,6 @@
 -- The metadata of a copy: one role that sees what is copied, and the names of the original (Hasura, Metadata format).
-use Rattle.std.specs.Prelude.{ℕ, List, [], ◌∷◌, ◌++◌, ◌+◌, map, length, Option, Some, None, option_map, unwrap_or, slice_index_or, codes}
-use Rattle.std.specs.List.{find, position_or_len}
+use Rattle.std.specs.Prelude.{ℕ, List, [], ◌∷◌, ◌++◌, ◌+◌, map, length, option_map, unwrap_or, slice_index_or, codes}
+use Rattle.std.specs.List.{position_or_len}
 use Rattle.hq_terms.specs.Bexp.{always}
 use Rattle.hq_terms.specs.Meta.{PermTree, TrackedTree, MetaTree}
 use Rattle.hq_terms.specs.Permission.{Permission, permission}
@@ -8,7 +8,7 @@ use Rattle.hq_terms.specs.Schema.{Schema, rel, numbered}
 use Rattle.hq_terms.specs.declared.meta.Pair.{Pair}
 use Rattle.hq_terms.specs.declared.meta.Rel.{Rel}
 use Rattle.hq_terms.specs.declared.role.Role.{Role}
-use Rattle.hq_copied.specs.Extras.{Extra, ends_of, is_from_end, is_to_end, extra_name, extras_of}
+use Rattle.hq_copied.specs.Extras.{ends_of, is_from_end, is_to_end, extra_name, extras_of}
 use Rattle.hq_copied.specs.Sources.{Source, sources, table_place, kept_relationships, Link}
 
 -- the role that sees all that is copied
@@ -54,7 +54,7 @@ reader_permission p = record { role = reader; cols = places 0 p.columns; filter 
 abbrev pub copied_names : Role → MetaTree → Schema → Source → List (List ℕ)
 copied_names role m s o =
     map (λ c. slice_index_or o.entry.column_names c []) o.permission.columns
-    ++ map extra_name (extras_of role m s o.permission o.entry.table)
+    ++ map extra_name (extras_of role m s o)
 
 -- the entry of the table at place u of the copy
 abbrev pub copied_entry : Role → MetaTree → Schema → ℕ → Source → TrackedTree

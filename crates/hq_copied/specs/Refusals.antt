@@ -1,12 +1,12 @@
 -- Why no copy is made, as far as catalog, metadata, session and view tell: the first cause, and within a cause the first table.
-use Rattle.std.specs.Prelude.{ℕ, List, [], ◌∷◌, ◌++◌, map, flat_map, Bool, true, false, cond, ◌&&◌, ◌||◌, nat_lt, length, Option, Some, None, Result, Ok, Err, bytes_eq, codes, take, ◌+◌, slice_index_or}
+use Rattle.std.specs.Prelude.{ℕ, List, [], ◌∷◌, ◌++◌, flat_map, Bool, false, cond, ◌&&◌, nat_lt, length, Option, Some, None, Result, Ok, Err, bytes_eq, codes, take, ◌+◌, slice_index_or}
 use Rattle.std.specs.List.{list_any}
 use Rattle.hq_base.specs.declared.value.Val.{Val}
 use Rattle.hq_base.specs.declared.value.Val.TheVariants as val
 use Rattle.hq_terms.specs.Binding.{bound_permission}
 use Rattle.hq_terms.specs.Catalog.{full_name}
 use Rattle.hq_terms.specs.Database.{Row}
-use Rattle.hq_terms.specs.Meta.{MetaTree, TrackedTree}
+use Rattle.hq_terms.specs.Meta.{MetaTree}
 use Rattle.hq_terms.specs.Permission.{Permission}
 use Rattle.hq_terms.specs.Schema.{Schema, table, column, rel, schema_of}
 use Rattle.hq_terms.specs.SchemaNames.{fixed_types, types_of, roots_of}
@@ -16,7 +16,6 @@ use Rattle.hq_terms.specs.declared.bind.BindRefusal.TheVariants as bind
 use Rattle.hq_terms.specs.declared.role.Role.{Role}
 use Rattle.hq_terms.specs.declared.session.Var.{Var}
 use Rattle.hq_terms.specs.declared.table.Column.{Column}
-use Rattle.hq_terms.specs.declared.table.Table.{Table}
 use Rattle.hq_copied.specs.declared.refusal.CopyRefusal.{CopyRefusal}
 use Rattle.hq_copied.specs.declared.refusal.CopyRefusal.TheVariants as refusal
 use Rattle.hq_copied.specs.Metadata.{copied_meta}

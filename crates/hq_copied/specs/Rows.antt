@@ -11,7 +11,7 @@ use Rattle.hq_terms.specs.View.{View, seen_in}
 use Rattle.hq_terms.specs.declared.role.Role.{Role}
 use Rattle.hq_copied.specs.Extras.{Extra, from_end, to_end, row_position, extras_of}
 use Rattle.hq_copied.specs.Links.{from_number, to_number}
-use Rattle.hq_copied.specs.Sources.{Source, sources, Link, link_remote}
+use Rattle.hq_copied.specs.Sources.{Source, sources, link_remote}
 
 -- the value of a cell; a view has no cell of JSON
 abbrev pub value_of : CellTree → Val
@@ -36,7 +36,7 @@ extra_value s S i row_position = val.Int (pos (suc i))
 abbrev pub copied_row : Role → MetaTree → Schema → Sees ℕ → Source → ℕ → Row
 copied_row role m s S o i =
     map (λ c. value_of (S.cell o.entry.table i c)) o.permission.columns
-    ++ map (extra_value s S i) (extras_of role m s o.permission o.entry.table)
+    ++ map (extra_value s S i) (extras_of role m s o)
 
 -- the rows of a table, in the order of the view
 abbrev pub rows_of : Role → MetaTree → Schema → Sees ℕ → Source → List Row

@@ -1,13 +1,12 @@
 -- The catalog of a copy (PostgreSQL, Constraints: not-null, primary keys).
 use Rattle.std.specs.Prelude.{ℕ, List, [], ◌∷◌, ◌++◌, ◌+◌, map, length, cond, ◌||◌}
-use Rattle.std.specs.List.{position_or_len}
 use Rattle.hq_terms.specs.Meta.{MetaTree}
 use Rattle.hq_terms.specs.Permission.{Permission}
 use Rattle.hq_terms.specs.Schema.{Schema, table, column}
 use Rattle.hq_terms.specs.declared.role.Role.{Role}
 use Rattle.hq_terms.specs.declared.table.Column.{Column}
 use Rattle.hq_terms.specs.declared.table.Table.{Table}
-use Rattle.hq_copied.specs.Extras.{Extra, ends_of, extras_of, extra_column}
+use Rattle.hq_copied.specs.Extras.{ends_of, extras_of, extra_column}
 use Rattle.hq_copied.specs.Sources.{Source, sources, place_in, keeps_key, has_mask}
 
 -- a permitted column: it may hold NULL also where it shows in some rows only
@@ -15,21 +14,23 @@ abbrev pub copied_column : Schema → Permission → ℕ → ℕ → Column
 copied_column s p t c = record { name = (column s t c).name; ty = (column s t c).ty; nullable = (column s t c).nullable || has_mask p c }
 
 -- the key: the old one where it is kept, and else the position, which is the last column
-abbrev pub copied_key : Role → MetaTree → Schema → Permission → ℕ → List ℕ
-copied_key role m s p t =
-    cond (keeps_key p (table s t).key) (map (place_in p.columns) (table s t).key) ((length p.columns + length (ends_of role m s t)) ∷ [])
+abbrev pub copied_key : Role → MetaTree → Schema → Source → List ℕ
+copied_key role m s o =
+    cond (keeps_key o.permission (table s o.entry.table).key)
+    (map (place_in o.permission.columns) (table s o.entry.table).key)
+    ((length o.permission.columns + length (ends_of role m s o.entry.table)) ∷ [])
 
 -- the permitted columns in the catalog's order, and behind them the added ones
-abbrev pub copied_columns : Role → MetaTree → Schema → Permission → ℕ → List Column
-copied_columns role m s p t = map (copied_column s p t) p.columns ++ map extra_column (extras_of role m s p t)
+abbrev pub copied_columns : Role → MetaTree → Schema → Source → List Column
+copied_columns role m s o = map (copied_column s o.permission o.entry.table) o.permission.columns ++ map extra_column (extras_of role m s o)
 
 -- a table of the copy, under its name
 abbrev pub copied_table : Role → MetaTree → Schema → Source → Table
 copied_table role m s o = record {
   schema = (table s o.entry.table).schema;
   name = (table s o.entry.table).name;
-  columns = copied_columns role m s o.permission o.entry.table;
-  key = copied_key role m s o.permission o.entry.table;
+  columns = copied_columns role m s o;
+  key = copied_key role m s o;
   foreign = [];
 }
 

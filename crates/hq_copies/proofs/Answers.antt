@@ -1,15 +1,14 @@
 -- A well-formed request of a session is answered over a database as the renumbered one is over the copy of its view.
-use Rattle.std.proofs.Common.{◌≡◌, ℕ, suc, List, [], ◌∷◌, length, refl, sym, ap, ◌∙◌, subst}
+use Rattle.std.proofs.Common.{◌≡◌, List, length, sym, ap, ◌∙◌, subst}
 use Rattle.hq_terms.specs.Database.{Row}
 use Rattle.hq_terms.specs.Grants.{Grants, grants_of, limits}
 use Rattle.hq_terms.specs.Meta.{MetaTree}
 use Rattle.hq_terms.specs.Permission.{role_of}
-use Rattle.hq_terms.specs.Schema.{Schema, schema_of, schema_table, numbered}
+use Rattle.hq_terms.specs.Schema.{Schema, schema_of}
 use Rattle.hq_terms.specs.View.{View, view, seen_in}
 use Rattle.hq_terms.specs.declared.session.Session.{Session}
 use Rattle.hq_terms.specs.declared.table.Table.{Table}
 use Rattle.hq_ask_tree.specs.Allowed.{allowed_to}
-use Rattle.hq_ask_tree.specs.Fields.{FieldTrees}
 use Rattle.hq_ask_tree.specs.Request.{AskTree}
 use Rattle.hq_ask_tree.specs.Resolve.{resolved}
 use Rattle.hq_ask_tree.specs.Standing.{AllStand}
@@ -17,20 +16,21 @@ use Rattle.hq_ask_tree.specs.Uses.{UsesAll}
 use Rattle.hq_copied.specs.Copied.{Copied, copy_of}
 use Rattle.hq_renumbered.specs.Copies.{AnsweredAlike}
 use Rattle.hq_renumbered.specs.Renumbering.{fields_over}
-use Rattle.hq_views.specs.Laws.{ViewsDecide, resolved_in}
+use Rattle.hq_views.specs.Laws.{ViewsDecide}
 use Rattle.hq_copies.specs.Laws.{numbers, reader_grants, CopyAnswers}
 use Rattle.hq_copies.proofs.Copy.{is_copy, limits_are}
 use Rattle.hq_copies.proofs.Refused.{given, causes_absent}
-
-schema_long : (m : MetaTree) (k : ℕ) (tables : List Table) → length (numbered (schema_table m) k tables) ≡ length tables
-schema_long m k [] = refl
-schema_long m k (t ∷ ts) = ap suc (schema_long m (suc k) ts)
+use Rattle.hq_copied.proofs.Found.{schema_long}
 
 pub copy_answers : (tables : List Table) (m : MetaTree) (session : Session) (d : List (List Row)) (a : AskTree) (c : Copied)
     → ViewsDecide tables m session a d
-    → AnsweredAlike a.fields (schema_of tables m) (schema_of (copy_of tables m session (view (schema_of tables m) (grants_of session tables m) d)).tables (copy_of tables m session (view (schema_of tables m) (grants_of session tables m) d)).meta)
-    (numbers (role_of session.role) m (schema_of tables m)) (view (schema_of tables m) (grants_of session tables m) d) (allowed_to (role_of session.role) m (schema_of tables m)) (limits (grants_of session tables m))
-    (reader_grants (copy_of tables m session (view (schema_of tables m) (grants_of session tables m) d))) (copy_of tables m session (view (schema_of tables m) (grants_of session tables m) d)).rows
+    → AnsweredAlike a.fields (schema_of tables m)
+    (schema_of (copy_of tables m session (view (schema_of tables m) (grants_of session tables m) d)).tables
+    (copy_of tables m session (view (schema_of tables m) (grants_of session tables m) d)).meta)
+    (numbers (role_of session.role) m (schema_of tables m)) (view (schema_of tables m) (grants_of session tables m) d) (allowed_to (role_of session.role) m (schema_of tables m))
+    (limits (grants_of session tables m))
+    (reader_grants (copy_of tables m session (view (schema_of tables m) (grants_of session tables m) d)))
+    (copy_of tables m session (view (schema_of tables m) (grants_of session tables m) d)).rows
     → CopyAnswers tables m session d a c
 copy_answers tables m session d a c views alike fit done same request =
     let s : Schema = schema_of tables m in

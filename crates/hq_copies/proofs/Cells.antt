@@ -1,52 +1,32 @@
 -- The cells of a copied row: a permitted column's is the cell of the view, and those of a link's two ends are its numbers.
 use Rattle.std.proofs.Common.{◌≡◌, ℕ, zero, suc, pos, ℤ, negsuc, ◌+◌, List, [], ◌∷◌, ◌++◌, map, flat_map, length, Bool, true, false, cond, ◌&&◌, ◌||◌, ◌==◌, Option, Some, None, refl, sym, ap, ap₂, ◌∙◌, subst, arith}
-use Rattle.std.proofs.lemmas.Bool.{eq-eqb, eqb-true, false≢true, and_parts, and_from, or_left, or_right, Decides}
+use Rattle.std.proofs.lemmas.Bool.{eq-eqb, eqb-true, false≢true, and_parts, or_left, or_right}
 use Rattle.std.proofs.lemmas.Bool.Decides.{Decides-int_eq}
 use Rattle.std.proofs.lemmas.List.Folds.{list_any-append, find_at}
-use Rattle.std.specs.List.{find, list_any, position_or_len}
+use Rattle.std.specs.List.{list_any, position_or_len}
 use Rattle.std.specs.Ordering.{int_eq}
-use Rattle.std.specs.Prelude.{option_map, slice_get, slice_index_or, unwrap_or, is_some}
-use Rattle.hq_base.specs.Cells.{CellTree, null, int, text, bool, json, cell_of}
+use Rattle.std.specs.Prelude.{option_map, slice_get, slice_index_or, unwrap_or}
+use Rattle.hq_base.specs.Cells.{null, int, cell_of}
 use Rattle.hq_base.specs.declared.value.Val.{Val}
 use Rattle.hq_base.specs.declared.value.Val.TheVariants as val
 use Rattle.hq_base.proofs.Lists.{any_map_of}
-use Rattle.hq_terms.specs.Database.{Row}
 use Rattle.hq_terms.specs.Logic.{is_true, equal, truth_of}
 use Rattle.hq_terms.specs.Meta.{MetaTree}
-use Rattle.hq_terms.specs.Permission.{Permission, permission}
+use Rattle.hq_terms.specs.Permission.{permission}
 use Rattle.hq_terms.specs.Schema.{Schema, table, rel}
 use Rattle.hq_terms.specs.Seen.{Sees, row_cell, linked_by}
 use Rattle.hq_terms.specs.declared.role.Role.{Role}
 use Rattle.hq_terms.proofs.Places.{present}
 use Rattle.hq_copied.specs.Extras.{Extra, from_end, to_end, row_position, ends_at, ends_from, ends_of, extras_of, is_from_end, is_to_end}
 use Rattle.hq_copied.specs.Links.{from_number, to_number, same_number}
-use Rattle.hq_copied.specs.Metadata.{width, from_place, to_place, copied_pair}
+use Rattle.hq_copied.specs.Metadata.{width, to_place, copied_pair}
 use Rattle.hq_copied.specs.Rows.{value_of, number_value, extra_value, copied_row}
 use Rattle.hq_copied.specs.Sources.{Source, sources, place_in, kept_relationships, keeps_key, Link, links, link_remote, same_link}
-use Rattle.hq_copied.proofs.BySource.{IsSource, something}
-use Rattle.hq_copied.proofs.Places.{got_map, found_passes, place_holds}
+use Rattle.hq_copied.proofs.BySource.{IsSource}
+use Rattle.hq_copied.proofs.Places.{place_holds}
+use Rattle.hq_copied.proofs.Lists.{got_map, found_passes, got_front, got_back, map_length, found_there}
 
 -- ---- lists
-
-pub got_front : {A : Type 0} (xs ys : List A) (i : ℕ) (x : A) → slice_get xs i ≡ Some x → slice_get (xs ++ ys) i ≡ Some x
-got_front [] ys i x e = cc
-got_front (z ∷ xs) ys zero x e = e
-got_front (z ∷ xs) ys (suc i) x e = got_front xs ys i x e
-
-pub got_back : {A : Type 0} (xs ys : List A) (j : ℕ) → slice_get (xs ++ ys) (length xs + j) ≡ slice_get ys j
-got_back [] ys j = let zeroth : 0 + j ≡ j = omega arith in ap (slice_get ys) zeroth
-got_back (x ∷ xs) ys j = let next : suc (length xs) + j ≡ suc (length xs + j) = omega arith in ap (slice_get (x ∷ (xs ++ ys))) next ∙ got_back xs ys j
-
-map_length : {A B : Type 0} (f : A → B) (xs : List A) → length (map f xs) ≡ length xs
-map_length f [] = refl
-map_length f (x ∷ xs) = ap suc (map_length f xs)
-
-pub found_there : {A : Type 0} (p : A → Bool) (xs : List A) → list_any p xs ≡ true → (x : A) × (find p xs ≡ Some x)
-found_there p [] h = absurd (false≢true h)
-found_there p (y ∷ ys) h =
-    let go : (b : Bool) → (b || list_any p ys) ≡ true → (x : _) × (cond b (Some y) (find p ys) ≡ Some x) =
-    elim [ true ↦ λ g. (y, refl) | false ↦ λ g. found_there p ys g ] in
-    go (p y) h
 
 -- a test that an item of a list passes, of the items that the list is made into
 any_made : {A B : Type 0} (p : B → Bool) (f : A → List B) (xs : List A) (i : ℕ) (x : A) → slice_get xs i ≡ Some x → list_any p (f x) ≡ true → list_any p (flat_map f xs) ≡ true
@@ -99,40 +79,46 @@ module _ (role : Role) (m : MetaTree) (s : Schema) (S : Sees ℕ) (o : Source) w
   cells_front i = map (λ c. value_of (S.cell o.entry.table i c)) o.permission.columns
 
   -- the value of a permitted column
-  pub permitted_value : (i c : ℕ) → list_any (λ d. d == c) o.permission.columns ≡ true → slice_index_or (copied_row role m s S o i) (place_in o.permission.columns c) val.Null ≡ value_of (S.cell o.entry.table i c)
+  pub permitted_value : (i c : ℕ) → list_any (λ d. d == c) o.permission.columns ≡ true
+      → slice_index_or (copied_row role m s S o i) (place_in o.permission.columns c) val.Null ≡ value_of (S.cell o.entry.table i c)
   permitted_value i c h =
       present (copied_row role m s S o i) (place_in o.permission.columns c) val.Null (value_of (S.cell o.entry.table i c))
-      (got_front (cells_front i) (map (extra_value s S i) (extras_of role m s o.permission o.entry.table)) (place_in o.permission.columns c) (value_of (S.cell o.entry.table i c))
-      (got_map (λ c. value_of (S.cell o.entry.table i c)) o.permission.columns (place_in o.permission.columns c) ∙ ap (option_map (λ c. value_of (S.cell o.entry.table i c))) (place_holds o.permission.columns c h)))
+      (got_front (cells_front i) (map (extra_value s S i) (extras_of role m s o)) (place_in o.permission.columns c) (value_of (S.cell o.entry.table i c))
+      (got_map (λ c. value_of (S.cell o.entry.table i c)) o.permission.columns (place_in o.permission.columns c)
+      ∙ ap (option_map (λ c. value_of (S.cell o.entry.table i c))) (place_holds o.permission.columns c h)))
 
-  pub permitted_cell : (i c : ℕ) → list_any (λ d. d == c) o.permission.columns ≡ true → row_cell (copied_row role m s S o i) (place_in o.permission.columns c) ≡ cell_of (value_of (S.cell o.entry.table i c))
+  pub permitted_cell : (i c : ℕ) → list_any (λ d. d == c) o.permission.columns ≡ true
+      → row_cell (copied_row role m s S o i) (place_in o.permission.columns c) ≡ cell_of (value_of (S.cell o.entry.table i c))
   permitted_cell i c h = ap cell_of (permitted_value i c h)
 
   -- the value of an added one
-  pub added_value : (i j : ℕ) (e : Extra) → slice_get (extras_of role m s o.permission o.entry.table) j ≡ Some e → slice_index_or (copied_row role m s S o i) (length o.permission.columns + j) val.Null ≡ extra_value s S i e
+  pub added_value : (i j : ℕ) (e : Extra) → slice_get (extras_of role m s o) j ≡ Some e
+      → slice_index_or (copied_row role m s S o i) (length o.permission.columns + j) val.Null ≡ extra_value s S i e
   added_value i j e h =
       let long : length (cells_front i) ≡ length o.permission.columns = map_length _ o.permission.columns in
       present (copied_row role m s S o i) (length o.permission.columns + j) val.Null (extra_value s S i e)
       (ap (λ n. slice_get (copied_row role m s S o i) (n + j)) (sym long)
-      ∙ got_back (cells_front i) (map (extra_value s S i) (extras_of role m s o.permission o.entry.table)) j
-      ∙ got_map (extra_value s S i) (extras_of role m s o.permission o.entry.table) j
+      ∙ got_back (cells_front i) (map (extra_value s S i) (extras_of role m s o)) j
+      ∙ got_map (extra_value s S i) (extras_of role m s o) j
       ∙ ap (option_map (extra_value s S i)) h)
 
-  pub extra_cell : (i j : ℕ) (e : Extra) → slice_get (extras_of role m s o.permission o.entry.table) j ≡ Some e → row_cell (copied_row role m s S o i) (length o.permission.columns + j) ≡ cell_of (extra_value s S i e)
+  pub extra_cell : (i j : ℕ) (e : Extra) → slice_get (extras_of role m s o) j ≡ Some e → row_cell (copied_row role m s S o i) (length o.permission.columns + j) ≡ cell_of (extra_value s S i e)
   extra_cell i j e h = ap cell_of (added_value i j e h)
 
   -- the position stands behind the ends of links
-  pub position_value : (i : ℕ) → keeps_key o.permission (table s o.entry.table).key ≡ false → slice_index_or (copied_row role m s S o i) (length o.permission.columns + length (ends_of role m s o.entry.table)) val.Null ≡ val.Int (pos (suc i))
+  pub position_value : (i : ℕ) → keeps_key o.permission (table s o.entry.table).key ≡ false
+      → slice_index_or (copied_row role m s S o i) (length o.permission.columns + length (ends_of role m s o.entry.table)) val.Null ≡ val.Int (pos (suc i))
   position_value i h =
       let t : ℕ = o.entry.table in
       let zeroth : length (ends_of role m s t) ≡ length (ends_of role m s t) + 0 = omega arith in
-      let at : slice_get (extras_of role m s o.permission t) (length (ends_of role m s t)) ≡ Some row_position =
-      ap (slice_get (extras_of role m s o.permission t)) zeroth
+      let at : slice_get (extras_of role m s o) (length (ends_of role m s t)) ≡ Some row_position =
+      ap (slice_get (extras_of role m s o)) zeroth
       ∙ got_back (ends_of role m s t) (cond (keeps_key o.permission (table s t).key) [] (row_position ∷ [])) 0
       ∙ ap (λ b. slice_get (cond b [] (row_position ∷ [])) 0) h in
       added_value i (length (ends_of role m s t)) row_position at
 
-  pub position_cell : (i : ℕ) → keeps_key o.permission (table s o.entry.table).key ≡ false → row_cell (copied_row role m s S o i) (length o.permission.columns + length (ends_of role m s o.entry.table)) ≡ int (pos (suc i))
+  pub position_cell : (i : ℕ) → keeps_key o.permission (table s o.entry.table).key ≡ false
+      → row_cell (copied_row role m s S o i) (length o.permission.columns + length (ends_of role m s o.entry.table)) ≡ int (pos (suc i))
   position_cell i h = ap cell_of (position_value i h)
 
 -- ---- the ends of links
@@ -194,14 +180,16 @@ module _ (role : Role) (m : MetaTree) (s : Schema) where
       go (same_link j l) refl h
 
   -- an own end of a link has the number of the row, whichever end of the link it is
-  from_value : (S : Sees ℕ) (i : ℕ) (l : Link) (e : Extra) → is_from_end l e ≡ true → extra_value s S i e ≡ number_value (from_number (S.linked l.table l.relationship) (S.rows (link_remote s l)) i)
+  from_value : (S : Sees ℕ) (i : ℕ) (l : Link) (e : Extra) → is_from_end l e ≡ true
+      → extra_value s S i e ≡ number_value (from_number (S.linked l.table l.relationship) (S.rows (link_remote s l)) i)
   from_value S i l (from_end k j) h =
       let both = and_parts (j.table == l.table) (j.relationship == l.relationship) h in
       ap₂ (λ t r. number_value (from_number (S.linked t r) (S.rows (rel s t r).remote) i)) (eqb-true j.table l.table both.0) (eqb-true j.relationship l.relationship both.1)
   from_value S i l (to_end k j) h = absurd (false≢true h)
   from_value S i l row_position h = absurd (false≢true h)
 
-  to_value : (S : Sees ℕ) (i : ℕ) (l : Link) (e : Extra) → is_to_end l e ≡ true → extra_value s S i e ≡ number_value (to_number (S.linked l.table l.relationship) (S.rows l.table) (S.rows (link_remote s l)) i)
+  to_value : (S : Sees ℕ) (i : ℕ) (l : Link) (e : Extra) → is_to_end l e ≡ true
+      → extra_value s S i e ≡ number_value (to_number (S.linked l.table l.relationship) (S.rows l.table) (S.rows (link_remote s l)) i)
   to_value S i l (from_end k j) h = absurd (false≢true h)
   to_value S i l (to_end k j) h =
       let both = and_parts (j.table == l.table) (j.relationship == l.relationship) h in
@@ -221,7 +209,8 @@ module _ (role : Role) (m : MetaTree) (s : Schema) where
       let found = found_there (is_from_end l) (ends_of role m s t) (from_there t l refl 1 (links role m s) (link_there o is r h)) in
       let at = position_or_len (is_from_end l) (ends_of role m s t) in
       ap (λ w. row_cell (copied_row role m s S o i) (w + at)) (width_is o is)
-      ∙ extra_cell role m s S o i at found.0 (got_front (ends_of role m s t) (cond (keeps_key o.permission (table s t).key) [] (row_position ∷ [])) at found.0 (sym (find_at (is_from_end l) (ends_of role m s t)) ∙ found.1))
+      ∙ extra_cell role m s S o i at found.0
+      (got_front (ends_of role m s t) (cond (keeps_key o.permission (table s t).key) [] (row_position ∷ [])) at found.0 (sym (find_at (is_from_end l) (ends_of role m s t)) ∙ found.1))
       ∙ ap cell_of (from_value S i l found.0 (found_passes (is_from_end l) (ends_of role m s t) found.0 found.1))
 
   -- the cell of its remote end, in the table of another source
@@ -237,18 +226,21 @@ module _ (role : Role) (m : MetaTree) (s : Schema) where
       let at = position_or_len (is_to_end l) (ends_of role m s u) in
       ap (λ v. row_cell (copied_row role m s S w j) (to_place role m s v l)) far
       ∙ ap (λ v. row_cell (copied_row role m s S w j) (v + at)) (width_is w isw)
-      ∙ extra_cell role m s S w j at found.0 (got_front (ends_of role m s u) (cond (keeps_key w.permission (table s u).key) [] (row_position ∷ [])) at found.0 (sym (find_at (is_to_end l) (ends_of role m s u)) ∙ found.1))
+      ∙ extra_cell role m s S w j at found.0
+      (got_front (ends_of role m s u) (cond (keeps_key w.permission (table s u).key) [] (row_position ∷ [])) at found.0 (sym (find_at (is_to_end l) (ends_of role m s u)) ∙ found.1))
       ∙ ap cell_of (to_value S j l found.0 (found_passes (is_to_end l) (ends_of role m s u) found.0 found.1))
 
   -- two rows of the copy are linked where their numbers link
   pub numbers_as_cells : (S : Sees ℕ) (o : Source) → IsSource role m o → (r : ℕ) → list_any (λ q. q == r) (kept_relationships role m s o.entry.table) ≡ true
       → (w : Source) → IsSource role m w → (rel s o.entry.table r).remote ≡ w.entry.table → (i j : ℕ)
       → linked_by (copied_pair role m s o.entry.table r ∷ []) (copied_row role m s S o i) (copied_row role m s S w j)
-      ≡ same_number (from_number (S.linked o.entry.table r) (S.rows (rel s o.entry.table r).remote) i) (to_number (S.linked o.entry.table r) (S.rows o.entry.table) (S.rows (rel s o.entry.table r).remote) j)
+      ≡ same_number (from_number (S.linked o.entry.table r) (S.rows (rel s o.entry.table r).remote) i)
+      (to_number (S.linked o.entry.table r) (S.rows o.entry.table) (S.rows (rel s o.entry.table r).remote) j)
   numbers_as_cells S o is r h w isw far i j =
       and_true _
       ∙ ap₂ (λ a b. is_true (equal a b)) (to_cell S o is r h w isw far j) (from_cell S o is r i h)
-      ∙ cells_link (from_number (S.linked o.entry.table r) (S.rows (rel s o.entry.table r).remote) i) (to_number (S.linked o.entry.table r) (S.rows o.entry.table) (S.rows (rel s o.entry.table r).remote) j)
+      ∙ cells_link (from_number (S.linked o.entry.table r) (S.rows (rel s o.entry.table r).remote) i)
+      (to_number (S.linked o.entry.table r) (S.rows o.entry.table) (S.rows (rel s o.entry.table r).remote) j)
     where
       and_true : (b : Bool) → (b && true) ≡ b
       and_true true = refl

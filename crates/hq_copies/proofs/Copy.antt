@@ -1,9 +1,9 @@
 -- The copy of a view is a copy of it, for what the role may use.
-use Rattle.std.proofs.Common.{◌≡◌, ℕ, zero, suc, pos, ◌+◌, ◌<◌, List, [], ◌∷◌, map, length, Bool, true, false, cond, ◌&&◌, ◌||◌, ◌==◌, Option, Some, None, Ok, refl, sym, ap, ap₂, ◌∙◌, subst, arith}
-use Rattle.std.proofs.lemmas.Bool.{and_parts, and_from, or_parts, false≢true}
-use Rattle.std.specs.List.{list_any, list_all}
-use Rattle.std.specs.Prelude.{is_some, option_map, slice_get, slice_index_or, unwrap_or}
-use Rattle.hq_base.specs.Cells.{CellTree, null, cell_of}
+use Rattle.std.proofs.Common.{◌≡◌, ℕ, ◌+◌, ◌<◌, List, [], ◌∷◌, map, length, Bool, true, false, cond, ◌&&◌, ◌==◌, Option, Some, None, Ok, refl, sym, ap, ap₂, ◌∙◌, subst, arith}
+use Rattle.std.proofs.lemmas.Bool.{and_parts, and_from, or_parts}
+use Rattle.std.specs.List.{list_any}
+use Rattle.std.specs.Prelude.{option_map, slice_get, slice_index_or, unwrap_or}
+use Rattle.hq_base.specs.Cells.{cell_of}
 use Rattle.hq_base.specs.declared.value.Val.TheVariants as val
 use Rattle.hq_base.specs.Lists.{Each, Zip, Ascends}
 use Rattle.hq_base.proofs.Lists.{map_itself}
@@ -12,13 +12,12 @@ use Rattle.hq_terms.specs.Binding.{bound_permission}
 use Rattle.hq_terms.specs.Database.{Row}
 use Rattle.hq_terms.specs.Fits.{fits}
 use Rattle.hq_terms.specs.Grants.{Grants, grants_of, grant, no_grant, limits}
-use Rattle.hq_terms.specs.Laws.{IsPermission}
 use Rattle.hq_terms.specs.Meta.{MetaTree}
-use Rattle.hq_terms.specs.Permission.{Mask, Permission, permission, role_of}
-use Rattle.hq_terms.specs.Permitted.{columns_cmp, permitted, permitted_under, shown_under, shown}
-use Rattle.hq_terms.specs.Schema.{Schema, schema_of, schema_table, numbered, table, rel, no_rel}
-use Rattle.hq_terms.specs.Seen.{Sees, row_cell, linked_by, table_rows}
-use Rattle.hq_terms.specs.View.{View, view, view_rows, seen_in, places_from}
+use Rattle.hq_terms.specs.Permission.{Permission, permission, role_of}
+use Rattle.hq_terms.specs.Permitted.{columns_cmp, permitted, shown_under, shown}
+use Rattle.hq_terms.specs.Schema.{Schema, schema_of, table, rel, no_rel}
+use Rattle.hq_terms.specs.Seen.{row_cell, linked_by, table_rows}
+use Rattle.hq_terms.specs.View.{View, view, view_rows, seen_in}
 use Rattle.hq_terms.specs.declared.role.Role.{Role}
 use Rattle.hq_terms.specs.declared.session.Session.{Session}
 use Rattle.hq_terms.specs.declared.table.Table.{Table}
@@ -26,48 +25,33 @@ use Rattle.hq_terms.proofs.Permitting.{permission_fits}
 use Rattle.hq_terms.proofs.Places.{at_0, present}
 use Rattle.hq_ask_tree.specs.Allowed.{Allowed, allowed_to, permitted_columns}
 use Rattle.hq_ask_tree.specs.Uses.{UsesColumns}
-use Rattle.hq_copied.specs.Copied.{Copied, copy_of}
+use Rattle.hq_copied.specs.Copied.{copy_of}
 use Rattle.hq_copied.specs.Extras.{ends_of}
-use Rattle.hq_copied.specs.Links.{from_number, to_number, same_number}
-use Rattle.hq_copied.specs.Metadata.{reader, places, copied_meta, copied_entry, copied_pair, copied_rel}
+use Rattle.hq_copied.specs.Metadata.{places, copied_meta, copied_pair, copied_rel}
 use Rattle.hq_copied.specs.Refusals.{filter_refusal, masked_key_refusal}
 use Rattle.hq_copied.specs.Rows.{value_of, copied_row, rows_of, copied_rows}
 use Rattle.hq_copied.specs.Sources.{Source, sources, table_place, place_in, kept_relationships, keeps_key, has_mask}
 use Rattle.hq_copied.specs.Tables.{copied_key, copied_table, copied_tables}
-use Rattle.hq_copied.proofs.BySource.{IsSource, by_source, something}
+use Rattle.hq_copied.proofs.BySource.{IsSource, by_source}
 use Rattle.hq_copied.proofs.Found.{copied_schema, table_at, rels_at}
-use Rattle.hq_copied.proofs.Places.{got_map, place_holds, kept_there}
+use Rattle.hq_copied.proofs.Places.{place_holds}
 use Rattle.hq_copied.proofs.Reader.{reads, reader_sees}
 use Rattle.hq_renumbered.specs.Copies.{StandsAt, IsCopy, LimitsAlike}
 use Rattle.hq_renumbered.specs.Renumbering.{Renumbering, columns_over}
 use Rattle.hq_copies.specs.Laws.{numbers, reader_session, reader_grants}
 use Rattle.hq_copies.proofs.Cells.{permitted_cell, position_cell, shown_value, numbers_as_cells}
 use Rattle.hq_copies.proofs.Granted.{granted_there, KeptBound, kept_bound}
+use Rattle.hq_copies.proofs.Numbers.{kept_relationship}
 use Rattle.hq_copies.proofs.Order.{ascends_image, ascends_places, placed_places, positions_ascend, shows_all, columns_agree, permitted_ascend, all_permitted}
-use Rattle.hq_copies.proofs.Refused.{NotRefused, each_at, not_refused, binds}
-use Rattle.hq_copies.proofs.Viewed.{seen_rows, seen_cell, seen_link, seen_positions, view_numbered, among_positions}
-
--- two lists of which one is the other in places have the same length
-map_long : {A B : Type 0} (f : A → B) (xs : List A) → length (map f xs) ≡ length xs
-map_long f [] = refl
-map_long f (x ∷ xs) = ap suc (map_long f xs)
-
-places_long : {A : Type 0} (k : ℕ) (xs : List A) → length (places k xs) ≡ length xs
-places_long k [] = refl
-places_long k (x ∷ xs) = ap suc (places_long (suc k) xs)
+use Rattle.hq_copies.proofs.Refused.{NotRefused, not_refused, binds}
+use Rattle.hq_copies.proofs.Viewed.{seen_rows, seen_cell, seen_positions, view_numbered, among_positions}
+use Rattle.hq_copied.proofs.Found.{schema_long}
+use Rattle.hq_copied.proofs.Lists.{got_map, each_at, map_length, got_within}
+use Rattle.hq_copied.proofs.Places.{places_length}
 
 -- a permission that is there
 permitted_is : (o : Option Permission) (p : Permission) (c : ℕ) → o ≡ Some p → list_any (λ d. d == c) (permitted_columns o) ≡ true → list_any (λ d. d == c) p.columns ≡ true
 permitted_is o p c e h = ap (λ q. list_any (λ d. d == c) (permitted_columns q)) (sym e) ∙ h
-
-got_within : {A : Type 0} (xs : List A) (i : ℕ) (x : A) → slice_get xs i ≡ Some x → i < length xs
-got_within [] i x h = cc
-got_within (y ∷ ys) zero x h = omega arith
-got_within (y ∷ ys) (suc i) x h = omega (arith, got_within ys i x h)
-
-schema_long : (m : MetaTree) (k : ℕ) (tables : List Table) → length (numbered (schema_table m) k tables) ≡ length tables
-schema_long m k [] = refl
-schema_long m k (t ∷ ts) = ap suc (schema_long m (suc k) ts)
 
 module _ (tables : List Table) (m : MetaTree) (session : Session) (d : List (List Row)) (fit : fits tables m ≡ true) where
   abbrev role : Role
@@ -122,7 +106,8 @@ module _ (tables : List Table) (m : MetaTree) (session : Session) (d : List (Lis
     -- what the reader is granted of its copy
     reader_is : (o : Source) → IsSource role m o → grant h (at o) ≡ reads o.permission
     reader_is o is =
-        let inside : at o < length z = omega (arith, got_within (sources role m) (at o) o is.place, schema_long (copied_meta role m s) 0 (copied_tables role m s), map_long (copied_table role m s) (sources role m)) in
+        let inside : at o < length z =
+        omega (arith, got_within (sources role m) (at o) o is.place, schema_long (copied_meta role m s) 0 (copied_tables role m s), map_length (copied_table role m s) (sources role m)) in
         ap (λ p. unwrap_or p no_grant) (granted_there reader_session (copied_tables role m s) (copied_meta role m s) (at o) (reads o.permission) (reads o.permission) inside
         (reader_sees role m s o is.columns (at o) is.place) refl)
 
@@ -153,27 +138,27 @@ module _ (tables : List Table) (m : MetaTree) (session : Session) (d : List (Lis
         sym (ap (λ b. b && list_any (has_mask o.permission) (table s o.entry.table).key) kept) ∙ refused
 
     -- a permitted row and the row of the copy that stands at its position
-    abbrev Copied : Source → Row → Row → Type 0
-    Copied o x y = (i : ℕ) × (slice_get (permitted s g d o.entry.table) i ≡ Some x) × (y ≡ copied_row role m s (seen_in v) o i)
+    abbrev RowOf : Source → Row → Row → Type 0
+    RowOf o x y = (i : ℕ) × (slice_get (permitted s g d o.entry.table) i ≡ Some x) × (y ≡ copied_row role m s (seen_in v) o i)
 
     -- both show the same cell in an unmasked column
-    same_shown : (o : Source) → IsSource role m o → (c : ℕ) (x y : Row) → list_any (λ k. k == c) o.permission.columns ≡ true → has_mask o.permission c ≡ false → Copied o x y
+    same_shown : (o : Source) → IsSource role m o → (c : ℕ) (x y : Row) → list_any (λ k. k == c) o.permission.columns ≡ true → has_mask o.permission c ≡ false → RowOf o x y
         → row_cell x c ≡ row_cell y (place_in o.permission.columns c)
-    same_shown o is c x y a open q =
-        let unmasked : has_mask (grant g o.entry.table) c ≡ false = ap (λ p. has_mask p c) (granted_is o is) ∙ (kept_is o is).masked c ∙ open in
+    same_shown o is c x y a plain q =
+        let unmasked : has_mask (grant g o.entry.table) c ≡ false = ap (λ p. has_mask p c) (granted_is o is) ∙ (kept_is o is).masked c ∙ plain in
         sym (ap (λ w. row_cell w (place_in o.permission.columns c)) q.2 ∙ cell_is o is c q.0 x a q.1 ∙ shows_all (grant g o.entry.table) s d o.entry.table x c unmasked)
 
     -- so they compare alike by the key
     key_agrees : (o : Source) → IsSource role m o → (cs : List ℕ) → keeps_key o.permission cs ≡ true → list_any (has_mask o.permission) cs ≡ false
-        → (x y u w : Row) → Copied o x y → Copied o u w → Each (λ c. (row_cell x c ≡ row_cell y (place_in o.permission.columns c)) × (row_cell u c ≡ row_cell w (place_in o.permission.columns c))) cs
-    key_agrees o is [] kept open x y u w q r = tt
-    key_agrees o is (c ∷ cs) kept open x y u w q r =
+        → (x y u w : Row) → RowOf o x y → RowOf o u w → Each (λ c. (row_cell x c ≡ row_cell y (place_in o.permission.columns c)) × (row_cell u c ≡ row_cell w (place_in o.permission.columns c))) cs
+    key_agrees o is [] kept plain x y u w q r = tt
+    key_agrees o is (c ∷ cs) kept plain x y u w q r =
         let both = and_parts (list_any (λ k. k == c) o.permission.columns) (keeps_key o.permission cs) kept in
-        let unmasked = or_parts (has_mask o.permission c) (list_any (has_mask o.permission) cs) open in
+        let unmasked = or_parts (has_mask o.permission c) (list_any (has_mask o.permission) cs) plain in
         ((same_shown o is c x y both.0 unmasked.0 q, same_shown o is c u w both.0 unmasked.0 r), key_agrees o is cs both.1 unmasked.1 x y u w q r)
 
     -- the rows of the copy ascend by its key
-    rows_ascend : (o : Source) → IsSource role m o → Ascends (columns_cmp (copied_key role m s o.permission o.entry.table)) (map (copied_row role m s (seen_in v) o) (places 0 (permitted s g d o.entry.table)))
+    rows_ascend : (o : Source) → IsSource role m o → Ascends (columns_cmp (copied_key role m s o)) (map (copied_row role m s (seen_in v) o) (places 0 (permitted s g d o.entry.table)))
     rows_ascend o is =
         let t : ℕ = o.entry.table in
         let key : List ℕ = (table s t).key in
@@ -181,13 +166,13 @@ module _ (tables : List Table) (m : MetaTree) (session : Session) (d : List (Lis
         let row : ℕ → Row = copied_row role m s (seen_in v) o in
         let xs : List Row = permitted s g d t in
         let q : ℕ = length o.permission.columns + length (ends_of role m s t) in
-        let zipped : Zip (Copied o) xs (map row (places 0 xs)) =
-            subst (λ l. Zip (Copied o) l (map row (places 0 xs))) (map_itself xs)
-            (zip_images (λ x i. slice_get xs i ≡ Some x) (Copied o) (λ x. x) row (λ x i a. (i, a, refl)) xs (places 0 xs)
-            (placed_places xs xs 0 (λ j. let zeroth : 0 + j ≡ j = omega arith in ap (slice_get xs) zeroth))) in
+        let zipped : Zip (RowOf o) xs (map row (places 0 xs)) =
+        subst (λ l. Zip (RowOf o) l (map row (places 0 xs))) (map_itself xs)
+        (zip_images (λ x i. slice_get xs i ≡ Some x) (RowOf o) (λ x. x) row (λ x i a. (i, a, refl)) xs (places 0 xs)
+        (placed_places xs xs 0 (λ j. let zeroth : 0 + j ≡ j = omega arith in ap (slice_get xs) zeroth))) in
         let go : (b : Bool) → keeps_key o.permission key ≡ b → Ascends (columns_cmp (cond b (map f key) (q ∷ []))) (map row (places 0 xs)) =
         elim [
-          | true ↦ λ kept. ascends_image (Copied o) (columns_cmp key) (columns_cmp (map f key))
+          | true ↦ λ kept. ascends_image (RowOf o) (columns_cmp key) (columns_cmp (map f key))
               (λ x y u w a b. columns_agree f x y u w key (key_agrees o is key kept (key_shows o is kept) x y u w a b)) xs (map row (places 0 xs)) zipped (permitted_ascend s g d t)
           | false ↦ λ lost. ascends_places (columns_cmp (q ∷ [])) row
               (λ i j less. positions_ascend q i j (row i) (row j) (position_cell role m s (seen_in v) o i lost) (position_cell role m s (seen_in v) o j lost) less) 0 xs
@@ -199,7 +184,7 @@ module _ (tables : List Table) (m : MetaTree) (session : Session) (d : List (Lis
     reader_rows o is =
         all_permitted z h e (at o) (ap (λ p. p.filter) (reader_is o is))
         (subst (λ k. Ascends (columns_cmp k) (table_rows e (at o))) (sym (ap (λ x. x.key) (table_at role m s (at o) o is.place)))
-        (subst (Ascends (columns_cmp (copied_key role m s o.permission o.entry.table))) (sym (rows_are o is)) (rows_ascend o is)))
+        (subst (Ascends (columns_cmp (copied_key role m s o))) (sym (rows_are o is)) (rows_ascend o is)))
         ∙ rows_are o is
 
     -- a row of the copy stands at the position of the row that it is made of
@@ -209,7 +194,7 @@ module _ (tables : List Table) (m : MetaTree) (session : Session) (d : List (Lis
         let xs : List Row = permitted s g d o.entry.table in
         let f : ℕ → Row = copied_row role m s (seen_in v) o in
         let here : option_map f (option_map (λ x. i) (slice_get xs i)) ≡ Some row =
-            sym (ap (λ l. slice_get l i) (reader_rows o is) ∙ got_map f (places 0 xs) i ∙ ap (option_map f) (at_0 (λ j x. j) xs i)) ∙ got in
+        sym (ap (λ l. slice_get l i) (reader_rows o is) ∙ got_map f (places 0 xs) i ∙ ap (option_map f) (at_0 (λ j x. j) xs i)) ∙ got in
         let go : (w : Option Row) → slice_get xs i ≡ w → option_map f (option_map (λ x. i) w) ≡ Some row → (x : Row) × (slice_get xs i ≡ Some x) × (row ≡ f i) =
         elim [ None ↦ λ a b. cc | Some x ↦ λ a b. let same : f i ≡ row = cc in (x, a, sym same) ] in
         go (slice_get xs i) refl here
@@ -218,8 +203,8 @@ module _ (tables : List Table) (m : MetaTree) (session : Session) (d : List (Lis
 
     counts_are : (o : Source) → IsSource role m o → length (view_rows v o.entry.table) ≡ length (permitted z h e (at o))
     counts_are o is =
-        ap length (seen_rows s g d o.entry.table) ∙ map_long _ (permitted s g d o.entry.table)
-        ∙ sym (ap length (reader_rows o is) ∙ map_long (copied_row role m s (seen_in v) o) (places 0 (permitted s g d o.entry.table)) ∙ places_long 0 (permitted s g d o.entry.table))
+        ap length (seen_rows s g d o.entry.table) ∙ map_length _ (permitted s g d o.entry.table)
+        ∙ sym (ap length (reader_rows o is) ∙ map_length (copied_row role m s (seen_in v) o) (places 0 (permitted s g d o.entry.table)) ∙ places_length 0 (permitted s g d o.entry.table))
 
     cells_are : (o : Source) → IsSource role m o → (c i : ℕ) (row : Row) → ok.column o.entry.table c ≡ true → slice_get (permitted z h e (at o)) i ≡ Some row
         → (seen_in v).cell o.entry.table i c ≡ shown z h e (at o) row (n.column o.entry.table c)
@@ -232,18 +217,9 @@ module _ (tables : List Table) (m : MetaTree) (session : Session) (d : List (Lis
         ∙ ap (λ w. row_cell w (n.column o.entry.table c)) r.2
         ∙ ap (λ p. row_cell (copied_row role m s (seen_in v) o i) (place_in (permitted_columns p) c)) is.seen)
 
-    -- a relationship that may be used is kept
-    kept_relationship : (t r : ℕ) → ok.relationship t r ≡ true → list_any (λ q. q == r) (kept_relationships role m s t) ≡ true
-    kept_relationship t r a =
-        let both = and_parts _ _ a in
-        let found = something (slice_get (table s t).rels r) both.0 in
-        let same : rel s t r ≡ found.0 = present (table s t).rels r no_rel found.0 found.1 in
-        let zeroth : 0 + r ≡ r = omega arith in
-        subst (λ q. list_any (λ k. k == q) (kept_relationships role m s t) ≡ true) zeroth
-        (kept_there (λ w. is_some (permission role m w.remote)) 0 (table s t).rels r found.0 found.1 (ap (λ w. is_some (permission role m w.remote)) (sym same) ∙ both.1))
-
     -- the relationship of the copy
-    rel_is : (o : Source) → IsSource role m o → (r : ℕ) → list_any (λ q. q == r) (kept_relationships role m s o.entry.table) ≡ true → rel z (at o) (n.relationship o.entry.table r) ≡ copied_rel role m s o.entry.table r
+    rel_is : (o : Source) → IsSource role m o → (r : ℕ) → list_any (λ q. q == r) (kept_relationships role m s o.entry.table) ≡ true
+        → rel z (at o) (n.relationship o.entry.table r) ≡ copied_rel role m s o.entry.table r
     rel_is o is r kept =
         let qs : List ℕ = kept_relationships role m s o.entry.table in
         ap (λ l. slice_index_or l (place_in qs r) no_rel) (rels_at role m s (at o) o is.place)
@@ -257,7 +233,7 @@ module _ (tables : List Table) (m : MetaTree) (session : Session) (d : List (Lis
         let t : ℕ = o.entry.table in
         let x = row_is o is i row got in
         let y = row_is w isw j far gotw in
-        let kept = kept_relationship t r a in
+        let kept = kept_relationship role m s t r a in
         let there = and_parts _ _ a in
         let gotfar : slice_get (permitted s g d (rel s t r).remote) j ≡ Some y.0 = subst (λ u. slice_get (permitted s g d u) j ≡ Some y.0) remote y.1 in
         sym (view_numbered s g d t r there.0 i j (among_positions s g d t i x.0 x.1) (among_positions s g d (rel s t r).remote j y.0 gotfar))
@@ -280,18 +256,21 @@ module _ (tables : List Table) (m : MetaTree) (session : Session) (d : List (Lis
     pub is_copy : IsCopy s z n v ok h e
     is_copy = record {
       counts = by_source role m (λ t. length (view_rows v t) ≡ length (permitted z h e (n.table t))) counts_are;
-      cells = λ t c i row a q. by_source role m (λ u. ok.column u c ≡ true → slice_get (permitted z h e (n.table u)) i ≡ Some row → (seen_in v).cell u i c ≡ shown z h e (n.table u) row (n.column u c))
+      cells =
+          λ t c i row a q. by_source role m (λ u. ok.column u c ≡ true → slice_get (permitted z h e (n.table u)) i ≡ Some row → (seen_in v).cell u i c ≡ shown z h e (n.table u) row (n.column u c))
           (λ o is b got. cells_are o is c i row b got) t q.0 a q.1;
       links = λ t r i row j far a q k.
           by_source role m
           (λ u. ok.relationship u r ≡ true → slice_get (permitted z h e (n.table u)) i ≡ Some row → StandsAt z n ok h e (rel s u r).remote j far
           → (seen_in v).linked u r i j ≡ linked_by (rel z (n.table u) (n.relationship u r)).pairs row far)
-          (λ o is b got w. by_source role m (λ u. u ≡ (rel s o.entry.table r).remote → slice_get (permitted z h e (n.table u)) j ≡ Some far → (seen_in v).linked o.entry.table r i j ≡ linked_by (rel z (at o) (n.relationship o.entry.table r)).pairs row far)
+          (λ o is b got w. by_source role m
+          (λ u. u ≡ (rel s o.entry.table r).remote → slice_get (permitted z h e (n.table u)) j ≡ Some far → (seen_in v).linked o.entry.table r i j ≡ linked_by
+          (rel z (at o) (n.relationship o.entry.table r)).pairs row far)
           (λ x isx same gotx. links_are o is r b x isx same i j row far got gotx) (rel s o.entry.table r).remote w.0 refl w.1)
           t q.0 a q.1 k;
       remotes = λ t r a. (and_parts _ _ a).1;
       leads = λ t r q a. by_source role m (λ u. ok.relationship u r ≡ true → (rel z (n.table u) (n.relationship u r)).remote ≡ n.table (rel s u r).remote)
-          (λ o is b. ap (λ k. k.remote) (rel_is o is r (kept_relationship o.entry.table r b))) t q a;
+          (λ o is b. ap (λ k. k.remote) (rel_is o is r (kept_relationship role m s o.entry.table r b))) t q a;
       keys = λ t q u. by_source role m (λ w. UsesColumns (table s w).key ok w → (table z (n.table w)).key ≡ columns_over (table s w).key n w) keys_are t q u;
     }
 

@@ -1,16 +1,16 @@
 -- What a session is granted of a copied table, and the reader of its copy.
-use Rattle.std.proofs.Common.{◌≡◌, ℕ, ◌<◌, List, [], ◌∷◌, length, Bool, true, false, ◌&&◌, ◌||◌, ◌==◌, Option, Some, None, Result, Ok, Err, refl, sym, ap, ap₂, ◌∙◌}
+use Rattle.std.proofs.Common.{◌≡◌, ℕ, ◌<◌, List, [], ◌∷◌, length, ◌||◌, ◌==◌, Some, None, Result, Ok, Err, refl, sym, ap, ◌∙◌}
 use Rattle.std.proofs.lemmas.Option.{unwrap_or-slice_get, slice_get-get_or}
 use Rattle.std.specs.List.{list_any}
-use Rattle.std.specs.Prelude.{option_and_then, option_map, slice_get, slice_index_or, unwrap_or}
+use Rattle.std.specs.Prelude.{option_and_then, option_map, slice_index_or, unwrap_or}
 use Rattle.std.specs.Result.{result_ok}
 use Rattle.hq_base.specs.Due.{and_then, mapped}
 use Rattle.hq_terms.specs.Bexp.{BexpTree}
 use Rattle.hq_terms.specs.Binding.{bound, bound_masks, bound_permission}
-use Rattle.hq_terms.specs.Grants.{Grants, grants_of, grant_of, grant, no_grant}
+use Rattle.hq_terms.specs.Grants.{grants_of, grant_of}
 use Rattle.hq_terms.specs.Meta.{MetaTree}
 use Rattle.hq_terms.specs.Permission.{Mask, Permission, permission, role_of}
-use Rattle.hq_terms.specs.Schema.{Schema, SchemaTable, schema_of, table, no_table}
+use Rattle.hq_terms.specs.Schema.{Schema, schema_of, no_table}
 use Rattle.hq_terms.specs.declared.bind.BindRefusal.{BindRefusal}
 use Rattle.hq_terms.specs.declared.session.Session.{Session}
 use Rattle.hq_terms.specs.declared.session.Var.{Var}
@@ -33,14 +33,16 @@ granted_there session tables m t p q there seen binds =
 masks_kept : (ms bs : List Mask) (s : Schema) (vars : List Var) (t c : ℕ) → bound_masks ms s vars t ≡ Ok bs → list_any (λ m. m.column == c) bs ≡ list_any (λ m. m.column == c) ms
 masks_kept [] bs s vars t c e = let none : bs ≡ [] = cc in ap (list_any (λ m. m.column == c)) none
 masks_kept (m ∷ ms) bs s vars t c e =
-    let rest : (shown : BexpTree) (r : Result (List Mask) BindRefusal) → bound_masks ms s vars t ≡ r → mapped (λ l. record { column = m.column; shown = shown } ∷ l) r ≡ Ok bs → list_any (λ k. k.column == c) bs ≡ list_any (λ k. k.column == c) (m ∷ ms) =
+    let rest : (shown : BexpTree) (r : Result (List Mask) BindRefusal) → bound_masks ms s vars t ≡ r → mapped (λ l. record { column = m.column; shown = shown } ∷ l) r ≡ Ok bs → list_any
+    (λ k. k.column == c) bs ≡ list_any (λ k. k.column == c) (m ∷ ms) =
     λ shown. elim [
       | Ok l ↦ λ f g.
           let is : bs ≡ record { column = m.column; shown = shown } ∷ l = cc in
           ap (list_any (λ k. k.column == c)) is ∙ ap (λ b. (m.column == c) || b) (masks_kept ms l s vars t c f)
       | Err x ↦ λ f g. cc
     ] in
-    let go : (r : Result BexpTree BindRefusal) → and_then (λ shown. mapped (λ l. record { column = m.column; shown = shown } ∷ l) (bound_masks ms s vars t)) r ≡ Ok bs → list_any (λ k. k.column == c) bs ≡ list_any (λ k. k.column == c) (m ∷ ms) =
+    let go : (r : Result BexpTree BindRefusal) → and_then (λ shown. mapped (λ l. record { column = m.column; shown = shown } ∷ l) (bound_masks ms s vars t)) r ≡ Ok bs → list_any
+    (λ k. k.column == c) bs ≡ list_any (λ k. k.column == c) (m ∷ ms) =
     elim [ Ok shown ↦ λ g. rest shown (bound_masks ms s vars t) refl g | Err x ↦ λ g. cc ] in
     go (bound m.shown s vars t) e
 

@@ -1,17 +1,17 @@
 -- The rows of a copy stand in the order of its keys.
-use Rattle.std.proofs.Common.{◌≡◌, ℕ, zero, suc, pos, ◌+◌, ◌<◌, List, [], ◌∷◌, map, filter, length, Bool, true, false, cond, ◌&&◌, ◌||◌, ◌==◌, Option, Some, None, Ordering, Less, Equal, Greater, refl, sym, ap, ap₂, ◌∙◌, subst, arith, is_gt}
-use Rattle.std.proofs.lemmas.Bool.{and_parts, or_parts, lt-ltb, false≢true}
-use Rattle.std.specs.List.{list_any, list_all}
+use Rattle.std.proofs.Common.{◌≡◌, ℕ, suc, pos, ◌+◌, ◌<◌, List, [], ◌∷◌, map, filter, true, false, cond, ◌==◌, Some, Ordering, Less, Equal, Greater, refl, sym, ap, ap₂, ◌∙◌, subst, arith, is_gt}
+use Rattle.std.proofs.lemmas.Bool.{or_parts, lt-ltb}
+use Rattle.std.specs.List.{list_any}
 use Rattle.std.specs.Cmp.{IsTotalOrder}
 use Rattle.std.specs.Ordering.{int_cmp, ordering_then}
 use Rattle.std.proofs.lemmas.Cmp.{on_total, then_total}
 use Rattle.std.specs.Prelude.{slice_get, nat_lt}
-use Rattle.hq_base.specs.Cells.{CellTree, null, int, cell_of, key_cmp}
+use Rattle.hq_base.specs.Cells.{null, int, key_cmp}
 use Rattle.hq_base.specs.Lists.{Each, Zip, Before, Ascends}
 use Rattle.hq_base.proofs.Lists.{each_all, filter_all}
 use Rattle.hq_base.proofs.Orders.{key_cmp_total}
 use Rattle.hq_base.proofs.Sorts.{ascends_sort, ascends_filter, sort_ascending}
-use Rattle.hq_terms.specs.Bexp.{BexpTree, always}
+use Rattle.hq_terms.specs.Bexp.{always}
 use Rattle.hq_terms.specs.Database.{Row}
 use Rattle.hq_terms.specs.Grants.{Grants, grant}
 use Rattle.hq_terms.specs.Permission.{Mask, Permission}
@@ -20,22 +20,18 @@ use Rattle.hq_terms.specs.Schema.{Schema, table}
 use Rattle.hq_terms.specs.Seen.{all_of, row_cell, table_rows}
 use Rattle.hq_terms.specs.Truth.{keeps}
 use Rattle.hq_copied.specs.Metadata.{places}
+use Rattle.hq_copied.proofs.Lists.{each_along}
 
 -- ---- ascending lists
 
-each_image : {A B : Type 0} (Q : A → B → Type 0) (P : A → Type 0) (N : B → Type 0) → ((x : A) (y : B) → Q x y → P x → N y) → (xs : List A) (ys : List B) → Zip Q xs ys → Each P xs → Each N ys
-each_image Q P N on [] [] z h = tt
-each_image Q P N on [] (y ∷ ys) z h = absurd z
-each_image Q P N on (x ∷ xs) [] z h = absurd z
-each_image Q P N on (x ∷ xs) (y ∷ ys) z h = (on x y z.0 h.0, each_image Q P N on xs ys z.1 h.1)
-
 -- lists that are related item by item, under orders that agree, ascend together
-pub ascends_image : {A B : Type 0} (Q : A → B → Type 0) (R : A → A → Ordering) (S : B → B → Ordering) → ((x : A) (y : B) (u : A) (v : B) → Q x y → Q u v → R x u ≡ S y v) → (xs : List A) (ys : List B) → Zip Q xs ys → Ascends R xs → Ascends S ys
+pub ascends_image : {A B : Type 0} (Q : A → B → Type 0) (R : A → A → Ordering) (S : B → B → Ordering) → ((x : A) (y : B) (u : A) (v : B) → Q x y → Q u v → R x u ≡ S y v)
+    → (xs : List A) (ys : List B) → Zip Q xs ys → Ascends R xs → Ascends S ys
 ascends_image Q R S agree [] [] z h = tt
 ascends_image Q R S agree [] (y ∷ ys) z h = absurd z
 ascends_image Q R S agree (x ∷ xs) [] z h = absurd z
 ascends_image Q R S agree (x ∷ xs) (y ∷ ys) z h =
-    (each_image Q (Before R x) (Before S y) (λ u v q b. ap is_gt (sym (agree x y u v z.0 q)) ∙ b) xs ys z.1 h.0, ascends_image Q R S agree xs ys z.1 h.1)
+    (each_along Q (Before R x) (Before S y) (λ u v q b. ap is_gt (sym (agree x y u v z.0 q)) ∙ b) xs ys z.1 h.0, ascends_image Q R S agree xs ys z.1 h.1)
 
 -- what is made of ascending positions ascends, where what is made of two does
 pub ascends_places : {A B : Type 0} (R : B → B → Ordering) (f : ℕ → B) → ((i j : ℕ) → i < j → Before R (f i) (f j)) → (k : ℕ) (xs : List A) → Ascends R (map f (places k xs))
@@ -80,7 +76,8 @@ pub shows_all : (p : Permission) (s : Schema) (d : List (List Row)) (t : ℕ) (x
 shows_all p s d t x c h = ap (λ e. cond (keeps e s (all_of s d) t x) (row_cell x c) null) (no_mask p.masks c h)
 
 -- rows that show the same cells in columns compare alike by them
-pub columns_agree : (f : ℕ → ℕ) (x y u v : Row) (cs : List ℕ) → Each (λ c. (row_cell x c ≡ row_cell y (f c)) × (row_cell u c ≡ row_cell v (f c))) cs → columns_cmp cs x u ≡ columns_cmp (map f cs) y v
+pub columns_agree : (f : ℕ → ℕ) (x y u v : Row) (cs : List ℕ) → Each (λ c. (row_cell x c ≡ row_cell y (f c)) × (row_cell u c ≡ row_cell v (f c))) cs
+    → columns_cmp cs x u ≡ columns_cmp (map f cs) y v
 columns_agree f x y u v [] h = refl
 columns_agree f x y u v (c ∷ cs) h = ap₂ ordering_then (ap₂ (key_cmp false false) h.0.0 h.0.1) (columns_agree f x y u v cs h.1)
 
@@ -97,8 +94,9 @@ pub permitted_ascend : (s : Schema) (g : Grants) (d : List (List Row)) (t : ℕ)
 permitted_ascend s g d t = ascends_filter (columns_cmp (table s t).key) (keeps (grant g t).filter s (all_of s d) t) (by_key s d t) (ascends_sort (columns_total (table s t).key) (table_rows d t))
 
 -- ascending rows are in the order of their key, and the filter that is always true leaves them all
-pub all_permitted : (s : Schema) (g : Grants) (d : List (List Row)) (t : ℕ) → (grant g t).filter ≡ always → Ascends (columns_cmp (table s t).key) (table_rows d t) → permitted s g d t ≡ table_rows d t
-all_permitted s g d t open up =
-    ap (λ e. filter (keeps e s (all_of s d) t) (by_key s d t)) open
+pub all_permitted : (s : Schema) (g : Grants) (d : List (List Row)) (t : ℕ) → (grant g t).filter ≡ always → Ascends (columns_cmp (table s t).key) (table_rows d t)
+    → permitted s g d t ≡ table_rows d t
+all_permitted s g d t plain up =
+    ap (λ e. filter (keeps e s (all_of s d) t) (by_key s d t)) plain
     ∙ filter_all (keeps always s (all_of s d) t) (by_key s d t) (each_all _ (λ x. refl) (by_key s d t))
     ∙ sort_ascending (columns_total (table s t).key) (table_rows d t) up

@@ -1,22 +1,18 @@
 -- Where nothing refuses a copy, each cause is absent of each of its tables.
-use Rattle.std.proofs.Common.{◌≡◌, ℕ, zero, suc, List, [], ◌∷◌, Bool, true, false, ◌&&◌, cond, Option, Some, None, Result, Ok, Err, refl, sym, ap, ◌∙◌, subst}
-use Rattle.std.proofs.lemmas.Bool.{false≢true}
-use Rattle.std.specs.List.{list_any}
-use Rattle.std.specs.Prelude.{slice_get, length, nat_lt}
+use Rattle.std.proofs.Common.{◌≡◌, ℕ, List, [], ◌∷◌, Bool, true, false, Option, Some, None, Result, Ok, Err, refl}
 use Rattle.hq_base.specs.Lists.{Each}
-use Rattle.hq_terms.specs.Binding.{bound_permission}
 use Rattle.hq_terms.specs.Meta.{MetaTree}
 use Rattle.hq_terms.specs.Permission.{Permission}
-use Rattle.hq_terms.specs.Schema.{Schema, table, schema_of}
+use Rattle.hq_terms.specs.Schema.{Schema, schema_of}
 use Rattle.hq_terms.specs.Seen.{Sees}
 use Rattle.hq_terms.specs.declared.bind.BindRefusal.{BindRefusal}
 use Rattle.hq_terms.specs.declared.role.Role.{Role}
 use Rattle.hq_terms.specs.declared.session.Var.{Var}
-use Rattle.hq_copied.specs.Copied.{Copied, unless}
+use Rattle.hq_copied.specs.Copied.{unless}
 use Rattle.hq_copied.specs.Metadata.{copied_meta}
 use Rattle.hq_copied.specs.Refusals.{or_else, first_of, refused_if, unbound, filter_refusal, own_name_refusal, schema_name_refusal, masked_key_refusal, width_refusal, file_refusal, copy_refusal}
-use Rattle.hq_copied.specs.Sources.{Source, sources, keeps_key, has_mask}
-use Rattle.hq_copied.specs.Tables.{copied_table, copied_tables}
+use Rattle.hq_copied.specs.Sources.{Source, sources}
+use Rattle.hq_copied.specs.Tables.{copied_tables}
 use Rattle.hq_copied.specs.declared.refusal.CopyRefusal.{CopyRefusal}
 
 pub neither : (a b : Option CopyRefusal) → or_else a b ≡ None → (a ≡ None) × (b ≡ None)
@@ -26,11 +22,6 @@ neither (Some e) b h = cc
 pub none_of : {A : Type 0} (f : A → Option CopyRefusal) (xs : List A) → first_of f xs ≡ None → Each (λ x. f x ≡ None) xs
 none_of f [] h = tt
 none_of f (x ∷ xs) h = let both = neither (f x) (first_of f xs) h in (both.0, none_of f xs both.1)
-
-pub each_at : {A : Type 0} (P : A → Type 0) (xs : List A) (i : ℕ) (x : A) → Each P xs → slice_get xs i ≡ Some x → P x
-each_at P [] i x h e = cc
-each_at P (y ∷ ys) zero x h e = let same : y ≡ x = cc in subst P same h.0
-each_at P (y ∷ ys) (suc i) x h e = each_at P ys i x h.1 e
 
 pub not_refused : (b : Bool) (e : CopyRefusal) → refused_if b e ≡ None → b ≡ false
 not_refused true e h = cc

@@ -8,11 +8,11 @@ use Rattle.hq_base.specs.Cells.{CellTree}
 use Rattle.hq_terms.specs.Database.{Row}
 use Rattle.hq_terms.specs.Grants.{Grants, grant, no_grant}
 use Rattle.hq_terms.specs.Permission.{Permission}
-use Rattle.hq_terms.specs.Permitted.{by_key, permitted, permitted_under, shown}
+use Rattle.hq_terms.specs.Permitted.{by_key, permitted, shown}
 use Rattle.hq_terms.specs.Schema.{Schema, table, rel, no_table, no_rel, numbered}
 use Rattle.hq_terms.specs.Seen.{linked_by}
 use Rattle.hq_terms.specs.View.{cut, cut_rows, view_table, places_from, pairs_from, view_links, view, view_rows, cut_cell, has_pair, seen_in}
-use Rattle.hq_copied.specs.Links.{Among, Square, NumbersLink}
+use Rattle.hq_copied.specs.Links.{Among, NumbersLink}
 use Rattle.hq_copied.specs.Metadata.{places}
 use Rattle.hq_copied.proofs.Numbers.{numbers_of}
 use Rattle.hq_copied.proofs.Square.{linked_square}
@@ -117,12 +117,13 @@ entry_rows : (b : Option Permission) (s : Schema) (d : List (List Row)) (t : ℕ
 entry_rows None s d t = rw (none_kept (by_key s d t)) refl
 entry_rows (Some p) s d t = refl
 
-seen_rows : (s : Schema) (g : Grants) (d : List (List Row)) (t : ℕ) → view_rows (view s g d) t ≡ cut_rows (grant g t) s d t
+pub seen_rows : (s : Schema) (g : Grants) (d : List (List Row)) (t : ℕ) → view_rows (view s g d) t ≡ cut_rows (grant g t) s d t
 seen_rows s g d t =
     let zeroth : 0 + t ≡ t = omega arith in
     ap (λ o. unwrap_or o []) (got_numbered (view_table s d) g 0 t None None (λ j. refl) ∙ ap (λ u. view_table s d u (slice_index_or g t None)) zeroth) ∙ entry_rows (slice_index_or g t None) s d t
 
-seen_links : (s : Schema) (g : Grants) (d : List (List Row)) (t r : ℕ) → is_some (slice_get (table s t).rels r) ≡ true → slice_index_or (slice_index_or (view s g d).links t []) r [] ≡ view_links s g d t (rel s t r)
+seen_links : (s : Schema) (g : Grants) (d : List (List Row)) (t r : ℕ) → is_some (slice_get (table s t).rels r) ≡ true
+    → slice_index_or (slice_index_or (view s g d).links t []) r [] ≡ view_links s g d t (rel s t r)
 seen_links s g d t r h =
     let zeroth : 0 + t ≡ t = omega arith in
     ap (λ l. slice_index_or l r []) (got_numbered (λ u tab. map (view_links s g d u) tab.rels) s 0 t no_table [] (λ j. refl) ∙ ap (λ u. map (view_links s g d u) (table s t).rels) zeroth)
@@ -168,7 +169,8 @@ module _ (s : Schema) (g : Grants) (d : List (List Row)) where
       (found.1, subst (λ j. slice_get (permitted s g d t) j ≡ Some found.1) same found.3)
 
   -- the numbers of a relationship link the positions that it links
-  pub view_numbered : (t r : ℕ) → is_some (slice_get (table s t).rels r) ≡ true → NumbersLink ((seen_in (view s g d)).linked t r) ((seen_in (view s g d)).rows t) ((seen_in (view s g d)).rows (rel s t r).remote)
+  pub view_numbered : (t r : ℕ) → is_some (slice_get (table s t).rels r) ≡ true
+      → NumbersLink ((seen_in (view s g d)).linked t r) ((seen_in (view s g d)).rows t) ((seen_in (view s g d)).rows (rel s t r).remote)
   view_numbered t r ok =
       let far : ℕ = (rel s t r).remote in
       numbers_of ((seen_in (view s g d)).linked t r) ((seen_in (view s g d)).rows t) ((seen_in (view s g d)).rows far)
@@ -183,7 +185,8 @@ module _ (s : Schema) (g : Grants) (d : List (List Row)) where
 
   -- a position stands among those of its list
   pub among_positions : (t i : ℕ) (x : Row) → slice_get (permitted s g d t) i ≡ Some x → Among i ((seen_in (view s g d)).rows t)
-  among_positions t i x at = subst (Among i) (sym (seen_positions t)) (let same : 0 + i ≡ i = omega arith in subst (λ j. Among j (places 0 (permitted s g d t))) same (place_among 0 (permitted s g d t) i x at))
+  among_positions t i x at =
+      subst (Among i) (sym (seen_positions t)) (let same : 0 + i ≡ i = omega arith in subst (λ j. Among j (places 0 (permitted s g d t))) same (place_among 0 (permitted s g d t) i x at))
     where
       place_among : {A : Type 0} (k : ℕ) (xs : List A) (j : ℕ) (y : A) → slice_get xs j ≡ Some y → Among (k + j) (places k xs)
       place_among k [] j y e = cc

@@ -1,23 +1,23 @@
 -- A copy answers as the database does: for each request of a session, in the numbers of the copy, as its reader.
-use Rattle.std.specs.Prelude.{◌≡◌, ℕ, List, [], ◌∷◌, length, true, codes, Ok}
+use Rattle.std.specs.Prelude.{◌≡◌, List, [], ◌∷◌, length, true, codes, Ok}
 use Rattle.hq_terms.specs.Database.{Row}
 use Rattle.hq_terms.specs.Fits.{fits}
 use Rattle.hq_terms.specs.Grants.{Grants, grants_of}
 use Rattle.hq_terms.specs.Meta.{MetaTree}
 use Rattle.hq_terms.specs.Permission.{permission, role_of}
 use Rattle.hq_terms.specs.Schema.{Schema, schema_of}
-use Rattle.hq_terms.specs.View.{view}
+use Rattle.hq_terms.specs.View.{Agree, view}
 use Rattle.hq_terms.specs.declared.role.Role.{Role}
 use Rattle.hq_terms.specs.declared.session.Session.{Session}
 use Rattle.hq_terms.specs.declared.table.Table.{Table}
-use Rattle.hq_ask_tree.specs.Allowed.{permitted_columns}
+use Rattle.hq_ask_tree.specs.Allowed.{allowed_to, permitted_columns}
 use Rattle.hq_ask_tree.specs.Request.{AskTree}
 use Rattle.hq_ask_tree.specs.Resolve.{resolved}
 use Rattle.hq_ask_tree.specs.WellFormed.{IsRequest}
 use Rattle.hq_copied.specs.Copied.{Copied, copied}
 use Rattle.hq_copied.specs.Metadata.{reader}
 use Rattle.hq_copied.specs.Sources.{sources, table_place, place_in, kept_relationships}
-use Rattle.hq_renumbered.specs.Renumbering.{Renumbering, fields_over}
+use Rattle.hq_renumbered.specs.Renumbering.{IsOneToOne, Renumbering, fields_over}
 
 -- the numbers of the copy for a role
 abbrev pub numbers : Role → MetaTree → Schema → Renumbering
@@ -42,3 +42,14 @@ CopyAnswers tables m session d a c =
     let g = grants_of session tables m in
     fits tables m ≡ true → copied tables m session (view s g d) ≡ Ok c → a.role ≡ role_of session.role → IsRequest tables m a
     → resolved a.fields s g d ≡ resolved (fields_over a.fields s (numbers (role_of session.role) m s) (length s)) (schema_of c.tables c.meta) (reader_grants c) c.rows
+
+-- the numbers of the copy are different ones, of what the role may use
+abbrev pub NumbersDiffer : Role → MetaTree → Schema → Type 0
+NumbersDiffer role m s = IsOneToOne (numbers role m s) (allowed_to role m s)
+
+-- databases that a session cannot tell apart have one copy, or none for one cause
+abbrev pub CopiesAgree : List Table → MetaTree → Session → (d e : List (List Row)) → Type 0
+CopiesAgree tables m session d e =
+    let s = schema_of tables m in
+    let g = grants_of session tables m in
+    Agree s g d e → copied tables m session (view s g d) ≡ copied tables m session (view s g e)

@@ -1,10 +1,12 @@
-//! The law of copies, the contract of a function that does nothing.
+//! Laws of copies, each the contract of a function that does nothing.
 ghost use Rattle.std.specs.Prelude.{List as Items};
 ghost use Rattle.hq_copied.specs.Copied.{Copied};
-ghost use Rattle.hq_copies.specs.Laws.{CopyAnswers};
+ghost use Rattle.hq_copies.specs.Laws.{CopiesAgree, CopyAnswers, NumbersDiffer};
 ghost use Rattle.hq_ask_tree.specs.Request.{AskTree};
 ghost use Rattle.hq_terms.specs.Database.{Row};
 ghost use Rattle.hq_terms.specs.Meta.{MetaTree};
+ghost use Rattle.hq_terms.specs.Schema.{Schema};
+ghost use Rattle.hq_terms.specs.declared.role.Role.{Role as Asking};
 ghost use Rattle.hq_terms.specs.declared.session.Session.{Session as Caller};
 ghost use Rattle.hq_terms.specs.declared.table.Table.{Table as CatalogTable};
 
@@ -19,3 +21,13 @@ pub fn copies_answer()
     resolves_alike();
     copies_answer_alike();
 }
+
+/// Databases that a session cannot tell apart have one copy: it is made of the view.
+pub fn copies_agree()
+    ensures { (tables : Items CatalogTable) (m : MetaTree) (session : Caller) (d e : Items (Items Row)) → CopiesAgree tables m session d e }
+{}
+
+/// Tables, columns and relationships that a role may use have different numbers in its copy.
+pub fn numbers_differ()
+    ensures { (role : Asking) (m : MetaTree) (s : Schema) → NumbersDiffer role m s }
+{}

@@ -3,4 +3,4 @@
 
 mod laws;
 
-pub use laws::copies_answer;
+pub use laws::{copies_agree, copies_answer, numbers_differ};

@@ -1,22 +1,18 @@
 -- The columns that a copy adds to a table differ, and their numbers are small.
-use Rattle.std.proofs.Common.{◌≡◌, ℕ, zero, suc, ◌+◌, ◌*◌, ◌≤◌, ◌<◌, List, [], ◌∷◌, ◌++◌, map, filter, length, Bool, true, false, cond, not, ◌&&◌, ◌==◌, Option, Some, None, refl, sym, ap, ap₂, ◌∙◌, subst, arith, slice_get, length-append}
-use Rattle.std.proofs.lemmas.Bool.{eq-eqb, ne_eqb, false≢true}
+use Rattle.std.proofs.Common.{◌≡◌, ℕ, zero, suc, ◌+◌, ◌*◌, ◌≤◌, ◌<◌, List, [], ◌∷◌, ◌++◌, map, filter, length, Bool, true, false, cond, ◌==◌, Some, refl, ap, arith, slice_get, length-append}
+use Rattle.std.proofs.lemmas.Bool.{eq-eqb, ne_eqb}
 use Rattle.std.proofs.lemmas.List.Elements.{filter-append}
 use Rattle.std.specs.Prelude.{flat_map}
 use Rattle.hq_base.specs.Lists.{Each}
 use Rattle.hq_base.proofs.Lists.{each_weaken, filter_all}
 use Rattle.hq_terms.specs.Meta.{MetaTree}
-use Rattle.hq_terms.specs.Permission.{Permission}
 use Rattle.hq_terms.specs.Schema.{Schema, table}
 use Rattle.hq_terms.specs.declared.role.Role.{Role}
 use Rattle.hq_copied.specs.Extras.{Extra, from_end, to_end, row_position, ends_at, ends_from, ends_of, extras_of}
 use Rattle.hq_copied.specs.Sources.{Source, sources, kept_relationships, keeps_key, Link, links, link_remote}
-use Rattle.hq_copies_fit.proofs.Apart.{Apart, apart_append, each_image}
 use Rattle.hq_copies_fit.proofs.Texts.{number_of, one_extra}
-
-each_joined : {A : Type 0} (P : A → Type 0) (xs ys : List A) → Each P xs → Each P ys → Each P (xs ++ ys)
-each_joined P [] ys h g = g
-each_joined P (x ∷ xs) ys h g = (h.0, each_joined P xs ys h.1 g)
+use Rattle.hq_copied.proofs.Apart.{Apart, apart_append}
+use Rattle.hq_copied.proofs.Lists.{each_map, each_append}
 
 -- ---- ends of links
 
@@ -53,11 +49,12 @@ at_apart s t k l =
 pub ends_numbers : (s : Schema) (t k : ℕ) (ls : List Link) → Each (λ e. (k ≤ number_of e) × (number_of e < k + length ls)) (ends_from s t k ls)
 ends_numbers s t k [] = tt
 ends_numbers s t k (l ∷ ls) =
-    each_joined (λ e. (k ≤ number_of e) × (number_of e < k + suc (length ls))) (ends_at s t k l) (ends_from s t (suc k) ls)
+    each_append (λ e. (k ≤ number_of e) × (number_of e < k + suc (length ls))) (ends_at s t k l) (ends_from s t (suc k) ls)
     (each_weaken (λ e. number_of e ≡ k) (λ e. (k ≤ number_of e) × (number_of e < k + suc (length ls)))
     (λ e h. let low : k ≤ number_of e = omega (arith, h) in let high : number_of e < k + suc (length ls) = omega (arith, h) in (low, high)) (ends_at s t k l) (at_number s t k l))
     (each_weaken (λ e. (suc k ≤ number_of e) × (number_of e < suc k + length ls)) (λ e. (k ≤ number_of e) × (number_of e < k + suc (length ls)))
-    (λ e h. let a = h.0 in let b = h.1 in let low : k ≤ number_of e = omega arith in let high : number_of e < k + suc (length ls) = omega arith in (low, high)) (ends_from s t (suc k) ls) (ends_numbers s t (suc k) ls))
+    (λ e h. let a = h.0 in let b = h.1 in let low : k ≤ number_of e = omega arith in let high : number_of e < k + suc (length ls) = omega arith in (low, high)) (ends_from s t (suc k) ls)
+    (ends_numbers s t (suc k) ls))
 
 ends_apart : (s : Schema) (t k : ℕ) (ls : List Link) → Apart one_extra (ends_from s t k ls)
 ends_apart s t k [] = tt
@@ -69,24 +66,28 @@ ends_apart s t k (l ∷ ls) =
     (ends_at s t k l) (at_number s t k l))
 
 module _ (role : Role) (m : MetaTree) (s : Schema) where
-  pub extras_apart : (p : Permission) (t : ℕ) → Apart one_extra (extras_of role m s p t)
-  extras_apart p t =
-      let last : List Extra = cond (keeps_key p (table s t).key) [] (row_position ∷ []) in
+  pub extras_apart : (o : Source) → Apart one_extra (extras_of role m s o)
+  extras_apart o =
+      let t : ℕ = o.entry.table in
+      let lost : Bool = keeps_key o.permission (table s t).key in
+      let last : List Extra = cond lost [] (row_position ∷ []) in
       let one : (b : Bool) → Apart one_extra (cond b [] (row_position ∷ [])) = elim [ true ↦ tt | false ↦ (tt, tt) ] in
-      let apart : (e : Extra) → 1 ≤ number_of e → (b : Bool) → Each (λ f. one_extra e f ≡ false) (cond b [] (row_position ∷ [])) = λ e h. elim [ true ↦ tt | false ↦ (position_apart e (omega arith), tt) ] in
-      apart_append one_extra (ends_of role m s t) last (ends_apart s t 1 (links role m s)) (one (keeps_key p (table s t).key))
+      let apart : (e : Extra) → 1 ≤ number_of e → (b : Bool) → Each (λ f. one_extra e f ≡ false) (cond b [] (row_position ∷ [])) =
+      λ e h. elim [ true ↦ tt | false ↦ (position_apart e (omega arith), tt) ] in
+      apart_append one_extra (ends_of role m s t) last (ends_apart s t 1 (links role m s)) (one lost)
       (each_weaken (λ e. (1 ≤ number_of e) × (number_of e < 1 + length (links role m s))) (λ e. Each (λ f. one_extra e f ≡ false) last)
-      (λ e h. apart e h.0 (keeps_key p (table s t).key)) (ends_of role m s t) (ends_numbers s t 1 (links role m s)))
+      (λ e h. apart e h.0 lost) (ends_of role m s t) (ends_numbers s t 1 (links role m s)))
 
   -- no number is beyond the number of links
-  pub extras_within : (p : Permission) (t : ℕ) → Each (λ e. number_of e ≤ length (links role m s)) (extras_of role m s p t)
-  extras_within p t =
+  pub extras_within : (o : Source) → Each (λ e. number_of e ≤ length (links role m s)) (extras_of role m s o)
+  extras_within o =
+      let t : ℕ = o.entry.table in
       let n : ℕ = length (links role m s) in
       let least : 0 ≤ n = omega arith in
       let one : (b : Bool) → Each (λ e. number_of e ≤ n) (cond b [] (row_position ∷ [])) = elim [ true ↦ tt | false ↦ (least, tt) ] in
-      each_joined (λ e. number_of e ≤ n) (ends_of role m s t) (cond (keeps_key p (table s t).key) [] (row_position ∷ []))
+      each_append (λ e. number_of e ≤ n) (ends_of role m s t) (cond (keeps_key o.permission (table s t).key) [] (row_position ∷ []))
       (each_weaken (λ e. (1 ≤ number_of e) × (number_of e < 1 + n)) (λ e. number_of e ≤ n) (λ e h. let b = h.1 in omega arith) (ends_of role m s t) (ends_numbers s t 1 (links role m s)))
-      (one (keeps_key p (table s t).key))
+      (one (keeps_key o.permission (table s t).key))
 
 -- ---- how many links there are
 
@@ -124,10 +125,6 @@ made_length f (x ∷ xs) h =
     let later = made_length f xs h.1 in
     omega (arith, length-append (f x) (flat_map f xs))
 
-map_length : {A B : Type 0} (f : A → B) (xs : List A) → length (map f xs) ≡ length xs
-map_length f [] = refl
-map_length f (x ∷ xs) = ap suc (map_length f xs)
-
 module _ (role : Role) (m : MetaTree) (s : Schema) where
   abbrev links_of : Source → List Link
   links_of o = map (λ r. record { table = o.entry.table; relationship = r }) (kept_relationships role m s o.entry.table)
@@ -137,7 +134,8 @@ module _ (role : Role) (m : MetaTree) (s : Schema) where
   links_end o i at =
       let t : ℕ = o.entry.table in
       let own : Link → Bool = λ l. l.table == t in
-      let mine : Each (λ l. own l ≡ true) (links_of o) = each_image (λ l. own l ≡ true) (λ r. record { table = t; relationship = r }) (kept_relationships role m s t) (all_mine (kept_relationships role m s t)) in
+      let mine : Each (λ l. own l ≡ true) (links_of o) =
+      each_map (λ l. own l ≡ true) (λ r. record { table = t; relationship = r }) (kept_relationships role m s t) (all_mine (kept_relationships role m s t)) in
       let all = ap length (filter_all own (links_of o) mine) in
       let part = made_least own links_of (sources role m) i o at in
       let ends = own_ends s t 1 (links role m s) in

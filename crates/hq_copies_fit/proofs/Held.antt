@@ -1,18 +1,18 @@
 -- What each table of a copy stands for, where the metadata fits the catalog.
-use Rattle.std.proofs.Common.{◌≡◌, ℕ, zero, suc, ◌+◌, ◌≤◌, ◌<◌, List, [], ◌∷◌, ◌++◌, map, filter, length, Bool, true, false, cond, not, ◌&&◌, ◌||◌, ◌==◌, Option, Some, None, refl, sym, ap, ap₂, ◌∙◌, subst, arith, is_some, slice_get, nat_lt, nat_le}
-use Rattle.std.proofs.lemmas.Bool.{and_parts, eqb-true, eq-eqb, ltb-true, false≢true}
-use Rattle.std.specs.List.{find, list_all, list_any}
-use Rattle.std.specs.Prelude.{option_and_then, option_map, slice_index_or, unwrap_or, bytes_eq}
-use Rattle.hq_base.specs.Lists.{Each, all_differ}
+use Rattle.std.proofs.Common.{◌≡◌, ℕ, zero, suc, ◌≤◌, ◌<◌, List, [], ◌∷◌, filter, length, Bool, true, false, cond, ◌==◌, Option, Some, None, refl, sym, ap, ◌∙◌, subst, arith, slice_get}
+use Rattle.std.proofs.lemmas.Bool.{and_parts, eqb-true, eq-eqb, ne_eqb, ltb-true}
+use Rattle.std.specs.List.{find, list_any}
+use Rattle.std.specs.Prelude.{option_and_then, bytes_eq}
+use Rattle.hq_base.specs.Lists.{Each}
 use Rattle.hq_base.proofs.Lists.{each_weaken}
 use Rattle.hq_terms.specs.Fits.{fits, fits_rel, fits_perm, fits_tracked, objects_first, are_free_roots}
-use Rattle.hq_terms.specs.Laws.{HasColumn, IsPermission}
+use Rattle.hq_terms.specs.Laws.{IsPermission}
 use Rattle.hq_terms.specs.Bexp.{always}
 use Rattle.hq_terms.specs.Meta.{MetaTree, PermTree, TrackedTree, tracked_table}
 use Rattle.hq_terms.specs.declared.meta.Inherited.{Inherited}
 use Rattle.hq_terms.specs.Names.{is_free_name}
-use Rattle.hq_terms.specs.Permission.{Permission, permission, permission_in, named_columns, with_columns, own_permission, told_permission, combined, permissions_of, set_of, or_inherited, permits, columns_of_any, either, filters_of, limit_of, some_aggregate, masks_for}
-use Rattle.hq_terms.specs.Schema.{Schema, schema_of, schema_table, numbered, rels_of, table}
+use Rattle.hq_terms.specs.Permission.{Permission, permission, permission_in, named_columns, named_from, with_columns, own_permission, told_permission, permissions_of, set_of, or_inherited, permits, columns_of_any, either, filters_of, limit_of, some_aggregate, masks_for}
+use Rattle.hq_terms.specs.Schema.{Schema, schema_of, schema_table, table}
 use Rattle.hq_terms.specs.SchemaNames.{names_differ}
 use Rattle.hq_terms.specs.declared.role.Role.{Role}
 use Rattle.hq_terms.specs.declared.role.Role.TheVariants.{Admin, Named}
@@ -22,8 +22,10 @@ use Rattle.hq_terms.proofs.Places.{table_present}
 use Rattle.hq_copied.specs.Sources.{Source, with_source, sources_in, sources, table_place}
 use Rattle.hq_copied.proofs.BySource.{IsSource}
 use Rattle.hq_copied.proofs.Found.{StandsFor, stands_for}
-use Rattle.hq_copied.proofs.Names.{HasColumns, has_columns}
-use Rattle.hq_copies_fit.proofs.Apart.{Apart, differ_apart, each_of, each_both}
+use Rattle.hq_copied.proofs.Names.{has_columns}
+use Rattle.hq_copied.proofs.Apart.{Apart, differ_apart, apart_filter}
+use Rattle.hq_copied.proofs.Found.{schema_long}
+use Rattle.hq_copied.proofs.Lists.{each_of, each_both}
 
 -- each entry is the one that is found by its table
 tracked_first : (ks : List TrackedTree) → Apart (λ j k. j.table == k.table) ks → Each (λ k. find (λ j. j.table == k.table) ks ≡ Some k) ks
@@ -117,7 +119,8 @@ filtered (Named name) is k p e =
     elim [
       | None ↦ λ f g.
           let ps : List Permission = permissions_of k (set_of is name) in
-          given_filter k (λ c. list_any (permits c) ps) (record { columns = []; filter = either (filters_of ps); limit = limit_of ps; aggregations = some_aggregate ps; masks = masks_for ps (columns_of_any k ps) }) p g
+          given_filter k (λ c. list_any (permits c) ps)
+          (record { columns = []; filter = either (filters_of ps); limit = limit_of ps; aggregations = some_aggregate ps; masks = masks_for ps (columns_of_any k ps) }) p g
       | Some q ↦ λ f g. own_filtered k name p (f ∙ g)
     ] in
     go (own_permission k name) refl e
@@ -134,6 +137,29 @@ pub record Held (tables : List Table) (m : MetaTree) (role : Role) (o : Source) 
   pub origin : Table
   pub stands : slice_get tables o.entry.table ≡ Some origin
   pub table_is : table (schema_of tables m) o.entry.table ≡ schema_table m o.entry.table origin
+
+-- ---- numbers of columns with names
+
+named_least : (k : ℕ) (ns : List (List ℕ)) → Each (λ c. k ≤ c) (named_from k ns)
+named_least k [] = tt
+named_least k (n ∷ ns) =
+    let later = each_weaken (λ c. suc k ≤ c) (λ c. k ≤ c) (λ c h. omega arith) (named_from (suc k) ns) (named_least (suc k) ns) in
+    let here : k ≤ k = omega arith in
+    let go : (b : Bool) → Each (λ c. k ≤ c) (cond b (k ∷ named_from (suc k) ns) (named_from (suc k) ns)) = elim [ true ↦ (here, later) | false ↦ later ] in
+    go (is_free_name n)
+
+named_apart : (k : ℕ) (ns : List (List ℕ)) → Apart (λ c d. c == d) (named_from k ns)
+named_apart k [] = tt
+named_apart k (n ∷ ns) =
+    let later = named_apart (suc k) ns in
+    let other = each_weaken (λ c. suc k ≤ c) (λ c. (k == c) ≡ false) (λ c h. ne_eqb k c (omega arith)) (named_from (suc k) ns) (named_least (suc k) ns) in
+    let go : (b : Bool) → Apart (λ c d. c == d) (cond b (k ∷ named_from (suc k) ns) (named_from (suc k) ns)) = elim [ true ↦ (other, later) | false ↦ later ] in
+    go (is_free_name n)
+
+-- the numbers of permitted columns differ
+pub columns_apart : (tables : List Table) (m : MetaTree) (role : Role) (o : Source) → Held tables m role o → Apart (λ c d. c == d) o.permission.columns
+columns_apart tables m role o h =
+    subst (Apart (λ c d. c == d)) (sym h.filtered_by.1) (apart_filter (λ c d. c == d) h.filtered_by.0 (named_columns o.entry) (named_apart 0 o.entry.column_names))
 
 module _ (tables : List Table) (m : MetaTree) (role : Role) (fit : fits tables m ≡ true) where
   abbrev s : Schema
@@ -154,16 +180,13 @@ module _ (tables : List Table) (m : MetaTree) (role : Role) (fit : fits tables m
   within : (t : ℕ) → t < length s → (x : Table) × (slice_get tables t ≡ Some x)
   within t less = got tables t (let same = schema_long m 0 tables in omega (arith, same))
     where
-      schema_long : (m : MetaTree) (k : ℕ) (ts : List Table) → length (numbered (schema_table m) k ts) ≡ length ts
-      schema_long m k [] = refl
-      schema_long m k (t ∷ ts) = ap suc (schema_long m (suc k) ts)
-
       got : (ts : List Table) (i : ℕ) → i < length ts → (x : Table) × (slice_get ts i ≡ Some x)
       got [] i l = absurd (omega arith)
       got (x ∷ xs) zero l = (x, refl)
       got (x ∷ xs) (suc i) l = got xs i (omega arith)
 
-  held_one : (k : TrackedTree) (p : Permission) → permission role m k.table ≡ Some p → (fits_tracked s m k ≡ true) × (tracked_table m k.table ≡ Some k) → Held tables m role (record { entry = k; permission = p })
+  held_one : (k : TrackedTree) (p : Permission) → permission role m k.table ≡ Some p → (fits_tracked s m k ≡ true) × (tracked_table m k.table ≡ Some k)
+      → Held tables m role (record { entry = k; permission = p })
   held_one k p seen h =
       let at : StandsFor role m k.table p = stands_for role m k.table p seen in
       let same : at.entry ≡ k = let both : ◌≡◌ {A = Option TrackedTree} (Some at.entry) (Some k) = sym at.tracked ∙ h.1 in cc in
@@ -188,4 +211,5 @@ module _ (tables : List Table) (m : MetaTree) (role : Role) (fit : fits tables m
   pub all_held : Each (Held tables m role) (sources role m)
   all_held =
       each_source_in role m (λ k. (fits_tracked s m k ≡ true) × (tracked_table m k.table ≡ Some k)) (Held tables m role) held_one m.tracked
-      (each_both (λ k. fits_tracked s m k ≡ true) (λ k. tracked_table m k.table ≡ Some k) (λ k. (fits_tracked s m k ≡ true) × (tracked_table m k.table ≡ Some k)) (λ k a b. (a, b)) m.tracked entries_fit (tracked_first m.tracked once))
+      (each_both (λ k. fits_tracked s m k ≡ true) (λ k. tracked_table m k.table ≡ Some k) (λ k. (fits_tracked s m k ≡ true) × (tracked_table m k.table ≡ Some k))
+      (λ k a b. (a, b)) m.tracked entries_fit (tracked_first m.tracked once))

@@ -1,14 +1,11 @@
-mod Apart
 mod Texts
-mod Held
+pub mod Held
 mod Unkept
 mod Extras
-mod Columns
+pub mod Columns
 mod Catalogs
-mod Entries
+pub mod Entries
 mod Named
 mod Metas
-mod Values
-mod Rows
 mod Readable
 mod Answers

@@ -1,18 +1,16 @@
 -- The names that a copy's metadata gives in the schema of admin differ.
-use Rattle.std.proofs.Common.{◌≡◌, ℕ, zero, suc, ◌+◌, List, [], ◌∷◌, ◌++◌, map, filter, length, Bool, true, false, cond, not, ◌&&◌, ◌||◌, ◌==◌, Option, Some, None, inl, inr, refl, sym, ap, ap₂, ◌∙◌, subst, arith, is_some, slice_get, append_assoc}
-use Rattle.std.proofs.lemmas.Bool.{and_parts, and_from, or_parts, not_from_false, false≢true}
+use Rattle.std.proofs.Common.{◌≡◌, ℕ, suc, ◌+◌, List, [], ◌∷◌, ◌++◌, map, filter, Bool, true, false, cond, ◌&&◌, ◌||◌, ◌==◌, None, inl, refl, sym, ap, ap₂, ◌∙◌, subst, arith, is_some, append_assoc}
+use Rattle.std.proofs.lemmas.Bool.{and_parts, and_from, or_parts, false≢true}
 use Rattle.std.proofs.lemmas.List.Folds.{list_any-append}
-use Rattle.std.proofs.lemmas.Slice.Eq.{bytes_eq-Decides}
-use Rattle.std.specs.List.{find, list_all, list_any}
-use Rattle.std.specs.Prelude.{bytes_eq, codes, flat_map, option_map, slice_index_or}
-use Rattle.hq_base.specs.Lists.{Each, all_differ}
+use Rattle.std.specs.List.{list_any}
+use Rattle.std.specs.Prelude.{bytes_eq, codes, flat_map, slice_index_or}
+use Rattle.hq_base.specs.Lists.{Each}
 use Rattle.hq_base.proofs.Lists.{each_weaken, each_all, filter_all}
 use Rattle.hq_terms.specs.Fits.{fits}
-use Rattle.hq_terms.specs.Meta.{MetaTree, TrackedTree, tracked_table}
+use Rattle.hq_terms.specs.Meta.{MetaTree, TrackedTree}
 use Rattle.hq_terms.specs.Permission.{Permission, permission, named_columns}
-use Rattle.hq_terms.specs.Schema.{Schema, schema_of, table, rel, no_rel, numbered}
-use Rattle.hq_terms.specs.SchemaNames.{all_names_differ, column_names_of, fields_of, fixed_inputs, fixed_types, has_columns, in_schema, inputs_of, is_in_schema, names_differ, rel_fields, rels_in_schema, roots_of, types_of}
-use Rattle.hq_terms.specs.Seen.{Sees}
+use Rattle.hq_terms.specs.Schema.{Schema, schema_of, table, rel, no_rel}
+use Rattle.hq_terms.specs.SchemaNames.{all_names_differ, column_names_of, fields_of, fixed_inputs, fixed_types, in_schema, inputs_of, is_in_schema, names_differ, rel_fields, rels_in_schema, roots_of, types_of}
 use Rattle.hq_terms.specs.View.{places_from}
 use Rattle.hq_terms.specs.declared.meta.Rel.{Rel}
 use Rattle.hq_terms.specs.declared.role.Role.{Role}
@@ -20,25 +18,22 @@ use Rattle.hq_terms.specs.declared.table.Table.{Table}
 use Rattle.hq_terms.proofs.Places.{present}
 use Rattle.hq_copied.specs.Extras.{Extra, extras_of, extra_name}
 use Rattle.hq_copied.specs.Metadata.{copied_rel, places, copied_names, copied_entry, copied_meta}
-use Rattle.hq_copied.specs.Refusals.{is_kept_name, own_name_refusal, repeated_after, schema_name_refusal}
+use Rattle.hq_copied.specs.Refusals.{is_kept_name, repeated_after, schema_name_refusal}
 use Rattle.hq_copied.specs.Sources.{Source, sources, table_place, kept_relationships}
-use Rattle.hq_copied.specs.Tables.{copied_tables}
-use Rattle.hq_copied.specs.declared.refusal.CopyRefusal.{CopyRefusal}
-use Rattle.hq_copied.proofs.BySource.{IsSource, by_source, something}
+use Rattle.hq_copied.proofs.BySource.{by_source, something}
 use Rattle.hq_copied.proofs.Found.{copied_schema, entry_at, StandsFor, stands_for}
 use Rattle.hq_copied.proofs.Names.{all_named, has_columns as columns_of}
 use Rattle.hq_copied.proofs.Reader.{names_free}
-use Rattle.hq_copies.proofs.Refused.{neither, not_refused, each_at}
-use Rattle.hq_copies_fit.proofs.Apart.{Apart, each_of, all_each, each_both, each_joined, each_image, differ_apart, apart_differ, apart_map, apart_between, apart_sub, Sub, sub_same, sub_keep, sub_append, sub_filter, sub_map, sub_made}
+use Rattle.hq_copies.proofs.Refused.{neither, not_refused}
 use Rattle.hq_copies_fit.proofs.Entries.{each_numbered, from_zero, kept_facts, rels_are}
 use Rattle.hq_copies_fit.proofs.Held.{Held, filtered, all_held, names_of_fit}
-use Rattle.hq_copies_fit.proofs.Texts.{texts_differ, unkept_differs, unkept_differs_back, aggregate_differs}
-use Rattle.hq_copies_fit.proofs.Unkept.{Unkept, unkept_names}
+use Rattle.hq_copies_fit.proofs.Texts.{unkept_differs, unkept_differs_back, aggregate_differs}
+use Rattle.hq_copies_fit.proofs.Unkept.{Unkept}
+use Rattle.hq_copied.proofs.Apart.{Apart, differ_apart, apart_differ, apart_map, Sub, sub_keep, sub_same, sub_append, sub_filter, apart_sub, sub_map, sub_made, apart_between}
+use Rattle.hq_copied.proofs.Lists.{each_map, found_each, each_of, all_each, each_made}
+use Rattle.hq_copies_fit.proofs.Texts.{bytes_turn}
 
 -- ---- names of which none is refused
-
-bytes_turn : (x y : List ℕ) → bytes_eq x y ≡ false → bytes_eq y x ≡ false
-bytes_turn x y h = texts_differ y x (λ same. false≢true (sym h ∙ (bytes_eq-Decides x y).1 (sym same)))
 
 -- no name stands among those before it
 not_repeated : (known names : List (List ℕ)) → repeated_after known names ≡ None → Each (λ n. list_any (bytes_eq n) known ≡ false) names × Apart bytes_eq names
@@ -49,7 +44,8 @@ not_repeated known (n ∷ ns) h =
     let later = not_repeated (known ++ n ∷ []) ns both.1 in
     let apart : Each (λ x. (list_any (bytes_eq x) known ≡ false) × (bytes_eq x n ≡ false)) ns =
     each_weaken (λ x. list_any (bytes_eq x) (known ++ n ∷ []) ≡ false) _
-    (λ x g. let parts = or_parts (list_any (bytes_eq x) known) (bytes_eq x n || false) (sym (list_any-append (bytes_eq x) known (n ∷ [])) ∙ g) in (parts.0, (or_parts (bytes_eq x n) false parts.1).0)) ns later.0 in
+    (λ x g. let parts = or_parts (list_any (bytes_eq x) known) (bytes_eq x n || false) (sym (list_any-append (bytes_eq x) known (n ∷ [])) ∙ g) in
+    (parts.0, (or_parts (bytes_eq x n) false parts.1).0)) ns later.0 in
     ((here, each_weaken _ (λ x. list_any (bytes_eq x) known ≡ false) (λ x g. g.0) ns apart), (each_weaken _ (λ x. bytes_eq n x ≡ false) (λ x g. bytes_turn x n g.1) ns apart, later.1))
 
 -- ---- lists by their places
@@ -62,7 +58,8 @@ by_places d zs (x ∷ xs) k at =
     (by_places d zs xs (suc k) (λ j. let next : suc k + j ≡ k + suc j = omega arith in ap (λ i. slice_index_or zs i d) next ∙ at (suc j)))
 
 -- what stands at the places at which a test is true
-at_places : {A : Type 0} (test : A → Bool) (d : A) (zs : List A) (k : ℕ) (xs : List A) → ((j : ℕ) → slice_index_or zs (k + j) d ≡ slice_index_or xs j d) → map (λ r. slice_index_or zs r d) (places_from test k xs) ≡ filter test xs
+at_places : {A : Type 0} (test : A → Bool) (d : A) (zs : List A) (k : ℕ) (xs : List A) → ((j : ℕ) → slice_index_or zs (k + j) d ≡ slice_index_or xs j d)
+    → map (λ r. slice_index_or zs r d) (places_from test k xs) ≡ filter test xs
 at_places test d zs k [] at = refl
 at_places test d zs k (x ∷ xs) at =
     let same : k ≡ k + 0 = omega arith in
@@ -71,10 +68,6 @@ at_places test d zs k (x ∷ xs) at =
     let go : (b : Bool) → map (λ r. slice_index_or zs r d) (cond b (k ∷ places_from test (suc k) xs) (places_from test (suc k) xs)) ≡ cond b (x ∷ filter test xs) (filter test xs) =
     elim [ true ↦ ap₂ (λ a l. a ∷ l) here later | false ↦ later ] in
     go (test x)
-
-each_made : {A B : Type 0} (P : B → Type 0) (f : A → List B) (xs : List A) → Each (λ x. Each P (f x)) xs → Each P (flat_map f xs)
-each_made P f [] h = tt
-each_made P f (x ∷ xs) h = each_joined P (f x) (flat_map f xs) h.0 (each_made P f xs h.1)
 
 -- a test that passes less keeps some of what one that passes more keeps
 sub_filters : {A : Type 0} (p q : A → Bool) → ((x : A) → p x ≡ true → q x ≡ true) → (xs : List A) → Sub (filter p xs) (filter q xs)
@@ -130,7 +123,7 @@ module _ (tables : List Table) (m : MetaTree) (role : Role) (fit : fits tables m
       let u : ℕ = table_place os o.entry.table in
       ap in_schema (entry_at role m s u o is.place)
       ∙ ap (list_any (λ n. true)) (all_named 0 (copied_names role m s o) (names_free role m s o is.columns))
-      ∙ ap (λ cs. list_any (λ n. true) (places 0 (map (λ c. slice_index_or o.entry.column_names c []) cs ++ map extra_name (extras_of role m s o.permission o.entry.table)))) is.columns.columns)
+      ∙ ap (λ cs. list_any (λ n. true) (places 0 (map (λ c. slice_index_or o.entry.column_names c []) cs ++ map extra_name (extras_of role m s o)))) is.columns.columns)
 
   -- the relationships of the copy that stand there: all
   rels_stand : (u : ℕ) (o : Source) → Held tables m role o → rels_in_schema k (copied_entry role m s u o) ≡ map (copied_rel role m s o.entry.table) (kept_relationships role m s o.entry.table)
@@ -138,13 +131,15 @@ module _ (tables : List Table) (m : MetaTree) (role : Role) (fit : fits tables m
       let t : ℕ = o.entry.table in
       let qs : List ℕ = kept_relationships role m s t in
       filter_all (λ (r : Rel). is_in_schema k r.remote) (map (copied_rel role m s t) qs)
-      (each_image (λ (r : Rel). is_in_schema k r.remote ≡ true) (copied_rel role m s t) qs
+      (each_map (λ (r : Rel). is_in_schema k r.remote ≡ true) (copied_rel role m s t) qs
       (each_weaken _ (λ r. is_in_schema k (table_place os (rel s t r).remote) ≡ true)
       (λ r g. copy_in_schema (rel s t r).remote (ap (λ (x : Rel). is_some (permission role m x.remote)) (present (table s t).rels r no_rel g.0 g.1) ∙ g.2)) qs (kept_facts tables m role fit o h)))
 
   -- the kept relationships of the original
   kept_are : (t : ℕ) → map (rel s t) (kept_relationships role m s t) ≡ filter (λ (r : Rel). is_some (permission role m r.remote)) (table s t).rels
-  kept_are t = at_places (λ (r : Rel). is_some (permission role m r.remote)) no_rel (table s t).rels 0 (table s t).rels (λ j. let zeroth : 0 + j ≡ j = omega arith in ap (λ i. slice_index_or (table s t).rels i no_rel) zeroth)
+  kept_are t =
+      at_places (λ (r : Rel). is_some (permission role m r.remote)) no_rel (table s t).rels 0 (table s t).rels
+      (λ j. let zeroth : 0 + j ≡ j = omega arith in ap (λ i. slice_index_or (table s t).rels i no_rel) zeroth)
 
   -- they keep their names
   fields_kept : (t : ℕ) (qs : List ℕ) → flat_map rel_fields (map (copied_rel role m s t) qs) ≡ flat_map rel_fields (map (rel s t) qs)
@@ -184,20 +179,15 @@ module _ (tables : List Table) (m : MetaTree) (role : Role) (fit : fits tables m
 
   original_differs : (o : Source) → Held tables m role o → AllDiffer o.entry
   original_differs o h = found_each AllDiffer (λ j. j.table == o.entry.table) m.tracked o.entry originals_differ h.is.tracked
-    where
-      found_each : {A : Type 0} (P : A → Type 0) (t : A → Bool) (xs : List A) (x : A) → Each P xs → find t xs ≡ Some x → P x
-      found_each P t [] x h e = cc
-      found_each P t (y ∷ ys) x h e =
-          let go : (b : Bool) → cond b (Some y) (find t ys) ≡ Some x → P x = elim [ true ↦ λ g. let same : y ≡ x = cc in subst P same h.0 | false ↦ λ g. found_each P t ys x h.1 g ] in
-          go (t y) e
 
-  module _ (unkept : (o : Source) → Held tables m role o → Unkept role m s o) (extras_differ : (o : Source) → Apart (λ e f. bytes_eq (extra_name e) (extra_name f)) (extras_of role m s o.permission o.entry.table)) where
+  module _ (unkept : (o : Source) → Held tables m role o → Unkept role m s o) (extras_differ : (o : Source) → Apart (λ e f. bytes_eq (extra_name e) (extra_name f)) (extras_of role m s o)) where
     -- names of columns are no added column's
-    own_unlike : (o : Source) → Held tables m role o → Each (λ x. Each (λ y. bytes_eq x y ≡ false) (map extra_name (extras_of role m s o.permission o.entry.table))) (own_names o)
+    own_unlike : (o : Source) → Held tables m role o → Each (λ x. Each (λ y. bytes_eq x y ≡ false) (map extra_name (extras_of role m s o))) (own_names o)
     own_unlike o h =
-        let es : List Extra = extras_of role m s o.permission o.entry.table in
-        each_image (λ x. Each (λ y. bytes_eq x y ≡ false) (map extra_name es)) (λ c. slice_index_or o.entry.column_names c []) o.permission.columns
-        (each_weaken _ _ (λ c g. each_image (λ y. bytes_eq (slice_index_or o.entry.column_names c []) y ≡ false) extra_name es (each_all _ (λ e. unkept_differs (slice_index_or o.entry.column_names c []) e g.1) es)) o.permission.columns (unkept o h).columns)
+        let es : List Extra = extras_of role m s o in
+        each_map (λ x. Each (λ y. bytes_eq x y ≡ false) (map extra_name es)) (λ c. slice_index_or o.entry.column_names c []) o.permission.columns
+        (each_weaken _ _ (λ c g. each_map (λ y. bytes_eq (slice_index_or o.entry.column_names c []) y ≡ false) extra_name es
+        (each_all _ (λ e. unkept_differs (slice_index_or o.entry.column_names c []) e g.1) es)) o.permission.columns (unkept o h).columns)
 
     -- nor are those of a relationship's fields
     fields_unlike : (e : Extra) (r : Rel) → is_kept_name r.name ≡ false → Each (λ y. bytes_eq (extra_name e) y ≡ false) (rel_fields r)
@@ -206,43 +196,47 @@ module _ (tables : List Table) (m : MetaTree) (role : Role) (fit : fits tables m
         elim [ true ↦ (unkept_differs_back e r.name h, (aggregate_differs r.name e, tt)) | false ↦ (unkept_differs_back e r.name h, tt) ] in
         go r.many
 
-    rels_unlike : (o : Source) → Held tables m role o → Each (λ x. Each (λ y. bytes_eq x y ≡ false) (flat_map rel_fields (map (rel s o.entry.table) (kept_relationships role m s o.entry.table)))) (map extra_name (extras_of role m s o.permission o.entry.table))
+    rels_unlike : (o : Source) → Held tables m role o
+        → Each (λ x. Each (λ y. bytes_eq x y ≡ false) (flat_map rel_fields (map (rel s o.entry.table) (kept_relationships role m s o.entry.table)))) (map extra_name (extras_of role m s o))
     rels_unlike o h =
         let t : ℕ = o.entry.table in
         let qs : List ℕ = kept_relationships role m s t in
-        let es : List Extra = extras_of role m s o.permission t in
-        each_image _ extra_name es (each_all _ (λ e. each_made (λ y. bytes_eq (extra_name e) y ≡ false) rel_fields (map (rel s t) qs)
-        (each_image (λ r. Each (λ y. bytes_eq (extra_name e) y ≡ false) (rel_fields r)) (rel s t) qs (each_weaken _ _ (λ q g. fields_unlike e (rel s t q) g) qs (unkept o h).rels))) es)
+        let es : List Extra = extras_of role m s o in
+        each_map _ extra_name es (each_all _ (λ e. each_made (λ y. bytes_eq (extra_name e) y ≡ false) rel_fields (map (rel s t) qs)
+        (each_map (λ r. Each (λ y. bytes_eq (extra_name e) y ≡ false) (rel_fields r)) (rel s t) qs (each_weaken _ _ (λ q g. fields_unlike e (rel s t q) g) qs (unkept o h).rels))) es)
 
-    names_unlike : (o : Source) → Held tables m role o → Each (λ x. Each (λ y. bytes_eq x y ≡ false) (map (λ (r : Rel). r.name) (map (rel s o.entry.table) (kept_relationships role m s o.entry.table)))) (map extra_name (extras_of role m s o.permission o.entry.table))
+    names_unlike : (o : Source) → Held tables m role o
+        → Each (λ x. Each (λ y. bytes_eq x y ≡ false) (map (λ (r : Rel). r.name) (map (rel s o.entry.table) (kept_relationships role m s o.entry.table)))) (map extra_name (extras_of role m s o))
     names_unlike o h =
         let t : ℕ = o.entry.table in
         let qs : List ℕ = kept_relationships role m s t in
-        let es : List Extra = extras_of role m s o.permission t in
-        each_image _ extra_name es (each_all _ (λ e. each_image (λ y. bytes_eq (extra_name e) y ≡ false) (λ (r : Rel). r.name) (map (rel s t) qs)
-        (each_image (λ (r : Rel). bytes_eq (extra_name e) r.name ≡ false) (rel s t) qs (each_weaken _ _ (λ q g. unkept_differs_back e (rel s t q).name g) qs (unkept o h).rels))) es)
+        let es : List Extra = extras_of role m s o in
+        each_map _ extra_name es (each_all _ (λ e. each_map (λ y. bytes_eq (extra_name e) y ≡ false) (λ (r : Rel). r.name) (map (rel s t) qs)
+        (each_map (λ (r : Rel). bytes_eq (extra_name e) r.name ≡ false) (rel s t) qs (each_weaken _ _ (λ q g. unkept_differs_back e (rel s t q).name g) qs (unkept o h).rels))) es)
 
     -- the fields of the copy's table
     fields_differ : (u : ℕ) (o : Source) → Held tables m role o → all_names_differ (fields_of k (copied_entry role m s u o)) ≡ true
     fields_differ u o h =
         let t : ℕ = o.entry.table in
         let qs : List ℕ = kept_relationships role m s t in
-        let es : List (List ℕ) = map extra_name (extras_of role m s o.permission t) in
+        let es : List (List ℕ) = map extra_name (extras_of role m s o) in
         let rs : List (List ℕ) = flat_map rel_fields (map (rel s t) qs) in
         let are : fields_of k (copied_entry role m s u o) ≡ (own_names o ++ es) ++ rs =
         ap₂ (λ a b. a ++ flat_map rel_fields b) (names_are u o h) (rels_stand u o h) ∙ ap (λ l. (own_names o ++ es) ++ l) (fields_kept t qs) in
         let original : Apart bytes_eq (own_names o ++ rs) =
-        apart_sub bytes_eq (own_names o ++ rs) (fields_of m o.entry) (sub_append (own_names o) (column_names_of o.entry) rs (flat_map rel_fields (rels_in_schema m o.entry)) (names_some o h) (sub_made rel_fields _ _ (rels_some o h))) (original_differs o h).0 in
+        apart_sub bytes_eq (own_names o ++ rs) (fields_of m o.entry)
+        (sub_append (own_names o) (column_names_of o.entry) rs (flat_map rel_fields (rels_in_schema m o.entry)) (names_some o h) (sub_made rel_fields _ _ (rels_some o h)))
+        (original_differs o h).0 in
         ap all_names_differ are
         ∙ apart_differ bytes_eq ((own_names o ++ es) ++ rs)
-        (apart_between bytes_eq (own_names o) es rs original (apart_map bytes_eq extra_name (extras_of role m s o.permission t) (extras_differ o)) (own_unlike o h) (rels_unlike o h))
+        (apart_between bytes_eq (own_names o) es rs original (apart_map bytes_eq extra_name (extras_of role m s o) (extras_differ o)) (own_unlike o h) (rels_unlike o h))
 
     -- its inputs
     inputs_differ : (u : ℕ) (o : Source) → Held tables m role o → all_names_differ (inputs_of k (copied_entry role m s u o)) ≡ true
     inputs_differ u o h =
         let t : ℕ = o.entry.table in
         let qs : List ℕ = kept_relationships role m s t in
-        let extras : List Extra = extras_of role m s o.permission t in
+        let extras : List Extra = extras_of role m s o in
         let es : List (List ℕ) = map extra_name extras in
         let rs : List (List ℕ) = map (λ (r : Rel). r.name) (map (rel s t) qs) in
         let are : inputs_of k (copied_entry role m s u o) ≡ ((fixed_inputs ++ own_names o) ++ es) ++ rs =
@@ -253,8 +247,10 @@ module _ (tables : List Table) (m : MetaTree) (role : Role) (fit : fits tables m
         subst (Apart bytes_eq) (sym (append_assoc fixed_inputs (own_names o) rs))
         (apart_sub bytes_eq (fixed_inputs ++ (own_names o ++ rs)) (inputs_of m o.entry)
         (sub_append fixed_inputs fixed_inputs (own_names o ++ rs) (column_names_of o.entry ++ map (λ (r : Rel). r.name) (rels_in_schema m o.entry)) (sub_same fixed_inputs)
-        (sub_append (own_names o) (column_names_of o.entry) rs (map (λ (r : Rel). r.name) (rels_in_schema m o.entry)) (names_some o h) (sub_map (λ (r : Rel). r.name) _ _ (rels_some o h)))) (original_differs o h).1) in
-        let fixed : (name : List ℕ) → is_kept_name name ≡ false → Each (λ y. bytes_eq name y ≡ false) es = λ name g. each_image (λ y. bytes_eq name y ≡ false) extra_name extras (each_all _ (λ e. unkept_differs name e g) extras) in
+        (sub_append (own_names o) (column_names_of o.entry) rs (map (λ (r : Rel). r.name) (rels_in_schema m o.entry)) (names_some o h) (sub_map (λ (r : Rel). r.name) _ _ (rels_some o h))))
+        (original_differs o h).1) in
+        let fixed : (name : List ℕ) → is_kept_name name ≡ false → Each (λ y. bytes_eq name y ≡ false) es =
+        λ name g. each_map (λ y. bytes_eq name y ≡ false) extra_name extras (each_all _ (λ e. unkept_differs name e g) extras) in
         ap all_names_differ are
         ∙ apart_differ bytes_eq (((fixed_inputs ++ own_names o) ++ es) ++ rs)
         (apart_between bytes_eq (fixed_inputs ++ own_names o) es rs original (apart_map bytes_eq extra_name extras (extras_differ o))

@@ -1,6 +1,6 @@
 -- The names of added columns differ, from each other and from all that do not begin as they do.
-use Rattle.std.proofs.Common.{◌≡◌, ℕ, zero, suc, ◌+◌, ◌≤◌, ◌<◌, ◌^◌, List, [], ◌∷◌, ◌++◌, length, Bool, true, false, cond, not, ◌&&◌, ◌==◌, refl, sym, ap, ap₂, ◌∙◌, subst, arith, length-append}
-use Rattle.std.proofs.lemmas.Bool.{false≢true, eq-eqb, ne_eqb, lt-ltb, le-leb, and_from}
+use Rattle.std.proofs.Common.{◌≡◌, ℕ, ◌+◌, ◌≤◌, ◌<◌, ◌^◌, List, [], ◌∷◌, ◌++◌, length, Bool, true, false, ◌==◌, refl, sym, ap, ap₂, ◌∙◌, arith, length-append}
+use Rattle.std.proofs.lemmas.Bool.{false≢true, eq-eqb, lt-ltb, le-leb, and_from}
 use Rattle.std.proofs.lemmas.Slice.Eq.{bytes_eq-Decides}
 use Rattle.std.proofs.lemmas.Fmt.{decimal_is_IsNumeral_wide, length-decimal-le_wide}
 use Rattle.std.specs.Fmt.{decimal}
@@ -15,6 +15,10 @@ pub texts_differ : (x y : List ℕ) → (x ≡ y → ⊥) → bytes_eq x y ≡ f
 texts_differ x y h =
     let go : (b : Bool) → bytes_eq x y ≡ b → b ≡ false = elim [ true ↦ λ e. absurd (h ((bytes_eq-Decides x y).0 e)) | false ↦ λ e. refl ] in
     go (bytes_eq x y) refl
+
+-- a difference, the other way round
+pub bytes_turn : (x y : List ℕ) → bytes_eq x y ≡ false → bytes_eq y x ≡ false
+bytes_turn x y h = texts_differ y x (λ same. false≢true (sym h ∙ (bytes_eq-Decides x y).1 (sym same)))
 
 -- ---- the last byte
 

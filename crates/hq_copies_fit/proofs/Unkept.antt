@@ -1,5 +1,5 @@
 -- No name of a copied column or a kept relationship begins as those of added columns do.
-use Rattle.std.proofs.Common.{◌≡◌, ℕ, List, [], ◌∷◌, Bool, true, false, Option, Some, None}
+use Rattle.std.proofs.Common.{◌≡◌, [], false, None}
 use Rattle.std.specs.Prelude.{slice_index_or}
 use Rattle.hq_base.specs.Lists.{Each}
 use Rattle.hq_base.proofs.Lists.{each_weaken}

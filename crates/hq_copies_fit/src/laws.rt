@@ -1,8 +1,7 @@
 //! Laws of copies, each the contract of a function that does nothing.
 ghost use Rattle.std.specs.Prelude.{List as Items};
 ghost use Rattle.hq_copied.specs.Copied.{Copied};
-ghost use Rattle.hq_copies_fit.specs.Laws.{CatalogFits, NamesReadable, RowsFit};
-ghost use Rattle.hq_terms.specs.Database.{Row};
+ghost use Rattle.hq_copies_fit.specs.Laws.{CatalogFits, NamesReadable};
 ghost use Rattle.hq_terms.specs.Meta.{MetaTree};
 ghost use Rattle.hq_terms.specs.View.{View as Seen};
 ghost use Rattle.hq_terms.specs.declared.session.Session.{Session as Caller};
@@ -12,9 +11,4 @@ ghost use Rattle.hq_terms.specs.declared.table.Table.{Table as CatalogTable};
 pub fn copied_metadata_fits()
     ensures fits { (tables : Items CatalogTable) (m : MetaTree) (session : Caller) (v : Seen) (c : Copied) → CatalogFits tables m session v c }
     ensures readable { (tables : Items CatalogTable) (m : MetaTree) (session : Caller) (v : Seen) (c : Copied) → NamesReadable tables m session v c }
-{}
-
-/// The rows of a copy of a valid database are valid.
-pub fn copied_rows_fit()
-    ensures { (tables : Items CatalogTable) (m : MetaTree) (session : Caller) (d : Items (Items Row)) (c : Copied) → RowsFit tables m session d c }
 {}

@@ -1,6 +1,6 @@
-//! A redacted copy is a database: its catalog is one, its metadata fits it, and its rows are valid.
+//! The catalog of a redacted copy is a catalog, and its metadata fits it.
 #![tactic(auto)]
 
 mod laws;
 
-pub use laws::{copied_metadata_fits, copied_rows_fit};
+pub use laws::copied_metadata_fits;

@@ -93,15 +93,18 @@ module _ {R S : Type 0} {s z : Schema} {n : Renumbering} {A : Sees R} {B : Sees 
 
   -- ---- sorts and the rows of a list
 
-  sort_cell_alike : (rs : List ℕ) (t c : ℕ) (x : R) (y : S) → UsesPath rs s ok t c → Q t x y → sort_cell rs s A t c x ≡ sort_cell (path_over rs s n t) z B (n.table t) (n.column (path_end rs s t) c) y
+  sort_cell_alike : (rs : List ℕ) (t c : ℕ) (x : R) (y : S) → UsesPath rs s ok t c → Q t x y
+      → sort_cell rs s A t c x ≡ sort_cell (path_over rs s n t) z B (n.table t) (n.column (path_end rs s t) c) y
   sort_cell_alike [] t c x y u q = a.cells t c x y u q
   sort_cell_alike (r ∷ rs) t c x y u q =
       ap (λ o. unwrap_or o null) (zip_first (Q (far_table t r)) (sort_cell rs s A (far_table t r) c)
       (sort_cell (path_over rs s n (far_table t r)) z B (n.table (far_table t r)) (n.column (path_end rs s (far_table t r)) c))
       (λ far near h. sort_cell_alike rs (far_table t r) c far near u.1 h) (related s A t r x) (related z B (n.table t) (n.relationship t r) y) (related_alike t r x y u.0 q)
-      ∙ ap (λ w. option_map (sort_cell (path_over rs s n (far_table t r)) z B w (n.column (path_end rs s (far_table t r)) c)) (related_first z B (n.table t) (n.relationship t r) y)) (sym (a.leads t r x y u.0 q)))
+      ∙ ap (λ w. option_map (sort_cell (path_over rs s n (far_table t r)) z B w (n.column (path_end rs s (far_table t r)) c)) (related_first z B (n.table t) (n.relationship t r) y))
+      (sym (a.leads t r x y u.0 q)))
 
-  sorts_alike : (ks : List SortKey) (t : ℕ) → UsesSorts ks s ok t → (x : R) (y : S) (x' : R) (y' : S) → Q t x y → Q t x' y' → sorts_cmp ks s A t x x' ≡ sorts_cmp (sorts_over ks s n t) z B (n.table t) y y'
+  sorts_alike : (ks : List SortKey) (t : ℕ) → UsesSorts ks s ok t → (x : R) (y : S) (x' : R) (y' : S) → Q t x y → Q t x' y'
+      → sorts_cmp ks s A t x x' ≡ sorts_cmp (sorts_over ks s n t) z B (n.table t) y y'
   sorts_alike [] t u x y x' y' q q' = refl
   sorts_alike (k ∷ ks) t u x y x' y' q q' =
       ap₂ ordering_then
@@ -113,7 +116,8 @@ module _ {R S : Type 0} {s z : Schema} {n : Renumbering} {A : Sees R} {B : Sees 
   same_alike (c ∷ cs) t u x y x' y' q q' =
       ap₂ (λ b d. b && d) (ap₂ same_cell (a.cells t c x y u.0 q) (a.cells t c x' y' u.0 q')) (same_alike cs t u.1 x y x' y' q q')
 
-  distinct_alike : (cs : List ℕ) (t : ℕ) → UsesColumns cs ok t → (xs : List R) (ys : List S) → Zip (Q t) xs ys → Zip (Q t) (distinct_rows cs A t xs) (distinct_rows (columns_over cs n t) B (n.table t) ys)
+  distinct_alike : (cs : List ℕ) (t : ℕ) → UsesColumns cs ok t → (xs : List R) (ys : List S) → Zip (Q t) xs ys
+      → Zip (Q t) (distinct_rows cs A t xs) (distinct_rows (columns_over cs n t) B (n.table t) ys)
   distinct_alike [] t u xs ys h = h
   distinct_alike (c ∷ cs) t u xs ys h = zip_firsts (Q t) (same_cells (c ∷ cs) A t) (same_cells (columns_over (c ∷ cs) n t) B (n.table t)) (same_alike (c ∷ cs) t u) xs ys h
 
@@ -134,7 +138,8 @@ module _ {R S : Type 0} {s z : Schema} {n : Renumbering} {A : Sees R} {B : Sees 
   entries_over [] cs t = ascending_over cs t
   entries_over (k ∷ ks) cs t = refl
 
-  selected_alike : (b : ListArguments) (t : ℕ) (limit : Option ℕ) → UsesArguments b s ok t → (xs : List R) (ys : List S) → Zip (Q t) xs ys → Zip (Q t) (selected s A t b limit xs) (selected z B (n.table t) (arguments_over b s n t) limit ys)
+  selected_alike : (b : ListArguments) (t : ℕ) (limit : Option ℕ) → UsesArguments b s ok t → (xs : List R) (ys : List S) → Zip (Q t) xs ys
+      → Zip (Q t) (selected s A t b limit xs) (selected z B (n.table t) (arguments_over b s n t) limit ys)
   selected_alike b t limit u xs ys h =
       let kept = zip_filter (Q t) (keeps b.wanted s A t) (keeps (condition_over b.wanted s n t) z B (n.table t)) (λ x y q. ap is_true (truth_alike b.wanted t x y u.0 q)) xs ys h in
       let order : (x : R) (y : S) (x' : R) (y' : S) → Q t x y → Q t x' y' → sorts_cmp (entries b) s A t x x' ≡ sorts_cmp (entries (arguments_over b s n t)) z B (n.table t) y y' =
@@ -166,15 +171,18 @@ module _ {R S : Type 0} {s z : Schema} {n : Renumbering} {A : Sees R} {B : Sees 
   cells_alike : (c t : ℕ) → ok.column t c ≡ true → (xs : List R) (ys : List S) → Zip (Q t) xs ys → cells_of A t xs c ≡ cells_of B (n.table t) ys (n.column t c)
   cells_alike c t u xs ys h = zip_map (Q t) (λ x. A.cell t x c) (λ y. B.cell (n.table t) y (n.column t c)) (λ x y q. a.cells t c x y u q) xs ys h
 
-  taken_one : (f : Aggregate) (c : AggCol) (t : ℕ) → UsesOneTaken c ok t → (xs : List R) (ys : List S) → Zip (Q t) xs ys → taken_value f c A t xs ≡ taken_value f (taken_over n t c) B (n.table t) ys
+  taken_one : (f : Aggregate) (c : AggCol) (t : ℕ) → UsesOneTaken c ok t → (xs : List R) (ys : List S) → Zip (Q t) xs ys
+      → taken_value f c A t xs ≡ taken_value f (taken_over n t c) B (n.table t) ys
   taken_one f (of.Column c) t u xs ys h = ap (λ l. json_of (aggregated f l)) (cells_alike c t u xs ys h)
   taken_one f (of.Typename name) t u xs ys h = refl
 
-  taken_alike : (f : Aggregate) (cs : List KeyedAggCol) (t : ℕ) → UsesTaken cs ok t → (xs : List R) (ys : List S) → Zip (Q t) xs ys → taken_members f cs A t xs ≡ taken_members f (map (keyed_taken_over n t) cs) B (n.table t) ys
+  taken_alike : (f : Aggregate) (cs : List KeyedAggCol) (t : ℕ) → UsesTaken cs ok t → (xs : List R) (ys : List S) → Zip (Q t) xs ys
+      → taken_members f cs A t xs ≡ taken_members f (map (keyed_taken_over n t) cs) B (n.table t) ys
   taken_alike f [] t u xs ys h = refl
   taken_alike f (c ∷ cs) t u xs ys h = ap₂ (member c.key) (taken_one f c.field t u.0 xs ys h) (taken_alike f cs t u.1 xs ys h)
 
-  count_alike : (c : Option ℕ) (distinct : Bool) (t : ℕ) → UsesCounted c ok t → (xs : List R) (ys : List S) → Zip (Q t) xs ys → count_of c distinct A t xs ≡ count_of (option_map (n.column t) c) distinct B (n.table t) ys
+  count_alike : (c : Option ℕ) (distinct : Bool) (t : ℕ) → UsesCounted c ok t → (xs : List R) (ys : List S) → Zip (Q t) xs ys
+      → count_of c distinct A t xs ≡ count_of (option_map (n.column t) c) distinct B (n.table t) ys
   count_alike None distinct t u xs ys h = ap (λ m. int (pos m)) (zip_length (Q t) xs ys h)
   count_alike (Some c) distinct t u xs ys h = ap (counted distinct) (cells_alike c t u xs ys h)
 
@@ -183,7 +191,8 @@ module _ {R S : Type 0} {s z : Schema} {n : Renumbering} {A : Sees R} {B : Sees 
   summary_one (fold.Columns f cs) t u xs ys h = ap obj (taken_alike f cs t u xs ys h)
   summary_one (fold.Typename name) t u xs ys h = refl
 
-  summary_alike : (fs : List KeyedAggField) (t : ℕ) → UsesSummary fs ok t → (xs : List R) (ys : List S) → Zip (Q t) xs ys → summary_members fs A t xs ≡ summary_members (map (keyed_summary_over n t) fs) B (n.table t) ys
+  summary_alike : (fs : List KeyedAggField) (t : ℕ) → UsesSummary fs ok t → (xs : List R) (ys : List S) → Zip (Q t) xs ys
+      → summary_members fs A t xs ≡ summary_members (map (keyed_summary_over n t) fs) B (n.table t) ys
   summary_alike [] t u xs ys h = refl
   summary_alike (f ∷ fs) t u xs ys h = ap₂ (member f.key) (summary_one f.field t u.0 xs ys h) (summary_alike fs t u.1 xs ys h)
 
@@ -216,7 +225,8 @@ module _ {R S : Type 0} {s z : Schema} {n : Renumbering} {A : Sees R} {B : Sees 
       all_alike no_field t x y u q = refl
       all_alike (field key f fs) t x y u q = ap₂ (member key) (one_alike f t x y u.0 u.1 q) (all_alike fs t x y u.2 q)
 
-      one_alike : (f : FieldTree) (t : ℕ) (x : R) (y : S) → UsesHere s ok t f → Below (UsesHere s ok) (UsesPart ok) f s t → Q t x y → resolve f s k A t x ≡ resolve (field_over f s n t) z l B (n.table t) y
+      one_alike : (f : FieldTree) (t : ℕ) (x : R) (y : S) → UsesHere s ok t f → Below (UsesHere s ok) (UsesPart ok) f s t → Q t x y
+          → resolve f s k A t x ≡ resolve (field_over f s n t) z l B (n.table t) y
       one_alike (column c) t x y u w q = ap json_of (a.cells t c x y u q)
       one_alike (typename name) t x y u w q = refl
       one_alike no_queries t x y u w q = refl
@@ -230,22 +240,26 @@ module _ {R S : Type 0} {s z : Schema} {n : Renumbering} {A : Sees R} {B : Sees 
       one_alike (by_key v key fs) t x y u w q = found_alike v key fs u.0 u.1 (λ far near h. all_alike fs v far near w h)
       one_alike (aggregate o b ps) t x y u w q =
           ap obj (parts_alike ps (origin_table o s t) b (origin_allowed o t u.0) u.2 w _ _ (origin_alike o t x y u.0 q)
-          ∙ ap (λ v. resolve_parts (parts_over ps s n (origin_table o s t)) z l B v (arguments_over b s n (origin_table o s t)) (origin_rows (origin_over o n t) z B (n.table t) y)) (sym (origin_leads o t x y u.0 q)))
+          ∙ ap (λ v. resolve_parts (parts_over ps s n (origin_table o s t)) z l B v (arguments_over b s n (origin_table o s t)) (origin_rows (origin_over o n t) z B (n.table t) y))
+          (sym (origin_leads o t x y u.0 q)))
       one_alike (introspect f) t x y u w q = refl
 
-      parts_alike : (ps : PartTrees) (v : ℕ) (b : ListArguments) → ok.rows v ≡ true → UsesArguments b s ok v → EveryPart (UsesHere s ok) (UsesPart ok) ps s v → (xs : List R) (ys : List S) → Zip (Q v) xs ys
+      parts_alike : (ps : PartTrees) (v : ℕ) (b : ListArguments) → ok.rows v ≡ true → UsesArguments b s ok v → EveryPart (UsesHere s ok) (UsesPart ok) ps s v → (xs : List R) (ys : List S)
+          → Zip (Q v) xs ys
           → resolve_parts ps s k A v b xs ≡ resolve_parts (parts_over ps s n v) z l B (n.table v) (arguments_over b s n v) ys
       parts_alike no_part v b allowed u w xs ys h = refl
       parts_alike (part key p ps) v b allowed u w xs ys h = ap₂ (member key) (part_alike p v b allowed u w.0 w.1 xs ys h) (parts_alike ps v b allowed u w.2 xs ys h)
 
-      part_alike : (p : PartTree) (v : ℕ) (b : ListArguments) → ok.rows v ≡ true → UsesArguments b s ok v → UsesPart ok v p → BelowPart (UsesHere s ok) (UsesPart ok) p s v → (xs : List R) (ys : List S) → Zip (Q v) xs ys
+      part_alike : (p : PartTree) (v : ℕ) (b : ListArguments) → ok.rows v ≡ true → UsesArguments b s ok v → UsesPart ok v p → BelowPart (UsesHere s ok) (UsesPart ok) p s v
+          → (xs : List R) (ys : List S) → Zip (Q v) xs ys
           → resolve_part p s k A v b xs ≡ resolve_part (part_over p s n v) z l B (n.table v) (arguments_over b s n v) ys
       part_alike (summary fs) v b allowed u here w xs ys h = ap obj (summary_alike fs v here _ _ (selected_alike b v None u xs ys h))
       part_alike (nodes fs) v b allowed u here w xs ys h = rows_alike fs v b allowed u (λ far near g. all_alike fs v far near w g) xs ys h
       part_alike (part_typename name) v b allowed u here w xs ys h = refl
 
     -- at the root any two rows and any table of the second schema will do, for none is read
-    root_one : (f : FieldTree) (t there : ℕ) (x : R) (y : S) → StandsAtRoot s f → UsesHere s ok t f → Below (UsesHere s ok) (UsesPart ok) f s t → resolve f s k A t x ≡ resolve (field_over f s n t) z l B there y
+    root_one : (f : FieldTree) (t there : ℕ) (x : R) (y : S) → StandsAtRoot s f → UsesHere s ok t f → Below (UsesHere s ok) (UsesPart ok) f s t
+        → resolve f s k A t x ≡ resolve (field_over f s n t) z l B there y
     root_one (column c) t there x y g u w = absurd g
     root_one (typename name) t there x y g u w = refl
     root_one no_queries t there x y g u w = refl

@@ -1,5 +1,5 @@
 -- A copy of a view is seen as the view is.
-use Rattle.std.proofs.Common.{◌≡◌, ℕ, suc, ◌+◌, List, [], ◌∷◌, true, length, slice_get, Option, Some, ap, subst, arith}
+use Rattle.std.proofs.Common.{◌≡◌, ℕ, suc, ◌+◌, List, [], ◌∷◌, length, slice_get, Option, Some, ap, subst, arith}
 use Rattle.hq_base.specs.Json.{obj}
 use Rattle.hq_base.specs.Lists.{Zip}
 use Rattle.hq_base.proofs.Zips.{zip_weaken}
@@ -15,7 +15,8 @@ use Rattle.hq_renumbered.specs.Copies.{AlikeUnder, StandsAt, IsCopy, AnsweredAli
 use Rattle.hq_renumbered.proofs.Alike.{root_alike}
 
 -- positions, and the items of a list that is as long
-placed : {A B : Type 0} (xs : List A) (zs ys : List B) (k : ℕ) → length xs ≡ length ys → ((j : ℕ) → slice_get zs (k + j) ≡ slice_get ys j) → Zip (λ i y. slice_get zs i ≡ Some y) (numbered (λ i x. i) k xs) ys
+placed : {A B : Type 0} (xs : List A) (zs ys : List B) (k : ℕ) → length xs ≡ length ys → ((j : ℕ) → slice_get zs (k + j) ≡ slice_get ys j)
+    → Zip (λ i y. slice_get zs i ≡ Some y) (numbered (λ i x. i) k xs) ys
 placed [] zs [] k e h = tt
 placed [] zs (y ∷ ys) k e h = absurd (omega arith)
 placed (x ∷ xs) zs [] k e h = absurd (omega arith)
@@ -26,7 +27,8 @@ placed (x ∷ xs) zs (y ∷ ys) k e h =
       placed xs zs ys (suc k) shorter (λ j. let next : k + suc j ≡ suc k + j = omega arith in subst (λ i. slice_get zs i ≡ slice_get ys j) next (h (suc j))),
     )
 
-copy_alike : (s z : Schema) (n : Renumbering) (v : View) (ok : Allowed) (g : Grants) (d : List (List Row)) → IsCopy s z n v ok g d → AlikeUnder s z n (seen_in v) (seen_by z g d) ok (StandsAt z n ok g d)
+copy_alike : (s z : Schema) (n : Renumbering) (v : View) (ok : Allowed) (g : Grants) (d : List (List Row)) → IsCopy s z n v ok g d
+    → AlikeUnder s z n (seen_in v) (seen_by z g d) ok (StandsAt z n ok g d)
 copy_alike s z n v ok g d c = record {
   rows = λ t h.
       let rows = permitted z g d (n.table t) in

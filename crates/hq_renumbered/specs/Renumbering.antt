@@ -1,9 +1,10 @@
 -- A request in the numbers of another schema. Tables, columns and relationships are known by their places, and a copy that has fewer
 -- of them has them at other places.
-use Rattle.std.specs.Prelude.{ℕ, List, [], ◌∷◌, map, Option, option_map}
+use Rattle.std.specs.Prelude.{◌≡◌, ℕ, true, List, [], ◌∷◌, map, option_map}
 use Rattle.hq_terms.specs.Bexp.{BexpTree, always, and_of, or_of, not_of, test, through, exists_in, two_columns, BexpTrees, no_bexp, bexp}
 use Rattle.hq_terms.specs.Schema.{Schema, rel}
 use Rattle.hq_terms.specs.Selected.{SortKey, ListArguments}
+use Rattle.hq_ask_tree.specs.Allowed.{Allowed}
 use Rattle.hq_ask_tree.specs.Fields.{Origin, from_table, along, FieldTrees, no_field, field, FieldTree, column, typename, no_queries, object, list, by_key, aggregate, introspect, PartTrees, no_part, part, PartTree, summary, nodes, part_typename}
 use Rattle.hq_ask_tree.specs.Resolve.{origin_table}
 use Rattle.hq_ask_tree.specs.declared.aggregate.AggCol.{AggCol}
@@ -18,6 +19,12 @@ pub record Renumbering : Type 0 where
   pub table : (table : ℕ) → ℕ
   pub column : (table column : ℕ) → ℕ
   pub relationship : (table relationship : ℕ) → ℕ
+
+-- different tables, columns of a table and relationships of a table that may be used have different places there
+pub record IsOneToOne (n : Renumbering) (ok : Allowed) : Type 0 where
+  pub tables : (t u : ℕ) → ok.rows t ≡ true → ok.rows u ≡ true → n.table t ≡ n.table u → t ≡ u
+  pub columns : (t c d : ℕ) → ok.column t c ≡ true → ok.column t d ≡ true → n.column t c ≡ n.column t d → c ≡ d
+  pub relationships : (t r q : ℕ) → ok.relationship t r ≡ true → ok.relationship t q ≡ true → n.relationship t r ≡ n.relationship t q → r ≡ q
 
 -- columns of table t
 abbrev pub columns_over : List ℕ → Renumbering → ℕ → List ℕ

@@ -1,36 +1,16 @@
 -- Lists whose items differ, pair by pair.
-use Rattle.std.proofs.Common.{◌≡◌, ℕ, zero, suc, ◌+◌, ◌≤◌, ◌<◌, List, [], ◌∷◌, ◌++◌, map, filter, length, Bool, true, false, cond, not, ◌&&◌, ◌||◌, ◌==◌, inl, inr, ◌⊎◌, Option, Some, None, refl, sym, ap, ap₂, ◌∙◌, subst, arith, slice_get}
-use Rattle.std.proofs.lemmas.Bool.{and_parts, and_from, or_parts, or_from, not-true, not_from_false, eq-eqb, eqb-true, ne_eqb, false≢true}
-use Rattle.std.specs.List.{list_all, list_any}
+use Rattle.std.proofs.Common.{◌≡◌, ℕ, zero, suc, ◌+◌, ◌≤◌, ◌<◌, List, [], ◌∷◌, ◌++◌, map, filter, length, Bool, true, false, cond, not, ◌==◌, inl, inr, ◌⊎◌, refl, sym, ap, ◌∙◌, subst, arith}
+use Rattle.std.proofs.lemmas.Bool.{and_parts, and_from, not-true, not_from_false, eq-eqb, eqb-true, ne_eqb, false≢true}
+use Rattle.std.specs.List.{list_any}
 use Rattle.std.specs.Prelude.{flat_map}
 use Rattle.hq_base.specs.Lists.{Each, all_differ}
-use Rattle.hq_base.proofs.Lists.{each_weaken, each_filter}
+use Rattle.hq_base.proofs.Lists.{each_filter}
+use Rattle.hq_copied.proofs.Lists.{each_map, each_append, each_none, none_each, each_both}
 
 -- each item differs from those behind it
 abbrev pub Apart : {A : Type 0} → (A → A → Bool) → List A → Type 0
 Apart same [] = Unit {0}
 Apart same (x ∷ xs) = Each (λ y. same x y ≡ false) xs × Apart same xs
-
-pub each_none : {A : Type 0} (p : A → Bool) (xs : List A) → list_any p xs ≡ false → Each (λ x. p x ≡ false) xs
-each_none p [] h = tt
-each_none p (x ∷ xs) h = let both = or_parts (p x) (list_any p xs) h in (both.0, each_none p xs both.1)
-
-pub none_each : {A : Type 0} (p : A → Bool) (xs : List A) → Each (λ x. p x ≡ false) xs → list_any p xs ≡ false
-none_each p [] h = refl
-none_each p (x ∷ xs) h = or_from (p x) (list_any p xs) h.0 (none_each p xs h.1)
-
-pub each_of : {A : Type 0} (p : A → Bool) (xs : List A) → list_all p xs ≡ true → Each (λ x. p x ≡ true) xs
-each_of p [] h = tt
-each_of p (x ∷ xs) h = let parts = and_parts (p x) (list_all p xs) h in (parts.0, each_of p xs parts.1)
-
-pub all_each : {A : Type 0} (p : A → Bool) (xs : List A) → Each (λ x. p x ≡ true) xs → list_all p xs ≡ true
-all_each p [] h = refl
-all_each p (x ∷ xs) h = and_from (p x) (list_all p xs) h.0 (all_each p xs h.1)
-
--- two facts of each item, and a third that follows
-pub each_both : {A : Type 0} (P Q R : A → Type 0) → ((x : A) → P x → Q x → R x) → (xs : List A) → Each P xs → Each Q xs → Each R xs
-each_both P Q R f [] p q = tt
-each_both P Q R f (x ∷ xs) p q = (f x p.0 q.0, each_both P Q R f xs p.1 q.1)
 
 pub differ_apart : {A : Type 0} (same : A → A → Bool) (xs : List A) → all_differ same xs ≡ true → Apart same xs
 differ_apart same [] h = tt
@@ -43,17 +23,13 @@ apart_differ same [] h = refl
 apart_differ same (x ∷ xs) h =
     and_from (not (list_any (same x) xs)) (all_differ same xs) (not_from_false (list_any (same x) xs) (none_each (same x) xs h.0)) (apart_differ same xs h.1)
 
-pub each_joined : {A : Type 0} (P : A → Type 0) (xs ys : List A) → Each P xs → Each P ys → Each P (xs ++ ys)
-each_joined P [] ys h g = g
-each_joined P (x ∷ xs) ys h g = (h.0, each_joined P xs ys h.1 g)
-
 pub each_split : {A : Type 0} (P : A → Type 0) (xs ys : List A) → Each P (xs ++ ys) → Each P xs × Each P ys
 each_split P [] ys h = (tt, h)
 each_split P (x ∷ xs) ys h = let both = each_split P xs ys h.1 in ((h.0, both.0), both.1)
 
 pub apart_append : {A : Type 0} (same : A → A → Bool) (xs ys : List A) → Apart same xs → Apart same ys → Each (λ x. Each (λ y. same x y ≡ false) ys) xs → Apart same (xs ++ ys)
 apart_append same [] ys h g c = g
-apart_append same (x ∷ xs) ys h g c = (each_joined (λ y. same x y ≡ false) xs ys h.0 c.0, apart_append same xs ys h.1 g c.1)
+apart_append same (x ∷ xs) ys h g c = (each_append (λ y. same x y ≡ false) xs ys h.0 c.0, apart_append same xs ys h.1 g c.1)
 
 -- the two parts of a joined list, and how they differ
 pub apart_split : {A : Type 0} (same : A → A → Bool) (xs ys : List A) → Apart same (xs ++ ys) → Apart same xs × Apart same ys × Each (λ x. Each (λ y. same x y ≡ false) ys) xs
@@ -63,16 +39,13 @@ apart_split same (x ∷ xs) ys h =
     let both = each_split (λ y. same x y ≡ false) xs ys h.0 in
     ((both.0, rest.0), rest.1, (both.1, rest.2))
 
-pub each_image : {A B : Type 0} (P : B → Type 0) (f : A → B) (xs : List A) → Each (λ x. P (f x)) xs → Each P (map f xs)
-each_image P f [] h = tt
-each_image P f (x ∷ xs) h = (h.0, each_image P f xs h.1)
-
 pub apart_map : {A B : Type 0} (same : B → B → Bool) (f : A → B) (xs : List A) → Apart (λ x y. same (f x) (f y)) xs → Apart same (map f xs)
 apart_map same f [] h = tt
-apart_map same f (x ∷ xs) h = (each_image (λ y. same (f x) y ≡ false) f xs h.0, apart_map same f xs h.1)
+apart_map same f (x ∷ xs) h = (each_map (λ y. same (f x) y ≡ false) f xs h.0, apart_map same f xs h.1)
 
 -- items that differ by one test differ by another, where they have something
-pub apart_on : {A : Type 0} (P : A → Type 0) (same other : A → A → Bool) → ((x y : A) → P x → P y → same x y ≡ false → other x y ≡ false) → (xs : List A) → Each P xs → Apart same xs → Apart other xs
+pub apart_on : {A : Type 0} (P : A → Type 0) (same other : A → A → Bool) → ((x y : A) → P x → P y → same x y ≡ false → other x y ≡ false) → (xs : List A) → Each P xs → Apart same xs
+    → Apart other xs
 apart_on P same other f [] p h = tt
 apart_on P same other f (x ∷ xs) p h =
     (each_both P (λ y. same x y ≡ false) (λ y. other x y ≡ false) (λ y q e. f x y p.0 q e) xs p.1 h.0, apart_on P same other f xs p.1 h.1)
@@ -182,7 +155,8 @@ sub_made {A} {B} f xs (y ∷ ys) (inr r) =
     subst P (sym (ap (flat_map f) r.1)) (sub_append (f y) (f y) (flat_map f r.0) (flat_map f ys) (sub_same (f y)) (sub_made f r.0 ys r.2))
 
 -- a list that is put between two others
-pub apart_between : {A : Type 0} (same : A → A → Bool) (xs es ys : List A) → Apart same (xs ++ ys) → Apart same es → Each (λ x. Each (λ e. same x e ≡ false) es) xs → Each (λ e. Each (λ y. same e y ≡ false) ys) es → Apart same ((xs ++ es) ++ ys)
+pub apart_between : {A : Type 0} (same : A → A → Bool) (xs es ys : List A) → Apart same (xs ++ ys) → Apart same es → Each (λ x. Each (λ e. same x e ≡ false) es) xs
+    → Each (λ e. Each (λ y. same e y ≡ false) ys) es → Apart same ((xs ++ es) ++ ys)
 apart_between same xs es ys h g c k =
     let parts = apart_split same xs ys h in
-    apart_append same (xs ++ es) ys (apart_append same xs es parts.0 g c) parts.1 (each_joined (λ x. Each (λ y. same x y ≡ false) ys) xs es parts.2 k)
+    apart_append same (xs ++ es) ys (apart_append same xs es parts.0 g c) parts.1 (each_append (λ x. Each (λ y. same x y ≡ false) ys) xs es parts.2 k)

@@ -1,22 +1,23 @@
 -- Rows and their keys: how many there are, what fits, and which differ.
-use Rattle.std.proofs.Common.{◌≡◌, ℕ, zero, suc, pos, ◌+◌, ◌-◌, ◌≤◌, ◌<◌, ◌^◌, List, [], ◌∷◌, ◌++◌, map, filter, length, Bool, true, false, cond, not, ◌&&◌, ◌||◌, ◌==◌, Option, Some, None, Ordering, refl, sym, ap, ap₂, ◌∙◌, subst, arith, slice_get, nat_lt}
-use Rattle.std.proofs.lemmas.Bool.{and_parts, and_from, or_left, or_right, ltb-true, lt-ltb, eq-eqb, ne_eqb, false≢true}
-use Rattle.std.specs.List.{list_all, position_from}
+use Rattle.std.proofs.Common.{◌≡◌, ℕ, zero, suc, pos, ◌+◌, ◌-◌, ◌≤◌, ◌<◌, ◌^◌, List, [], ◌∷◌, ◌++◌, map, filter, length, Bool, true, false, cond, ◌&&◌, ◌||◌, ◌==◌, Option, Some, None, Ordering, refl, sym, ap, ap₂, ◌∙◌, arith, slice_get}
+use Rattle.std.proofs.lemmas.Bool.{and_parts, and_from, or_left, ltb-true, lt-ltb, eq-eqb, ne_eqb, false≢true}
+use Rattle.std.specs.List.{position_from}
 use Rattle.std.specs.Ordering.{is_gt}
 use Rattle.std.specs.Prelude.{slice_index_or}
 use Rattle.hq_base.specs.Cells.{cell_of, same_cell}
-use Rattle.hq_base.specs.Lists.{Each, Zip, all_differ, put, sort}
+use Rattle.hq_base.specs.Lists.{Each, Zip, put, sort}
 use Rattle.hq_base.specs.declared.value.Ty.TheVariants.{Bigint}
 use Rattle.hq_base.specs.declared.value.Val.{Val}
 use Rattle.hq_base.specs.declared.value.Val.TheVariants as val
 use Rattle.hq_base.proofs.Orders.{same_cell_equiv, same_value}
-use Rattle.hq_base.proofs.Sorts.{each_put, sort_length}
-use Rattle.hq_terms.specs.Database.{Row, fits_bits, int_fits, value_fits, row_fits, key_of, same_values, are_rows, is_database}
+use Rattle.hq_base.proofs.Sorts.{each_put, each_sort, sort_length}
+use Rattle.hq_terms.specs.Database.{Row, int_fits, value_fits, row_fits, same_values, are_rows, is_database}
 use Rattle.hq_terms.specs.declared.table.Column.{Column}
 use Rattle.hq_terms.specs.declared.table.Table.{Table}
 use Rattle.hq_copied.specs.Metadata.{places}
 use Rattle.hq_copied.specs.Rows.{number_value}
-use Rattle.hq_copies_fit.proofs.Apart.{Apart}
+use Rattle.hq_copied.proofs.Apart.{Apart}
+use Rattle.hq_copied.proofs.Lists.{each_along}
 
 -- ---- how many rows
 
@@ -52,7 +53,8 @@ fits_at (k ∷ cs) [] c column h e = absurd (false≢true h)
 fits_at (k ∷ cs) (v ∷ vs) zero column h e = let same : k ≡ column = cc in ap (λ w. value_fits w v) (sym same) ∙ (and_parts _ _ h).0
 fits_at (k ∷ cs) (v ∷ vs) (suc c) column h e = fits_at cs vs c column (and_parts (value_fits k v) (row_fits cs vs) h).1 e
 
-pub fits_front : {A : Type 0} (f : A → Column) (g : A → Val) (xs : List A) (cs : List Column) (vs : Row) → Each (λ x. value_fits (f x) (g x) ≡ true) xs → row_fits cs vs ≡ true → row_fits (map f xs ++ cs) (map g xs ++ vs) ≡ true
+pub fits_front : {A : Type 0} (f : A → Column) (g : A → Val) (xs : List A) (cs : List Column) (vs : Row) → Each (λ x. value_fits (f x) (g x) ≡ true) xs → row_fits cs vs ≡ true
+    → row_fits (map f xs ++ cs) (map g xs ++ vs) ≡ true
 fits_front f g [] cs vs h e = e
 fits_front f g (x ∷ xs) cs vs h e = and_from (value_fits (f x) (g x)) (row_fits (map f xs ++ cs) (map g xs ++ vs)) h.0 (fits_front f g xs cs vs h.1 e)
 
@@ -78,7 +80,8 @@ position_least p k n (x ∷ xs) e =
 pub small_number : (n : ℕ) → n < 2 ^ 63 → int_fits Bigint (pos n) ≡ true
 small_number n h = lt-ltb n (2 ^ 63) h
 
-pub number_fits : {A : Type 0} (name : List ℕ) (p : A → Bool) (xs : List A) → length xs < 2 ^ 31 → value_fits (record { name = name; ty = Bigint; nullable = true }) (number_value (position_from p 1 xs)) ≡ true
+pub number_fits : {A : Type 0} (name : List ℕ) (p : A → Bool) (xs : List A) → length xs < 2 ^ 31
+    → value_fits (record { name = name; ty = Bigint; nullable = true }) (number_value (position_from p 1 xs)) ≡ true
 number_fits name p xs few =
     let go : (o : Option ℕ) → position_from p 1 xs ≡ o → value_fits (record { name = name; ty = Bigint; nullable = true }) (number_value o) ≡ true =
     elim [ None ↦ λ e. refl | Some n ↦ λ e. let less = position_least p 1 n xs e in small_number n (omega (arith, less)) ] in
@@ -104,20 +107,11 @@ module _ {A : Type 0} (same : A → A → Bool) (turn : (x y : A) → same x y �
   -- a sort leaves what differs
   pub sort_apart : (xs : List A) → Apart same xs → Apart same (sort R xs)
   sort_apart [] h = tt
-  sort_apart (x ∷ xs) h = put_apart x (sort R xs) (each_sorted xs h.0) (sort_apart xs h.1)
-    where
-      each_sorted : {x : A} (xs : List A) → Each (λ y. same x y ≡ false) xs → Each (λ y. same x y ≡ false) (sort R xs)
-      each_sorted {x} [] h = tt
-      each_sorted {x} (y ∷ ys) h = each_put R (λ w. same x w ≡ false) y h.0 (sort R ys) (each_sorted {x = x} ys h.1)
-
-each_along : {A B : Type 0} (Q : A → B → Type 0) (P : A → Type 0) (N : B → Type 0) → ((x : A) (y : B) → Q x y → P x → N y) → (xs : List A) (ys : List B) → Zip Q xs ys → Each P xs → Each N ys
-each_along Q P N on [] [] z h = tt
-each_along Q P N on [] (y ∷ ys) z h = absurd z
-each_along Q P N on (x ∷ xs) [] z h = absurd z
-each_along Q P N on (x ∷ xs) (y ∷ ys) z h = (on x y z.0 h.0, each_along Q P N on xs ys z.1 h.1)
+  sort_apart (x ∷ xs) h = put_apart x (sort R xs) (each_sort R (λ y. same x y ≡ false) xs h.0) (sort_apart xs h.1)
 
 -- lists that are related item by item, under tests that agree, differ together
-pub apart_along : {A B : Type 0} (Q : A → B → Type 0) (same : A → A → Bool) (other : B → B → Bool) → ((x : A) (y : B) (u : A) (v : B) → Q x y → Q u v → same x u ≡ other y v) → (xs : List A) (ys : List B) → Zip Q xs ys → Apart same xs → Apart other ys
+pub apart_along : {A B : Type 0} (Q : A → B → Type 0) (same : A → A → Bool) (other : B → B → Bool) → ((x : A) (y : B) (u : A) (v : B) → Q x y → Q u v → same x u ≡ other y v)
+    → (xs : List A) (ys : List B) → Zip Q xs ys → Apart same xs → Apart other ys
 apart_along Q same other agree [] [] z h = tt
 apart_along Q same other agree [] (y ∷ ys) z h = absurd z
 apart_along Q same other agree (x ∷ xs) [] z h = absurd z
