@@ -17,7 +17,7 @@ use Rattle.hq_coerce.specs.Coercion.{enum_value, leaf_by, leaf_value, in_lists, 
 use Rattle.hq_coerce.specs.Due.{given_members, given_value, checked_value, value_due, value_if_known, variable_due, with_value, values_due, variables_of, variables_due}
 use Rattle.hq_coerce.specs.Required.{required_of, required_names, required_at, is_required_in, is_required}
 use Rattle.hq_coerce.specs.Variables.{VarTree}
-use Rattle.hq_coerce.specs.declared.coerce.CoerceRefusal.{CoerceRefusal}
+use Rattle.hq_coerce.specs.declared.refusal.CoerceRefusal.{CoerceRefusal}
 use Rattle.hq_blank_schemas.specs.Blank.{blank_origin, blank_arg, blank_type, blank}
 use Rattle.hq_blank_schemas.proofs.Lists.{any_map, filter_map_map, map_twice, and_same, and_alike}
 use Rattle.hq_blank_schemas.proofs.Looks.{blank_at, blank_input_of, blank_enum}

@@ -160,4 +160,6 @@ blank_part p = record p { nodes = blank_nodes p.nodes }
 -- the parts of a document
 pub blank_parts : (s : SchemaTree) (d : DocumentTree) → document_parts (blank s) d ≡ map blank_part (document_parts s d)
 blank_parts s [] = refl
-blank_parts s (x ∷ d) = ap₂ (λ (p : PartTree) (ps : List PartTree). p ∷ ps) (ap (λ ns. record { definition = x; nodes = ns }) (blank_definition s x)) (blank_parts s d)
+blank_parts s (x ∷ d) =
+    let make : List NodeTree → PartTree = λ ns. record { definition = x; nodes = ns } in
+    ap₂ (λ (p : PartTree) (ps : List PartTree). p ∷ ps) (ap make (blank_definition s x)) (blank_parts s d)

@@ -9,7 +9,7 @@ use Rattle.hq_gql_nodes.specs.Known.{known_field, below_field}
 use Rattle.hq_gql_nodes.specs.Nodes.{below_inline}
 use Rattle.hq_overlap_sets.specs.Places.{overlap_in, overlap_place}
 use Rattle.hq_overlap_sets.specs.Sets.{FieldTree, SetTree, response_key, label_of, seen_field, field_count, field_count_of, own_fields_of, own_fields, own_spreads, set_of, inner_sets_of, inner_sets, parent_of, selections_of_definition, roots, below_roots, document_sets}
-use Rattle.hq_overlap_sets.specs.Shapes.{leaf, object, list_of, non_null, shape_of}
+use Rattle.hq_overlap_sets.specs.Shapes.{ShapeTree, leaf, object, list_of, non_null, shape_of}
 use Rattle.hq_blank_schemas.specs.Blank.{blank_field, blank}
 use Rattle.hq_blank_schemas.proofs.Lists.{and_alike, maps_alike}
 use Rattle.hq_blank_schemas.proofs.Known.{same_object, blank_known, same_below, same_inline, same_root, same_object_named}
@@ -21,10 +21,11 @@ same_shape s (schema.non_null r) = ap non_null (same_shape s r)
 
 same_seen : (s : SchemaTree) (parent : Option ℕ) (h : FieldHead) (n : ℕ) → seen_field (blank s) parent h n ≡ seen_field s parent h n
 same_seen s parent h n =
-    let seen : SchemaTree → ℕ → schema.FieldTree → FieldTree = λ z t f. record { at = h.at; key = response_key h; parent = t; label = label_of h; shape = shape_of z f.ty; below = n } in
+    let of_shape : ℕ → ShapeTree → FieldTree = λ t shape. record { at = h.at; key = response_key h; parent = t; label = label_of h; shape = shape; below = n } in
+    let seen : SchemaTree → ℕ → schema.FieldTree → FieldTree = λ z t f. of_shape t (shape_of z f.ty) in
     and_alike (λ t. option_map (seen (blank s) t) (known_field (blank s) (Some t) h.name)) (λ t. option_map (seen s t) (known_field s (Some t) h.name))
     (λ t. ap (option_map (seen (blank s) t)) (blank_known s (Some t) h.name)
-    ∙ maps_alike blank_field (seen (blank s) t) (seen s t) (λ f. ap (λ shape. record { at = h.at; key = response_key h; parent = t; label = label_of h; shape = shape; below = n }) (same_shape s f.ty)) (known_field s (Some t) h.name))
+    ∙ maps_alike blank_field (seen (blank s) t) (seen s t) (λ f. ap (of_shape t) (same_shape s f.ty)) (known_field s (Some t) h.name))
     parent
 
 mutual
@@ -38,7 +39,9 @@ mutual
   same_own s n parent (selection x more) = ap₂ (λ (a b : List FieldTree). a ++ b) (same_own_of s n parent x) (same_own s (n + field_count_of x) parent more)
 
 same_set : (s : SchemaTree) (places : Places) (n : ℕ) (parent : Option ℕ) (xs : SelectionTrees) → set_of (blank s) places n parent xs ≡ set_of s places n parent xs
-same_set s places n parent xs = ap (λ fields. record { fields = fields; spreads = own_spreads places xs }) (same_own s n parent xs)
+same_set s places n parent xs =
+    let make : List FieldTree → SetTree = λ fields. record { fields = fields; spreads = own_spreads places xs } in
+    ap make (same_own s n parent xs)
 
 mutual
   same_inner_of : (s : SchemaTree) (places : Places) (n : ℕ) (parent : Option ℕ) (x : SelectionTree) → inner_sets_of (blank s) places n parent x ≡ inner_sets_of s places n parent x

@@ -14,32 +14,33 @@ use Rattle.hq_terms.specs.declared.table.ForeignKey.{ForeignKey}
 use Rattle.hq_terms.specs.declared.table.Table.{Table}
 use Rattle.hq_catalog_read.specs.Field.{field_name}
 use Rattle.hq_catalog_read.specs.declared.field.Field.TheVariants as field
+use Rattle.hq_written_json.specs.Building.{list, texts}
 use Rattle.hq_written_json.specs.ReadBack.{IsReadable, is_clean}
 use Rattle.hq_written_json.proofs.Building.{Readable, readable, text_readable, bool_readable, texts_readable, map_readable, object_readable, are_member_names}
-use Rattle.hq_written_catalog.specs.Written.{name_in, name_at, column_json, schema_in, table_name_in, columns_in, table_ref, foreign_json, table_json, catalog_json, has_clean_names}
+use Rattle.hq_written_catalog.specs.Written.{name_in, name_at, column_members, column_json, schema_in, table_name_in, columns_in, table_ref_members, foreign_members, foreign_json, table_members, table_json, catalog_members, catalog_json, has_clean_names}
 use Rattle.hq_written_catalog.proofs.Lists.{each_true, at_each}
 
 -- ---- the names of members
 
-column_members : are_member_names (field_name field.Name ∷ field_name field.ColumnType ∷ field_name field.Nullable ∷ []) ≡ true
+column_names : are_member_names (field_name field.Name ∷ field_name field.ColumnType ∷ field_name field.Nullable ∷ []) ≡ true
 unfolding field_name is_utf8 chars encode
-column_members = refl
+column_names = refl
 
-ref_members : are_member_names (field_name field.Schema ∷ field_name field.Name ∷ []) ≡ true
+ref_names : are_member_names (field_name field.Schema ∷ field_name field.Name ∷ []) ≡ true
 unfolding field_name is_utf8 chars encode
-ref_members = refl
+ref_names = refl
 
-foreign_members : are_member_names (field_name field.Columns ∷ field_name field.Table ∷ field_name field.References ∷ []) ≡ true
+foreign_names : are_member_names (field_name field.Columns ∷ field_name field.Table ∷ field_name field.References ∷ []) ≡ true
 unfolding field_name is_utf8 chars encode
-foreign_members = refl
+foreign_names = refl
 
-table_members : are_member_names (field_name field.Schema ∷ field_name field.Name ∷ field_name field.Columns ∷ field_name field.PrimaryKey ∷ field_name field.ForeignKeys ∷ []) ≡ true
+table_names : are_member_names (field_name field.Schema ∷ field_name field.Name ∷ field_name field.Columns ∷ field_name field.PrimaryKey ∷ field_name field.ForeignKeys ∷ []) ≡ true
 unfolding field_name is_utf8 chars encode
-table_members = refl
+table_names = refl
 
-top_members : are_member_names (field_name field.Tables ∷ []) ≡ true
+top_names : are_member_names (field_name field.Tables ∷ []) ≡ true
 unfolding field_name is_utf8 chars encode
-top_members = refl
+top_names = refl
 
 clean_type : (ty : Ty) → is_clean (catalog_name ty) ≡ true
 unfolding is_utf8 chars encode
@@ -66,7 +67,7 @@ pub name_clean : (columns : List Column) (k : ℕ) → CleanColumns columns → 
 name_clean columns k h =
     let go : (o : Option Column) → slice_get columns k ≡ o → is_clean (name_in o) ≡ true = elim [
       | None ↦ λ e. clean_nothing
-      | Some c ↦ λ e. at_each (λ d. is_clean d.name ≡ true) columns (each_true (λ d. is_clean d.name) columns h) k c e
+      | Some c ↦ λ e. at_each (λ (d : Column). is_clean d.name ≡ true) columns (each_true (λ (d : Column). is_clean d.name) columns h) k c e
     ] in
     go (slice_get columns k) refl
 
@@ -75,7 +76,7 @@ names_clean columns [] h = refl
 names_clean columns (k ∷ ks) h = and_from _ _ (name_clean columns k h) (names_clean columns ks h)
 
 column_readable : (c : Column) → is_clean c.name ≡ true → Readable 1 (column_json c)
-column_readable c h = object_readable 0 _ column_members (text_readable 0 c.name h, text_readable 0 (catalog_name c.ty) (clean_type c.ty), bool_readable 0 c.nullable, tt)
+column_readable c h = object_readable 0 (column_members c) column_names (text_readable 0 c.name h, (text_readable 0 (catalog_name c.ty) (clean_type c.ty), (bool_readable 0 c.nullable, tt)))
 
 columns_readable : (columns : List Column) → CleanColumns columns → Each (λ c. Readable 1 (column_json c)) columns
 columns_readable [] h = tt
@@ -89,12 +90,11 @@ ref_clean (Some t) h = let p = and_parts _ _ (h t refl) in let q = and_parts _ _
 foreign_readable : (tables : List Table) (t : Table) (f : ForeignKey) → list_all clean_table tables ≡ true → CleanColumns t.columns → Readable 2 (foreign_json tables t f)
 foreign_readable tables t f all own =
     let o = slice_get tables f.remote in
-    let remote = ref_clean o (λ u e. at_each (λ v. clean_table v ≡ true) tables (each_true clean_table tables all) f.remote u e) in
-    object_readable 1 _ foreign_members (
+    let remote = ref_clean o (λ u e. at_each (λ (v : Table). clean_table v ≡ true) tables (each_true clean_table tables all) f.remote u e) in
+    object_readable 1 (foreign_members tables t f) foreign_names (
       texts_readable 0 (map (name_at t.columns) f.columns) (names_clean t.columns f.columns own),
-      object_readable 0 _ ref_members (text_readable 0 (schema_in o) remote.0, text_readable 0 (table_name_in o) remote.1, tt),
-      texts_readable 0 (map (name_at (columns_in o)) f.references) (names_clean (columns_in o) f.references remote.2),
-      tt,
+      (object_readable 0 (table_ref_members o) ref_names (text_readable 0 (schema_in o) remote.0, (text_readable 0 (table_name_in o) remote.1, tt)),
+      (texts_readable 0 (map (name_at (columns_in o)) f.references) (names_clean (columns_in o) f.references remote.2), tt))
     )
 
 foreign_all : (tables : List Table) (t : Table) (fs : List ForeignKey) → list_all clean_table tables ≡ true → CleanColumns t.columns → Each (λ f. Readable 2 (foreign_json tables t f)) fs
@@ -108,13 +108,12 @@ table_readable : (tables : List Table) (t : Table) → list_all clean_table tabl
 table_readable tables t all h =
     let p = and_parts _ _ h in
     let q = and_parts _ _ p.0 in
-    object_readable 3 _ table_members (
+    object_readable 3 (table_members tables t) table_names (
       text_readable 3 t.schema q.0,
-      text_readable 3 t.name q.1,
-      deeper 2 _ (map_readable 1 column_json t.columns (columns_readable t.columns p.1)),
-      deeper 2 _ (deeper 1 _ (texts_readable 0 (map (name_at t.columns) t.key) (names_clean t.columns t.key p.1))),
-      map_readable 2 (foreign_json tables t) t.foreign (foreign_all tables t t.foreign all p.1),
-      tt,
+      (text_readable 3 t.name q.1,
+      (deeper 2 (list (map column_json t.columns)) (map_readable 1 column_json t.columns (columns_readable t.columns p.1)),
+      (deeper 2 (texts (map (name_at t.columns) t.key)) (deeper 1 (texts (map (name_at t.columns) t.key)) (texts_readable 0 (map (name_at t.columns) t.key) (names_clean t.columns t.key p.1))),
+      (map_readable 2 (foreign_json tables t) t.foreign (foreign_all tables t t.foreign all p.1), tt))))
     )
 
 tables_readable : (tables ts : List Table) → list_all clean_table tables ≡ true → list_all clean_table ts ≡ true → Each (λ t. Readable 4 (table_json tables t)) ts
@@ -123,4 +122,4 @@ tables_readable tables (t ∷ ts) all h = let p = and_parts _ _ h in (table_read
 
 -- a catalog of clean names can be read back
 pub catalog_readable : (tables : List Table) → has_clean_names tables ≡ true → IsReadable (catalog_json tables)
-catalog_readable tables h = readable 6 (catalog_json tables) (omega arith) (object_readable 5 _ top_members (map_readable 4 (table_json tables) tables (tables_readable tables tables h h), tt))
+catalog_readable tables h = readable 6 (catalog_json tables) (omega arith) (object_readable 5 (catalog_members tables) top_names (map_readable 4 (table_json tables) tables (tables_readable tables tables h h), tt))

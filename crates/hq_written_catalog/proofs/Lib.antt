@@ -5,3 +5,4 @@ pub mod Shapes
 pub mod Tests
 pub mod Resolving
 pub mod Whole
+mod Worked

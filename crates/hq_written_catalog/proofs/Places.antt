@@ -2,7 +2,7 @@
 use Rattle.std.proofs.Common.{◌≡◌, ◌∙◌, ℕ, zero, suc, ◌==◌, nat_lt, ◌&&◌, List, [], ◌∷◌, length, map, Bool, true, false, not, Option, Some, None, Ok, slice_get, position, bytes_eq, ok_or, refl, sym, ap, eq-eqb}
 use Rattle.std.specs.List.{list_all, list_any, zip}
 use Rattle.std.specs.Cmp.Lexicographic.{bytes_decides}
-use Rattle.std.proofs.lemmas.Bool.{and_parts, true≢false}
+use Rattle.std.proofs.lemmas.Bool.{and_from, and_parts}
 use Rattle.std.proofs.lemmas.Bool.Decides.{Decides-eqb}
 use Rattle.hq_base.specs.Lists.{Each, all_differ}
 use Rattle.hq_terms.specs.Catalog.{type_of, can_pair, column_type, pairs_fit, holds_no_null}
@@ -17,7 +17,7 @@ same_name name = (bytes_decides name name).1 refl
 
 -- the columns have different names
 abbrev pub differ : List Column → Bool
-differ = all_differ (λ c d. bytes_eq c.name d.name)
+differ = all_differ (λ (c d : Column). bytes_eq c.name d.name)
 
 -- the place is one of the columns'
 abbrev pub IsPlace : List Column → ℕ → Type 0
@@ -26,7 +26,7 @@ IsPlace columns k = (c : Column) × (slice_get columns k ≡ Some c)
 -- the column at a place is found under its name
 pub place_found : (columns : List Column) (k : ℕ) → differ columns ≡ true → IsPlace columns k → position (λ c. bytes_eq c.name (name_at columns k)) columns ≡ Some k
 place_found columns k h is =
-    ap (λ o. position (λ c. bytes_eq c.name (name_in o)) columns) is.1 ∙ position_of (λ c d. bytes_eq c.name d.name) columns k is.0 h (same_name is.0.name) is.1
+    ap (λ o. position (λ c. bytes_eq c.name (name_in o)) columns) is.1 ∙ position_of (λ (c d : Column). bytes_eq c.name d.name) columns k is.0 h (same_name is.0.name) is.1
 
 pub named_place : (columns : List Column) (k : ℕ) (path : List ℕ) → differ columns ≡ true → IsPlace columns k → column_named columns path (name_at columns k) ≡ Ok k
 unfolding column_named
@@ -64,19 +64,19 @@ not_null columns k c (p ∷ ps) h at keyed e =
     ] in
     go (bytes_eq (name_at columns p) c.name) refl
 
+not_in_key : (b : Bool) → (b && not false) ≡ b
+not_in_key true = refl
+not_in_key false = refl
+
 settled_same : (columns : List Column) (key : List ℕ) (k : ℕ) (c : Column) → differ columns ≡ true → list_all (λ p. holds_no_null (slice_get columns p)) key ≡ true → slice_get columns k ≡ Some c
     → settled (map (name_at columns) key) c ≡ c
 settled_same columns key k c h keyed at =
     let among = list_any (λ name. bytes_eq name c.name) (map (name_at columns) key) in
     let go : (b : Bool) → among ≡ b → (c.nullable && not b) ≡ c.nullable = elim [
       | true ↦ λ e. rw (not_null columns k c key h at keyed e) refl
-      | false ↦ λ e. kept c.nullable
+      | false ↦ λ e. not_in_key c.nullable
     ] in
-    ap (λ b. record c { nullable = b }) (ap (λ b. c.nullable && not b) (refl {x = among}) ∙ go among refl)
-  where
-    kept : (b : Bool) → (b && not false) ≡ b
-    kept true = refl
-    kept false = refl
+    ap (λ (b : Bool). record c { nullable = b }) (go among refl)
 
 -- a column that the key names is as nullable as before
 pub settled_all : (columns : List Column) (key : List ℕ) → differ columns ≡ true → list_all (λ p. holds_no_null (slice_get columns p)) key ≡ true → map (settled (map (name_at columns) key)) columns ≡ columns
@@ -114,4 +114,4 @@ pub zipped : (t u : Table) (cs ds : List ℕ) → pairs_fit t u cs ds ≡ true �
 zipped t u [] [] h = refl
 zipped t u [] (d ∷ ds) h = cc
 zipped t u (c ∷ cs) [] h = cc
-zipped t u (c ∷ cs) (d ∷ ds) h = let p = and_parts _ _ h in rw (p.0, zipped t u cs ds p.1) refl
+zipped t u (c ∷ cs) (d ∷ ds) h = let p = and_parts _ _ h in and_from _ _ p.0 (zipped t u cs ds p.1)

@@ -55,7 +55,7 @@ one_name t u h =
 tables_differ : (tables : List Table) → all_differ (λ t u. bytes_eq (catalog.full_name t) (catalog.full_name u)) tables ≡ true → all_differ same_table (map (written tables) tables) ≡ true
 tables_differ tables h =
     differ_map same_table (written tables) tables
-    ∙ differ_weaken (λ t u. bytes_eq t.schema u.schema && bytes_eq t.name u.name) (λ t u. bytes_eq (catalog.full_name t) (catalog.full_name u)) one_name tables h
+    ∙ differ_weaken (λ (t u : Table). bytes_eq t.schema u.schema && bytes_eq t.name u.name) (λ t u. bytes_eq (catalog.full_name t) (catalog.full_name u)) one_name tables h
 
 -- a table of the catalog is found under its schema and name
 table_back : (tables : List Table) (k : ℕ) (u : Table) (path : List ℕ) (key : WrittenForeignKey) → all_differ (λ t v. bytes_eq (catalog.full_name t) (catalog.full_name v)) tables ≡ true → slice_get tables k ≡ Some u

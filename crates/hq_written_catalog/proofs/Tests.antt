@@ -78,8 +78,8 @@ not_too_many tables few h = rw (few_tables tables few) (few_columns tables table
 -- the names of one table have a right length
 names_right : (tables : List Table) (t : Table) → IsGood tables t → find (λ name. not (is_catalog_name name)) (declared_names (written tables t)) ≡ None
 names_right tables t g =
-    rw (g.schema, g.name) (find_none (λ name. not (is_catalog_name name)) (λ c. c.name) t.columns
-    (each_weaken (λ c. is_catalog_name c.name ≡ true) (λ c. not (is_catalog_name c.name) ≡ false) (λ c h. ap not h) t.columns (each_true (λ c. is_catalog_name c.name) t.columns g.names)))
+    rw (g.schema, g.name) (find_none (λ name. not (is_catalog_name name)) (λ (c : Column). c.name) t.columns
+    (each_weaken (λ (c : Column). is_catalog_name c.name ≡ true) (λ c. not (is_catalog_name c.name) ≡ false) (λ c h. ap not h) t.columns (each_true (λ (c : Column). is_catalog_name c.name) t.columns g.names)))
 
 all_right : (tables ts : List Table) → Each (IsGood tables) ts → Each (λ w. find (λ name. not (is_catalog_name name)) (declared_names w) ≡ None) (map (written tables) ts)
 all_right tables [] h = tt
@@ -120,7 +120,7 @@ key_names columns key h apart there = differ_map bytes_eq (name_at columns) key 
 none_within : (tables : List Table) (t : Table) → IsGood tables t → repeat_within (written tables t) ≡ None
 unfolding repeat_within
 none_within tables t g =
-    let columns = no_repeat [] (map (λ c. c.name) t.columns) (differ_map bytes_eq (λ c. c.name) t.columns ∙ g.differ) in
+    let columns = no_repeat [] (map (λ (c : Column). c.name) t.columns) (differ_map bytes_eq (λ (c : Column). c.name) t.columns ∙ g.differ) in
     let key = no_repeat [] (map (name_at t.columns) t.key) (key_names t.columns t.key g.differ g.apart (key_places t.columns t.key g.no_null)) in
     rw columns key
 

@@ -20,13 +20,17 @@ name_in (Some c) = c.name
 abbrev pub name_at : List Column → ℕ → List ℕ
 name_at columns c = name_in (slice_get columns c)
 
--- a column: its name, its type and whether it may hold NULL
-abbrev pub column_json : Column → JsonTree
-column_json c = object (
+-- the members of a column
+abbrev pub column_members : Column → List (List ℕ × JsonTree)
+column_members c =
     (field_name field.Name, str c.name)
     ∷ (field_name field.ColumnType, str (catalog_name c.ty))
     ∷ (field_name field.Nullable, bool c.nullable)
-    ∷ [])
+    ∷ []
+
+-- a column: its name, its type and whether it may hold NULL
+abbrev pub column_json : Column → JsonTree
+column_json c = object (column_members c)
 
 -- the schema, the name and the columns of a table, where it is there
 abbrev pub schema_in : Option Table → List ℕ
@@ -41,31 +45,49 @@ abbrev pub columns_in : Option Table → List Column
 columns_in None = []
 columns_in (Some t) = t.columns
 
+-- the members of what names a table
+abbrev pub table_ref_members : Option Table → List (List ℕ × JsonTree)
+table_ref_members t =
+    (field_name field.Schema, str (schema_in t)) ∷ (field_name field.Name, str (table_name_in t)) ∷ []
+
 -- a table by its schema and name
 abbrev pub table_ref : Option Table → JsonTree
-table_ref t = object ((field_name field.Schema, str (schema_in t)) ∷ (field_name field.Name, str (table_name_in t)) ∷ [])
+table_ref t = object (table_ref_members t)
 
--- a foreign key: its columns, the table that they refer to, and the columns of that table
-abbrev pub foreign_json : List Table → Table → ForeignKey → JsonTree
-foreign_json tables t f = object (
+-- the members of a foreign key
+abbrev pub foreign_members : List Table → Table → ForeignKey → List (List ℕ × JsonTree)
+foreign_members tables t f =
     (field_name field.Columns, texts (map (name_at t.columns) f.columns))
     ∷ (field_name field.Table, table_ref (slice_get tables f.remote))
     ∷ (field_name field.References, texts (map (name_at (columns_in (slice_get tables f.remote))) f.references))
-    ∷ [])
+    ∷ []
 
--- a table
-abbrev pub table_json : List Table → Table → JsonTree
-table_json tables t = object (
+-- a foreign key: its columns, the table that they refer to, and the columns of that table
+abbrev pub foreign_json : List Table → Table → ForeignKey → JsonTree
+foreign_json tables t f = object (foreign_members tables t f)
+
+-- the members of a table
+abbrev pub table_members : List Table → Table → List (List ℕ × JsonTree)
+table_members tables t =
     (field_name field.Schema, str t.schema)
     ∷ (field_name field.Name, str t.name)
     ∷ (field_name field.Columns, list (map column_json t.columns))
     ∷ (field_name field.PrimaryKey, texts (map (name_at t.columns) t.key))
     ∷ (field_name field.ForeignKeys, list (map (foreign_json tables t) t.foreign))
-    ∷ [])
+    ∷ []
+
+-- a table
+abbrev pub table_json : List Table → Table → JsonTree
+table_json tables t = object (table_members tables t)
+
+-- the one member of a catalog
+abbrev pub catalog_members : List Table → List (List ℕ × JsonTree)
+catalog_members tables =
+    (field_name field.Tables, list (map (table_json tables) tables)) ∷ []
 
 -- the catalog
 abbrev pub catalog_json : List Table → JsonTree
-catalog_json tables = object ((field_name field.Tables, list (map (table_json tables) tables)) ∷ [])
+catalog_json tables = object (catalog_members tables)
 
 -- each name of the catalog is UTF-8 without a zero byte
 abbrev pub has_clean_names : List Table → Bool

@@ -1,11 +1,11 @@
 -- A worked value: its text, how deep it nests, and what its text is read as.
-use Rattle.std.proofs.Common.{◌≡◌, pos, codes, true, refl}
+use Rattle.std.proofs.Common.{◌≡◌, pos, codes, true, refl, arith}
 use Rattle.std.specs.Fmt.{digits}
 use Rattle.std.specs.Str.{is_utf8, chars}
 use lib.Utf8.{encode}
 use Rattle.hq_base.specs.Compact.{compact, escaped}
 use Rattle.hq_base.specs.Json.{JsonTree, null, int, str, arr, obj, no_element, element, no_member, member, has_distinct_names}
-use Rattle.hq_written_json.specs.ReadBack.{in_name_order, has_clean_parts, nesting}
+use Rattle.hq_written_json.specs.ReadBack.{IsReadable, in_name_order, has_clean_parts, nesting}
 
 -- an object in a list in an object, with names in descending order
 abbrev descending : JsonTree
@@ -26,6 +26,9 @@ names_differ = refl
 
 three_deep : nesting descending ≡ 3
 three_deep = refl
+
+is_readable : IsReadable descending
+is_readable = record { clean = clean_parts; distinct = names_differ; shallow = omega (arith, three_deep) }
 
 -- both objects have their names in ascending order
 ascending : compact (in_name_order descending) ≡ codes "{\"a\":\"q\",\"b\":[{\"y\":null,\"z\":1}]}"

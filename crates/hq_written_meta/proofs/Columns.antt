@@ -55,7 +55,7 @@ module _ (k : TrackedTree) (columns : List Column) (apart : differ columns ≡ t
 
   -- the members, as they are read
   abbrev pub configs_read : List Read
-  configs_read = sort by_name (map (λ m. (m.0, in_name_order m.1)) (column_configs k columns))
+  configs_read = sort by_name (map (λ (m : Read). (m.0, in_name_order m.1)) (column_configs k columns))
 
   pub configs_are : member_list (members_of (sort by_name (ordered_inside (members_of (column_configs k columns))))) ≡ configs_read
   configs_are = members_listed (sort by_name (ordered_inside (members_of (column_configs k columns)))) ∙ ap (sort by_name) (members_inside (column_configs k columns))
@@ -63,17 +63,17 @@ module _ (k : TrackedTree) (columns : List Column) (apart : differ columns ≡ t
   -- a fact of each shown column's member
   each_read : (P : Read → Type 0) → Each (λ c. P (config_read c)) (shown_columns k columns) → Each P configs_read
   each_read P h =
-      each_sort by_name P (map (λ m. (m.0, in_name_order m.1)) (column_configs k columns))
-      (each_map P (λ m. (m.0, in_name_order m.1)) (column_configs k columns)
-      (each_sort by_name (λ m. P (m.0, in_name_order m.1)) (map (column_config k columns) (shown_columns k columns)) (each_map (λ m. P (m.0, in_name_order m.1)) (column_config k columns) (shown_columns k columns) h)))
+      each_sort by_name P (map (λ (m : Read). (m.0, in_name_order m.1)) (column_configs k columns))
+      (each_map P (λ (m : Read). (m.0, in_name_order m.1)) (column_configs k columns)
+      (each_sort by_name (λ (m : Read). P (m.0, in_name_order m.1)) (map (column_config k columns) (shown_columns k columns)) (each_map (λ (m : Read). P (m.0, in_name_order m.1)) (column_config k columns) (shown_columns k columns) h)))
 
   -- a test of some member
   any_read : (p : Read → Bool) → list_any p configs_read ≡ list_any (λ c. p (config_read c)) (shown_columns k columns)
   any_read p =
-      sort_any by_name p (map (λ m. (m.0, in_name_order m.1)) (column_configs k columns))
-      ∙ any_map p (λ m. (m.0, in_name_order m.1)) (column_configs k columns)
-      ∙ sort_any by_name (λ m. p (m.0, in_name_order m.1)) (map (column_config k columns) (shown_columns k columns))
-      ∙ any_map (λ m. p (m.0, in_name_order m.1)) (column_config k columns) (shown_columns k columns)
+      sort_any by_name p (map (λ (m : Read). (m.0, in_name_order m.1)) (column_configs k columns))
+      ∙ any_map p (λ (m : Read). (m.0, in_name_order m.1)) (column_configs k columns)
+      ∙ sort_any by_name (λ (m : Read). p (m.0, in_name_order m.1)) (map (column_config k columns) (shown_columns k columns))
+      ∙ any_map (λ (m : Read). p (m.0, in_name_order m.1)) (column_config k columns) (shown_columns k columns)
 
   -- each shown column is there
   all_there : Each (IsPlace columns) (all_columns columns)
@@ -94,14 +94,14 @@ module _ (k : TrackedTree) (columns : List Column) (apart : differ columns ≡ t
   unfolding column_config_at object_at text_at named_value field_name
   config_passes c path is = rw (named_back columns c (member_path path (name_at columns c)) apart is) refl
 
-  all_passed : (path : List ℕ) (ms : List Read) → Each (λ m. member_due (column_config_at columns) path m.0 (unless_null m.1) ≡ Ok tt) ms → all_pass (λ m. member_due (column_config_at columns) path m.0 (unless_null m.1)) ms ≡ Ok tt
+  all_passed : (path : List ℕ) (ms : List Read) → Each (λ (m : Read). member_due (column_config_at columns) path m.0 (unless_null m.1) ≡ Ok tt) ms → all_pass (λ (m : Read). member_due (column_config_at columns) path m.0 (unless_null m.1)) ms ≡ Ok tt
   all_passed path [] h = refl
-  all_passed path (m ∷ ms) h = ap (and_then (λ u. all_pass (λ n. member_due (column_config_at columns) path n.0 (unless_null n.1)) ms)) h.0 ∙ all_passed path ms h.1
+  all_passed path (m ∷ ms) h = ap (and_then (λ u. all_pass (λ (n : Read). member_due (column_config_at columns) path n.0 (unless_null n.1)) ms)) h.0 ∙ all_passed path ms h.1
 
   -- the members are named for columns
   pub configs_pass : (path : List ℕ) → members_due (column_config_at columns) path (Some (in_name_order (object (column_configs k columns)))) ≡ Ok tt
   configs_pass path =
-      ap (all_pass (λ m. member_due (column_config_at columns) path m.0 (unless_null m.1))) configs_are
+      ap (all_pass (λ (m : Read). member_due (column_config_at columns) path m.0 (unless_null m.1))) configs_are
       ∙ all_passed path configs_read (each_read (λ m. member_due (column_config_at columns) path m.0 (unless_null m.1) ≡ Ok tt)
       (each_weaken (IsPlace columns) (λ c. member_due (column_config_at columns) path (config_read c).0 (unless_null (config_read c).1) ≡ Ok tt) (λ c is. config_passes c path is) (shown_columns k columns) shown_there))
 
@@ -155,7 +155,7 @@ module _ (k : TrackedTree) (columns : List Column) (apart : differ columns ≡ t
     name_by : (i : ℕ) (c : Column) (b : Bool) → slice_get columns i ≡ Some c → is_shown k i ≡ b
         → column_name_by (option_and_then unless_null (cond b (Some (value_under c.name)) None)) None c.name ≡ slice_index_or k.column_names i []
     unfolding named_value field_name
-    name_by i c true at e = ap name_of (position_of (λ d f. bytes_eq d.name f.name) columns i c apart (same_name c.name) at)
+    name_by i c true at e = ap name_of (position_of (λ (d f : Column). bytes_eq d.name f.name) columns i c apart (same_name c.name) at)
     name_by i c false at e =
         let unshown = at_numbered (λ d. is_shown k d ≡ false → slice_index_or k.column_names d [] ≡ name_at columns d) 0 columns own i c at in
         let same : 0 + i ≡ i = omega arith in

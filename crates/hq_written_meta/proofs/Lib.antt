@@ -9,3 +9,4 @@ pub mod Repeats
 pub mod Clean
 pub mod Top
 pub mod Whole
+mod Worked

@@ -1,5 +1,5 @@
 -- Lists: items that are read one after another, look-ups, and items with their places.
-use Rattle.std.proofs.Common.{◌≡◌, ◌∙◌, ℕ, zero, suc, ◌+◌, ◌<◌, ◌≤◌, ◌==◌, nat_lt, ◌&&◌, ◌||◌, List, [], ◌∷◌, ◌++◌, length, map, filter, flat_map, Bool, true, false, cond, not, Option, Some, None, Result, Ok, Err, slice_get, slice_index_or, zip, is_some, find, bytes_eq, refl, sym, ap, subst, arith, append_assoc, append-nil, eq-eqb, ltb-true, ne_eqb}
+use Rattle.std.proofs.Common.{◌≡◌, ◌∙◌, ℕ, zero, suc, ◌+◌, ◌<◌, ◌≤◌, ◌==◌, nat_lt, ◌&&◌, ◌||◌, List, [], ◌∷◌, ◌++◌, length, map, filter, flat_map, Bool, true, false, cond, not, Option, Some, None, Result, Ok, Err, slice_get, slice_index_or, zip, is_some, find, bytes_eq, refl, sym, ap, subst, arith, append_assoc, append-nil, eq-eqb, ltb-true, ne_eqb, is_gt}
 use Rattle.std.specs.List.{list_all, list_any}
 use Rattle.std.specs.Map.{lookup}
 use Rattle.std.specs.Cmp.Lexicographic.{bytes_decides}
@@ -11,7 +11,7 @@ use Rattle.hq_base.specs.Path.{item_path}
 use Rattle.hq_base.proofs.Sorts.{put_any, sort_any}
 use Rattle.hq_terms.specs.Schema.{numbered}
 use Rattle.hq_meta_tables.specs.Each.{each, each_after}
-use Rattle.hq_written_catalog.proofs.Lists.{not_true, none_here}
+use Rattle.hq_written_catalog.proofs.Lists.{none_before, not_true}
 
 -- ---- items that are read
 
@@ -43,13 +43,7 @@ pub differ_after : {A B : Type 0} (same : B → B → Bool) (gives : A → B) (b
     → EachAfter (λ done x. list_any (λ y. same y (gives x)) done ≡ false) gives before xs
 differ_after same gives before [] h = tt
 differ_after same gives before (x ∷ xs) h =
-    (before_none before h, differ_after same gives (before ++ gives x ∷ []) xs (rw (append_assoc before (gives x ∷ []) (map gives xs)) h))
-  where
-    before_none : (ys : List _) → all_differ same (ys ++ gives x ∷ map gives xs) ≡ true → list_any (λ y. same y (gives x)) ys ≡ false
-    before_none [] h = refl
-    before_none (y ∷ ys) h =
-        let p = and_parts _ _ h in
-        rw (none_here (same y) ys (map gives xs) (gives x) (not_true _ p.0)) (before_none ys p.1)
+    (none_before same before (map gives xs) (gives x) h, differ_after same gives (before ++ gives x ∷ []) xs (rw (append_assoc before (gives x ∷ []) (map gives xs)) h))
 
 -- two facts
 pub after_both : {A B : Type 0} (P Q R : List B → A → Type 0) (gives : A → B) → ((done : List B) (x : A) → P done x → Q done x → R done x) → (before : List B) (xs : List A)
@@ -98,17 +92,19 @@ at_numbered P k [] h i x e = absurd cc
 at_numbered P k (y ∷ ys) h zero x e = let first : k ≡ k + 0 = omega arith in subst P first h.0
 at_numbered P k (y ∷ ys) h (suc i) x e = let next : suc k + i ≡ k + suc i = omega arith in subst P next (at_numbered P (suc k) ys h.1 i x e)
 
+or_right : (a b : Bool) → b ≡ true → (a || b) ≡ true
+or_right true b h = refl
+or_right false b h = h
+
+or_left : (a b : Bool) → a ≡ true → (a || b) ≡ true
+or_left true b h = refl
+or_left false b h = cc
+
 -- a test that the place of an item passes
 pub numbered_any : {A : Type 0} (p : ℕ → Bool) (k : ℕ) (xs : List A) (i : ℕ) (x : A) → slice_get xs i ≡ Some x → p (k + i) ≡ true → list_any p (numbered (λ place c. place) k xs) ≡ true
 numbered_any p k [] i x e h = absurd cc
-numbered_any p k (y ∷ ys) zero x e h = let first : k + 0 ≡ k = omega arith in rw first at h ∙ refl
-numbered_any p k (y ∷ ys) (suc i) x e h =
-    let next : k + suc i ≡ suc k + i = omega arith in
-    or_right (p k) _ (numbered_any p (suc k) ys i x e (rw next at h))
-  where
-    or_right : (a b : Bool) → b ≡ true → (a || b) ≡ true
-    or_right true b t = refl
-    or_right false b t = t
+numbered_any p k (y ∷ ys) zero x e h = let first : k + 0 ≡ k = omega arith in or_left (p k) _ (ap p (sym first) ∙ h)
+numbered_any p k (y ∷ ys) (suc i) x e h = let next : k + suc i ≡ suc k + i = omega arith in or_right (p k) _ (numbered_any p (suc k) ys i x e (ap p (sym next) ∙ h))
 
 -- ---- searches
 
@@ -157,7 +153,7 @@ module _ {A : Type 0} (R : A → A → Ordering) (same : A → A → Bool) (even
       let later = put_differ x ys q.1 p.1 in
       let behind : list_any (same y) (put R x ys) ≡ false = put_any R (same y) x ys ∙ rw (even x y q.0) (not_true _ p.0) in
       let go : (b : Bool) → all_differ same (cond b (y ∷ put R x ys) (x ∷ (y ∷ ys))) ≡ true = elim [ true ↦ rw behind later | false ↦ rw none h ] in
-      go _
+      go (is_gt (R x y))
 
   pub sort_differ : (xs : List A) → all_differ same xs ≡ true → all_differ same (sort R xs) ≡ true
   sort_differ [] h = refl
@@ -165,13 +161,14 @@ module _ {A : Type 0} (R : A → A → Ordering) (same : A → A → Bool) (even
       let p = and_parts _ _ h in
       put_differ x (sort R xs) (sort_any R (same x) xs ∙ not_true _ p.0) (sort_differ xs p.1)
 
+-- the first of a list pass no test that none passes
+front_none : {A : Type 0} (q : A → Bool) (xs ys : List A) → list_any q (xs ++ ys) ≡ false → list_any q xs ≡ false
+front_none q [] ys h = refl
+front_none q (x ∷ xs) ys h = let p = or_parts (q x) _ h in rw p.0 (front_none q xs ys p.1)
+
 -- the first of a list differ where all do
 pub front_differ : {A : Type 0} (same : A → A → Bool) (xs ys : List A) → all_differ same (xs ++ ys) ≡ true → all_differ same xs ≡ true
 front_differ same [] ys h = refl
 front_differ same (x ∷ xs) ys h =
     let p = and_parts _ _ h in
     rw (front_none (same x) xs ys (not_true _ p.0)) (front_differ same xs ys p.1)
-  where
-    front_none : (q : _ → Bool) (xs ys : List _) → list_any q (xs ++ ys) ≡ false → list_any q xs ≡ false
-    front_none q [] ys h = refl
-    front_none q (x ∷ xs) ys h = let p = or_parts (q x) _ h in rw p.0 (front_none q xs ys p.1)

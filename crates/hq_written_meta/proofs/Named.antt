@@ -76,7 +76,7 @@ entry_back : (tables : List Table) (k : TrackedTree) (u : Table) (before : List 
     → list_any (λ j. j.table == k.table) before ≡ false
     → entry_table tables before path (in_name_order (tracked_json tables k)) (Some (str k.name)) ≡ Ok (k.table, u)
 unfolding entry_table member_at field_name
-entry_back tables k u before path h at new = rw (table_back tables k.table u _ h at) (rw (at, new) refl)
+entry_back tables k u before path h is_at new = rw (table_back tables k.table u (at path field.Table) h is_at) (rw (is_at, new) refl)
 
 tracked_back : (tables : List Table) (m : MetaTree) (k : TrackedTree) (before : List TrackedTree) (path : List ℕ) → Apart tables → differ (columns_of tables k.table) ≡ true
     → IsEntry tables m k → IsPlainTable tables k → list_any (λ j. j.table == k.table) before ≡ false → tracked_at tables before path (in_name_order (tracked_json tables k)) ≡ Ok (bare k)
@@ -93,9 +93,9 @@ pub all_tracked : (tables : List Table) (m : MetaTree) (ks : List TrackedTree) (
     → each_after (tracked_at tables) path 0 [] (map (λ k. in_name_order (tracked_json tables k)) ks) ≡ Ok (map bare ks)
 all_tracked tables m ks path h apart entries plain once =
     let Good : TrackedTree → Type 0 = λ k. (differ (columns_of tables k.table) ≡ true) × IsEntry tables m k × IsPlainTable tables k in
-    let good : Each Good ks = each_both (λ k. differ (columns_of tables k.table) ≡ true) (λ k. IsEntry tables m k × IsPlainTable tables k) Good (λ k a b. (a, b.0, b.1)) ks apart
-    (each_both (IsEntry tables m) (IsPlainTable tables) (λ k. IsEntry tables m k × IsPlainTable tables k) (λ k a b. (a, b)) ks entries plain) in
-    let new = differ_after (λ j k. j.table == k.table) bare [] ks (differ_map (λ j k. j.table == k.table) bare ks ∙ once) in
+    let good : Each Good ks = each_both (λ (k : TrackedTree). differ (columns_of tables k.table) ≡ true) (λ k. IsEntry tables m k × IsPlainTable tables k) Good (λ k a b. (a, b.0, b.1)) ks apart
+        (each_both (IsEntry tables m) (IsPlainTable tables) (λ k. IsEntry tables m k × IsPlainTable tables k) (λ k a b. (a, b)) ks entries plain) in
+    let new = differ_after (λ (j k : TrackedTree). j.table == k.table) bare [] ks (differ_map (λ (j k : TrackedTree). j.table == k.table) bare ks ∙ once) in
     after_back (tracked_at tables) (λ k. in_name_order (tracked_json tables k)) bare path 0 [] ks
-    (after_both (λ done. Good) (λ done k. list_any (λ j. j.table == k.table) done ≡ false) (λ done k. (p : List ℕ) → tracked_at tables done p (in_name_order (tracked_json tables k)) ≡ Ok (bare k)) bare
+    (after_both (λ (done : List TrackedTree). Good) (λ (done : List TrackedTree) (k : TrackedTree). list_any (λ (j : TrackedTree). j.table == k.table) done ≡ false) (λ (done : List TrackedTree) (k : TrackedTree). (p : List ℕ) → tracked_at tables done p (in_name_order (tracked_json tables k)) ≡ Ok (bare k)) bare
     (λ done k g n p. tracked_back tables m k done p h g.0 g.1 g.2 n) [] ks (after_each Good bare [] ks good) new)

@@ -67,10 +67,10 @@ entry_back tables m k path h is plain apart =
     let write : PermTree → JsonTree = λ p. in_name_order (perm_json columns p) in
     let Good : PermTree → Type 0 = λ p. IsPerm tables k.table p × IsPlainPerm columns p in
     let good = each_both (IsPerm tables k.table) (IsPlainPerm columns) Good (λ p a b. (a, b)) k.perms is plain in
-    let new = differ_after (λ (p q : PermTree). bytes_eq p.role q.role) (λ p. p) [] k.perms (ap (all_differ (λ p q. bytes_eq p.role q.role)) (itself k.perms) ∙ apart) in
+    let new = differ_after (λ (p q : PermTree). bytes_eq p.role q.role) (λ p. p) [] k.perms (ap (all_differ (λ (p q : PermTree). bytes_eq p.role q.role)) (itself k.perms) ∙ apart) in
     ap (each_after read (at path field.SelectPermissions) 0 []) (elements_read (perm_json columns) k.perms)
     ∙ after_back read write (λ p. p) (at path field.SelectPermissions) 0 [] k.perms
-    (after_both (λ done. Good) (λ done p. list_any (λ q. bytes_eq q.role p.role) done ≡ false) (λ done p. (q : List ℕ) → read done q (write p) ≡ Ok p) (λ p. p)
+    (after_both (λ (done : List PermTree). Good) (λ (done : List PermTree) (p : PermTree). list_any (λ (q : PermTree). bytes_eq q.role p.role) done ≡ false) (λ (done : List PermTree) (p : PermTree). (q : List ℕ) → read done q (write p) ≡ Ok p) (λ p. p)
     (λ done p g n q. perm_back tables m k.table done p q h g.0 g.1 n) [] k.perms (after_each Good (λ p. p) [] k.perms good) new)
     ∙ ap Ok (itself k.perms)
 
@@ -100,7 +100,7 @@ unfolding permitted
 permitted_back tables ks path good =
     let m : MetaTree = record { tracked = map without_perms ks; inherited = [] } in
     let entries : zip (tables_of m) (map (λ k. in_name_order (tracked_json tables k)) ks) ≡ map (λ k. (k.table, in_name_order (tracked_json tables k))) ks =
-    ap (λ ts. zip ts (map (λ k. in_name_order (tracked_json tables k)) ks)) (same_tables ks) ∙ zip_maps (λ k. k.table) (λ k. in_name_order (tracked_json tables k)) ks in
+    ap (λ ts. zip ts (map (λ k. in_name_order (tracked_json tables k)) ks)) (same_tables ks) ∙ zip_maps (λ (k : TrackedTree). k.table) (λ k. in_name_order (tracked_json tables k)) ks in
     let read : each (perms_at tables m) path (zip (tables_of m) (map (λ k. in_name_order (tracked_json tables k)) ks)) ≡ Ok (map (λ k. k.perms) ks) =
     ap (each (perms_at tables m) path) entries
     ∙ each_back (perms_at tables m) (λ k. (k.table, in_name_order (tracked_json tables k))) (λ k. k.perms) path ks (all_permitted tables m ks good) in

@@ -49,7 +49,7 @@ pairs_read : (own remote : List Column) (ps : List Pair) → Ascends by_name (ma
     → member_list (members_of (sort by_name (ordered_inside (members_of (map (pair_json own remote) ps))))) ≡ map (pair_json own remote) ps
 pairs_read own remote ps h =
     members_listed (sort by_name (ordered_inside (members_of (map (pair_json own remote) ps))))
-    ∙ ap (sort by_name) (members_inside (map (pair_json own remote) ps) ∙ map_map (λ m. (m.0, in_name_order m.1)) (pair_json own remote) ps)
+    ∙ ap (sort by_name) (members_inside (map (pair_json own remote) ps) ∙ map_map (λ (m : List ℕ × JsonTree). (m.0, in_name_order m.1)) (pair_json own remote) ps)
     ∙ sort_ascending by_name_total (map (pair_json own remote) ps) h
 
 pair_back : (own remote : List Column) (p : Pair) (path : List ℕ) → differ own ≡ true → differ remote ≡ true → IsPair own remote p → pair_at own remote (name_at own p.own) path (str (name_at remote p.remote)) ≡ Ok p
@@ -109,7 +109,7 @@ module _ (tables : List Table) (h : Apart tables) (all : (t : ℕ) → differ (c
   -- those of one kind are read
   kind_back : (many : Bool) (path : List ℕ) (rs : List Rel) → Each (λ r. r.many ≡ many) rs → Each IsGood rs → Each (λ r. (p : List ℕ) → rel_at tables m t many p (in_name_order (rel_json tables (columns_of tables t) r)) ≡ Ok r) rs
   kind_back many path rs kind good =
-      each_both (λ r. r.many ≡ many) IsGood (λ r. (p : List ℕ) → rel_at tables m t many p (in_name_order (rel_json tables (columns_of tables t) r)) ≡ Ok r)
+      each_both (λ (r : Rel). r.many ≡ many) IsGood (λ r. (p : List ℕ) → rel_at tables m t many p (in_name_order (rel_json tables (columns_of tables t) r)) ≡ Ok r)
       (λ r k g p. rel_back many r p g.there.0 k g.there.1 g.tracked g.is g.plain) rs kind good
 
 -- object relationships before array ones are all of them
@@ -142,8 +142,8 @@ module _ (tables : List Table) (h : Apart tables) (all : (t : ℕ) → differ (c
       let objects = filter (λ r. not r.many) k.rels in
       let arrays = filter (λ r. r.many) k.rels in
       let Good = IsGood tables h all m k.table in
-      let object_kind = each_weaken (λ r. not r.many ≡ true) (λ r. r.many ≡ false) (λ r e. not_true r.many e) objects (each_passes (λ r. not r.many) k.rels) in
-      let array_kind = each_passes (λ r. r.many) k.rels in
+      let object_kind = each_weaken (λ (r : Rel). not r.many ≡ true) (λ r. r.many ≡ false) (λ r e. not_true r.many e) objects (each_passes (λ (r : Rel). not r.many) k.rels) in
+      let array_kind = each_passes (λ (r : Rel). r.many) k.rels in
       let first : each (rel_at tables m k.table false) (at path field.ObjectRelationships) (element_list (elements_in_name_order (elements_of (map (rel_json tables columns) objects)))) ≡ Ok objects =
       ap (each (rel_at tables m k.table false) (at path field.ObjectRelationships)) (elements_read (rel_json tables columns) objects)
       ∙ each_back (rel_at tables m k.table false) (λ r. in_name_order (rel_json tables columns r)) (λ r. r) (at path field.ObjectRelationships) objects
@@ -184,7 +184,7 @@ unfolding related
 related_back tables h all ks path good =
     let m : MetaTree = record { tracked = map bare ks; inherited = [] } in
     let entries : zip (tables_of m) (map (λ k. in_name_order (tracked_json tables k)) ks) ≡ map (λ k. (k.table, in_name_order (tracked_json tables k))) ks =
-    ap (λ ts. zip ts (map (λ k. in_name_order (tracked_json tables k)) ks)) (same_tables ks) ∙ zip_maps (λ k. k.table) (λ k. in_name_order (tracked_json tables k)) ks in
+    ap (λ ts. zip ts (map (λ k. in_name_order (tracked_json tables k)) ks)) (same_tables ks) ∙ zip_maps (λ (k : TrackedTree). k.table) (λ k. in_name_order (tracked_json tables k)) ks in
     let read : each (rels_at tables m) path (zip (tables_of m) (map (λ k. in_name_order (tracked_json tables k)) ks)) ≡ Ok (map (λ k. k.rels) ks) =
     ap (each (rels_at tables m) path) entries
     ∙ each_back (rels_at tables m) (λ k. (k.table, in_name_order (tracked_json tables k))) (λ k. k.rels) path ks (all_related tables h all m ks good) in

@@ -1,5 +1,5 @@
 -- Where no name stands twice in the schema of admin, none is refused.
-use Rattle.std.proofs.Common.{◌≡◌, ◌∙◌, ℕ, ◌+◌, ◌&&◌, ◌++◌, List, [], ◌∷◌, map, filter, flat_map, take, drop, Bool, true, false, cond, not, Result, Ok, Err, bytes_eq, codes, refl, sym, ap, append_assoc, append-nil}
+use Rattle.std.proofs.Common.{◌≡◌, ◌∙◌, ℕ, ◌+◌, ◌&&◌, ◌++◌, List, [], ◌∷◌, map, filter, flat_map, take, drop, Bool, true, false, cond, not, Result, Ok, Err, bytes_eq, codes, refl, sym, ap, ap₂, append_assoc, append-nil}
 use Rattle.std.specs.List.{list_all, list_any}
 use Rattle.std.proofs.lemmas.Bool.{and_parts}
 use Rattle.std.proofs.lemmas.List.{take-append-drop}
@@ -43,23 +43,27 @@ one_more : (m : MetaTree) (own : Own) (r : Rel) (rs : List Rel) → grown m (rec
 one_more m own r rs =
     rw (append_assoc own.fields (rel_fields r) (flat_map rel_fields (shown m rs)), append_assoc own.inputs (r.name ∷ []) (map (λ q. q.name) (shown m rs))) refl
 
+-- the names behind the known ones, where the first relationship is shown or not
+abbrev grown_by : MetaTree → Own → Rel → List Rel → Bool → Own
+grown_by m own r rs b = record { fields = own.fields ++ flat_map rel_fields (cond b (r ∷ shown m rs) (shown m rs)); inputs = own.inputs ++ map (λ q. q.name) (cond b (r ∷ shown m rs) (shown m rs)) }
+
+-- one relationship, and then the rest
+one_rel : (m : MetaTree) (path : List ℕ) (n : ℕ) (own : Own) (r : Rel) (rs : List Rel) (b : Bool) → is_in_schema m r.remote ≡ b
+    → ((next : Own) → Differ (grown m next rs) → with_rels m path (n + 1) next rs ≡ Ok (grown m next rs)) → Differ (grown_by m own r rs b) → with_rels m path n own (r ∷ rs) ≡ Ok (grown_by m own r rs b)
+unfolding with_shown_rel with_rel
+one_rel m path n own r rs true e later h =
+    let more : Own = record { fields = own.fields ++ rel_fields r; inputs = own.inputs ++ r.name ∷ [] } in
+    let here = member_path (item_path path n) (codes "name") in
+    let all : Differ (grown m more rs) = rw (one_more m own r rs) h in
+    let fields = all_added here own.fields (rel_fields r) (front_differ bytes_eq more.fields (flat_map rel_fields (shown m rs)) all.0) in
+    let inputs = all_added here own.inputs (r.name ∷ []) (front_differ bytes_eq more.inputs (map (λ (q : Rel). q.name) (shown m rs)) all.1) in
+    rw (e, fields, inputs) (later more all ∙ ap Ok (one_more m own r rs))
+one_rel m path n own r rs false e later h = rw e (later own h)
+
 -- the names of relationships are added
 rels_added : (m : MetaTree) (path : List ℕ) (n : ℕ) (own : Own) (rs : List Rel) → Differ (grown m own rs) → with_rels m path n own rs ≡ Ok (grown m own rs)
 rels_added m path n own [] h = rw (append-nil own.fields, append-nil own.inputs) refl
-rels_added m path n own (r ∷ rs) h = go (is_in_schema m r.remote) refl h
-  where
-    go : (b : Bool) → is_in_schema m r.remote ≡ b
-        → Differ (record { fields = own.fields ++ flat_map rel_fields (cond b (r ∷ shown m rs) (shown m rs)); inputs = own.inputs ++ map (λ q. q.name) (cond b (r ∷ shown m rs) (shown m rs)) })
-        → with_rels m path n own (r ∷ rs) ≡ Ok (record { fields = own.fields ++ flat_map rel_fields (cond b (r ∷ shown m rs) (shown m rs)); inputs = own.inputs ++ map (λ q. q.name) (cond b (r ∷ shown m rs) (shown m rs)) })
-    unfolding with_shown_rel with_rel
-    go true e h =
-        let more : Own = record { fields = own.fields ++ rel_fields r; inputs = own.inputs ++ r.name ∷ [] } in
-        let here = member_path (item_path path n) (codes "name") in
-        let all : Differ (grown m more rs) = rw (one_more m own r rs) h in
-        let fields = all_added here own.fields (rel_fields r) (front_differ bytes_eq more.fields (flat_map rel_fields (shown m rs)) all.0) in
-        let inputs = all_added here own.inputs (r.name ∷ []) (front_differ bytes_eq more.inputs (map (λ q. q.name) (shown m rs)) all.1) in
-        rw (e, fields, inputs) (rels_added m path (n + 1) more rs all ∙ ap Ok (one_more m own r rs))
-    go false e h = rw e (rels_added m path (n + 1) own rs h)
+rels_added m path n own (r ∷ rs) h = one_rel m path n own r rs (is_in_schema m r.remote) refl (λ next k. rels_added m path (n + 1) next rs k) h
 
 -- relationships in two parts
 filter_append : {A : Type 0} (p : A → Bool) (xs ys : List A) → filter p (xs ++ ys) ≡ filter p xs ++ filter p ys
@@ -84,10 +88,10 @@ twice_grown m own xs ys =
     append_assoc own.fields (flat_map rel_fields (shown m xs)) (flat_map rel_fields (shown m ys))
     ∙ ap (λ l. own.fields ++ l) (sym (flat_append rel_fields (shown m xs) (shown m ys)) ∙ ap (flat_map rel_fields) (sym parts)) in
     let inputs : (own.inputs ++ map (λ r. r.name) (shown m xs)) ++ map (λ r. r.name) (shown m ys) ≡ own.inputs ++ map (λ r. r.name) (shown m (xs ++ ys)) =
-    append_assoc own.inputs (map (λ r. r.name) (shown m xs)) (map (λ r. r.name) (shown m ys))
-    ∙ ap (λ l. own.inputs ++ l) (sym (map_append (λ r. r.name) (shown m xs) (shown m ys)) ∙ ap (map (λ r. r.name)) (sym parts)) in
-    ap (λ fs. record { fields = fs; inputs = (own.inputs ++ map (λ r. r.name) (shown m xs)) ++ map (λ r. r.name) (shown m ys) }) fields
-    ∙ ap (λ is. record { fields = own.fields ++ flat_map rel_fields (shown m (xs ++ ys)); inputs = is }) inputs
+    append_assoc own.inputs (map (λ (r : Rel). r.name) (shown m xs)) (map (λ (r : Rel). r.name) (shown m ys))
+    ∙ ap (λ l. own.inputs ++ l) (sym (map_append (λ (r : Rel). r.name) (shown m xs) (shown m ys)) ∙ ap (map (λ r. r.name)) (sym parts)) in
+    let make : List (List ℕ) → List (List ℕ) → Own = λ fs is. record { fields = fs; inputs = is } in
+    ap₂ make fields inputs
 
 all_rels_added : (m : MetaTree) (path : List ℕ) (own : Own) (rs : List Rel) → Differ (grown m own rs) → with_all_rels m path own rs ≡ Ok (grown m own rs)
 unfolding with_all_rels object_count
@@ -145,4 +149,4 @@ no_repeat s m path h =
     let p = and_parts _ _ h in
     let q = and_parts _ _ p.0 in
     let first : Shared = record { types = fixed_types; roots = [] } in
-    ap (mapped (λ shared. tt)) (tables_added s m path 0 first m.tracked q.0 q.1 (each_true (λ k. all_names_differ (fields_of m k) && all_names_differ (inputs_of m k)) m.tracked p.1))
+    ap (mapped (λ shared. tt)) (tables_added s m path 0 first m.tracked q.0 q.1 (each_true (λ (k : TrackedTree). all_names_differ (fields_of m k) && all_names_differ (inputs_of m k)) m.tracked p.1))

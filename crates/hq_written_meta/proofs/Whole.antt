@@ -78,7 +78,7 @@ module _ (tables : List Table) (m : MetaTree) (h : IsPlain tables m) where
 
   -- the same tables are tracked by their names
   same_tracked : (t : ℕ) → is_some (tracked_table m t) ≡ true → is_some (tracked_table names t) ≡ true
-  same_tracked t e = some_map (λ k. k.table == t) bare m.tracked ∙ e
+  same_tracked t e = some_map (λ (k : TrackedTree). k.table == t) bare m.tracked ∙ e
 
   good_rel : (k : TrackedTree) (r : Rel) → IsRel tables m k.table r → IsPlainRel (columns_of tables k.table) (columns_of tables r.remote) r → related.IsGood tables catalog_parts.0 all names k.table r
   good_rel k r is plain =
@@ -103,7 +103,7 @@ module _ (tables : List Table) (m : MetaTree) (h : IsPlain tables m) where
   tracked_back : (path : List ℕ) → tracked_of tables path (map (λ k. in_name_order (tracked_json tables k)) m.tracked) [] ≡ Ok m
   unfolding tracked_of named inherited_due
   tracked_back path =
-      let named_all = all_tracked tables m m.tracked path catalog_parts.0 (each_all (λ k. differ (columns_of tables k.table) ≡ true) (λ k. all k.table) m.tracked) entries h.tables once in
+      let named_all = all_tracked tables m m.tracked path catalog_parts.0 (each_all (λ (k : TrackedTree). differ (columns_of tables k.table) ≡ true) (λ k. all k.table) m.tracked) entries h.tables once in
       let related_all = related_back tables catalog_parts.0 all m.tracked path related_entries in
       let permitted_all = permitted_back tables m.tracked path permitted_entries in
       let differ_all = (and_parts _ _ (and_parts _ _ h.fits).0).1 in

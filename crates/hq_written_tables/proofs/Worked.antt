@@ -5,7 +5,7 @@ use Rattle.csv.specs.Writing.{escaped, fields_text, is_blank}
 use Rattle.hq_base.specs.declared.value.Ty.TheVariants.{Integer, Bigint, Text}
 use Rattle.hq_base.specs.declared.value.Val.TheVariants.{Null, Int, Text as Words}
 use Rattle.hq_terms.specs.declared.table.Table.{Table}
-use Rattle.hq_written_tables.specs.Written.{file_of}
+use Rattle.hq_written_tables.specs.Written.{IsWritable, file_of}
 
 -- articles: a title is a text, and the last column may be NULL
 abbrev articles : Table
@@ -31,3 +31,8 @@ tags = record { schema = codes "public"; name = codes "tag"; columns = record { 
 tag_file : file_of tags ((Words (codes "x") ∷ []) ∷ (Words [] ∷ []) ∷ []) ≡ codes "name\nx\n\"\"\n"
 unfolding digits escaped fields_text is_blank
 tag_file = refl
+
+-- such rows can be read back
+tags_writable : IsWritable tags ((Words (codes "x") ∷ []) ∷ (Words [] ∷ []) ∷ [])
+unfolding is_utf8 chars encode
+tags_writable = record { some = omega arith; differ = refl; valid = refl; plain = refl; unmarked = refl }
