@@ -1,4 +1,0 @@
-mod Types
-mod Shown
-mod Links
-mod Answers

@@ -1,2 +1,0 @@
-pub mod SchemaOver
-pub mod Laws
