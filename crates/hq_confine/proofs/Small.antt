@@ -1,6 +1,6 @@
 -- Filters and masks that take few enough numbers of aliases.
 use Rattle.std.proofs.Common.{◌≡◌, ℕ, ◌+◌, ◌<◌, ◌≤◌, ◌^◌, List, [], ◌∷◌, Bool, true, false, cond, ◌==◌, Option, None, length}
-use Rattle.std.proofs.Common.{ap, subst, inl, inr, lit≤}
+use Rattle.std.proofs.Common.{ap, subst, sym, inl, inr, lit≤}
 use Rattle.std.specs.Prelude.{slice_index_or, unwrap_or}
 use Rattle.std.proofs.lemmas.List.{get_or_past}
 use Rattle.std.proofs.lemmas.Bool.{cases_lt}
