@@ -81,7 +81,7 @@ fn judged(
 
 // The statement that a text spells, where it spells one.
 fn statement_in(alloc: Global, text: &[u8]) -> Result<Option<Box<Select>>, Memory>
-    ensures found { IfOk result (λ found. IfSome found (λ s. Spells text.now (select_view s))) }
+    ensures found { IfOk result (λ found. IfSome found (λ s. Spells text.now (select_view s.value))) }
     ensures none { IfOk result (λ found. IfNone found ((s : SelectTree) → Spells text.now s → ⊥)) }
 {
     match read(alloc, text) {
