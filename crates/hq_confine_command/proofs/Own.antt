@@ -29,7 +29,8 @@ use Rattle.hq_commands.specs.Ending.{Output}
 use Rattle.hq_commands.specs.Output.{line_text, stated_output, statement_output, within_limit}
 use Rattle.hq_commands.specs.Refusals.{description_of}
 use Rattle.hq_commands.specs.Stating.{HasStatementFor, HasStatementOver}
-use Rattle.hq_commands.specs.declared.done.Done.TheVariants.{Answered}
+use Rattle.hq_commands.specs.declared.done.Done.{Done}
+use Rattle.hq_commands.specs.declared.done.Done.TheVariants.{Answered, Faulty}
 use Rattle.hq_commands.specs.declared.reply.TheConstants.{INPUT_LIMIT}
 use Rattle.hq_commands.specs.declared.refusal.Refusal.{Refusal}
 use Rattle.hq_commands.specs.declared.refusal.Refusal.TheVariants as refusal
@@ -66,8 +67,22 @@ said_yes tables meta session ask is =
 abbrev Own : List Table → MetaTree → Session → (line : List ℕ) → Type 0
 Own tables meta session line = (line ≡ line_text (codes "none")) ⊎ (length line ≤ INPUT_LIMIT → IsDueFor tables meta session line (Ok yes))
 
+-- the bytes of an output
+abbrev bytes_in : Result Output Refusal → List ℕ
+bytes_in (Ok output) = unwrap_or output.bytes []
+bytes_in (Err e) = []
+
 bytes_of : (a b : List ℕ) → ◌≡◌ {A = Result Output Refusal} (Ok (says Answered a)) (Ok (says Answered b)) → a ≡ b
-bytes_of a b e = cc
+bytes_of a b e = ap bytes_in e
+
+-- an answer that tells no fault
+abbrev tells_none : Done → Type 0
+tells_none Answered = Unit {0}
+tells_none Faulty = ⊥
+
+abbrev is_answer : Result Output Refusal → Type 0
+is_answer (Ok output) = tells_none output.done
+is_answer (Err e) = ⊥
 
 -- of what a body makes
 own_made : (tables : List Table) (meta : MetaTree) (session : Session) (r : Result AskTree RequestRefusal) (line : List ℕ) → HasStatement tables meta session r
@@ -83,8 +98,8 @@ own_made tables meta session (Ok ask) line has e =
       | false ↦ λ is f. inl (sym (bytes_of (line_text (codes "none")) line f))
     ] in
     go (has_table_field ask.fields) refl e
-own_made tables meta session (Err (request.Fault fault)) line has e = absurd cc
-own_made tables meta session (Err request.Memory) line has e = absurd cc
+own_made tables meta session (Err (request.Fault fault)) line has e = absurd (subst is_answer (sym e) tt)
+own_made tables meta session (Err request.Memory) line has e = absurd (subst is_answer (sym e) tt)
 
 -- of an input
 own_read : (tables : List Table) (meta : MetaTree) (session : Session) (text line : List ℕ) → HasStatementFor tables meta session text

@@ -21,6 +21,7 @@ fn write_said<K: Sink>(out: &mut K, said: &Said) -> Result<Done, Refusal>
     ensures silent { Silent (K.written out.old) (K.written out.new) result }
     ensures write { IsErrOf result Refusal.WriteFailed → Rose (K.faults out.old) (K.faults out.new) }
     ensures others { IfErr result (λ e. e ≡ Refusal.WriteFailed) }
+    ensures failed { IfErr result NotDatabase }
     ensures later { K.faults out.old ≤ K.faults out.new }
 {
     write_all(out, said.line.as_slice())?;

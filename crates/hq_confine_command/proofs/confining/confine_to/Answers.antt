@@ -9,5 +9,5 @@ pub returns-clause-told : goal.returns-clause-told
 returns-clause-told g c =
     read_told c.args.description.now.catalog.tables (meta_view c.args.description.now.meta) c.args.session.now (g.S.Source.left c.args.input.now) c.in_ok-bytes.bytes _
     (said_view c.in_ok-said.said) (g.K.Sink.written c.args.out.now)
-    (g.K.Sink.written c.write_said.new.out) c.write_said.result c.in_ok-bytes.ensures.told (c.without_line_end.ensures ∙ ap without_line_end c.as_slice.ensures) c.in_ok-said.ensures
+    (g.K.Sink.written c.write_said.new.out) c.write_said.result c.in_ok-bytes.ensures.told (c.without_line_end-text.ensures ∙ ap without_line_end c.as_slice.ensures) c.in_ok-said.ensures
     c.write_said.ensures.told
