@@ -1,7 +1,7 @@
 -- The metadata that are read back as they are written: no inherited roles, no filters, and lists that stand in the order in
 -- which they are read.
-use Rattle.std.specs.Prelude.{◌≡◌, ℕ, List, [], map, Bool, true, false, not, ◌&&◌, slice_index_or, bytes_eq, codes}
-use Rattle.std.specs.List.{list_all, list_any}
+use Rattle.std.specs.Prelude.{◌≡◌, List, [], map, true, false, not, ◌&&◌, slice_index_or, bytes_eq, codes}
+use Rattle.std.specs.List.{list_all}
 use Rattle.hq_base.specs.Lists.{Each, Ascends, all_differ}
 use Rattle.hq_terms.specs.Bexp.{always}
 use Rattle.hq_terms.specs.Catalog.{is_catalog}
@@ -34,7 +34,7 @@ pub record IsPlainPerm (columns : List Column) (p : PermTree) : Type 0 where
 pub record IsPlainTable (tables : List Table) (k : TrackedTree) : Type 0 where
   pub named : is_table_name k.name ≡ true
   pub own : Each (λ c. is_shown k c ≡ false → slice_index_or k.column_names c [] ≡ name_at (columns_of tables k.table) c) (all_columns (columns_of tables k.table))
-  pub rels : Each (λ r. IsPlainRel (columns_of tables k.table) (columns_of tables r.remote) r) k.rels
+  pub rels : Each (λ (r : Rel). IsPlainRel (columns_of tables k.table) (columns_of tables r.remote) r) k.rels
   pub perms : Each (IsPlainPerm (columns_of tables k.table)) k.perms
   pub clean : (is_clean k.name && list_all is_clean k.column_names) ≡ true
   pub roots : (is_clean k.roots.select && is_clean k.roots.select_by_pk && is_clean k.roots.select_aggregate) ≡ true
@@ -45,4 +45,4 @@ pub record IsPlain (tables : List Table) (m : MetaTree) : Type 0 where
   pub clean : has_clean_names tables ≡ true
   pub fits : fits tables m ≡ true
   pub own : m.inherited ≡ []
-  pub tables : Each (IsPlainTable tables) m.tracked
+  pub tracked : Each (IsPlainTable tables) m.tracked
