@@ -22,6 +22,7 @@ fn type_of(case: &Case) -> Result<Ty, Stop> {
         "bigint" => Ok(Ty::Bigint),
         "text" => Ok(Ty::Text),
         "boolean" => Ok(Ty::Boolean),
+        "uuid" => Ok(Ty::Uuid),
         _ => Err(Stop::Shape),
     }
 }
