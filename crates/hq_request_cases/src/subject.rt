@@ -13,6 +13,7 @@ pub enum About {
     Relationships,
     Aggregates,
     Introspection,
+    Identities,
     Worlds,
     Requests,
     Skipped,
@@ -27,7 +28,7 @@ pub enum About {
 
 impl About {
     /// Each subject, in the order of its line.
-    pub const ALL: [About; 19] = [
+    pub const ALL: [About; 20] = [
         About::Worked,
         About::Blog,
         About::Shop,
@@ -37,6 +38,7 @@ impl About {
         About::Relationships,
         About::Aggregates,
         About::Introspection,
+        About::Identities,
         About::Worlds,
         About::Requests,
         About::Skipped,
@@ -62,6 +64,7 @@ impl Subject for About {
             About::Relationships => "relationships",
             About::Aggregates => "aggregates",
             About::Introspection => "introspection",
+            About::Identities => "identities",
             About::Worlds => "worlds",
             About::Requests => "requests",
             About::Skipped => "skipped",
