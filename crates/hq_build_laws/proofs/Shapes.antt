@@ -299,7 +299,7 @@ module _ (tables : List Table) (m : MetaTree) (role : Role) where
         let less : c < length (table s k.table).columns = slice_get_within (table s k.table).columns c d found.1 in
         let name : slice_get k.column_names c ≡ Some (get_or k.column_names c []) = slice_get-get_or k.column_names c [] (omega (arith, less, names)) in
         record {
-          own = record { name = get_or k.column_names c []; ty = d.ty; nullable = d.nullable; col = c };
+          own = record { name = get_or k.column_names c []; ty = d.ty; of = []; nullable = d.nullable; col = c };
           is = ap (λ o. under_name [] c o (slice_get k.column_names c)) at ∙ ap (under_name [] c (Some d)) name;
           place = refl;
           typed = found.2;
@@ -442,7 +442,7 @@ module _ (tables : List Table) (m : MetaTree) (role : Role) where
     types_shaped differ =
         let ps : List PlacedTable = placed (shown_tables tables m role) in
         each_append Shaped (fixed_types ps) (flat_map (table_types ps) ps)
-        (each_map Shaped (fixed_type ps) (fixed_shaped ps (placed_keys 20 (shown_tables tables m role) (keys_shown differ))) all_fixed)
+        (each_map Shaped (fixed_type ps) (fixed_shaped ps (placed_keys 21 (shown_tables tables m role) (keys_shown differ))) all_fixed)
         (each_flat_map Shaped (λ (p : PlacedTable). IsShown tables m role p.shown) (table_types ps)
         (λ p shown. each_map Shaped (part_type p (links_from ps 0 p.shown.rels)) (part_shaped p (links_from ps 0 p.shown.rels) shown) (parts_of p.shown)) ps
-        (placed_shown tables m role 20 (shown_tables tables m role) (tables_shown tables m role differ)))
+        (placed_shown tables m role 21 (shown_tables tables m role) (tables_shown tables m role differ)))

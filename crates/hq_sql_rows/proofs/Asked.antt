@@ -115,7 +115,7 @@ outer_value alias js (tree.object ps) m n is around = cc
 outer_value alias js (tree.aggregate a) m n is around = cc
 
 no_column : Column
-no_column = record { name = []; ty = Text; nullable = true }
+no_column = record { name = []; ty = Text; of = []; nullable = true }
 
 -- the cell of a column that no earlier one has the name of
 named_at : (cs : List Column) (row : Row) (name : List ℕ) (at : ℕ) → at < length cs → bytes_eq (get_or cs at no_column).name name ≡ true → ((k : ℕ) → k < at → bytes_eq (get_or cs k no_column).name name ≡ false)
