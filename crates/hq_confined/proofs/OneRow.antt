@@ -12,6 +12,7 @@ use Rattle.hq_ask_tree.specs.declared.aggregate.AggField.{AggField}
 use Rattle.hq_ask_tree.specs.declared.aggregate.AggField.TheVariants as take
 use Rattle.hq_ask_tree.specs.declared.aggregate.KeyedAggCol.{KeyedAggCol}
 use Rattle.hq_ask_tree.specs.declared.aggregate.KeyedAggField.{KeyedAggField}
+use Rattle.hq_sql_tree.specs.declared.expr.ColumnForm.{ColumnForm}
 use Rattle.hq_sql_tree.specs.Tree as tree
 use Rattle.hq_sql_tree.specs.Tree.{ExprTree, PairTrees, PairTree, OutTree, SelectTree, JoinTree, FilterTree, PredTree, joins_of, pairs_of, orders_of}
 use Rattle.hq_compiled.specs.Aggregates.{needed, is_taken, some_taken, is_aggregate, some_aggregate, needed_cell, taken_value, taken_pairs, count_value, summary_value, summary_pairs, needed_columns, needed_outputs, summary_used, folded_select, plain_select, place_of}
@@ -134,8 +135,8 @@ module _ (s : Schema) (g : Grants) where
 
   -- the fields of an aggregate, where each name of the fold's alias is plain
   module _ (inner : Shapes) (n : ℕ) (columns : List Column) (cs : List ℕ) (plain : (name : List ℕ) → is_plain g (origin_at s inner (fold_alias n) name) ≡ true) where
-    cell_clean : (c : ℕ) (collate : Bool) → expr_faults s g inner (needed_cell n cs c collate) ≡ []
-    cell_clean c collate = column_clean s g inner (fold_alias n) (needed_name (place_of c cs 0)) collate (plain (needed_name (place_of c cs 0)))
+    cell_clean : (c : ℕ) (form : ColumnForm) → expr_faults s g inner (needed_cell n cs c form) ≡ []
+    cell_clean c form = column_clean s g inner (fold_alias n) (needed_name (place_of c cs 0)) form (plain (needed_name (place_of c cs 0)))
 
     taken_clean : (a : Aggregate) (k : AggCol) → expr_faults s g inner (taken_value a columns n cs k) ≡ []
     taken_clean a (of_column.Column c) = cell_clean c (is_text_column columns c)

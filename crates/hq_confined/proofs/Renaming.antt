@@ -23,6 +23,8 @@ use Rattle.hq_terms.specs.declared.test.Arity.{Arity}
 use Rattle.hq_terms.specs.declared.test.Arity.TheVariants.{Nothing, One, Many}
 use Rattle.hq_terms.specs.declared.test.Test.{Test}
 use Rattle.hq_terms.specs.declared.test.Test.TheVariants.{Compare, Among, IsNull, Like}
+use Rattle.hq_sql_tree.specs.declared.expr.ColumnForm.{ColumnForm}
+use Rattle.hq_sql_tree.proofs.Columns.{form_same}
 use Rattle.hq_sql_tree.specs.Tree as tree
 use Rattle.hq_sql_tree.specs.Tree.{ExprTree, PredTree, PredTrees, preds_of}
 use Rattle.hq_compiled.specs.Names.{table_alias, unit_name}
@@ -64,8 +66,8 @@ test_same IsNull = refl
 test_same (Like fold) = same_bool fold
 
 module _ (r : Renaming) where
-  column_alike : (a b name : List ℕ) (collate : Bool) → stands_for r a b ≡ true → is_alike_expr r (tree.column a name collate) (tree.column b name collate) ≡ true
-  column_alike a b name collate e = rw (e, same_text name, same_bool collate) refl
+  column_alike : (a b name : List ℕ) (form : ColumnForm) → stands_for r a b ≡ true → is_alike_expr r (tree.column a name form) (tree.column b name form) ≡ true
+  column_alike a b name form e = rw (e, same_text name, form_same form) refl
 
   literal_alike : (ty : Ty) (v : Val) → is_alike_expr r (literal ty v) (literal ty v) ≡ true
   literal_alike ty val.Null = refl
