@@ -6,8 +6,9 @@
 //! COLUMN is `{"name": text, "type": text, "of": text, "nullable": bool}`, and
 //! KEY is `{"columns": [text], "table": {"schema": text, "name": text}, "references": [text]}`.
 //!
-//! A type is `integer`, `bigint`, `text`, `boolean`, `uuid` or `opaque`, whose `of` is PostgreSQL's name of its type. `nullable` may be absent, which says true, and so may
-//! `foreign_keys`, which says none. Other members are passed over.
+//! A type is `integer`, `bigint`, `text`, `boolean`, `uuid` or `opaque`. An opaque column is of another type of PostgreSQL,
+//! which `of` names, and stands in no key. `nullable` may be absent, which says true, and so may `foreign_keys`, which says
+//! none. Other members are passed over.
 #![tactic(auto)]
 
 mod field;

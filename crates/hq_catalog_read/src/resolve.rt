@@ -84,6 +84,19 @@ fn key_columns_named(
     Ok(found)
 }
 
+// The columns of the primary key of the table at a path.
+fn key_columns(
+    alloc: Global,
+    columns: &[Column],
+    path: &Txt,
+    names: &[Txt],
+) -> Result<ColList, CatalogRefusal>
+    ensures { Gives (λ found. found) CatalogRefusal.Memory (each (key_column_named columns.now) (at path.now Field.PrimaryKey) names.now) result }
+{
+    let path = member_path(alloc, path, Field::PrimaryKey.name())?;
+    key_columns_named(alloc, columns, &path, names)
+}
+
 // The columns of the names in the list at a path.
 fn columns_named(
     alloc: Global,
@@ -279,8 +292,7 @@ fn table_of(
     ensures { Gives (λ resolved. resolved) CatalogRefusal.Memory (table_of tables.now path.now table.now) result }
 {
     let columns = table.columns.as_slice();
-    let key_path = member_path(alloc, path, Field::PrimaryKey.name())?;
-    let key = key_columns_named(alloc, columns, &key_path, table.key.as_slice())?;
+    let key = key_columns(alloc, columns, path, table.key.as_slice())?;
     let foreign = member_foreign_keys(alloc, tables, path, table)?;
     Ok(Table {
         schema: table.schema.copy(alloc)?,

@@ -17,8 +17,8 @@ use Rattle.hq_terms.specs.declared.meta.Rel.{Rel}
 use Rattle.hq_terms.specs.declared.table.Column.{Column}
 use Rattle.hq_terms.specs.declared.table.Table.{Table}
 use Rattle.hq_terms.proofs.Places.{table_present, table_absent}
-use Rattle.hq_sql_tree.specs.WellFormed.{kind_of_type, compare_kinds}
-use Rattle.hq_compiled.specs.Fine.{Known, Has, type_of, FinePair, FineRel}
+use Rattle.hq_sql_tree.specs.WellFormed.{compare_kinds}
+use Rattle.hq_compiled.specs.Fine.{Known, Has, type_of, compared_kind, FinePair, FineRel}
 
 -- a number that is tested to be less is
 pub less : (n k : ℕ) → nat_lt n k ≡ true → n < k

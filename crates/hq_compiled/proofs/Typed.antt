@@ -17,9 +17,9 @@ use Rattle.hq_ask_tree.specs.declared.aggregate.KeyedAggField.{KeyedAggField}
 use Rattle.hq_sql_tree.specs.Tree as tree
 use Rattle.hq_sql_tree.specs.Tree.{ExprTree, PairTree, SelectTree, JoinTree, PredTree, joins_of, pairs_of}
 use Rattle.hq_sql_tree.specs.WellFormed as well
-use Rattle.hq_sql_tree.specs.WellFormed.{Aliases, Kind, kind, kind_at, kind_named, pair_names, is_value, are_values, is_compared, is_item, is_typed, select_names, is_typed_pred}
+use Rattle.hq_sql_tree.specs.WellFormed.{Aliases, Kind, kind, kind_at, kind_named, pair_names, is_value, is_member, are_values, is_compared, is_item, is_typed, select_names, is_typed_pred}
 use Rattle.hq_compiled.specs.Names.{table_alias, join_alias, value_name}
-use Rattle.hq_compiled.specs.Looks.{Look, own_look, cell_at, compared_at}
+use Rattle.hq_compiled.specs.Looks.{Look, own_look, cell_at, shown_at, compared_at}
 use Rattle.hq_compiled.specs.Rights.{Rights}
 use Rattle.hq_compiled.specs.Conditions.{joined_by_and}
 use Rattle.hq_compiled.specs.Predicates.{columns_in, link}
@@ -32,7 +32,7 @@ use Rattle.hq_compiled.specs.Fields.{field_used, fields_used, key_used, origin_t
 use Rattle.hq_compiled.specs.Fine.{Has, type_of, kind_of, Known, FineArguments, FineOrigin, FineKey, Apart, FineFields, FineField, FineParts, FinePart, IsTyped}
 use Rattle.hq_compiled.proofs.CatalogTables.{FineTables, fine_tables}
 use Rattle.hq_compiled.proofs.Names.{same_text, used_one, used_left, used_right}
-use Rattle.hq_compiled.proofs.Scopes.{under_later, LooksUnder, looks_under_later, own_under, Knows, KnowsAll, knows_behind, all_behind, knows_left, knows_right, grows_table, value_of}
+use Rattle.hq_compiled.proofs.Scopes.{under_later, LooksUnder, looks_under_later, own_under, Knows, KnowsAll, knows_behind, all_behind, knows_left, knows_right, grows_table, member_of, shown_of}
 use Rattle.hq_compiled.proofs.TypedConditions.{two, Preds, and_typed, test_typed, Joined, joined_none, joined_then, joined_one, joined_as, typed_last, joined_last}
 use Rattle.hq_compiled.proofs.TypedJoins.{First, shown_under, Behind, first_typed, tie_typed}
 use Rattle.hq_compiled.proofs.TypedLists.{object_typed, list_typed}

@@ -28,7 +28,7 @@ use Rattle.hq_sql_tree.proofs.Columns.{form_same}
 use Rattle.hq_sql_tree.specs.Tree as tree
 use Rattle.hq_sql_tree.specs.Tree.{ExprTree, PredTree, PredTrees, preds_of}
 use Rattle.hq_compiled.specs.Names.{table_alias, unit_name}
-use Rattle.hq_compiled.specs.Looks.{own_look, type_in, tested_at, compares, is_text_column, name_of}
+use Rattle.hq_compiled.specs.Looks.{own_look, type_in, tested_at, compared_form, name_of}
 use Rattle.hq_compiled.proofs.TextLiterals.{of_either}
 use Rattle.hq_compiled.specs.Conditions.{literal, operand_literal, joined_by_and, joined_by_or, with_member, where_of, negation_if, literals_for, test_of}
 use Rattle.hq_compiled.specs.Predicates.{link_members, link, columns_in, numbers, numbers_all, predicate, predicates, filter_mode, own_numbers, own_predicate}
@@ -147,7 +147,7 @@ link_alike : (r : Renaming) (columns remote : List Column) (p q n m : ℕ) → s
     → Zip (Alike r) (link_members columns remote p n xs) (link_members columns remote q m xs)
 link_alike r columns remote p q n m own far [] = tt
 link_alike r columns remote p q n m own far (x ∷ xs) =
-    (rw (column_alike r (table_alias n) (table_alias m) (name_of remote x.remote) (is_text_column remote x.remote) far, column_alike r (table_alias p) (table_alias q) (name_of columns x.own) (is_text_column columns x.own) own) refl, link_alike r columns remote p q n m own far xs)
+    (rw (column_alike r (table_alias n) (table_alias m) (name_of remote x.remote) (compared_form (type_in remote x.remote)) far, column_alike r (table_alias p) (table_alias q) (name_of columns x.own) (compared_form (type_in columns x.own)) own) refl, link_alike r columns remote p q n m own far xs)
 
 -- an inner alias stands for its own, and hides none of an outer number
 inner_stands : (r : Renaming) (n m : ℕ) → stands_for ((table_alias n, table_alias m) ∷ r) (table_alias n) (table_alias m) ≡ true
@@ -165,7 +165,7 @@ module _ (s : Schema) where
     own_alike (or_of bs) r t p q n m h lt lu bn bm = or_alike r (predicates bs s (filter_mode s) (own_look (table s t).columns p) t p n) (predicates bs s (filter_mode s) (own_look (table s t).columns q) t q m) (owns_alike bs r t p q n m h lt lu bn bm)
     own_alike (not_of b) r t p q n m h lt lu bn bm = own_alike b r t p q n m h lt lu bn bm
     own_alike (test c tested vs negated) r t p q n m h lt lu bn bm =
-        test_alike r (type_in (table s t).columns c) (tested_at (table s t).columns (own_look (table s t).columns p c) c tested) (tested_at (table s t).columns (own_look (table s t).columns q c) c tested) tested (operands_of vs) negated (column_alike r (table_alias p) (table_alias q) (own_look (table s t).columns p c).name (compares tested && is_text_column (table s t).columns c) h)
+        test_alike r (type_in (table s t).columns c) (tested_at (table s t).columns (own_look (table s t).columns p c) c tested) (tested_at (table s t).columns (own_look (table s t).columns q c) c tested) tested (operands_of vs) negated (column_alike r (table_alias p) (table_alias q) (own_look (table s t).columns p c).name (tested_form tested (type_in (table s t).columns c)) h)
     own_alike (through k b) r t p q n m h lt lu bn bm =
         let u : ℕ = (rel s t k).remote in
         let within : Renaming = (table_alias n, table_alias m) ∷ r in
@@ -187,8 +187,8 @@ module _ (s : Schema) where
         rw (same_text (table s u).schema, same_text (table s u).name, same_text unit_name) kept
     own_alike (two_columns a op b) r t p q n m h lt lu bn bm =
         let columns : List Column = (table s t).columns in
-        let left = column_alike r (table_alias p) (table_alias q) (name_of columns a) (is_text_column columns a) h in
-        let right = column_alike r (table_alias p) (table_alias q) (name_of columns b) (is_text_column columns b) h in
+        let left = column_alike r (table_alias p) (table_alias q) (name_of columns a) (compared_form (type_in columns a)) h in
+        let right = column_alike r (table_alias p) (table_alias q) (name_of columns b) (compared_form (type_in columns b)) h in
         rw (left, op_same op, right) refl
 
     owns_alike : (bs : BexpTrees) (r : Renaming) (t p q n m : ℕ) → stands_for r (table_alias p) (table_alias q) ≡ true → p < n → q < m → n + numbers_all bs s (filter_mode s) t ≤ 2 ^ 64 → m + numbers_all bs s (filter_mode s) t ≤ 2 ^ 64
