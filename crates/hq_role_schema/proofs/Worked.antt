@@ -160,20 +160,20 @@ abbrev types : List ℕ → ℕ → List ℕ → Option (TypeRefTree × List Typ
 types role t name = option_map (λ f. (f.ty, map (λ a. a.ty) f.args)) (field_of (role_schema tables mixed (Named role)) t name)
 
 -- an id that one of the two roles sees may be null
-id_of_user : types (codes "user") 20 (codes "id") ≡ Some (non_null (named 1), [])
+id_of_user : types (codes "user") 21 (codes "id") ≡ Some (non_null (named 1), [])
 unfolding role_schema part_count part_type part_fields fixed_type
 id_of_user = refl
 
-id_of_mix : types (codes "mix") 20 (codes "id") ≡ Some (named 1, [])
+id_of_mix : types (codes "mix") 21 (codes "id") ≡ Some (named 1, [])
 unfolding role_schema part_count part_type part_fields fixed_type
 id_of_mix = refl
 
 -- a title that both see may not
-title_of_mix : types (codes "mix") 20 (codes "title") ≡ Some (non_null (named 2), [])
+title_of_mix : types (codes "mix") 21 (codes "title") ≡ Some (non_null (named 2), [])
 unfolding role_schema part_count part_type part_fields fixed_type
 title_of_mix = refl
 
 -- a look-up names each column of the key
-look_up_of_mix : types (codes "mix") 19 (codes "article_by_pk") ≡ Some (named 20, non_null (named 1) ∷ [])
+look_up_of_mix : types (codes "mix") 19 (codes "article_by_pk") ≡ Some (named 21, non_null (named 1) ∷ [])
 unfolding role_schema part_count part_type part_fields fixed_type
 look_up_of_mix = refl

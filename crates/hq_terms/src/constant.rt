@@ -129,13 +129,13 @@ fn text_value(alloc: Global, ty: Ty, text: &Txt) -> Result<Option<Val>, Memory>
     ensures { IfOk result (λ o. o ≡ text_constant ty text.now) }
 {
     match ty {
-        Ty::Text => Ok(Some(Val::Text(text.copy(alloc)?))),
+        Ty::Text | Ty::Opaque => Ok(Some(Val::Text(text.copy(alloc)?))),
         Ty::Bigint => match whole_number(Ty::Bigint, text.as_str()) {
             Some(n) => Ok(Some(Val::Int(n))),
             None => Ok(None),
         },
         Ty::Uuid => uuid_value(alloc, text),
-        Ty::Integer | Ty::Boolean | Ty::Opaque => Ok(None),
+        Ty::Integer | Ty::Boolean => Ok(None),
     }
 }
 
