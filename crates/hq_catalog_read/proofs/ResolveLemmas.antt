@@ -67,19 +67,18 @@ columns_named-Names columns path names places given =
 -- so is one of a key, whose values are compared
 key_column_named-Names : (columns : List Column) (name : List ℕ) (place : ℕ) → Gave (key_column_named columns) name place → KeyNames columns name place
 unfolding key_column_named
-key_column_named-Names columns name place (path, given) = by (position named columns) refl (ok_or-Ok (key_column_place columns name) (Shape path) place given)
+key_column_named-Names columns name place (path, given) =
+    let named = λ (c : Column). bytes_eq c.name name in
+    by (position named columns) refl (ok_or-Ok (key_column_place columns name) (Shape path) place given)
   where
-    abbrev named : Column → Bool
-    named c = bytes_eq c.name name
-
     at_place : (p : ℕ) (c : Column) → slice_get columns p ≡ Some c → bytes_eq c.name name ≡ true → (b : Bool) → is_ordered c.ty ≡ b → cond b (Some p) None ≡ Some place → KeyNames columns name place
     at_place p c at is true ordered e = let same : p ≡ place = cc in subst (KeyNames columns name) same (c, at, is, ordered)
     at_place p c at is false ordered e = cc
 
-    by : (o : Option ℕ) → position named columns ≡ o → option_and_then (λ c. ordered_at c (type_of (slice_get columns c))) o ≡ Some place → KeyNames columns name place
+    by : (o : Option ℕ) → position (λ (c : Column). bytes_eq c.name name) columns ≡ o → option_and_then (λ c. ordered_at c (type_of (slice_get columns c))) o ≡ Some place → KeyNames columns name place
     by None e f = cc
     by (Some p) e f =
-        let (c, at, is) = position-item named columns p e in
+        let (c, at, is) = position-item (λ (c : Column). bytes_eq c.name name) columns p e in
         at_place p c at is (is_ordered c.ty) refl (sym (ap (λ o. ordered_at p (type_of o)) at) ∙ f)
 
 key_columns_named-Names : (columns : List Column) (path : List ℕ) (names : List (List ℕ)) (places : List ℕ) → each (key_column_named columns) path names ≡ Ok places → AllZip (KeyNames columns) names places

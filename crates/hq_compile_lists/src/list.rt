@@ -30,7 +30,9 @@ use hq_compile_tables::{
     MaskPlace, Shown, both_joins, compared_shown, each_once, from_table, table_shown, value_output,
     where_of, with_member,
 };
-use hq_sql_tree::{Agg, ColumnForm, Expr, ExprList, JoinList, OrderList, Out, OutList, PredList, Select};
+use hq_sql_tree::{
+    Agg, ColumnForm, Expr, ExprList, JoinList, OrderList, Out, OutList, PredList, Select,
+};
 use hq_terms::{ColId, TableId};
 use std::alloc::Global;
 

@@ -20,7 +20,8 @@ use hq_compile_context::{Context, take_number};
 use hq_compile_masks::{FirstRow, mask_parts};
 use hq_compile_predicates::row_members;
 use hq_compile_tables::{
-    MaskPlace, Shown, compared_shown, comparison, joined_by_and, link, literal, table_shown, type_in,
+    MaskPlace, Shown, compared_shown, comparison, joined_by_and, link, literal, table_shown,
+    type_in,
 };
 use hq_sql_tree::{Pred, PredList};
 use hq_terms::{ColId, Op, RelId, TableId};

@@ -19,9 +19,7 @@ use hq_compile_context::{
     Context, RowUse, fold_alias, needed_name, row_limit, unit_name, value_name,
 };
 use hq_compile_lists::{ListStart, fold, list_body, list_rows, list_used, object, one_row};
-use hq_compile_tables::{
-    MaskPlace, Shown, compared_form, shown_column, table_shown, type_in,
-};
+use hq_compile_tables::{MaskPlace, Shown, compared_form, shown_column, table_shown, type_in};
 use hq_sql_tree::{Agg, ColumnForm, Expr, ExprPair, ExprPairList, Out, OutList, Select};
 use hq_terms::{ColId, Column, TableId};
 use std::alloc::Global;

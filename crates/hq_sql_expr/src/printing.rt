@@ -81,12 +81,7 @@ fn put_form(out: &mut Vec<u8>, form: ColumnForm) -> Result<(), Memory>
     }
 }
 
-fn put_column(
-    out: &mut Vec<u8>,
-    alias: &Txt,
-    name: &Txt,
-    form: ColumnForm,
-) -> Result<(), Memory>
+fn put_column(out: &mut Vec<u8>, alias: &Txt, name: &Txt, form: ColumnForm) -> Result<(), Memory>
     ensures { OnOk result (out.new.items ≡ out.old.items ++ (name_text alias.now ++ (word_text Word.Dot ++ (name_text name.now ++ form_text form)))) }
 {
     put_name(out, alias)?;

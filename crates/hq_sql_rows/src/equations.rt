@@ -41,7 +41,12 @@ pub(crate) fn is_column(expr: &Expr, alias: &Txt, name: &Txt) -> bool
             name: column,
             ..
         } => *alias == *named && *name == *column,
-        Expr::Int(_) | Expr::Text(_) | Expr::Uuid(_) | Expr::Bool(_) | Expr::Object(_) | Expr::Agg(_) => false,
+        Expr::Int(_)
+        | Expr::Text(_)
+        | Expr::Uuid(_)
+        | Expr::Bool(_)
+        | Expr::Object(_)
+        | Expr::Agg(_) => false,
     }
 }
 

@@ -42,7 +42,11 @@ pub fn tell_uuid(alloc: Global, case: &Case, words: &mut Words) -> Result<(), St
         Some(form) => words.push(form.as_str()),
         None => words.push("none"),
     }
-    words.push(if is_uuid_form(text.as_str()) { ", its form" } else { "" });
+    words.push(if is_uuid_form(text.as_str()) {
+        ", its form"
+    } else {
+        ""
+    });
     Ok(())
 }
 
