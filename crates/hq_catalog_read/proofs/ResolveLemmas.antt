@@ -87,7 +87,7 @@ key_columns_named-Names columns path names places given =
 
 -- the columns of a key are of their names
 pub key_names : (columns : List Column) (names : List (List ℕ)) (places : List ℕ) → AllZip (KeyNames columns) names places → AllZip (Names columns) names places
-key_names columns names places = beside (KeyNames columns) (Names columns) (λ name place (c, at, is, ordered). (c, at, is)) names places
+key_names columns names places = beside (KeyNames columns) (Names columns) (λ name place h. (h.0, h.1, h.2)) names places
 
 -- a foreign key refers to a table, and its columns fit with those of the table
 abbrev pub Refers : (tables : List WrittenTable) (own : List Column) → WrittenForeignKey → ForeignKey → Type 0
