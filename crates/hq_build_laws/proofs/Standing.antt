@@ -17,6 +17,7 @@ use Rattle.hq_terms.proofs.Places.{table_present}
 use Rattle.hq_schema.specs.Fixed.{fixed_place}
 use Rattle.hq_schema.specs.declared.fixed.Fixed.{Fixed}
 use Rattle.hq_schema.specs.declared.fixed.Fixed.TheVariants.{Scalar, OrderBy, Comparison, Schema as SchemaType, «Type» as TypeType, Field, InputValue, EnumValue, Directive, TypeKind, DirectiveLocation, QueryRoot}
+use Rattle.hq_schema.specs.Schema.{TypeTree}
 use Rattle.hq_role_schema.specs.Introspection.{introspection_fields}
 use Rattle.hq_role_schema.specs.FixedTypes.{fixed_values, fixed_type}
 use Rattle.hq_role_schema.specs.Placed.{part_count, placed, placed_from}

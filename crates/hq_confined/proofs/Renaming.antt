@@ -28,7 +28,7 @@ use Rattle.hq_sql_tree.proofs.Columns.{form_same}
 use Rattle.hq_sql_tree.specs.Tree as tree
 use Rattle.hq_sql_tree.specs.Tree.{ExprTree, PredTree, PredTrees, preds_of}
 use Rattle.hq_compiled.specs.Names.{table_alias, unit_name}
-use Rattle.hq_compiled.specs.Looks.{own_look, type_in, tested_at, compared_form, name_of}
+use Rattle.hq_compiled.specs.Looks.{own_look, type_in, tested_at, tested_form, compared_form, name_of}
 use Rattle.hq_compiled.proofs.TextLiterals.{of_either}
 use Rattle.hq_compiled.specs.Conditions.{literal, operand_literal, joined_by_and, joined_by_or, with_member, where_of, negation_if, literals_for, test_of}
 use Rattle.hq_compiled.specs.Predicates.{link_members, link, columns_in, numbers, numbers_all, predicate, predicates, filter_mode, own_numbers, own_predicate}
