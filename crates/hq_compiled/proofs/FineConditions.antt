@@ -18,20 +18,21 @@ use Rattle.hq_terms.specs.declared.bexp.Operand.{Operand}
 use Rattle.hq_terms.specs.declared.bexp.Operand.TheVariants.{Const, Session}
 use Rattle.hq_terms.specs.declared.bexp.Operands.{Operands}
 use Rattle.hq_terms.specs.declared.bexp.Operands.TheVariants as operands
+use Rattle.hq_terms.specs.declared.op.Op.TheVariants.{Eq}
 use Rattle.hq_terms.specs.declared.test.Arity.{Arity}
 use Rattle.hq_terms.specs.declared.test.Arity.TheVariants.{Nothing, One, Many}
 use Rattle.hq_terms.specs.declared.test.Test.{Test}
-use Rattle.hq_terms.specs.declared.test.Test.TheVariants.{IsNull, Like}
+use Rattle.hq_terms.specs.declared.test.Test.TheVariants.{Compare, IsNull, Like}
 use Rattle.hq_ask_tree.specs.Conditions.{is_constant, is_bound, are_bound, is_condition}
 use Rattle.hq_sql_tree.specs.Tree as tree
 use Rattle.hq_sql_tree.specs.Tree.{ExprTree}
 use Rattle.hq_sql_tree.specs.WellFormed as well
 use Rattle.hq_sql_tree.specs.WellFormed.{Aliases, kind, compare_kinds, is_item, is_tested, is_operand}
-use Rattle.hq_compiled.specs.Looks.{tested_form}
+use Rattle.hq_compiled.specs.Looks.{compared_form, tested_form}
 use Rattle.hq_compiled.specs.Conditions.{literal, operand_literal, literals_for}
 use Rattle.hq_compiled.specs.Fine.{Has, compared_kind, compared_kind_of, column_alone, TestFits, FineRel, FineBexp, FineBexps}
 use Rattle.hq_compiled.proofs.Relationships.{column_is}
-use Rattle.hq_compiled.proofs.Scopes.{compared_of, shown_of, kind_tested}
+use Rattle.hq_compiled.proofs.Scopes.{compared_of, shown_of, kind_compared, kind_tested}
 use Rattle.hq_compiled.proofs.TypedConditions.{two}
 
 -- a number that is tested to be at most another is
@@ -118,6 +119,14 @@ test_fine ty t (operands.List vs) f g =
     let of = and_parts (takes t (length vs)) (applies t ty) parts.0 in
     two (is_tested (column_alone ty) t e) (list_all (is_operand (column_alone ty) t e) (literals_for ty (arity t) vs)) (value_alone ty t of.1) (literals_typed (column_alone ty) e ty t of.1 (kind_tested (column_alone ty) (codes "t") (codes "c") ty t refl) (arity t) vs of.0 parts.1 g)
 test_fine ty t (operands.Session name) f g = cc
+
+-- a column equals a constant of its type, also where no test of it applies
+pub value_fine : (ty : Ty) (v : Val) → constant_fits ty v ≡ true → TestFits (Compare Eq) ty (Const v ∷ [])
+value_fine ty v f =
+    let e : ExprTree = tree.column (codes "t") (codes "c") (compared_form ty) in
+    let known : kind (column_alone ty) e ≡ Some (compared_kind ty) = kind_compared (column_alone ty) (codes "t") (codes "c") ty refl in
+    two (is_tested (column_alone ty) (Compare Eq) e) (list_all (is_operand (column_alone ty) (Compare Eq) e) (literal ty v ∷ [])) (compared_of (column_alone ty) (codes "t") (codes "c") ty refl)
+    (two (is_operand (column_alone ty) (Compare Eq) e (literal ty v)) true (constant_item (column_alone ty) e ty v known f) refl)
 
 -- ---- columns whose type passes a test
 
