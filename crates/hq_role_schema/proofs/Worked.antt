@@ -107,28 +107,28 @@ abbrev leads : SchemaTree → ℕ → List ℕ → Option (FieldOrigin × ℕ)
 leads s t name = option_map (λ f. (f.origin, base f.ty)) (field_of s t name)
 
 -- the author of an article, an article's title, an author's articles and their aggregates, and the articles at the root
-author_of_article : leads (role_schema tables meta (Named (codes "user"))) 24 (codes "author") ≡ Some (origin.Object 0, 20)
+author_of_article : leads (role_schema tables meta (Named (codes "user"))) 25 (codes "author") ≡ Some (origin.Object 0, 21)
 unfolding role_schema part_count part_type part_fields fixed_type
 author_of_article = refl
 
-title_of_article : leads (role_schema tables meta (Named (codes "user"))) 24 (codes "title") ≡ Some (origin.Column 2, 2)
+title_of_article : leads (role_schema tables meta (Named (codes "user"))) 25 (codes "title") ≡ Some (origin.Column 2, 2)
 unfolding role_schema part_count part_type part_fields fixed_type
 title_of_article = refl
 
-articles_of_author : leads (role_schema tables meta (Named (codes "user"))) 20 (codes "articles") ≡ Some (origin.«List» 0, 24)
+articles_of_author : leads (role_schema tables meta (Named (codes "user"))) 21 (codes "articles") ≡ Some (origin.«List» 0, 25)
 unfolding role_schema part_count part_type part_fields fixed_type
 articles_of_author = refl
 
-aggregates_of_author : leads (role_schema tables meta (Named (codes "user"))) 20 (codes "articles_aggregate") ≡ Some (origin.ListAggregate 0, 28)
+aggregates_of_author : leads (role_schema tables meta (Named (codes "user"))) 21 (codes "articles_aggregate") ≡ Some (origin.ListAggregate 0, 28)
 unfolding role_schema part_count part_type part_fields fixed_type
 aggregates_of_author = refl
 
-articles : leads (role_schema tables meta (Named (codes "user"))) 19 (codes "article") ≡ Some (origin.Rows 1, 24)
+articles : leads (role_schema tables meta (Named (codes "user"))) 19 (codes "article") ≡ Some (origin.Rows 1, 25)
 unfolding role_schema part_count part_type part_fields fixed_type
 articles = refl
 
 -- an author's e-mail is hidden
-email_of_author : leads (role_schema tables meta (Named (codes "user"))) 20 (codes "email") ≡ None
+email_of_author : leads (role_schema tables meta (Named (codes "user"))) 21 (codes "email") ≡ None
 unfolding role_schema part_count part_type part_fields fixed_type
 email_of_author = refl
 
