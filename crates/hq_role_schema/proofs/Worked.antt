@@ -119,7 +119,7 @@ articles_of_author : leads (role_schema tables meta (Named (codes "user"))) 21 (
 unfolding role_schema part_count part_type part_fields fixed_type
 articles_of_author = refl
 
-aggregates_of_author : leads (role_schema tables meta (Named (codes "user"))) 21 (codes "articles_aggregate") ≡ Some (origin.ListAggregate 0, 28)
+aggregates_of_author : leads (role_schema tables meta (Named (codes "user"))) 21 (codes "articles_aggregate") ≡ Some (origin.ListAggregate 0, 29)
 unfolding role_schema part_count part_type part_fields fixed_type
 aggregates_of_author = refl
 
