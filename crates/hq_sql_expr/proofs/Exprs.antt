@@ -36,16 +36,21 @@ Behind d h b e = OneExpr d (word_text (head_word h) ++ b) e
 abbrev OneForm : List ℕ → ColumnForm → Type 0
 OneForm = Spelled form_text (λ f. Unit {0})
 
-collated_takes : Sound (λ bytes. choose (after word.Collate bytes) (λ rest. Some (form.Collated, rest)) (Some (form.Plain, bytes))) OneForm
-collated_takes = sound_choose_end word.Collate form.Collated OneForm (refl, tt) (λ bytes. Some (form.Plain, bytes)) (sound_pure form.Plain OneForm (refl, tt))
+-- a form without a cast, and one without a cast that is collated
+abbrev plain_at : Reader ColumnForm
+plain_at bytes = Some (form.Plain, bytes)
 
-cast_takes : Sound (λ bytes. choose (after word.AsText bytes) (λ rest. Some (form.AsText, rest)) (choose (after word.Collate bytes) (λ rest. Some (form.Collated, rest)) (Some (form.Plain, bytes)))) OneForm
-cast_takes = sound_choose_end word.AsText form.AsText OneForm (refl, tt) (λ bytes. choose (after word.Collate bytes) (λ rest. Some (form.Collated, rest)) (Some (form.Plain, bytes))) collated_takes
+abbrev as_it_stands : Reader ColumnForm
+as_it_stands bytes = choose (after word.Collate bytes) (λ rest. Some (form.Collated, rest)) (plain_at bytes)
+
+abbrev cast_or_not : Reader ColumnForm
+cast_or_not bytes = choose (after word.AsText bytes) (λ rest. Some (form.AsText, rest)) (as_it_stands bytes)
 
 form_takes : Sound form_at OneForm
 form_takes =
-    sound_choose_end word.AsTextCollate form.AsTextCollated OneForm (refl, tt)
-    (λ bytes. choose (after word.AsText bytes) (λ rest. Some (form.AsText, rest)) (choose (after word.Collate bytes) (λ rest. Some (form.Collated, rest)) (Some (form.Plain, bytes)))) cast_takes
+    sound_choose_end word.AsTextCollate form.AsTextCollated OneForm (refl, tt) cast_or_not
+    (sound_choose_end word.AsText form.AsText OneForm (refl, tt) as_it_stands
+    (sound_choose_end word.Collate form.Collated OneForm (refl, tt) plain_at (sound_pure form.Plain OneForm (refl, tt))))
 
 column_takes : (d : ℕ) → Sound column_at (OneExpr d)
 unfolding column_at
