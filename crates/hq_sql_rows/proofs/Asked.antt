@@ -66,7 +66,7 @@ all_member (p ∷ ps) (suc i) d w m lt e = all_member ps i d w m (omega arith) (
 pub forces_member : (ps : List Pred) (i : ℕ) (p : Pred) (alias name : List ℕ) (e : ExprTree) → i < length ps → p ≡ get_or ps i p → Forces (pred_view p) alias name e → Forces (tree.all_of (preds_of (map pred_view ps))) alias name e
 forces_member ps i p alias name e lt is forces = record { equals = λ w m holds. forces.equals w m (ap (λ q. truth_at (pred_view q) w m) is ∙ all_member ps i p w m lt holds) }
 
-same_name : (a b : List ℕ) → bytes_eq a b ≡ true → a ≡ b
+pub same_name : (a b : List ℕ) → bytes_eq a b ≡ true → a ≡ b
 same_name a b e = (bytes_eq-Decides a b).0 e
 
 -- the value of the column of an alias

@@ -95,7 +95,8 @@ module _ {A : Type 0} {R : A → A → Ordering} (o : IsTotalOrder R) where
 
 -- ---- numbers in a row
 
-each_counted : (P : ℕ → Type 0) (from n : ℕ) → ((j : ℕ) → from ≤ j → j < from + n → P j) → Each P (counted from n)
+-- each number in a row
+pub each_counted : (P : ℕ → Type 0) (from n : ℕ) → ((j : ℕ) → from ≤ j → j < from + n → P j) → Each P (counted from n)
 each_counted P from zero h = tt
 each_counted P from (suc n) h = (h from (omega arith) (omega arith), each_counted P (suc from) n (λ j le lt. h j (omega (arith, le)) (omega (arith, lt))))
 

@@ -1,5 +1,5 @@
 -- Rows in the order of an index, and what WHERE keeps of them, in the order of ORDER BY.
-use Rattle.std.proofs.Common.{◌≡◌, ◌∙◌, ◌==◌, ◌≤◌, refl, sym, ap, ap₂, ℕ, suc, List, [], ◌∷◌, ◌++◌, map, filter, flat_map, length, reverse, get_or, Bool, true, false, cond, not, Some, Ordering, bytes_eq, arith}
+use Rattle.std.proofs.Common.{◌≡◌, ◌∙◌, ◌==◌, ◌<◌, ◌≤◌, refl, sym, ap, ap₂, ℕ, suc, List, [], ◌∷◌, ◌++◌, map, filter, flat_map, length, reverse, get_or, Bool, true, false, cond, not, Some, Ordering, bytes_eq, arith}
 use Rattle.std.specs.List.{position}
 use Rattle.std.specs.Borrow.{Bor}
 use Rattle.std.specs.Cmp.{IsTotalOrder}
@@ -16,7 +16,7 @@ use Rattle.hq_terms.specs.declared.table.Column.{Column}
 use Rattle.hq_index.specs.Indexes.{counted, key_at, by_key, columns_of, entries_of}
 use Rattle.hq_index.specs.Keys.{cell_in, key_in, keys_cmp, has_null}
 use Rattle.hq_index.specs.declared.index.Index.{Index}
-use Rattle.hq_sql_rows.proofs.Backward.{apart_counted, sort_turned}
+use Rattle.hq_sql_rows.proofs.Backward.{apart_counted, each_counted, sort_turned}
 use Rattle.hq_index.proofs.Counted.{length-counted}
 use Rattle.hq_index.proofs.Sorted.{by_key_total}
 use Rattle.hq_sql_tree.specs.Tree.{OrderTree, JoinTrees}
@@ -96,6 +96,10 @@ each_left p (x ∷ xs) e =
     elim [ true ↦ λ f g. (f, each_left p xs (omega (arith, g))) | false ↦ λ f g. absurd (omega (arith, few, g)) ] in
     go (p x) refl e
 
+each_both : {A : Type 0} (P Q : A → Type 0) (xs : List A) → Each P xs → Each Q xs → Each (λ x. P x × Q x) xs
+each_both P Q [] h k = tt
+each_both P Q (x ∷ xs) h k = ((h.0, k.0), each_both P Q xs h.1 k.1)
+
 module _ (columns : List Column) (rows : List Row) (js : JoinTrees) (w : World) (n : Names) (a : List ℕ) (keeps : Names → Bool) where
   -- what WHERE keeps of the row at a place
   abbrev block : ℕ → List Names
@@ -134,20 +138,21 @@ module _ (columns : List Column) (rows : List Row) (js : JoinTrees) (w : World) 
       let R = by_key cs rows in
       let all = counted 0 (length rows) in
       let q : ℕ → Bool = λ k. not (has_null (key_at cs rows k)) in
-      let Whole : ℕ → Type 0 = λ k. has_null (key_in cs (get_or rows k [])) ≡ false in
+      let Whole : ℕ → Type 0 = λ k. (k < length rows) × (has_null (key_at cs rows k) ≡ false) in
       let turned : entries_of index.now ≡ sort R (filter q all) = has.over.entries ∙ sort_filter (by_key_total cs rows) q all in
       let many : length (filter q all) ≡ length all = sym (sort_length R (filter q all)) ∙ ap length (sym turned) ∙ has.whole ∙ sym (length-counted 0 (length rows)) in
       let each = each_left q all many in
       let entries : entries_of index.now ≡ sort R all = turned ∙ ap (sort R) (filter_all q all each) in
-      let whole : Each Whole all = each_weaken (λ k. q k ≡ true) Whole (λ k e. not_true (has_null (key_at cs rows k)) e) all each in
+      let within : Each (λ k. k < length rows) all = each_counted (λ k. k < length rows) 0 (length rows) (λ k le lt. omega (arith, lt)) in
+      let whole : Each Whole all = each_both (λ k. k < length rows) (λ k. has_null (key_at cs rows k) ≡ false) all within (each_weaken (λ k. q k ≡ true) (λ k. has_null (key_at cs rows k) ≡ false) (λ k e. not_true (has_null (key_at cs rows k)) e) all each) in
       let walk : (d : Bool) → HasOrder d columns rows a os index.now → kept_of js w n a keeps (map f (positions_of (walked d index))) ≡ sort (order_cmp os) (kept_of js w n a keeps (map (named_row columns) rows)) =
       elim [
         | false ↦ λ h. ap (λ ps. kept_of js w n a keeps (map f ps)) entries
-            ∙ blocks_sorted os R Whole (by_key_total cs rows) alone whole (λ p r x y pp pr px py. h.orders.orders (get_or rows p []) (get_or rows r []) x y px py pp pr)
+            ∙ blocks_sorted os R Whole (by_key_total cs rows) alone whole (λ p r x y pp pr px py. h.orders.orders p r x y pp.0 pr.0 px py pp.1 pr.1)
         | true ↦ λ h.
             (let apart = apart_counted R 0 (length rows) (λ i j less lt. h.unique refl i j less (omega (arith, lt))) in
             ap (λ ps. kept_of js w n a keeps (map f (reverse ps))) entries ∙ ap (λ ps. kept_of js w n a keeps (map f ps)) (sym (sort_turned (by_key_total cs rows) all apart))
-            ∙ blocks_sorted os (flip_args R) Whole (back_total (by_key_total cs rows)) alone whole (λ p r x y pp pr px py. h.orders.orders (get_or rows p []) (get_or rows r []) x y px py pp pr))
+            ∙ blocks_sorted os (flip_args R) Whole (back_total (by_key_total cs rows)) alone whole (λ p r x y pp pr px py. h.orders.orders p r x y pp.0 pr.0 px py pp.1 pr.1))
       ] in
       walk desc has
 

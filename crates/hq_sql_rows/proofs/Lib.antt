@@ -5,6 +5,7 @@ pub mod Looked
 pub mod Knowing
 pub mod Blocks
 pub mod Backward
+pub mod Behind
 pub mod InOrder
 pub mod Enough
 pub mod Tops

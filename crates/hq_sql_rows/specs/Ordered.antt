@@ -1,16 +1,17 @@
 -- Indexes that have rows in the order that ORDER BY asks for (PostgreSQL, CREATE INDEX: indexes and ORDER BY).
-use Rattle.std.specs.Prelude.{◌≡◌, ℕ, List, [], map, Bool, true, false, cond, length}
+use Rattle.std.specs.Prelude.{◌≡◌, ◌<◌, ℕ, List, [], map, Bool, true, false, cond, length, bytes_eq, slice_index_or}
 use Rattle.std.specs.declared.cmp.Ordering.{Ordering}
+use Rattle.std.specs.declared.cmp.Ordering.TheVariants.{Equal}
 use Rattle.std.specs.Ordering.{flip_args}
 use Rattle.std.specs.Borrow.{Bor}
 use Rattle.hq_base.specs.Cells.{CellTree}
 use Rattle.hq_terms.specs.Database.{Row}
 use Rattle.hq_terms.specs.declared.table.Column.{Column}
-use Rattle.hq_index.specs.Indexes.{IsOver, columns_of, entries_of}
+use Rattle.hq_index.specs.Indexes.{IsOver, columns_of, entries_of, key_at}
 use Rattle.hq_index.specs.Repeats.{KeysDiffer}
 use Rattle.hq_index.specs.Keys.{cell_in, key_in, keys_cmp, has_null}
 use Rattle.hq_index.specs.declared.index.Index.{Index}
-use Rattle.hq_sql_tree.specs.Tree.{JoinTrees, OrderTree}
+use Rattle.hq_sql_tree.specs.Tree.{ExprTree, column, JoinTrees, OrderTree}
 use Rattle.hq_sql_tree.specs.View.{expr_view, order_view, filter_view}
 use Rattle.hq_sql_tree.specs.Meaning.{Scope as Names, named_row, value, order_cmp}
 use Rattle.hq_sql_rows.specs.Positions.{rows_at, FindsAll, FindsArranged}
@@ -37,12 +38,27 @@ pub record OrdersBy (desc : Bool) (columns : List Column) (alias : List ℕ) (ke
       → has_null (key_in key_columns row) ≡ false → has_null (key_in key_columns other) ≡ false
       → order_cmp os m n ≡ towards desc (key_in key_columns row) (key_in key_columns other)
 
+-- sort keys tie wherever the alias has one row, whatever else is in scope
+pub record TiesAt (alias : List ℕ) (os : List OrderTree) : Type 0 where
+  pub ties : (m n : Names) → m alias ≡ n alias → order_cmp os m n ≡ Equal
+
+-- a column of the alias
+abbrev pub is_own : (alias : List ℕ) → ExprTree → Bool
+is_own alias (column a name collate) = bytes_eq alias a
+is_own alias _ = false
+
+-- ORDER BY has these rows, where their keys in these columns have no NULL, in the order of these keys, or against it
+pub record OrdersRows (desc : Bool) (columns : List Column) (rows : List Row) (alias : List ℕ) (key_columns : List ℕ) (os : List OrderTree) : Type 0 where
+  pub orders : (i j : ℕ) (m n : Names) → i < length rows → j < length rows → m alias ≡ named_row columns (slice_index_or rows i []) → n alias ≡ named_row columns (slice_index_or rows j [])
+      → has_null (key_at key_columns rows i) ≡ false → has_null (key_at key_columns rows j) ≡ false
+      → order_cmp os m n ≡ towards desc (key_at key_columns rows i) (key_at key_columns rows j)
+
 -- an index over rows of the alias has all of them, and orders them as ORDER BY does; against it only where no two have one key
 pub record HasOrder (desc : Bool) (columns : List Column) (rows : List Row) (alias : List ℕ) (os : List OrderTree) (index : Index) : Type 0 where
   pub over : IsOver rows index
   pub whole : length (entries_of index) ≡ length rows
   pub unique : desc ≡ true → KeysDiffer (columns_of index) rows (length rows)
-  pub orders : OrdersBy desc columns alias (columns_of index) os
+  pub orders : OrdersRows desc columns rows alias (columns_of index) os
 
 -- the places of an index in its order, or against it
 abbrev pub walked : (desc : Bool) → Bor Index → Positions

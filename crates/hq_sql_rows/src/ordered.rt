@@ -1,23 +1,24 @@
 //! The places at which a scan looks, in the order that ORDER BY asks for where an index has it.
-ghost use Rattle.std.specs.Prelude.{◌≡◌, ◌<◌, ℕ, [], true, false, map, length, IfOk, IfSome, slice_index_or};
+ghost use Rattle.std.specs.Prelude.{◌≡◌, ◌<◌, ◌∷◌, ℕ, [], true, false, map, length, IfOk, IfSome, slice_index_or};
 ghost use Rattle.hq_index.specs.Indexes.{IsOver, columns_of};
 ghost use Rattle.hq_index.specs.declared.index.Index.{Index};
 ghost use Rattle.hq_terms.specs.Database.{are_rows};
 ghost use Rattle.hq_sql_tree.specs.Tree.{FilterTree, joins_of};
-ghost use Rattle.hq_sql_tree.specs.View.{join_view, order_view};
+ghost use Rattle.hq_sql_tree.specs.View.{expr_view, join_view, order_view};
 ghost use Rattle.hq_sql_rows.specs.Lent.{rows_lent};
-ghost use Rattle.hq_sql_rows.specs.Ordered.{IsKey, OrdersBy, HasOrder, Finds, walked};
+ghost use Rattle.hq_index.specs.Repeats.{KeysDiffer};
+ghost use Rattle.hq_sql_rows.specs.Ordered.{IsKey, OrdersBy, OrdersRows, TiesAt, HasOrder, Finds, is_own, walked};
 ghost use Rattle.hq_sql_rows.specs.Positions.{rows_at, FindsArranged};
 ghost use Rattle.hq_sql_rows.specs.declared.scope.Scope.{Scope as InScope};
 
-use crate::positions::{Positions, looked_at};
-use hq_base::{Memory, Txt};
-use hq_index::Index;
 use crate::equations::{is_column, is_first, is_joined};
+use crate::positions::{Positions, looked_at};
 use crate::scope::{Scope, Source};
 use crate::stages::Parts;
 use crate::stored::Stored;
-use hq_sql_tree::{Join, Order};
+use hq_base::{Memory, Txt};
+use hq_index::Index;
+use hq_sql_tree::{Expr, Join, Order};
 use hq_tables::Rows;
 use hq_terms::{ColId, Table};
 use std::alloc::Global;
@@ -84,8 +85,77 @@ fn are_same(columns: &[ColId], others: &[ColId]) -> bool
     }
 }
 
-// Whether an index over the rows of a table has all of them in this order, or, over the primary key, in the one against it.
+// Whether an expression is a column of the alias.
+fn is_own(expr: &Expr, alias: &Txt) -> bool
+    ensures { result ≡ is_own alias.now (expr_view expr.now) }
+{
+    match expr {
+        Expr::Column { alias: named, .. } => *alias == *named,
+        Expr::Int(_) | Expr::Text(_) | Expr::Bool(_) | Expr::Object(_) | Expr::Agg(_) => false,
+    }
+}
+
+// Whether a sort key is a column of the alias: it ties at one row of it.
+fn is_tied(alias: &Txt, key: &Order) -> bool
+    ensures { result ≡ true → TiesAt alias.now (order_view key.now ∷ []) }
+{
+    is_own(&key.value, alias)
+}
+
+// Whether sort keys are columns of the alias.
+#[tactic(auto, using(crate::proofs::Behind::ties_none, crate::proofs::Behind::ties_more))]
+fn are_own(alias: &Txt, order: &[Order]) -> bool
+    ensures { result ≡ true → TiesAt alias.now (map order_view order.now) }
+{
+    match order.split_first() {
+        None => true,
+        Some((key, order)) => is_tied(alias, key) && are_own(alias, order),
+    }
+}
+
+// Whether these columns are the primary key, in which no two rows are alike.
 #[tactic(auto, using(crate::proofs::Backward::keys_apart))]
+fn is_unique(table: &Table, rows: &Rows, columns: &[ColId]) -> bool
+    requires { are_rows table.now rows.now ≡ true }
+    ensures { result ≡ true → KeysDiffer columns.now rows.now (length rows.now) }
+{
+    are_same(columns, table.key.as_slice())
+}
+
+// Whether ORDER BY has the rows of a table in the order of their keys in these columns, or in the one against it. Behind a unique
+// key further columns of the alias change nothing.
+fn orders_rows(
+    table: &Table,
+    rows: &Rows,
+    columns: &[ColId],
+    alias: &Txt,
+    order: &[Order],
+    desc: bool,
+) -> bool
+    requires { are_rows table.now rows.now ≡ true }
+    ensures orders { result ≡ true → OrdersRows desc table.now.columns rows.now alias.now columns.now (map order_view order.now) }
+    ensures unique { result ≡ true → desc ≡ true → KeysDiffer columns.now rows.now (length rows.now) }
+{
+    if order.len() < columns.len() {
+        return false;
+    }
+    let (first, more) = order.split_at(columns.len());
+    if !are_keys(table, columns, alias, first, desc) {
+        return false;
+    }
+    if !are_own(alias, more) {
+        return false;
+    }
+    if is_unique(table, rows, columns) {
+        return true;
+    }
+    if desc {
+        return false;
+    }
+    more.is_empty()
+}
+
+// Whether an index over the rows of a table has all of them in this order, or, over the primary key, in the one against it.
 fn has_order(
     table: &Table,
     rows: &Rows,
@@ -101,10 +171,7 @@ fn has_order(
     if index.len() != rows.len() {
         return false;
     }
-    if desc && !are_same(index.columns(), table.key.as_slice()) {
-        return false;
-    }
-    are_keys(table, index.columns(), alias, order, desc)
+    orders_rows(table, rows, index.columns(), alias, order, desc)
 }
 
 // The index that has all rows of a table in this order, or in the one against it.
