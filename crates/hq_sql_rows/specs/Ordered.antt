@@ -11,7 +11,8 @@ use Rattle.hq_index.specs.Indexes.{IsOver, columns_of, entries_of, key_at}
 use Rattle.hq_index.specs.Repeats.{KeysDiffer}
 use Rattle.hq_index.specs.Keys.{cell_in, key_in, keys_cmp, has_null}
 use Rattle.hq_index.specs.declared.index.Index.{Index}
-use Rattle.hq_sql_tree.specs.Tree.{ExprTree, column, JoinTrees, OrderTree}
+use Rattle.hq_sql_tree.specs.Tree as tree
+use Rattle.hq_sql_tree.specs.Tree.{ExprTree, JoinTrees, OrderTree}
 use Rattle.hq_sql_tree.specs.View.{expr_view, order_view, filter_view}
 use Rattle.hq_sql_tree.specs.Meaning.{Scope as Names, named_row, value, order_cmp}
 use Rattle.hq_sql_rows.specs.Positions.{rows_at, FindsAll, FindsArranged}
@@ -44,7 +45,7 @@ pub record TiesAt (alias : List ℕ) (os : List OrderTree) : Type 0 where
 
 -- a column of the alias
 abbrev pub is_own : (alias : List ℕ) → ExprTree → Bool
-is_own alias (column a name collate) = bytes_eq alias a
+is_own alias (tree.column a name collate) = bytes_eq alias a
 is_own alias _ = false
 
 -- ORDER BY has these rows, where their keys in these columns have no NULL, in the order of these keys, or against it
