@@ -2,8 +2,8 @@
 ghost use Rattle.std.specs.Prelude.{◌≡◌, [], Some, map, IfOk};
 ghost use Rattle.hq_sql_tree.specs.View.{expr_view, order_view};
 ghost use Rattle.hq_sql_rows.specs.Keys.{with_cells, taken_at};
-ghost use Rattle.hq_sql_rows.specs.Pages.{Suffices};
-ghost use Rattle.hq_sql_rows.specs.Positions.{rows_at};
+ghost use Rattle.hq_sql_scans.specs.Pages.{Suffices};
+ghost use Rattle.hq_sql_scans.specs.Positions.{rows_at};
 ghost use Rattle.hq_sql_rows.specs.View.{source_view, names_of};
 ghost use Rattle.hq_sql_walk.specs.Gathered.{names_joined};
 ghost use Rattle.hq_sql_walk.specs.Selected.{Arranges, Pages, PagesFront, keyed_in, scope_at};
@@ -13,13 +13,13 @@ use crate::values::{keys, values};
 use hq_base::{Memory, Txt};
 use hq_sql_cells::{Kept, paged};
 use hq_sql_rows::cells::arranged;
-use hq_sql_rows::ordered::{Looked, ordered_at};
-use hq_sql_rows::pages::{enough, enough_sorted};
 use hq_sql_rows::pinned::Pinned;
 use hq_sql_rows::place::{Place, with_more};
-use hq_sql_rows::positions::{Positions, number_of};
 use hq_sql_rows::scope::{Scope, Source, row_at};
 use hq_sql_rows::stages::{Parts, Stage};
+use hq_sql_scans::ordered::{Looked, ordered_at};
+use hq_sql_scans::pages::{enough, enough_sorted};
+use hq_sql_scans::positions::{Positions, number_of};
 use hq_sql_tree::{ExprList, Join, OrderList, Pred};
 use std::alloc::Global;
 

@@ -19,6 +19,7 @@ use hq_sql_rows::pinned::Pinned;
 use hq_sql_rows::scope::{Group, Scope, alias_of, source_of};
 use hq_sql_rows::single::is_whole;
 use hq_sql_rows::stages::{Parts, stages};
+use hq_sql_scans::key_set::known_row;
 use hq_sql_tree::{Expr, ExprList, Pred, PredList, Select};
 use hq_terms::{Test, Truth};
 use std::alloc::Global;
@@ -40,7 +41,7 @@ pub fn kept<'d>(
     }
 }
 
-/// The truth of a condition. Of an AND what costs little is tried first.
+/// The truth of a condition. Of an AND what costs little is tried first, and of an EXISTS keys tell it, where they are known.
 #[cycle(eval)]
 pub fn truth<'d>(
     alloc: Global,
@@ -65,7 +66,10 @@ pub fn truth<'d>(
             all_true(alloc, preds, Cost::Rows, nested, world, scope)
         }
         Pred::Or(preds) => any_true(alloc, preds, world, scope),
-        Pred::Exists(select) => Ok(Truth::of(exists(alloc, select, world, scope)?)),
+        Pred::Exists(select) => match known_row(alloc, pred, world, scope)? {
+            Some(has) => Ok(Truth::of(has)),
+            None => Ok(Truth::of(exists(alloc, select, world, scope)?)),
+        },
     }
 }
 

@@ -2,7 +2,7 @@
 ghost use Rattle.std.specs.Prelude.{◌≡◌, ◌<◌, ◌≤◌, ◌||◌, length, map, IfOk};
 ghost use Rattle.hq_sql_tree.specs.Meaning.{Scope as Names, scopes_of};
 ghost use Rattle.hq_sql_tree.specs.View.{from_view};
-ghost use Rattle.hq_sql_rows.specs.Positions.{positions_of};
+ghost use Rattle.hq_sql_scans.specs.Positions.{positions_of};
 ghost use Rattle.hq_sql_rows.specs.Sources.{made_rows, has_items};
 ghost use Rattle.hq_sql_rows.specs.View.{made_view, world_of};
 ghost use Rattle.hq_sql_write.specs.Placed.{AreSorted, Continues, names_there, from_in, found_at};
@@ -10,10 +10,10 @@ ghost use Rattle.hq_sql_write.specs.Selected.{page_at};
 
 use crate::listed::Rows;
 use hq_base::{Memory, Txt};
-use hq_sql_rows::ordered::{Looked, ordered_at};
+use hq_sql_scans::ordered::{Looked, ordered_at};
 use hq_sql_rows::pinned::Pinned;
 use hq_sql_rows::place::Place;
-use hq_sql_rows::positions::Positions;
+use hq_sql_scans::positions::Positions;
 use hq_sql_rows::row::Made;
 use hq_sql_rows::scope::{Scope, Source, alias_of, source_of};
 use hq_sql_rows::stages::Stage;

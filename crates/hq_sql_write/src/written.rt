@@ -17,7 +17,7 @@ use crate::places::{
 use hq_base::{Bytes, Memory, Txt, put_quoted};
 use hq_sql_rows::pinned::Pinned;
 use hq_sql_rows::place::Place;
-use hq_sql_rows::positions::{Positions, number_of};
+use hq_sql_scans::positions::{Positions, number_of};
 use hq_sql_rows::resolved::{Resolved, resolve};
 use hq_sql_rows::row::{Made, cell_at};
 use hq_sql_rows::scope::{Group, Scope, row_at};

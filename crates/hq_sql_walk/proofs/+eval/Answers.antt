@@ -29,9 +29,9 @@ use Rattle.hq_sql_rows.proofs.Besides.{beside_filled, weight_before}
 use Rattle.hq_sql_walk.specs.Gathered.{names_joined}
 use Rattle.hq_sql_rows.specs.Keys.{with_json, json_at, outputs_of, output_at, key_values, member_at, with_cells, taken_at}
 use Rattle.hq_sql_rows.specs.Sources.{alias_in, rows_given, has_items}
-use Rattle.hq_sql_rows.specs.Positions.{positions_of, rows_at, kept_of, FindsAll, FindsArranged}
-use Rattle.hq_sql_rows.proofs.InOrder.{none_arranged}
-use Rattle.hq_sql_rows.proofs.Looked.{at_place}
+use Rattle.hq_sql_scans.specs.Positions.{positions_of, rows_at, kept_of, FindsAll, FindsArranged}
+use Rattle.hq_sql_scans.proofs.InOrder.{none_arranged}
+use Rattle.hq_sql_scans.proofs.Looked.{at_place}
 use Rattle.hq_sql_closed.specs.Conjuncts.{all_kept, lent_views, lent_weight}
 use Rattle.hq_sql_closed.specs.Weight.{total, expr_weight, pair_weight, order_weight, out_weight, join_weight, pred_weight}
 use Rattle.hq_sql_closed.proofs.Weights.{item_weight, pair_item, order_item, out_item, expr_item, pred_item}
