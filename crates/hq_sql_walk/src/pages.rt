@@ -12,6 +12,7 @@ use crate::scans::scan_from;
 use crate::values::{keys, values};
 use hq_base::{Memory, Txt};
 use hq_sql_cells::{Kept, paged};
+use hq_sql_constants::{left_of, with_left};
 use hq_sql_rows::cells::arranged;
 use hq_sql_rows::pinned::Pinned;
 use hq_sql_rows::place::{Place, with_more};
@@ -52,7 +53,9 @@ pub fn page<'s, 'd>(
         &*scope,
     )?;
     let filter = parts.filter;
-    match looked {
+    let left = left_of(alloc, source, alias, joins, filter, looked)?;
+    let asked = with_left(source, alias, joins, parts, &*scope, looked, &left);
+    match asked {
         Looked::Arranged(at) => page_front(
             alloc, source, alias, joins, stages, filter, at, limit, offset, world, scope,
         ),
@@ -76,7 +79,7 @@ fn page_front<'s, 'd>(
     joins: &'d [Join],
     stages: &[Stage],
     filter: &'d Option<Pred>,
-    positions: Positions<'d>,
+    positions: Positions<'_>,
     limit: Option<u64>,
     offset: Option<u64>,
     world: &Pinned<'d>,
@@ -102,7 +105,7 @@ fn page_top<'s, 'd>(
     joins: &'d [Join],
     stages: &[Stage],
     parts: Parts<'d>,
-    positions: Positions<'d>,
+    positions: Positions<'_>,
     bound: usize,
     limit: Option<u64>,
     offset: Option<u64>,
@@ -150,7 +153,7 @@ pub fn page_sorted<'s, 'd>(
     joins: &'d [Join],
     stages: &[Stage],
     parts: Parts<'d>,
-    positions: Positions<'d>,
+    positions: Positions<'_>,
     limit: Option<u64>,
     offset: Option<u64>,
     world: &Pinned<'d>,

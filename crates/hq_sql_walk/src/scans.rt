@@ -41,7 +41,7 @@ pub fn scan_from<'s, 'd>(
     joins: &'d [Join],
     stages: &[Stage],
     filter: &'d Option<Pred>,
-    positions: Positions<'d>,
+    positions: Positions<'_>,
     from: usize,
     enough: Option<usize>,
     world: &Pinned<'d>,

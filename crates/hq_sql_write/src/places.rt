@@ -11,6 +11,7 @@ ghost use Rattle.hq_sql_write.specs.Selected.{page_at};
 use crate::listed::Rows;
 use hq_base::{Memory, Txt};
 use hq_sql_scans::ordered::{Looked, ordered_at};
+use hq_sql_constants::has_many;
 use hq_sql_rows::pinned::Pinned;
 use hq_sql_rows::place::Place;
 use hq_sql_scans::positions::Positions;
@@ -91,7 +92,8 @@ pub enum Found<'d> {
     Places(Vec<Place<'d>>),
 }
 
-/// Where the rows of a select are. Those that stand in order, and have no OFFSET and LIMIT, are left where they stand.
+/// Where the rows of a select are. Those that stand in order, and have no OFFSET and LIMIT, are left where they stand, unless WHERE
+/// asks for one of many constants.
 pub fn found_rows<'s, 'd>(
     alloc: Global,
     rows: &Rows<'d>,
@@ -102,7 +104,7 @@ pub fn found_rows<'s, 'd>(
     requires { placed.now.joins ≡ rows.now.joins }
     ensures { IfOk result (λ found. found_at found placed.now rows.now.parts.filter.now world.now scope.now ≡ page_at rows.now placed.now world.now scope.now) }
 {
-    if rows.limit.is_some() || rows.offset.is_some() {
+    if rows.limit.is_some() || rows.offset.is_some() || has_many(rows.parts.filter) {
         let places = places_of(alloc, rows, placed, world, scope)?;
         return Ok(Found::Places(places));
     }
