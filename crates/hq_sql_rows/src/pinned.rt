@@ -11,6 +11,7 @@ use crate::stored::Stored;
 use crate::work::Work;
 use hq_base::Memory;
 use hq_index::{Grid, Index};
+use hq_like::Matcher;
 use hq_sql_tree::{Expr, From, Pred};
 use std::alloc::Global;
 
@@ -34,11 +35,12 @@ pub struct KeySet<'d> {
     pub index: Index,
 }
 
-/// The tables of the catalog with their rows, and what is known of conditions over them.
+/// The tables of the catalog with their rows, the patterns that were read, and what is known of conditions over the tables.
 #[derive(Drop)]
 pub struct Pinned<'d> {
     pub tables: &'d [Stored<'d>],
     pub work: &'d Work,
+    pub matchers: &'d [Matcher],
     pub known: Vec<Known<'d>>,
     pub sets: Vec<KeySet<'d>>,
     ghost right: { (i : ℕ) (d : Known) → i < length known.items → IsRight (world_in tables.now) (slice_index_or known.items i d) },
@@ -47,12 +49,18 @@ pub struct Pinned<'d> {
 
 impl<'d> Pinned<'d> {
     /// Tables of which nothing is known yet.
-    pub fn new(alloc: Global, tables: &'d [Stored<'d>], work: &'d Work) -> Pinned<'d>
+    pub fn new(
+        alloc: Global,
+        tables: &'d [Stored<'d>],
+        work: &'d Work,
+        matchers: &'d [Matcher],
+    ) -> Pinned<'d>
         ensures { result.tables ≡ tables.entry }
     {
         Pinned {
             tables,
             work,
+            matchers,
             known: Vec::new(alloc),
             sets: Vec::new(alloc),
         }

@@ -20,6 +20,7 @@ use hq_sql_rows::scope::{Group, Scope, alias_of, source_of};
 use hq_sql_rows::single::is_whole;
 use hq_sql_rows::stages::{Parts, stages};
 use hq_sql_scans::key_set::known_row;
+use hq_sql_scans::likes::known_like;
 use hq_sql_tree::{Expr, ExprList, Pred, PredList, Select};
 use hq_terms::{Test, Truth};
 use std::alloc::Global;
@@ -73,7 +74,7 @@ pub fn truth<'d>(
     }
 }
 
-// What a test says of an expression. A single operand is put into no list.
+// What a test says of an expression. A single operand is put into no list, and the pattern of LIKE is read before.
 #[cycle(eval)]
 fn tested<'d>(
     alloc: Global,
@@ -87,6 +88,9 @@ fn tested<'d>(
 {
     let cell = value(alloc, expr, world, Group::Alone, scope)?;
     if let [operand] = operands.as_slice() {
+        if let Some(truth) = known_like(world.matchers, test, &cell, operand) {
+            return Ok(truth);
+        }
         let operand = value(alloc, operand, world, Group::Alone, scope)?;
         return test_truth(alloc, test, &cell, slice::from_ref(&operand));
     }
