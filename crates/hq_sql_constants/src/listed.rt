@@ -75,12 +75,7 @@ fn of_test(
 }
 
 // The same of a condition that is a test.
-fn of_pred(
-    alloc: Global,
-    pred: &Pred,
-    alias: &Txt,
-    name: &Txt,
-) -> Result<Option<Vec<Val>>, Memory>
+fn of_pred(alloc: Global, pred: &Pred, alias: &Txt, name: &Txt) -> Result<Option<Vec<Val>>, Memory>
     ensures { IfOk result (λ found. IfSome found (λ vs. AsksOneOf (pred_view pred.now) alias.now name.now vs.items)) }
 {
     match pred {

@@ -143,13 +143,7 @@ pub fn eval<T: Tables>(
     let work = Work::new(rows_to_try(&stored));
     let mut matchers = Vec::new(alloc);
     read_select(alloc, select, &mut matchers)?;
-    let answer = eval_stored(
-        alloc,
-        select,
-        stored.as_slice(),
-        &work,
-        matchers.as_slice(),
-    );
+    let answer = eval_stored(alloc, select, stored.as_slice(), &work, matchers.as_slice());
     *looked = looked.saturating_add(work.looked.get());
     answer
 }

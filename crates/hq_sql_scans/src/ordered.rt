@@ -11,13 +11,13 @@ ghost use Rattle.hq_sql_scans.specs.Ordered.{IsKey, OrdersBy, OrdersRows, TiesAt
 ghost use Rattle.hq_sql_scans.specs.Positions.{rows_at, FindsArranged};
 ghost use Rattle.hq_sql_rows.specs.declared.scope.Scope.{Scope as InScope};
 
-use hq_sql_rows::equations::{is_column, is_first, is_joined};
 use crate::positions::{Positions, looked_at};
+use hq_base::{Memory, Txt};
+use hq_index::Index;
+use hq_sql_rows::equations::{is_column, is_first, is_joined};
 use hq_sql_rows::scope::{Scope, Source};
 use hq_sql_rows::stages::Parts;
 use hq_sql_rows::stored::Stored;
-use hq_base::{Memory, Txt};
-use hq_index::Index;
 use hq_sql_tree::{Expr, Join, Order};
 use hq_tables::Rows;
 use hq_terms::{ColId, Table};

@@ -10,14 +10,14 @@ ghost use Rattle.hq_sql_write.specs.Selected.{page_at};
 
 use crate::listed::Rows;
 use hq_base::{Memory, Txt};
-use hq_sql_scans::ordered::{Looked, ordered_at};
 use hq_sql_constants::has_many;
 use hq_sql_rows::pinned::Pinned;
 use hq_sql_rows::place::Place;
-use hq_sql_scans::positions::Positions;
 use hq_sql_rows::row::Made;
 use hq_sql_rows::scope::{Scope, Source, alias_of, source_of};
 use hq_sql_rows::stages::Stage;
+use hq_sql_scans::ordered::{Looked, ordered_at};
+use hq_sql_scans::positions::Positions;
 use hq_sql_tree::{Join, Pred};
 use hq_sql_walk::{Piece, page, page_sorted, scan_from};
 use std::alloc::Global;
