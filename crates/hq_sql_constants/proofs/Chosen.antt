@@ -1,6 +1,7 @@
 -- Places at whose rows a column is one of constants.
 use Rattle.std.proofs.Common.{◌≡◌, ◌∙◌, ◌<◌, ◌+◌, ◌*◌, ◌^◌, ◌≤◌, ℕ, zero, suc, List, [], ◌∷◌, ◌++◌, map, filter, flat_map, length, get_or, take, Bool, true, false, ◌||◌, ◌&&◌, cond, Option, None, Some, bytes_eq, refl, sym, ap, ap₂, subst, add-one, arith}
 use Rattle.std.specs.List.{list_any, position}
+use Rattle.std.specs.Global.{Vec}
 use Rattle.std.specs.Prelude.{IfSome}
 use Rattle.std.proofs.Math.Seq.{take-suc}
 use Rattle.std.proofs.lemmas.Bool.{false≢true}
@@ -33,14 +34,13 @@ use Rattle.hq_sql_tree.specs.Tree as tree
 use Rattle.hq_sql_tree.specs.Tree.{FilterTree, JoinTrees, PredTree}
 use Rattle.hq_sql_tree.specs.View.{filter_view}
 use Rattle.hq_sql_constants.specs.Listed.{AsksOneOf, is_one_of}
-use Rattle.hq_sql_constants.specs.Sifted.{AreConstants, KeepsSame, has_constant, places_looked}
+use Rattle.hq_sql_constants.specs.Sifted.{AreConstants, IsLeft, KeepsSame, has_constant, places_looked}
 use Rattle.hq_sql_constants.specs.declared.marked.Constants.{Constants}
 use Rattle.hq_sql_scans.specs.Links.{has_cell}
 use Rattle.hq_sql_scans.specs.Ordered.{Finds}
 use Rattle.hq_sql_scans.specs.Positions.{kept_of, rows_at}
 use Rattle.hq_sql_scans.specs.declared.ordered.Looked.{Looked}
 use Rattle.hq_sql_scans.specs.declared.ordered.Looked.TheVariants.{Arranged, Unsorted}
-use Rattle.hq_sql_scans.specs.declared.positions.Positions.{Positions}
 use Rattle.hq_sql_scans.proofs.KeySets.{items_filter, items_map}
 use Rattle.hq_sql_scans.proofs.Linked.{and_true, equal_cell, equal_swapped, key_like}
 use Rattle.hq_sql_scans.proofs.Looked.{Keeps, counted_all, is_yes, joined_keeps, left_out, none_kept, same_bytes}
@@ -113,11 +113,6 @@ places_end q ps i places le so_far = so_far ∙ ap (filter q) (take_all i ps le)
 
 -- ---- what WHERE keeps
 
--- other places, which stand in the same order
-abbrev pub looked_again : Looked → Positions → Looked
-looked_again (Arranged at) left = Arranged left
-looked_again (Unsorted at) left = Unsorted left
-
 -- places at whose rows a column is none of the constants that a condition asks it to be may be left out
 pub sifted_is : (columns : List Column) (rows : List Row) (js : JoinTrees) (alias name : List ℕ) (p : PredTree) (vs : List Val) (at : ℕ) (s : Constants) (ps : List ℕ) → AsksOneOf p alias name vs → position (λ c. bytes_eq c.name name) columns ≡ Some at → AreConstants vs s → is_joined js alias ≡ false
     → KeepsSame js alias (tree.filter p) (map (λ q. get_or (map (named_row columns) rows) q []) (filter (λ k. has_constant s (cell_in (get_or rows k []) at)) ps)) (map (λ q. get_or (map (named_row columns) rows) q []) ps)
@@ -136,9 +131,12 @@ sifted_is columns rows js alias name p vs at s ps asked first are alone =
     record { same = λ w n. left_out js w n alias (kept (tree.filter p) w) f q (none w n) ps }
 
 -- what a scan finds at its places it finds at those that are left
-pub left_finds : (js : JoinTrees) (scope : Scope) (alias : List ℕ) (parts : Parts) (source : Source) (rows : List NamedRow) (left : Positions) (looked : Looked) → Finds js scope alias parts source looked
-    → KeepsSame js alias (filter_view parts.filter.now) rows (rows_at source (places_looked looked)) → rows_at source left ≡ rows → Finds js scope alias parts source (looked_again looked left)
-left_finds js scope alias parts source rows left (Arranged at) finds keeps is =
-    λ w. ap (kept_of js w (scope_of scope w) alias (kept (filter_view parts.filter.now) w)) is ∙ keeps.same w (scope_of scope w) ∙ finds w
-left_finds js scope alias parts source rows left (Unsorted at) finds keeps is =
-    λ w. ap (kept_of js w (scope_of scope w) alias (kept (filter_view parts.filter.now) w)) is ∙ keeps.same w (scope_of scope w) ∙ finds w
+pub left_finds : (js : JoinTrees) (scope : Scope) (alias : List ℕ) (parts : Parts) (source : Source) (looked : Looked) (left : Option (Vec ℕ)) (again : Looked) → Finds js scope alias parts source looked
+    → IfSome left (λ places. KeepsSame js alias (filter_view parts.filter.now) (map (row_in source) places.items) (rows_at source (places_looked looked))) → IsLeft looked left again → Finds js scope alias parts source again
+left_finds js scope alias parts source looked None again finds keeps is = subst (Finds js scope alias parts source) (sym is) finds
+left_finds js scope alias parts source (Arranged at) (Some places) (Arranged left) finds keeps is =
+    λ w. ap (λ l. kept_of js w (scope_of scope w) alias (kept (filter_view parts.filter.now) w) (map (row_in source) l)) is ∙ keeps.same w (scope_of scope w) ∙ finds w
+left_finds js scope alias parts source (Unsorted at) (Some places) (Unsorted left) finds keeps is =
+    λ w. ap (λ l. kept_of js w (scope_of scope w) alias (kept (filter_view parts.filter.now) w) (map (row_in source) l)) is ∙ keeps.same w (scope_of scope w) ∙ finds w
+left_finds js scope alias parts source (Arranged at) (Some places) (Unsorted left) finds keeps is = absurd is
+left_finds js scope alias parts source (Unsorted at) (Some places) (Arranged left) finds keeps is = absurd is

@@ -1,5 +1,6 @@
 -- Places without which WHERE keeps what it keeps with them.
-use Rattle.std.specs.Prelude.{◌≡◌, ℕ, List, [], ◌∷◌, map, Bool}
+use Rattle.std.specs.Prelude.{◌≡◌, ℕ, List, [], ◌∷◌, map, Bool, Option, Some, None}
+use Rattle.std.specs.Global.{Vec}
 use Rattle.hq_base.specs.Cells.{CellTree}
 use Rattle.hq_base.specs.declared.value.Val.{Val}
 use Rattle.hq_index.specs.Grids.{rows_in}
@@ -8,7 +9,7 @@ use Rattle.hq_sql_tree.specs.Meaning.{NamedRow, Scope as Names, World, kept}
 use Rattle.hq_sql_tree.specs.Tree.{FilterTree, JoinTrees}
 use Rattle.hq_sql_rows.specs.Sources.{has_items}
 use Rattle.hq_sql_constants.specs.declared.marked.Constants.{Constants}
-use Rattle.hq_sql_scans.specs.Positions.{kept_of}
+use Rattle.hq_sql_scans.specs.Positions.{kept_of, positions_of}
 use Rattle.hq_sql_scans.specs.declared.ordered.Looked.{Looked}
 use Rattle.hq_sql_scans.specs.declared.ordered.Looked.TheVariants.{Arranged, Unsorted}
 use Rattle.hq_sql_scans.specs.declared.positions.Positions.{Positions}
@@ -31,3 +32,11 @@ has_constant s c = has_items (rows_with (columns_of s.index) (c ∷ []) (rows_in
 abbrev pub places_looked : Looked → Positions
 places_looked (Arranged positions) = positions
 places_looked (Unsorted positions) = positions
+
+-- the second places are those that are left of the first ones, in the same order
+abbrev pub IsLeft : Looked → Option (Vec ℕ) → Looked → Type 0
+IsLeft looked None again = again ≡ looked
+IsLeft (Arranged at) (Some places) (Arranged left) = positions_of left ≡ places.items
+IsLeft (Unsorted at) (Some places) (Unsorted left) = positions_of left ≡ places.items
+IsLeft (Arranged at) (Some places) (Unsorted left) = ⊥
+IsLeft (Unsorted at) (Some places) (Arranged left) = ⊥

@@ -1,12 +1,11 @@
 //! Scans without the places at whose rows WHERE is not true.
 ghost use Rattle.std.specs.Prelude.{◌≡◌, map, IfOk, IfSome, false};
 ghost use Rattle.hq_sql_constants.specs.Listed.{AsksOneOf};
-ghost use Rattle.hq_sql_constants.specs.Sifted.{KeepsSame, places_looked};
+ghost use Rattle.hq_sql_constants.specs.Sifted.{IsLeft, KeepsSame, places_looked};
 ghost use Rattle.hq_sql_rows.specs.Equations.{is_joined};
 ghost use Rattle.hq_sql_rows.specs.Lent.{rows_lent};
 ghost use Rattle.hq_sql_rows.specs.View.{row_in};
 ghost use Rattle.hq_sql_rows.specs.declared.scope.Source.TheVariants as source;
-ghost use Rattle.hq_sql_scans.specs.Ordered.{Finds};
 ghost use Rattle.hq_sql_scans.specs.Positions.{rows_at};
 ghost use Rattle.hq_sql_tree.specs.Tree.{filter as filtered, joins_of};
 ghost use Rattle.hq_sql_tree.specs.View.{filter_view, join_view, pred_view};
@@ -15,8 +14,7 @@ use crate::listed::{Listed, is_many, listed};
 use crate::marked::{constants_of, places_with};
 use hq_base::{Memory, Txt};
 use hq_sql_rows::equations::{first_named, is_joined};
-use hq_sql_rows::scope::{Scope, Source};
-use hq_sql_rows::stages::Parts;
+use hq_sql_rows::scope::Source;
 use hq_sql_rows::stored::Stored;
 use hq_sql_scans::ordered::Looked;
 use hq_sql_scans::positions::{Positions, number_of};
@@ -120,20 +118,9 @@ pub fn left_of<'s, 'd>(
 }
 
 /// The places at which a scan looks, or those that are left of them.
-pub fn with_left<'s, 'd, 'p>(
-    source: Source<'s, 'd>,
-    alias: &Txt,
-    joins: &[Join],
-    parts: Parts<'d>,
-    scope: &Scope<'_, 'd>,
-    looked: Looked<'p>,
-    left: &'p Option<Vec<u32>>,
-) -> Looked<'p>
-    requires finds { Finds (joins_of (map join_view joins.now)) scope.now alias.now parts source looked }
-    requires left { IfSome left.now (λ places. KeepsSame (joins_of (map join_view joins.now)) alias.now (filter_view parts.filter.now) (map (row_in source) places.items) (rows_at source (places_looked looked))) }
-    ensures { Finds (joins_of (map join_view joins.now)) scope.now alias.now parts.entry source.entry result }
+pub fn with_left<'p>(looked: Looked<'p>, left: &'p Option<Vec<u32>>) -> Looked<'p>
+    ensures { IsLeft looked.entry left.now result }
 {
-    let _ = (source, alias, joins, parts, scope);
     match left {
         None => looked,
         Some(places) => match looked {

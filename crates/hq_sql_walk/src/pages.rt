@@ -54,7 +54,7 @@ pub fn page<'s, 'd>(
     )?;
     let filter = parts.filter;
     let left = left_of(alloc, source, alias, joins, filter, looked)?;
-    let asked = with_left(source, alias, joins, parts, &*scope, looked, &left);
+    let asked = with_left(looked, &left);
     match asked {
         Looked::Arranged(at) => page_front(
             alloc, source, alias, joins, stages, filter, at, limit, offset, world, scope,
