@@ -159,7 +159,8 @@ module _ (k : TrackedTree) (columns : List Column) (apart : differ columns ≡ t
     name_by i c false at e =
         let unshown = at_numbered (λ d. is_shown k d ≡ false → slice_index_or k.column_names d [] ≡ name_at columns d) 0 columns own i c at in
         let same : 0 + i ≡ i = omega arith in
-        sym (rw same at unshown e ∙ ap name_in at)
+        let own_here = subst (λ n. is_shown k n ≡ false → slice_index_or k.column_names n [] ≡ name_at columns n) same unshown in
+        sym (own_here e ∙ ap name_in at)
 
     -- the name that is read of a column
     name_back : (i : ℕ) (c : Column) → slice_get columns i ≡ Some c → column_name_of (Some (in_name_order (object (column_configs k columns)))) None c ≡ slice_index_or k.column_names i []

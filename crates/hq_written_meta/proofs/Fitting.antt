@@ -1,5 +1,5 @@
 -- What a metadata that fits a catalog has, part by part.
-use Rattle.std.proofs.Common.{◌≡◌, ◌∙◌, ℕ, zero, suc, ◌==◌, nat_lt, ◌&&◌, List, [], ◌∷◌, length, Bool, true, false, not, Option, Some, None, slice_get, slice_index_or, is_some, option_map, bytes_eq, refl, sym, ap, subst}
+use Rattle.std.proofs.Common.{◌≡◌, ◌∙◌, ℕ, zero, suc, ◌==◌, nat_lt, ◌&&◌, List, [], ◌∷◌, length, Bool, true, false, not, Option, Some, None, slice_get, slice_index_or, is_some, option_map, bytes_eq, refl, sym, ap, ap₂, subst}
 use Rattle.std.specs.List.{list_all}
 use Rattle.std.proofs.lemmas.Bool.{and_parts}
 use Rattle.std.proofs.lemmas.Bool.Decides.{Decides-eqb}
@@ -10,7 +10,7 @@ use Rattle.hq_terms.specs.Filters.{column_ty}
 use Rattle.hq_terms.specs.Fits.{fits_rel, objects_first, limit_fits, fits_perm, are_free_roots, fits_tracked}
 use Rattle.hq_terms.specs.Meta.{PermTree, TrackedTree, MetaTree, tracked_table}
 use Rattle.hq_terms.specs.Names.{is_admin_name, is_free_name}
-use Rattle.hq_terms.specs.Schema.{Schema, numbered, schema_of, schema_table, table}
+use Rattle.hq_terms.specs.Schema.{Schema, SchemaTable, numbered, schema_of, schema_table, table}
 use Rattle.hq_terms.specs.declared.meta.Pair.{Pair}
 use Rattle.hq_terms.specs.declared.meta.Rel.{Rel}
 use Rattle.hq_terms.specs.declared.table.Column.{Column}
@@ -27,8 +27,8 @@ use Rattle.hq_written_meta.proofs.Lists.{below}
 same_columns : (tables : List Table) (m : MetaTree) (t : ℕ) → (table (schema_of tables m) t).columns ≡ columns_of tables t
 same_columns tables m t =
     let go : (o : Option Table) → slice_get tables t ≡ o → (table (schema_of tables m) t).columns ≡ columns_in o = elim [
-      | Some u ↦ λ e. ap (λ v. v.columns) (table_present tables m t u e)
-      | None ↦ λ e. ap (λ v. v.columns) (table_absent tables m t e)
+      | Some u ↦ λ e. ap (λ (v : SchemaTable). v.columns) (table_present tables m t u e)
+      | None ↦ λ e. ap (λ (v : SchemaTable). v.columns) (table_absent tables m t e)
     ] in
     go (slice_get tables t) refl
 
@@ -38,7 +38,7 @@ same_type (Some c) = refl
 
 -- the type of a column, by the catalog
 type_in : (tables : List Table) (m : MetaTree) (t c : ℕ) → column_ty (schema_of tables m) t c ≡ type_of (slice_get (columns_of tables t) c)
-type_in tables m t c = ap (λ cs. option_map (λ d. d.ty) (slice_get cs c)) (same_columns tables m t) ∙ same_type (slice_get (columns_of tables t) c)
+type_in tables m t c = ap (λ (cs : List Column). option_map (λ (d : Column). d.ty) (slice_get cs c)) (same_columns tables m t) ∙ same_type (slice_get (columns_of tables t) c)
 
 typed_place : (columns : List Column) (c : ℕ) (o : Option Column) → slice_get columns c ≡ o → is_some (type_of o) ≡ true → IsPlace columns c
 typed_place columns c None e h = cc
@@ -80,7 +80,7 @@ pairs_there : (tables : List Table) (m : MetaTree) (t u : ℕ) (ps : List Pair) 
 pairs_there tables m t u [] h = tt
 pairs_there tables m t u (p ∷ ps) h =
     let parts = and_parts _ _ h in
-    (pair_there (columns_of tables t) (columns_of tables u) p (rw (sym (type_in tables m t p.own), sym (type_in tables m u p.remote)) parts.0), pairs_there tables m t u ps parts.1)
+    (pair_there (columns_of tables t) (columns_of tables u) p (ap₂ can_pair (sym (type_in tables m t p.own)) (sym (type_in tables m u p.remote)) ∙ parts.0), pairs_there tables m t u ps parts.1)
 
 -- a relationship that fits
 pub record IsRel (tables : List Table) (m : MetaTree) (t : ℕ) (r : Rel) : Type 0 where

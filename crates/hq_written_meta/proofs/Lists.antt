@@ -1,5 +1,5 @@
 -- Lists: items that are read one after another, look-ups, and items with their places.
-use Rattle.std.proofs.Common.{◌≡◌, ◌∙◌, ℕ, zero, suc, ◌+◌, ◌<◌, ◌≤◌, ◌==◌, nat_lt, ◌&&◌, ◌||◌, List, [], ◌∷◌, ◌++◌, length, map, filter, flat_map, Bool, true, false, cond, not, Option, Some, None, Result, Ok, Err, slice_get, slice_index_or, zip, is_some, find, bytes_eq, refl, sym, ap, subst, arith, append_assoc, append-nil, eq-eqb, ltb-true, ne_eqb, is_gt}
+use Rattle.std.proofs.Common.{◌≡◌, ◌∙◌, ℕ, zero, suc, ◌+◌, ◌<◌, ◌≤◌, ◌==◌, nat_lt, ◌&&◌, ◌||◌, List, [], ◌∷◌, ◌++◌, length, map, filter, flat_map, Bool, true, false, cond, not, Option, Some, None, Result, Ok, Err, slice_get, slice_index_or, zip, is_some, find, bytes_eq, refl, sym, ap, subst, arith, append_assoc, append-nil, eq-eqb, lt-ltb, ltb-true, ne_eqb, is_gt}
 use Rattle.std.specs.List.{list_all, list_any}
 use Rattle.std.specs.Map.{lookup}
 use Rattle.std.specs.Cmp.Lexicographic.{bytes_decides}
@@ -76,7 +76,7 @@ map_places f d (x ∷ xs) (y ∷ ys) same h = rw (h 0 x refl, map_places f d xs 
 pub below : {A : Type 0} (xs : List A) (k : ℕ) → nat_lt k (length xs) ≡ true → (x : A) × (slice_get xs k ≡ Some x)
 below [] k h = let lt = ltb-true k 0 h in absurd (omega (arith, lt))
 below (x ∷ xs) zero h = (x, refl)
-below (x ∷ xs) (suc k) h = below xs k h
+below (x ∷ xs) (suc k) h = below xs k (lt-ltb k (length xs) (omega (arith, ltb-true (suc k) (suc (length xs)) h)))
 
 -- ---- items with their places
 

@@ -7,7 +7,7 @@ use Rattle.hq_base.specs.Json.{JsonTree, str, bool, int, elements_of}
 use Rattle.hq_base.specs.Lists.{Each, all_differ}
 use Rattle.hq_base.specs.Look.{element_list}
 use Rattle.hq_filter_read.specs.Filter.{filter_due}
-use Rattle.hq_terms.specs.Bexp.{always}
+use Rattle.hq_terms.specs.Bexp.{always, conjunction}
 use Rattle.hq_terms.specs.Fits.{limit_fits}
 use Rattle.hq_terms.specs.Meta.{PermTree, TrackedTree, MetaTree}
 use Rattle.hq_terms.specs.Names.{is_admin_name}
@@ -45,7 +45,7 @@ permission_back : (tables : List Table) (m : MetaTree) (t : ℕ) (role path : Li
     → chosen cols (columns_of tables t) ≡ cols → limit_fits limit ≡ true
     → permission_at tables m t role path (in_name_order (permission_json (columns_of tables t) (record { role = role; cols = cols; filter = always; limit = limit; aggregations = aggregations })))
     ≡ Ok (record { role = role; cols = cols; filter = always; limit = limit; aggregations = aggregations })
-unfolding permission_at member_at field_name
+unfolding permission_at member_at field_name conjunction
 permission_back tables m t role path cols None aggregations h there ordered fit = rw (shown_back (columns_of tables t) (at path field.Columns) cols h there ordered) refl
 permission_back tables m t role path cols (Some n) aggregations h there ordered fit = rw (shown_back (columns_of tables t) (at path field.Columns) cols h there ordered, fit) refl
 

@@ -34,7 +34,7 @@ pub record IsPlainPerm (columns : List Column) (p : PermTree) : Type 0 where
 pub record IsPlainTable (tables : List Table) (k : TrackedTree) : Type 0 where
   pub named : is_table_name k.name ≡ true
   pub own : Each (λ c. is_shown k c ≡ false → slice_index_or k.column_names c [] ≡ name_at (columns_of tables k.table) c) (all_columns (columns_of tables k.table))
-  pub rels : Each (λ r. IsPlainRel (columns_of tables k.table) (columns_of tables r.remote) r) k.rels
+  pub rels : Each (λ (r : Rel). IsPlainRel (columns_of tables k.table) (columns_of tables r.remote) r) k.rels
   pub perms : Each (IsPlainPerm (columns_of tables k.table)) k.perms
   pub clean : (is_clean k.name && list_all is_clean k.column_names) ≡ true
   pub roots : (is_clean k.roots.select && is_clean k.roots.select_by_pk && is_clean k.roots.select_aggregate) ≡ true
