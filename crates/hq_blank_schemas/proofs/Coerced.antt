@@ -37,7 +37,7 @@ same_leaf_by s t _ j = same_enum s t j
 
 same_leaf : (s : SchemaTree) (t : ℕ) (j : JsonTree) → leaf_value (blank s) t j ≡ leaf_value s t j
 same_leaf s t j =
-    ap (option_and_then (λ d. leaf_by (blank s) t d.origin j)) (blank_at s t)
+    ap (option_and_then (λ (d : TypeTree). leaf_by (blank s) t d.origin j)) (blank_at s t)
     ∙ and_same blank_type (λ d. leaf_by (blank s) t d.origin j) (λ d. leaf_by s t d.origin j) (λ d. same_leaf_by s t d.origin j) (type_at s t)
 
 blank_inputs : (o : Option TypeTree) → inputs_in (option_map blank_type o) ≡ map blank_arg (inputs_in o)
@@ -74,7 +74,7 @@ mutual
   same_members s no_member t = refl
   same_members s (member name j ms) t =
       let value : option_and_then (λ a. coerced (blank s) j a.ty) (input_field_of (blank s) t name) ≡ option_and_then (λ a. coerced s j a.ty) (input_field_of s t name) =
-      ap (option_and_then (λ a. coerced (blank s) j a.ty)) (blank_input_of s t name)
+      ap (option_and_then (λ (a : ArgTree). coerced (blank s) j a.ty)) (blank_input_of s t name)
       ∙ and_same blank_arg (λ a. coerced (blank s) j a.ty) (λ a. coerced s j a.ty) (λ a. same_coerced s j a.ty) (input_field_of s t name) in
       ap₂ (λ (o : Option JsonTree) (os : Option (List (List ℕ × JsonTree))). option_and_then (λ x. option_map (λ xs. (name, x) ∷ xs) os) o) value (same_members s ms t)
 
@@ -90,7 +90,7 @@ any_alike p q same (x ∷ xs) = rw (same x, any_alike p q same xs) refl
 
 same_required_at : (parts : List PartTree) (place : ℕ) → required_at (map blank_part parts) place ≡ required_at parts place
 same_required_at parts place =
-    ap (λ l. slice_index_or l place []) (map_twice (λ p. required_names p.nodes) blank_part (λ p. required_names p.nodes) (λ p. filter_map_map required_of required_of blank_node same_required_of p.nodes) parts)
+    ap (λ l. slice_index_or l place []) (map_twice (λ (p : PartTree). required_names p.nodes) blank_part (λ p. required_names p.nodes) (λ p. filter_map_map required_of required_of blank_node same_required_of p.nodes) parts)
 
 pub same_required : (s : SchemaTree) (d : DocumentTree) (operation : ℕ) (name : List ℕ) → is_required (blank s) d operation name ≡ is_required s d operation name
 same_required s d operation name =

@@ -2,7 +2,7 @@
 use Rattle.std.proofs.Common.{◌≡◌, ◌∙◌, ℕ, ◌==◌, List, map, Bool, true, false, cond, not, Option, Some, None, option_map, option_and_then, bytes_eq, refl, sym, ap}
 use Rattle.std.specs.Option.{option_or, option_map_or}
 use Rattle.hq_schema.specs.Look.{type_named, type_at, arg_in, field_in, field_of, input_field_of}
-use Rattle.hq_schema.specs.Schema.{TypeRefTree, named, list_of, non_null, base, ArgTree, FieldTree, SchemaTree}
+use Rattle.hq_schema.specs.Schema.{TypeRefTree, named, list_of, non_null, base, ArgTree, FieldTree, TypeTree as TypeDef, SchemaTree}
 use Rattle.hq_gql_tree.specs.declared.document.OpKind.{OpKind}
 use Rattle.hq_gql_tree.specs.declared.document.OpKind.TheVariants as op
 use Rattle.hq_gql_tree.specs.declared.selection.TypeCond.{TypeCond}
@@ -16,16 +16,16 @@ use Rattle.hq_blank_schemas.proofs.Looks.{blank_named, blank_at, blank_arg_in, b
 
 pub same_object : (s : SchemaTree) (t : ℕ) → object_at (blank s) t ≡ object_at s t
 same_object s t =
-    ap (option_and_then (λ d. cond (is_object d.kind) (Some t) None)) (blank_at s t)
+    ap (option_and_then (λ (d : TypeDef). cond (is_object d.kind) (Some t) None)) (blank_at s t)
     ∙ and_same blank_type (λ d. cond (is_object d.kind) (Some t) None) (λ d. cond (is_object d.kind) (Some t) None) (λ d. refl) (type_at s t)
 
 pub same_input : (s : SchemaTree) (t : ℕ) → input_at (blank s) t ≡ input_at s t
 same_input s t =
-    ap (option_and_then (λ d. cond (is_input d.kind) (Some t) None)) (blank_at s t)
+    ap (option_and_then (λ (d : TypeDef). cond (is_input d.kind) (Some t) None)) (blank_at s t)
     ∙ and_same blank_type (λ d. cond (is_input d.kind) (Some t) None) (λ d. cond (is_input d.kind) (Some t) None) (λ d. refl) (type_at s t)
 
 pub same_input_of : (s : SchemaTree) (place : Option PlaceTree) → input_of (blank s) place ≡ input_of s place
-same_input_of s place = and_alike (λ p. input_at (blank s) (base p.ty)) (λ p. input_at s (base p.ty)) (λ p. same_input s (base p.ty)) place
+same_input_of s place = and_alike (λ (p : PlaceTree). input_at (blank s) (base p.ty)) (λ p. input_at s (base p.ty)) (λ p. same_input s (base p.ty)) place
 
 pub same_member : (s : SchemaTree) (input : Option ℕ) (name : List ℕ) → member_place (blank s) input name ≡ member_place s input name
 same_member s input name =
@@ -55,13 +55,13 @@ blank_known s parent name =
 
 pub blank_args_of : (s : SchemaTree) (parent : Option ℕ) (name : List ℕ) → args_of_field (blank s) parent name ≡ blank_args (args_of_field s parent name)
 blank_args_of s parent name =
-    ap (option_map (λ f. f.args)) (blank_known s parent name)
+    ap (option_map (λ (f : FieldTree). f.args)) (blank_known s parent name)
     ∙ maps_alike blank_field (λ f. f.args) (λ f. map blank_arg f.args) (λ f. refl) (known_field s parent name)
     ∙ sym (maps_alike (λ (f : FieldTree). f.args) (map blank_arg) (λ f. map blank_arg f.args) (λ f. refl) (known_field s parent name))
 
 pub same_below : (s : SchemaTree) (parent : Option ℕ) (name : List ℕ) → below_field (blank s) parent name ≡ below_field s parent name
 same_below s parent name =
-    ap (option_and_then (λ f. object_at (blank s) (base f.ty))) (blank_known s parent name)
+    ap (option_and_then (λ (f : FieldTree). object_at (blank s) (base f.ty))) (blank_known s parent name)
     ∙ and_same blank_field (λ f. object_at (blank s) (base f.ty)) (λ f. object_at s (base f.ty)) (λ f. same_object s (base f.ty)) (known_field s parent name)
 
 pub blank_args_of_directive : (s : SchemaTree) (name : List ℕ) → args_of_directive (blank s) name ≡ blank_args (args_of_directive s name)
@@ -88,10 +88,13 @@ same_resolved s (written.non_null at of) = ap (option_map non_null) (same_resolv
 
 pub same_input_type : (s : SchemaTree) (r : TypeRefTree) → is_input_type (blank s) r ≡ is_input_type s r
 same_input_type s r =
-    ap (λ o. option_map_or (λ d. not (is_object d.kind)) o false) (blank_at s (base r))
+    ap (λ (o : Option TypeDef). option_map_or (λ (d : TypeDef). not (is_object d.kind)) o false) (blank_at s (base r))
     ∙ map_or_same blank_type (λ d. not (is_object d.kind)) (λ d. not (is_object d.kind)) false (λ d. refl) (type_at s (base r))
+
+-- the place of a default of a type
+abbrev placed : TypeRefTree → PlaceTree
+placed r = record { ty = r; default_false = false }
 
 pub same_default : (s : SchemaTree) (ty : Option TypeRefTree) → default_place (blank s) ty ≡ default_place s ty
 same_default s ty =
-    and_alike (λ r. cond (is_input_type (blank s) r) (Some (record { ty = r; default_false = false })) None) (λ r. cond (is_input_type s r) (Some (record { ty = r; default_false = false })) None)
-    (λ r. ap (λ b. cond b (Some (record { ty = r; default_false = false })) None) (same_input_type s r)) ty
+    and_alike (λ r. cond (is_input_type (blank s) r) (Some (placed r)) None) (λ r. cond (is_input_type s r) (Some (placed r)) None) (λ r. ap (λ b. cond b (Some (placed r)) None) (same_input_type s r)) ty

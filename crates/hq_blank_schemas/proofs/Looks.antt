@@ -19,15 +19,15 @@ blank_field_in fields name = find_map (λ (f : FieldTree). bytes_eq f.name name)
 
 pub blank_field_of : (s : SchemaTree) (t : ℕ) (name : List ℕ) → field_of (blank s) t name ≡ option_map blank_field (field_of s t name)
 blank_field_of s t name =
-    ap (option_and_then (λ d. field_in d.fields name)) (blank_at s t)
+    ap (option_and_then (λ (d : TypeTree). field_in d.fields name)) (blank_at s t)
     ∙ and_map blank_type blank_field (λ d. field_in d.fields name) (λ d. field_in d.fields name) (λ d. blank_field_in d.fields name) (type_at s t)
 
 pub blank_input_of : (s : SchemaTree) (t : ℕ) (name : List ℕ) → input_field_of (blank s) t name ≡ option_map blank_arg (input_field_of s t name)
 blank_input_of s t name =
-    ap (option_and_then (λ d. arg_in d.inputs name)) (blank_at s t)
+    ap (option_and_then (λ (d : TypeTree). arg_in d.inputs name)) (blank_at s t)
     ∙ and_map blank_type blank_arg (λ d. arg_in d.inputs name) (λ d. arg_in d.inputs name) (λ d. blank_arg_in d.inputs name) (type_at s t)
 
 pub blank_enum : (s : SchemaTree) (t : ℕ) (name : List ℕ) → enum_value_of (blank s) t name ≡ enum_value_of s t name
 blank_enum s t name =
-    ap (option_and_then (λ d. position (λ v. bytes_eq v name) d.values)) (blank_at s t)
+    ap (option_and_then (λ (d : TypeTree). position (λ v. bytes_eq v name) d.values)) (blank_at s t)
     ∙ and_same blank_type (λ d. position (λ v. bytes_eq v name) d.values) (λ d. position (λ v. bytes_eq v name) d.values) (λ d. refl) (type_at s t)

@@ -31,7 +31,7 @@ same_target places _ = refl
 
 pub same_graph : (places : Places) (parts : List PartTree) → graph_of places (map blank_part parts) ≡ graph_of places parts
 same_graph places parts =
-    map_twice (λ p. spread_targets places p.nodes) blank_part (λ p. spread_targets places p.nodes) (λ p. filter_map_map (spread_target places) (spread_target places) blank_node (same_target places) p.nodes) parts
+    map_twice (λ (p : PartTree). spread_targets places p.nodes) blank_part (λ p. spread_targets places p.nodes) (λ p. filter_map_map (spread_target places) (spread_target places) blank_node (same_target places) p.nodes) parts
 
 same_spread : (name : List ℕ) (n : NodeTree) → spreads name (blank_node n) ≡ spreads name n
 same_spread name (spread_node x parent) = refl
@@ -39,7 +39,7 @@ same_spread name _ = refl
 
 same_is_spread : (parts : List PartTree) (name : List ℕ) → is_spread (map blank_part parts) name ≡ is_spread parts name
 same_is_spread parts name =
-    any_map (λ p. list_any (spreads name) p.nodes) (λ p. list_any (spreads name) p.nodes) blank_part (λ p. any_map (spreads name) (spreads name) blank_node (same_spread name) p.nodes) parts
+    any_map (λ (p : PartTree). list_any (spreads name) p.nodes) (λ p. list_any (spreads name) p.nodes) blank_part (λ p. any_map (spreads name) (spreads name) blank_node (same_spread name) p.nodes) parts
 
 same_unused : (parts : List PartTree) (x : DefinitionTree) → unused_by (is_spread (map blank_part parts)) x ≡ unused_by (is_spread parts) x
 same_unused parts (operation o) = refl
@@ -53,13 +53,13 @@ same_use (value_node v place) = refl
 same_use _ = refl
 
 pub same_uses : (parts : List PartTree) → all_uses (map blank_part parts) ≡ all_uses parts
-same_uses parts = map_twice (λ p. uses_of p.nodes) blank_part (λ p. uses_of p.nodes) (λ p. filter_map_map use_of use_of blank_node same_use p.nodes) parts
+same_uses parts = map_twice (λ (p : PartTree). uses_of p.nodes) blank_part (λ p. uses_of p.nodes) (λ p. filter_map_map use_of use_of blank_node same_use p.nodes) parts
 
 -- ---- uses of variables
 
 same_wrong : (s : SchemaTree) (vars : List VarDefTree) (u : UseTree (List ℕ)) → wrong_use (blank s) vars (variable_named vars) u ≡ wrong_use s vars (variable_named vars) u
 same_wrong s vars u =
-    and_alike (λ v. at_if (is_wrong_type (resolved (blank s) v.ty) (has_default v.default) u.place) u.at) (λ v. at_if (is_wrong_type (resolved s v.ty) (has_default v.default) u.place) u.at)
+    and_alike (λ (v : VarDefTree). at_if (is_wrong_type (resolved (blank s) v.ty) (has_default v.default) u.place) u.at) (λ v. at_if (is_wrong_type (resolved s v.ty) (has_default v.default) u.place) u.at)
     (λ v. ap (λ ty. at_if (is_wrong_type ty (has_default v.default) u.place) u.at) (same_resolved s v.ty)) (option_and_then (slice_get vars) (variable_named vars u.name))
 
 same_wrong_in : (s : SchemaTree) (all : List (List (UseTree (List ℕ)))) (vars : List VarDefTree) (definitions : List ℕ) → wrong_in (blank s) all vars definitions ≡ wrong_in s all vars definitions
@@ -83,7 +83,7 @@ same_positions s g all d =
 -- ---- rules at one node
 
 same_condition : (s : SchemaTree) (c : Option TypeCond) → type_of_condition (blank s) c ≡ type_of_condition s c
-same_condition s c = and_alike (λ x. object_named (blank s) x.name) (λ x. object_named s x.name) (λ x. same_object_named s x.name) c
+same_condition s c = and_alike (λ (x : TypeCond). object_named (blank s) x.name) (λ x. object_named s x.name) (λ x. same_object_named s x.name) c
 
 same_fragment : (s : SchemaTree) (d : DocumentTree) (places : Places) (name : List ℕ) → type_of_fragment (blank s) d places name ≡ type_of_fragment s d places name
 same_fragment s d places name = same_condition s (option_and_then condition_of (option_and_then (slice_get d) (places name)))
@@ -123,5 +123,5 @@ same_node rule.VariablesAreInputTypes s d places n = same_input_types s n
 -- a rule over a document
 pub same_rule : (r : NodeRule) (s : SchemaTree) (d : DocumentTree) (places : Places) (parts : List PartTree) → rule_place r (blank s) d places (map blank_part parts) ≡ rule_place r s d places parts
 same_rule r s d places parts =
-    least_map (λ p. least_of (node_place r (blank s) d places) p.nodes) (λ p. least_of (node_place r s d places) p.nodes) blank_part
+    least_map (λ (p : PartTree). least_of (node_place r (blank s) d places) p.nodes) (λ p. least_of (node_place r s d places) p.nodes) blank_part
     (λ p. least_map (node_place r (blank s) d places) (node_place r s d places) blank_node (same_node r s d places) p.nodes) parts

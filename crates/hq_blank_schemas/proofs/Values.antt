@@ -41,7 +41,7 @@ same_leaf s t _ v = same_enum s t v
 
 same_leaf_takes : (s : SchemaTree) (t : ℕ) (v : ValueTree) → leaf_takes (blank s) t v ≡ leaf_takes s t v
 same_leaf_takes s t v =
-    ap (λ o. option_map_or (λ d. leaf_by (blank s) t d.origin v) o false) (blank_at s t)
+    ap (λ (o : Option TypeTree). option_map_or (λ (d : TypeTree). leaf_by (blank s) t d.origin v) o false) (blank_at s t)
     ∙ map_or_same blank_type (λ d. leaf_by (blank s) t d.origin v) (λ d. leaf_by s t d.origin v) false (λ d. same_leaf s t d.origin v) (type_at s t)
 
 same_takes : (s : SchemaTree) (r : TypeRefTree) (v : ValueTree) → takes (blank s) r v ≡ takes s r v
@@ -64,7 +64,7 @@ same_correct s _ = refl
 same_leafs : (s : SchemaTree) (n : NodeTree) → scalar_leafs (blank s) (blank_node n) ≡ scalar_leafs s n
 same_leafs s (field_node h below parent) =
     ap (λ b. at_if b h.at)
-    (ap (λ o. option_map_or (λ f. is_wrong_leaf (is_some (object_at (blank s) (base f.ty))) (has_selections below)) o false) (blank_known s parent h.name)
+    (ap (λ (o : Option FieldTree). option_map_or (λ (f : FieldTree). is_wrong_leaf (is_some (object_at (blank s) (base f.ty))) (has_selections below)) o false) (blank_known s parent h.name)
     ∙ map_or_same blank_field (λ f. is_wrong_leaf (is_some (object_at (blank s) (base f.ty))) (has_selections below)) (λ f. is_wrong_leaf (is_some (object_at s (base f.ty))) (has_selections below)) false
     (λ f. ap (λ o. is_wrong_leaf (is_some o) (has_selections below)) (same_object s (base f.ty))) (known_field s parent h.name))
 same_leafs s _ = refl
@@ -132,4 +132,4 @@ same_node rule.RequiredInputFields s n = same_required s n
 -- a rule over a document
 pub same_rule : (r : NodeRule) (s : SchemaTree) (parts : List PartTree) → rule_place r (blank s) (map blank_part parts) ≡ rule_place r s parts
 same_rule r s parts =
-    least_map (λ p. least_of (node_place r (blank s)) p.nodes) (λ p. least_of (node_place r s) p.nodes) blank_part (λ p. least_map (node_place r (blank s)) (node_place r s) blank_node (same_node r s) p.nodes) parts
+    least_map (λ (p : PartTree). least_of (node_place r (blank s)) p.nodes) (λ p. least_of (node_place r s) p.nodes) blank_part (λ p. least_map (node_place r (blank s)) (node_place r s) blank_node (same_node r s) p.nodes) parts

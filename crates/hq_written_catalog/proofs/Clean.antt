@@ -93,8 +93,10 @@ foreign_readable tables t f all own =
     let remote = ref_clean o (λ u e. at_each (λ (v : Table). clean_table v ≡ true) tables (each_true clean_table tables all) f.remote u e) in
     object_readable 1 (foreign_members tables t f) foreign_names (
       texts_readable 0 (map (name_at t.columns) f.columns) (names_clean t.columns f.columns own),
-      (object_readable 0 (table_ref_members o) ref_names (text_readable 0 (schema_in o) remote.0, (text_readable 0 (table_name_in o) remote.1, tt)),
-      (texts_readable 0 (map (name_at (columns_in o)) f.references) (names_clean (columns_in o) f.references remote.2), tt))
+      (
+        object_readable 0 (table_ref_members o) ref_names (text_readable 0 (schema_in o) remote.0, (text_readable 0 (table_name_in o) remote.1, tt)),
+        (texts_readable 0 (map (name_at (columns_in o)) f.references) (names_clean (columns_in o) f.references remote.2), tt),
+      ),
     )
 
 foreign_all : (tables : List Table) (t : Table) (fs : List ForeignKey) → list_all clean_table tables ≡ true → CleanColumns t.columns → Each (λ f. Readable 2 (foreign_json tables t f)) fs
@@ -110,10 +112,16 @@ table_readable tables t all h =
     let q = and_parts _ _ p.0 in
     object_readable 3 (table_members tables t) table_names (
       text_readable 3 t.schema q.0,
-      (text_readable 3 t.name q.1,
-      (deeper 2 (list (map column_json t.columns)) (map_readable 1 column_json t.columns (columns_readable t.columns p.1)),
-      (deeper 2 (texts (map (name_at t.columns) t.key)) (deeper 1 (texts (map (name_at t.columns) t.key)) (texts_readable 0 (map (name_at t.columns) t.key) (names_clean t.columns t.key p.1))),
-      (map_readable 2 (foreign_json tables t) t.foreign (foreign_all tables t t.foreign all p.1), tt))))
+      (
+        text_readable 3 t.name q.1,
+        (
+          deeper 2 (list (map column_json t.columns)) (map_readable 1 column_json t.columns (columns_readable t.columns p.1)),
+          (
+            deeper 2 (texts (map (name_at t.columns) t.key)) (deeper 1 (texts (map (name_at t.columns) t.key)) (texts_readable 0 (map (name_at t.columns) t.key) (names_clean t.columns t.key p.1))),
+            (map_readable 2 (foreign_json tables t) t.foreign (foreign_all tables t t.foreign all p.1), tt),
+          ),
+        ),
+      ),
     )
 
 tables_readable : (tables ts : List Table) → list_all clean_table tables ≡ true → list_all clean_table ts ≡ true → Each (λ t. Readable 4 (table_json tables t)) ts

@@ -150,10 +150,12 @@ module _ (k : TrackedTree) (columns : List Column) (apart : differ columns ≡ t
       let p = and_parts _ _ roots in
       let q = and_parts _ _ p.0 in
       object_readable 2 (configuration_members k columns) configuration_names (
-      text_readable 2 k.name named,
-      (configs_readable,
-      (object_readable 1 (roots_members k.roots) roots_names (text_readable 1 k.roots.select q.0, (text_readable 1 k.roots.select_by_pk q.1, (text_readable 1 k.roots.select_aggregate p.1, tt))), tt))
-    )
+        text_readable 2 k.name named,
+        (
+          configs_readable,
+          (object_readable 1 (roots_members k.roots) roots_names (text_readable 1 k.roots.select q.0, (text_readable 1 k.roots.select_by_pk q.1, (text_readable 1 k.roots.select_aggregate p.1, tt))), tt),
+        ),
+      )
 
 -- ---- relationships
 
@@ -207,10 +209,16 @@ tracked_readable tables k all apart perms plain =
     let perms_all = each_both (IsPerm tables k.table) (IsPlainPerm columns) (λ q. Readable 3 (perm_json columns q)) (λ q a b. perm_readable columns q own.2 a.limit b.clean) k.perms perms plain.perms in
     object_readable 5 (tracked_members tables k) tracked_names (
       deeper 1 5 (table_ref (slice_get tables k.table)) (omega arith) (ref_readable 0 (slice_get tables k.table) own.0 own.1),
-      (deeper 3 5 (configuration_json k columns) (omega arith) (configuration_readable k columns apart own.2 p.1 p.0 plain.roots),
-      (map_readable 4 (rel_json tables columns) (filter (λ r. not r.many) k.rels) (each_filter (λ r. Readable 4 (rel_json tables columns r)) (λ r. not r.many) k.rels rels),
-      (map_readable 4 (rel_json tables columns) (filter (λ r. r.many) k.rels) (each_filter (λ r. Readable 4 (rel_json tables columns r)) (λ r. r.many) k.rels rels),
-      (deeper 4 5 (list (map (perm_json columns) k.perms)) (omega arith) (map_readable 3 (perm_json columns) k.perms perms_all), tt))))
+      (
+        deeper 3 5 (configuration_json k columns) (omega arith) (configuration_readable k columns apart own.2 p.1 p.0 plain.roots),
+        (
+          map_readable 4 (rel_json tables columns) (filter (λ r. not r.many) k.rels) (each_filter (λ r. Readable 4 (rel_json tables columns r)) (λ r. not r.many) k.rels rels),
+          (
+            map_readable 4 (rel_json tables columns) (filter (λ r. r.many) k.rels) (each_filter (λ r. Readable 4 (rel_json tables columns r)) (λ r. r.many) k.rels rels),
+            (deeper 4 5 (list (map (perm_json columns) k.perms)) (omega arith) (map_readable 3 (perm_json columns) k.perms perms_all), tt),
+          ),
+        ),
+      ),
     )
 
 -- what is needed of an entry

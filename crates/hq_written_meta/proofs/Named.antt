@@ -94,7 +94,7 @@ pub all_tracked : (tables : List Table) (m : MetaTree) (ks : List TrackedTree) (
 all_tracked tables m ks path h apart entries plain once =
     let Good : TrackedTree → Type 0 = λ k. (differ (columns_of tables k.table) ≡ true) × IsEntry tables m k × IsPlainTable tables k in
     let good : Each Good ks = each_both (λ (k : TrackedTree). differ (columns_of tables k.table) ≡ true) (λ k. IsEntry tables m k × IsPlainTable tables k) Good (λ k a b. (a, b.0, b.1)) ks apart
-        (each_both (IsEntry tables m) (IsPlainTable tables) (λ k. IsEntry tables m k × IsPlainTable tables k) (λ k a b. (a, b)) ks entries plain) in
+    (each_both (IsEntry tables m) (IsPlainTable tables) (λ k. IsEntry tables m k × IsPlainTable tables k) (λ k a b. (a, b)) ks entries plain) in
     let new = differ_after (λ (j k : TrackedTree). j.table == k.table) bare [] ks (differ_map (λ (j k : TrackedTree). j.table == k.table) bare ks ∙ once) in
     after_back (tracked_at tables) (λ k. in_name_order (tracked_json tables k)) bare path 0 [] ks
     (after_both (λ (done : List TrackedTree). Good) (λ (done : List TrackedTree) (k : TrackedTree). list_any (λ (j : TrackedTree). j.table == k.table) done ≡ false) (λ (done : List TrackedTree) (k : TrackedTree). (p : List ℕ) → tracked_at tables done p (in_name_order (tracked_json tables k)) ≡ Ok (bare k)) bare

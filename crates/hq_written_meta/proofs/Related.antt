@@ -125,7 +125,7 @@ in_two : (rs : List Rel) → objects_first rs ≡ true → filter (λ r. not r.m
 in_two [] h = refl
 in_two (r ∷ rs) h =
     let go : (b : Bool) → cond b (list_all (λ q. q.many) rs) (objects_first rs) ≡ true
-        → cond (not b) (r ∷ filter (λ q. not q.many) rs) (filter (λ q. not q.many) rs) ++ cond b (r ∷ filter (λ q. q.many) rs) (filter (λ q. q.many) rs) ≡ r ∷ rs =
+    → cond (not b) (r ∷ filter (λ q. not q.many) rs) (filter (λ q. not q.many) rs) ++ cond b (r ∷ filter (λ q. q.many) rs) (filter (λ q. q.many) rs) ≡ r ∷ rs =
     elim [ true ↦ λ e. rw (no_objects rs e, all_arrays rs e) refl | false ↦ λ e. ap (λ l. r ∷ l) (in_two rs e) ] in
     go r.many h
 

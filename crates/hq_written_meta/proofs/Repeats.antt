@@ -99,9 +99,10 @@ all_rels_added m path own rs h =
     let whole : objects_of rs ++ arrays_of rs ≡ rs = take-append-drop (object_count rs) rs in
     let both : grown m (grown m own (objects_of rs)) (arrays_of rs) ≡ grown m own rs = twice_grown m own (objects_of rs) (arrays_of rs) ∙ ap (grown m own) whole in
     let all : Differ (grown m (grown m own (objects_of rs)) (arrays_of rs)) = rw both h in
-    let first : Differ (grown m own (objects_of rs)) =
-    (front_differ bytes_eq (grown m own (objects_of rs)).fields (flat_map rel_fields (shown m (arrays_of rs))) all.0,
-     front_differ bytes_eq (grown m own (objects_of rs)).inputs (map (λ r. r.name) (shown m (arrays_of rs))) all.1) in
+    let first : Differ (grown m own (objects_of rs)) = (
+      front_differ bytes_eq (grown m own (objects_of rs)).fields (flat_map rel_fields (shown m (arrays_of rs))) all.0,
+      front_differ bytes_eq (grown m own (objects_of rs)).inputs (map (λ r. r.name) (shown m (arrays_of rs))) all.1,
+    ) in
     ap (and_then (λ o. with_rels m (member_path path (codes "array_relationships")) 0 o (arrays_of rs))) (rels_added m (member_path path (codes "object_relationships")) 0 own (objects_of rs) first)
     ∙ rels_added m (member_path path (codes "array_relationships")) 0 (grown m own (objects_of rs)) (arrays_of rs) all
     ∙ ap Ok both
