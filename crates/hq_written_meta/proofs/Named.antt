@@ -40,8 +40,8 @@ use Rattle.hq_written_meta.proofs.Parts.{Apart, table_back}
 roots_back : (path name : List ℕ) (r : RootNames) → are_free_roots r ≡ true → roots_due path name (Some (in_name_order (roots_json r))) ≡ Ok r
 unfolding roots_due object_at root_due named_value field_name free_name_at text_at
 roots_back path name r h =
-    let p = and_parts _ _ h in
-    let q = and_parts _ _ p.0 in
+    let p = and_parts (is_free_name r.select && is_free_name r.select_aggregate) (is_free_name r.select_by_pk) h in
+    let q = and_parts (is_free_name r.select) (is_free_name r.select_aggregate) p.0 in
     rw (q.0, p.1, q.1) refl
 
 -- ---- the configuration
@@ -62,12 +62,17 @@ columns_back k columns path h own many =
 abbrev pub bare : TrackedTree → TrackedTree
 bare k = record k { rels = []; perms = [] }
 
+-- the name that is given is read
+name_back : (path name : List ℕ) (u : Table) → is_table_name name ≡ true → table_name_due path (Some (str name)) u ≡ Ok name
+unfolding table_name_at text_at
+name_back path name u h = rw h refl
+
 -- the configuration of a table is read
 configured_back : (k : TrackedTree) (columns : List Column) (u : Table) (path : List ℕ) → columns ≡ u.columns → differ columns ≡ true → Own k columns → length k.column_names ≡ length columns
     → is_table_name k.name ≡ true → are_free_roots k.roots ≡ true → configured path (Some (in_name_order (configuration_json k columns))) k.table u ≡ Ok (bare k)
-unfolding configured object_at table_name_at text_at named_value field_name
+unfolding configured object_at named_value field_name
 configured_back k columns u path same h own many named roots =
-    rw (← same) (rw (columns_back k columns path h own many, roots_back (at path field.CustomRootFields) k.name k.roots roots, named) refl)
+    rw (← same) (rw (columns_back k columns path h own many, name_back (at path field.CustomName) k.name u named, roots_back (at path field.CustomRootFields) k.name k.roots roots) refl)
 
 -- ---- entries
 

@@ -115,11 +115,11 @@ module _ (tables : List Table) (h : Apart tables) (all : (t : ℕ) → differ (c
 -- object relationships before array ones are all of them
 no_objects : (qs : List Rel) → list_all (λ q. q.many) qs ≡ true → filter (λ q. not q.many) qs ≡ []
 no_objects [] h = refl
-no_objects (q ∷ qs) h = let p = and_parts _ _ h in rw p.0 (no_objects qs p.1)
+no_objects (q ∷ qs) h = let p = and_parts q.many (list_all (λ r. r.many) qs) h in rw p.0 (no_objects qs p.1)
 
 all_arrays : (qs : List Rel) → list_all (λ q. q.many) qs ≡ true → filter (λ q. q.many) qs ≡ qs
 all_arrays [] h = refl
-all_arrays (q ∷ qs) h = let p = and_parts _ _ h in rw p.0 (ap (λ l. q ∷ l) (all_arrays qs p.1))
+all_arrays (q ∷ qs) h = let p = and_parts q.many (list_all (λ r. r.many) qs) h in rw p.0 (ap (λ l. q ∷ l) (all_arrays qs p.1))
 
 in_two : (rs : List Rel) → objects_first rs ≡ true → filter (λ r. not r.many) rs ++ filter (λ r. r.many) rs ≡ rs
 in_two [] h = refl

@@ -1,5 +1,5 @@
 -- Where no name stands twice in the schema of admin, none is refused.
-use Rattle.std.proofs.Common.{◌≡◌, ◌∙◌, ℕ, ◌+◌, ◌&&◌, ◌++◌, List, [], ◌∷◌, map, filter, flat_map, take, drop, Bool, true, false, cond, not, Result, Ok, Err, bytes_eq, codes, refl, sym, ap, ap₂, append_assoc, append-nil}
+use Rattle.std.proofs.Common.{◌≡◌, ◌∙◌, ℕ, ◌+◌, ◌&&◌, ◌++◌, List, [], ◌∷◌, map, filter, flat_map, take, drop, Bool, true, false, cond, not, Result, Ok, Err, bytes_eq, codes, refl, sym, ap, ap₂, subst, append_assoc, append-nil}
 use Rattle.std.specs.List.{list_all, list_any}
 use Rattle.std.proofs.lemmas.Bool.{and_parts}
 use Rattle.std.proofs.lemmas.List.{take-append-drop}
@@ -54,7 +54,7 @@ unfolding with_shown_rel with_rel
 one_rel m path n own r rs true e later h =
     let more : Own = record { fields = own.fields ++ rel_fields r; inputs = own.inputs ++ r.name ∷ [] } in
     let here = member_path (item_path path n) (codes "name") in
-    let all : Differ (grown m more rs) = rw (one_more m own r rs) h in
+    let all : Differ (grown m more rs) = subst Differ (sym (one_more m own r rs)) h in
     let fields = all_added here own.fields (rel_fields r) (front_differ bytes_eq more.fields (flat_map rel_fields (shown m rs)) all.0) in
     let inputs = all_added here own.inputs (r.name ∷ []) (front_differ bytes_eq more.inputs (map (λ (q : Rel). q.name) (shown m rs)) all.1) in
     rw (e, fields, inputs) (later more all ∙ ap Ok (one_more m own r rs))
@@ -98,7 +98,7 @@ unfolding with_all_rels object_count
 all_rels_added m path own rs h =
     let whole : objects_of rs ++ arrays_of rs ≡ rs = take-append-drop (object_count rs) rs in
     let both : grown m (grown m own (objects_of rs)) (arrays_of rs) ≡ grown m own rs = twice_grown m own (objects_of rs) (arrays_of rs) ∙ ap (grown m own) whole in
-    let all : Differ (grown m (grown m own (objects_of rs)) (arrays_of rs)) = rw both h in
+    let all : Differ (grown m (grown m own (objects_of rs)) (arrays_of rs)) = subst Differ (sym both) h in
     let first : Differ (grown m own (objects_of rs)) = (
       front_differ bytes_eq (grown m own (objects_of rs)).fields (flat_map rel_fields (shown m (arrays_of rs))) all.0,
       front_differ bytes_eq (grown m own (objects_of rs)).inputs (map (λ r. r.name) (shown m (arrays_of rs))) all.1,

@@ -70,7 +70,7 @@ module _ (tables : List Table) (m : MetaTree) (h : IsPlain tables m) where
   pub is_readable : IsReadable (meta_json tables m)
   is_readable =
       clean.meta_readable tables m h.clean
-      (each_both (IsEntry tables m) (IsPlainTable tables) (clean.IsGoodEntry tables) (λ k e p. record { columns = all k.table; perms = e.perms; plain = p }) m.tracked entries h.tables)
+      (each_both (IsEntry tables m) (IsPlainTable tables) (clean.IsGoodEntry tables) (λ k e p. record { columns = all k.table; perms = e.perms; plain = p }) m.tracked entries h.tracked)
 
   -- the metadata with names alone
   abbrev names : MetaTree
@@ -89,11 +89,11 @@ module _ (tables : List Table) (m : MetaTree) (h : IsPlain tables m) where
   related_entries =
       each_both (IsEntry tables m) (IsPlainTable tables) (related.IsGoodEntry tables catalog_parts.0 all names)
       (λ k e p. (e.ordered, each_both (IsRel tables m k.table) (λ r. IsPlainRel (columns_of tables k.table) (columns_of tables r.remote) r) (related.IsGood tables catalog_parts.0 all names k.table) (good_rel k) k.rels e.rels p.rels))
-      m.tracked entries h.tables
+      m.tracked entries h.tracked
 
   permitted_entries : Each (permitted.IsGoodEntry tables) m.tracked
   permitted_entries =
-      each_both (IsEntry tables m) (IsPlainTable tables) (permitted.IsGoodEntry tables) (λ k e p. record { columns = all k.table; perms = e.perms; plain = p.perms; apart = e.apart }) m.tracked entries h.tables
+      each_both (IsEntry tables m) (IsPlainTable tables) (permitted.IsGoodEntry tables) (λ k e p. record { columns = all k.table; perms = e.perms; plain = p.perms; apart = e.apart }) m.tracked entries h.tracked
 
   -- the metadata that is read is this one
   same_meta : record { tracked = m.tracked; inherited = [] } ≡ m
@@ -103,7 +103,7 @@ module _ (tables : List Table) (m : MetaTree) (h : IsPlain tables m) where
   tracked_back : (path : List ℕ) → tracked_of tables path (map (λ k. in_name_order (tracked_json tables k)) m.tracked) [] ≡ Ok m
   unfolding tracked_of named inherited_due
   tracked_back path =
-      let named_all = all_tracked tables m m.tracked path catalog_parts.0 (each_all (λ (k : TrackedTree). differ (columns_of tables k.table) ≡ true) (λ k. all k.table) m.tracked) entries h.tables once in
+      let named_all = all_tracked tables m m.tracked path catalog_parts.0 (each_all (λ (k : TrackedTree). differ (columns_of tables k.table) ≡ true) (λ k. all k.table) m.tracked) entries h.tracked once in
       let related_all = related_back tables catalog_parts.0 all m.tracked path related_entries in
       let permitted_all = permitted_back tables m.tracked path permitted_entries in
       let differ_all = (and_parts _ _ (and_parts _ _ h.fits).0).1 in

@@ -56,4 +56,4 @@ plain_table = record { named = refl; own = ((λ e. cc), ((λ e. refl), tt)); rel
 
 plain_whole : IsPlain (authors ∷ []) whole
 unfolding is_utf8 chars encode
-plain_whole = record { catalog = refl; clean = refl; fits = refl; own = refl; tables = (plain_table, tt) }
+plain_whole = record { catalog = refl; clean = refl; fits = refl; own = refl; tracked = (plain_table, tt) }

@@ -45,4 +45,4 @@ pub record IsPlain (tables : List Table) (m : MetaTree) : Type 0 where
   pub clean : has_clean_names tables ≡ true
   pub fits : fits tables m ≡ true
   pub own : m.inherited ≡ []
-  pub tables : Each (IsPlainTable tables) m.tracked
+  pub tracked : Each (IsPlainTable tables) m.tracked
