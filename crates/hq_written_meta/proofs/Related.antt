@@ -119,7 +119,10 @@ no_objects (q ∷ qs) h = let p = and_parts q.many (list_all (λ r. r.many) qs) 
 
 all_arrays : (qs : List Rel) → list_all (λ q. q.many) qs ≡ true → filter (λ q. q.many) qs ≡ qs
 all_arrays [] h = refl
-all_arrays (q ∷ qs) h = let p = and_parts q.many (list_all (λ r. r.many) qs) h in rw p.0 (ap (λ l. q ∷ l) (all_arrays qs p.1))
+all_arrays (q ∷ qs) h =
+    let p = and_parts q.many (list_all (λ r. r.many) qs) h in
+    let later = filter (λ (r : Rel). r.many) qs in
+    ap (λ (b : Bool). cond b (q ∷ later) later) p.0 ∙ ap (λ l. q ∷ l) (all_arrays qs p.1)
 
 in_two : (rs : List Rel) → objects_first rs ≡ true → filter (λ r. not r.many) rs ++ filter (λ r. r.many) rs ≡ rs
 in_two [] h = refl
