@@ -1,6 +1,8 @@
 -- Worked files.
-use Rattle.std.proofs.Common.{◌≡◌, [], ◌∷◌, pos, codes, true, false, refl}
+use Rattle.std.proofs.Common.{◌≡◌, [], ◌∷◌, pos, codes, true, false, refl, arith}
 use Rattle.std.specs.Fmt.{digits}
+use Rattle.std.specs.Str.{is_utf8, chars}
+use lib.Utf8.{encode}
 use Rattle.csv.specs.Writing.{escaped, fields_text, is_blank}
 use Rattle.hq_base.specs.declared.value.Ty.TheVariants.{Integer, Bigint, Text}
 use Rattle.hq_base.specs.declared.value.Val.TheVariants.{Null, Int, Text as Words}
