@@ -1,14 +1,14 @@
 -- A plain metadata's JSON value can be read back.
-use Rattle.std.proofs.Common.{◌≡◌, ◌∙◌, ℕ, zero, suc, ◌^◌, ◌≤◌, ◌+◌, ◌==◌, nat_lt, ◌&&◌, ◌++◌, List, [], ◌∷◌, map, filter, Bool, true, false, not, Option, Some, None, slice_get, slice_index_or, bytes_eq, codes, pos, refl, sym, ap, arith}
-use Rattle.std.specs.List.{list_all, list_any}
+use Rattle.std.proofs.Common.{◌≡◌, ◌∙◌, ℕ, zero, suc, ◌≤◌, ◌&&◌, List, [], ◌∷◌, map, filter, Bool, true, false, not, Option, Some, None, slice_get, slice_index_or, bytes_eq, codes, pos, refl, sym, ap, arith}
+use Rattle.std.specs.List.{list_all}
 use Rattle.std.specs.Cmp.Lexicographic.{bytes_decides}
 use Rattle.std.specs.Str.{is_utf8, chars}
 use lib.Utf8.{encode}
 use Rattle.std.proofs.lemmas.Bool.{and_parts, and_from, true≢false}
 use Rattle.hq_base.specs.Json.{JsonTree, str}
-use Rattle.hq_base.specs.Lists.{Each, all_differ, sort}
+use Rattle.hq_base.specs.Lists.{Each, all_differ}
 use Rattle.hq_base.proofs.Lists.{each_all, each_filter, each_weaken, map_map}
-use Rattle.hq_base.proofs.Sorts.{each_sort, sort_map}
+use Rattle.hq_base.proofs.Sorts.{each_sort}
 use Rattle.hq_terms.specs.Fits.{limit_fits}
 use Rattle.hq_terms.specs.Meta.{PermTree, TrackedTree, MetaTree}
 use Rattle.hq_terms.specs.declared.meta.Rel.{Rel}
@@ -16,18 +16,18 @@ use Rattle.hq_terms.specs.declared.meta.Pair.{Pair}
 use Rattle.hq_terms.specs.declared.table.Column.{Column}
 use Rattle.hq_terms.specs.declared.table.Table.{Table}
 use Rattle.hq_meta_tables.specs.Field.{field_name}
-use Rattle.hq_meta_tables.specs.Found.{columns_in, columns_of}
+use Rattle.hq_meta_tables.specs.Found.{columns_of}
 use Rattle.hq_meta_tables.specs.declared.field.Field.TheVariants as field
 use Rattle.hq_written_json.specs.Building.{list, object}
 use Rattle.hq_written_json.specs.ReadBack.{IsReadable, by_name, fits_64_bits, is_clean}
 use Rattle.hq_written_json.proofs.Building.{Readable, readable, text_readable, bool_readable, int_readable, texts_readable, list_readable, map_readable, object_readable, are_member_names, member_names}
 use Rattle.hq_written_catalog.specs.Written.{name_at, schema_in, table_name_in, has_clean_names}
 use Rattle.hq_written_catalog.proofs.Clean.{CleanColumns, clean_table, name_clean, names_clean, ref_clean}
-use Rattle.hq_written_catalog.proofs.Lists.{each_true, at_each, differ_map, map_each}
-use Rattle.hq_written_catalog.proofs.Places.{IsPlace, differ}
+use Rattle.hq_written_catalog.proofs.Lists.{each_true, at_each, differ_map}
+use Rattle.hq_written_catalog.proofs.Places.{differ}
 use Rattle.hq_written_meta.specs.Plain.{IsPlainRel, IsPlainPerm, IsPlainTable}
 use Rattle.hq_written_meta.specs.Written.{table_ref_members, table_ref, shown_columns, column_config, column_configs, roots_members, configuration_members, configuration_json, pair_json, link_members, link_json, rel_members, rel_json, permission_members, permission_json, perm_members, perm_json, tracked_members, tracked_json, source_members, source_json, meta_members, meta_json}
-use Rattle.hq_written_meta.proofs.Columns.{shown_there, shown_differ}
+use Rattle.hq_written_meta.proofs.Columns.{shown_differ}
 use Rattle.hq_written_meta.proofs.Fitting.{IsPerm}
 use Rattle.hq_written_meta.proofs.Lists.{each_map, each_both, sort_differ}
 

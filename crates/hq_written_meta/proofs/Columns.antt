@@ -1,8 +1,7 @@
 -- The GraphQL names of a table's columns are read from the shown columns with their names.
-use Rattle.std.proofs.Common.{◌≡◌, ◌∙◌, ◌≢◌, ℕ, zero, suc, ◌+◌, ◌==◌, ◌&&◌, List, [], ◌∷◌, length, map, filter, Bool, true, false, cond, not, Option, Some, None, Result, Ok, Err, slice_get, slice_index_or, position, option_and_then, bytes_eq, refl, sym, ap, subst, arith, eq-eqb, ne_eqb}
+use Rattle.std.proofs.Common.{◌≡◌, ◌∙◌, ℕ, suc, ◌+◌, ◌==◌, ◌&&◌, List, [], ◌∷◌, length, map, Bool, true, false, cond, Option, Some, None, Ok, slice_get, slice_index_or, position, option_and_then, bytes_eq, refl, sym, ap, subst, arith, eq-eqb, ne_eqb}
 use Rattle.std.specs.List.{list_any}
 use Rattle.std.specs.Map.{lookup}
-use Rattle.std.specs.Cmp.Lexicographic.{bytes_decides}
 use Rattle.std.proofs.lemmas.Bool.{true≢false}
 use Rattle.std.proofs.lemmas.Bool.Decides.{Decides-eqb}
 use Rattle.hq_base.specs.Due.{and_then}
@@ -14,13 +13,11 @@ use Rattle.hq_base.proofs.Lists.{all_differ_filter, each_all, each_filter, each_
 use Rattle.hq_base.proofs.Sorts.{each_sort, sort_any}
 use Rattle.hq_terms.specs.Meta.{TrackedTree}
 use Rattle.hq_terms.specs.declared.table.Column.{Column}
-use Rattle.hq_meta_tables.specs.Configured.{column_config_at, column_name_by, column_name_of, given_text_due, member_due, members_due, text_or}
+use Rattle.hq_meta_tables.specs.Configured.{column_config_at, column_name_by, column_name_of, member_due, members_due}
 use Rattle.hq_meta_tables.specs.Each.{all_pass}
 use Rattle.hq_meta_tables.specs.Field.{field_name}
-use Rattle.hq_meta_tables.specs.Found.{column_named}
-use Rattle.hq_meta_tables.specs.Node.{object_at, text_at, unless_null, named_value, given_value}
+use Rattle.hq_meta_tables.specs.Node.{object_at, text_at, unless_null, named_value}
 use Rattle.hq_meta_tables.specs.declared.field.Field.TheVariants as field
-use Rattle.hq_meta_tables.specs.declared.refusal.MetaRefusal.{MetaRefusal}
 use Rattle.hq_meta_read.specs.Permitted.{all_columns}
 use Rattle.hq_written_json.specs.Building.{object}
 use Rattle.hq_written_json.specs.ReadBack.{by_name, in_name_order, ordered_inside}

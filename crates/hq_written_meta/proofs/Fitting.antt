@@ -1,5 +1,5 @@
 -- What a metadata that fits a catalog has, part by part.
-use Rattle.std.proofs.Common.{◌≡◌, ◌∙◌, ℕ, zero, suc, ◌==◌, nat_lt, ◌&&◌, List, [], ◌∷◌, length, Bool, true, false, not, Option, Some, None, slice_get, slice_index_or, is_some, option_map, bytes_eq, refl, sym, ap, ap₂, subst}
+use Rattle.std.proofs.Common.{◌≡◌, ◌∙◌, ℕ, suc, nat_lt, List, [], ◌∷◌, length, true, not, Option, Some, None, slice_get, is_some, option_map, bytes_eq, refl, sym, ap, ap₂}
 use Rattle.std.specs.List.{list_all}
 use Rattle.std.proofs.lemmas.Bool.{and_parts}
 use Rattle.std.proofs.lemmas.Bool.Decides.{Decides-eqb}
@@ -10,14 +10,13 @@ use Rattle.hq_terms.specs.Filters.{column_ty}
 use Rattle.hq_terms.specs.Fits.{fits_rel, objects_first, limit_fits, fits_perm, are_free_roots, fits_tracked}
 use Rattle.hq_terms.specs.Meta.{PermTree, TrackedTree, MetaTree, tracked_table}
 use Rattle.hq_terms.specs.Names.{is_admin_name, is_free_name}
-use Rattle.hq_terms.specs.Schema.{Schema, SchemaTable, numbered, schema_of, schema_table, table}
+use Rattle.hq_terms.specs.Schema.{SchemaTable, numbered, schema_of, schema_table, table}
 use Rattle.hq_terms.specs.declared.meta.Pair.{Pair}
 use Rattle.hq_terms.specs.declared.meta.Rel.{Rel}
 use Rattle.hq_terms.specs.declared.table.Column.{Column}
 use Rattle.hq_terms.specs.declared.table.Table.{Table}
 use Rattle.hq_terms.proofs.Places.{table_present, table_absent}
 use Rattle.hq_meta_tables.specs.Found.{columns_of, columns_in}
-use Rattle.hq_written_catalog.proofs.Lists.{each_true}
 use Rattle.hq_written_catalog.proofs.Places.{IsPlace}
 use Rattle.hq_written_meta.proofs.Lists.{below}
 

@@ -1,10 +1,10 @@
 -- Lists: items that are read one after another, look-ups, and items with their places.
-use Rattle.std.proofs.Common.{◌≡◌, ◌∙◌, ℕ, zero, suc, ◌+◌, ◌<◌, ◌≤◌, ◌==◌, nat_lt, ◌&&◌, ◌||◌, List, [], ◌∷◌, ◌++◌, length, map, filter, flat_map, Bool, true, false, cond, not, Option, Some, None, Result, Ok, Err, slice_get, slice_index_or, zip, is_some, find, bytes_eq, refl, sym, ap, subst, arith, append_assoc, append-nil, eq-eqb, lt-ltb, ltb-true, ne_eqb, is_gt}
-use Rattle.std.specs.List.{list_all, list_any}
+use Rattle.std.proofs.Common.{◌≡◌, ◌∙◌, ℕ, zero, suc, ◌+◌, nat_lt, ◌&&◌, ◌||◌, List, [], ◌∷◌, ◌++◌, length, map, filter, Bool, true, false, cond, Some, None, Result, Ok, slice_get, slice_index_or, zip, is_some, find, bytes_eq, refl, sym, ap, subst, arith, append_assoc, append-nil, lt-ltb, ltb-true, is_gt}
+use Rattle.std.specs.List.{list_any}
 use Rattle.std.specs.Map.{lookup}
 use Rattle.std.specs.Cmp.Lexicographic.{bytes_decides}
 use Rattle.std.specs.declared.cmp.Ordering.{Ordering}
-use Rattle.std.proofs.lemmas.Bool.{and_parts, or_parts, true≢false}
+use Rattle.std.proofs.lemmas.Bool.{and_parts, or_parts}
 use Rattle.hq_base.specs.Due.{and_then}
 use Rattle.hq_base.specs.Lists.{Each, put, sort, all_differ}
 use Rattle.hq_base.specs.Path.{item_path}

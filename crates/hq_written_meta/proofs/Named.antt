@@ -1,9 +1,9 @@
 -- The tracked tables are read with their names.
-use Rattle.std.proofs.Common.{◌≡◌, ◌∙◌, ℕ, ◌==◌, ◌&&◌, List, [], ◌∷◌, length, map, Bool, true, false, not, Option, Some, None, Result, Ok, Err, slice_get, slice_index_or, ok_or, codes, refl, sym, ap}
+use Rattle.std.proofs.Common.{◌≡◌, ◌∙◌, ℕ, ◌==◌, ◌&&◌, List, [], length, map, true, false, Some, None, Ok, slice_get, slice_index_or, refl, ap}
 use Rattle.std.specs.List.{list_any}
 use Rattle.std.proofs.lemmas.Bool.{and_parts}
-use Rattle.hq_base.specs.Due.{and_then, mapped}
-use Rattle.hq_base.specs.Json.{JsonTree, str}
+use Rattle.hq_base.specs.Due.{and_then}
+use Rattle.hq_base.specs.Json.{str}
 use Rattle.hq_base.specs.Lists.{Each, all_differ}
 use Rattle.hq_terms.specs.Fits.{are_free_roots}
 use Rattle.hq_terms.specs.Meta.{TrackedTree, MetaTree}
@@ -11,16 +11,13 @@ use Rattle.hq_terms.specs.Names.{is_free_name}
 use Rattle.hq_terms.specs.declared.meta.RootNames.{RootNames}
 use Rattle.hq_terms.specs.declared.table.Column.{Column}
 use Rattle.hq_terms.specs.declared.table.Table.{Table}
-use Rattle.hq_meta_tables.specs.Configured.{is_table_name, own_name_due, table_name_at, table_name_due, column_config_at, column_text_at, column_name_of, column_names_due, members_due, root_text_due, root_by, root_in, root_due, roots_due}
+use Rattle.hq_meta_tables.specs.Configured.{is_table_name, table_name_at, table_name_due, column_name_of, column_names_due, root_due, roots_due}
 use Rattle.hq_meta_tables.specs.Each.{each_after}
 use Rattle.hq_meta_tables.specs.Field.{field_name}
-use Rattle.hq_meta_tables.specs.Found.{columns_in, columns_of, table_at}
-use Rattle.hq_meta_tables.specs.Node.{at, object_at, text_at, free_name_at, member_at, named_value, given_value, given_object}
-use Rattle.hq_meta_tables.specs.Tracked.{new_table, table_of, entry_table, configured, tracked_at}
-use Rattle.hq_meta_tables.specs.declared.field.Field.{Field}
+use Rattle.hq_meta_tables.specs.Found.{columns_in, columns_of}
+use Rattle.hq_meta_tables.specs.Node.{at, object_at, text_at, free_name_at, member_at, named_value}
+use Rattle.hq_meta_tables.specs.Tracked.{entry_table, configured, tracked_at}
 use Rattle.hq_meta_tables.specs.declared.field.Field.TheVariants as field
-use Rattle.hq_meta_tables.specs.declared.refusal.MetaRefusal.{MetaRefusal}
-use Rattle.hq_meta_tables.specs.declared.refusal.MetaRefusal.TheVariants.{UnknownTable}
 use Rattle.hq_written_json.specs.Building.{object}
 use Rattle.hq_written_json.specs.ReadBack.{in_name_order}
 use Rattle.hq_meta_read.specs.Permitted.{all_columns}
@@ -28,7 +25,7 @@ use Rattle.hq_written_catalog.specs.Written.{name_at}
 use Rattle.hq_written_catalog.proofs.Lists.{differ_map}
 use Rattle.hq_written_catalog.proofs.Places.{differ}
 use Rattle.hq_written_meta.specs.Plain.{IsPlainTable}
-use Rattle.hq_written_meta.specs.Written.{is_shown, table_ref, column_configs, roots_json, configuration_json, tracked_json}
+use Rattle.hq_written_meta.specs.Written.{is_shown, column_configs, roots_json, configuration_json, tracked_json}
 use Rattle.hq_written_meta.proofs.Columns.{configs_pass, names_back}
 use Rattle.hq_written_meta.proofs.Fitting.{IsEntry}
 use Rattle.hq_written_meta.proofs.Lists.{after_back, differ_after, after_each, after_both, each_both}

@@ -1,28 +1,25 @@
 -- Tables and columns under their names: they are read as what they stand for.
-use Rattle.std.proofs.Common.{◌≡◌, ◌∙◌, ℕ, ◌==◌, ◌&&◌, List, [], ◌∷◌, map, Bool, true, false, Option, Some, None, Result, Ok, Err, slice_get, is_some, ok_or, position, bytes_eq, refl, sym, ap}
-use Rattle.std.specs.Cmp.Lexicographic.{bytes_decides}
-use Rattle.std.proofs.lemmas.Bool.{and_parts, and_from}
-use Rattle.hq_base.specs.Due.{and_then}
-use Rattle.hq_base.specs.Json.{JsonTree, str, elements_of}
+use Rattle.std.proofs.Common.{◌≡◌, ◌∙◌, ℕ, ◌&&◌, List, map, true, Some, Ok, slice_get, is_some, ok_or, position, bytes_eq, refl, ap}
+use Rattle.std.proofs.lemmas.Bool.{and_from}
+use Rattle.hq_base.specs.Json.{str, elements_of}
 use Rattle.hq_base.specs.Lists.{Each, all_differ}
 use Rattle.hq_base.specs.Look.{element_list}
 use Rattle.hq_base.proofs.Lists.{each_weaken, map_map}
 use Rattle.hq_terms.specs.Catalog.{full_name}
-use Rattle.hq_terms.specs.Meta.{TrackedTree, MetaTree, tracked_table}
+use Rattle.hq_terms.specs.Meta.{MetaTree, tracked_table}
 use Rattle.hq_terms.specs.declared.table.Column.{Column}
 use Rattle.hq_terms.specs.declared.table.Table.{Table}
 use Rattle.hq_filter_read.specs.Tables.{qualified_table, text_member, table_named}
 use Rattle.hq_filter_read.specs.Tables as filter
 use Rattle.hq_meta_tables.specs.Each.{each}
 use Rattle.hq_meta_tables.specs.Field.{field_name}
-use Rattle.hq_meta_tables.specs.Found.{table_at, tracked_due, remote_at, column_named, column_at, columns_of}
+use Rattle.hq_meta_tables.specs.Found.{table_at, remote_at, column_named, column_at}
 use Rattle.hq_meta_tables.specs.Node.{text_at}
 use Rattle.hq_meta_tables.specs.Refused.{refused}
-use Rattle.hq_meta_tables.specs.declared.refusal.MetaRefusal.{MetaRefusal}
 use Rattle.hq_meta_tables.specs.declared.refusal.MetaRefusal.TheVariants.{UnknownColumn}
 use Rattle.hq_written_json.specs.ReadBack.{in_name_order, elements_in_name_order}
 use Rattle.hq_written_json.proofs.Building.{elements_read}
-use Rattle.hq_written_catalog.specs.Written.{name_at, schema_in, table_name_in}
+use Rattle.hq_written_catalog.specs.Written.{name_at}
 use Rattle.hq_written_catalog.proofs.Lists.{position_of, differ_weaken}
 use Rattle.hq_written_catalog.proofs.Places.{same_name, IsPlace, differ, place_found}
 use Rattle.hq_written_catalog.proofs.Resolving.{one_name}

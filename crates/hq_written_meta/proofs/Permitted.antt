@@ -1,35 +1,29 @@
 -- The permissions of the tracked tables are read.
-use Rattle.std.proofs.Common.{◌≡◌, ◌∙◌, ℕ, ◌^◌, ◌==◌, nat_lt, ◌&&◌, ◌++◌, List, [], ◌∷◌, length, map, zip, Bool, true, false, cond, not, Option, Some, None, Result, Ok, Err, slice_get, bytes_eq, pos, refl, sym, ap}
-use Rattle.std.specs.List.{list_all, list_any}
-use Rattle.std.proofs.lemmas.Bool.{and_parts}
+use Rattle.std.proofs.Common.{◌≡◌, ◌∙◌, ℕ, List, [], ◌∷◌, map, zip, Bool, true, false, Option, Some, None, Ok, bytes_eq, refl, sym, ap}
+use Rattle.std.specs.List.{list_any}
 use Rattle.hq_base.specs.Due.{and_then, mapped}
-use Rattle.hq_base.specs.Json.{JsonTree, str, bool, int, elements_of}
+use Rattle.hq_base.specs.Json.{JsonTree}
 use Rattle.hq_base.specs.Lists.{Each, all_differ}
-use Rattle.hq_base.specs.Look.{element_list}
-use Rattle.hq_filter_read.specs.Filter.{filter_due}
 use Rattle.hq_terms.specs.Bexp.{always, conjunction}
 use Rattle.hq_terms.specs.Fits.{limit_fits}
 use Rattle.hq_terms.specs.Meta.{PermTree, TrackedTree, MetaTree}
-use Rattle.hq_terms.specs.Names.{is_admin_name}
 use Rattle.hq_terms.specs.declared.table.Column.{Column}
 use Rattle.hq_terms.specs.declared.table.Table.{Table}
 use Rattle.hq_meta_tables.specs.Each.{each, each_after}
 use Rattle.hq_meta_tables.specs.Field.{field_name}
-use Rattle.hq_meta_tables.specs.Found.{columns_of, column_at}
+use Rattle.hq_meta_tables.specs.Found.{columns_of}
 use Rattle.hq_meta_tables.specs.Node.{at, object_at, text_at, list_at, member_at, text_member, object_member, entries_member}
 use Rattle.hq_meta_tables.specs.Tracked.{tables_of}
 use Rattle.hq_meta_tables.specs.declared.field.Field.TheVariants as field
-use Rattle.hq_meta_tables.specs.declared.refusal.MetaRefusal.{MetaRefusal}
 use Rattle.hq_meta_read.specs.Permitted.{role_due, chosen, columns_at, permission_at, perm_at, perms_at, perms_beside, with_perms, permitted}
-use Rattle.hq_written_json.specs.ReadBack.{in_name_order, elements_in_name_order}
+use Rattle.hq_written_json.specs.ReadBack.{in_name_order}
 use Rattle.hq_written_json.proofs.Building.{elements_read}
-use Rattle.hq_written_json.specs.Building.{object, texts}
+use Rattle.hq_written_json.specs.Building.{texts}
 use Rattle.hq_written_catalog.specs.Written.{name_at}
-use Rattle.hq_written_catalog.proofs.Lists.{differ_map}
 use Rattle.hq_written_catalog.proofs.Places.{IsPlace, differ}
 use Rattle.hq_written_catalog.proofs.Shapes.{itself}
 use Rattle.hq_written_meta.specs.Plain.{IsPlainPerm}
-use Rattle.hq_written_meta.specs.Written.{limit_member, permission_json, perm_json, tracked_json}
+use Rattle.hq_written_meta.specs.Written.{permission_json, perm_json, tracked_json}
 use Rattle.hq_written_meta.proofs.Fitting.{IsPerm}
 use Rattle.hq_written_meta.proofs.Lists.{after_back, after_both, after_each, differ_after, each_back, each_both, zip_maps}
 use Rattle.hq_written_meta.proofs.Parts.{columns_back}

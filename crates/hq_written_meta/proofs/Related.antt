@@ -1,6 +1,6 @@
 -- The relationships of the tracked tables are read.
-use Rattle.std.proofs.Common.{◌≡◌, ◌∙◌, ℕ, ◌==◌, nat_lt, ◌&&◌, ◌++◌, List, [], ◌∷◌, length, map, filter, zip, Bool, true, false, cond, not, Option, Some, None, Result, Ok, Err, slice_get, is_some, bytes_eq, codes, refl, sym, ap, arith, ltb-true}
-use Rattle.std.specs.List.{list_all, list_any}
+use Rattle.std.proofs.Common.{◌≡◌, ◌∙◌, ℕ, nat_lt, ◌&&◌, ◌++◌, List, [], ◌∷◌, length, map, filter, zip, Bool, true, false, cond, not, Some, Ok, slice_get, is_some, bytes_eq, codes, refl, sym, ap, arith, ltb-true}
+use Rattle.std.specs.List.{list_all}
 use Rattle.std.proofs.lemmas.Bool.{and_parts}
 use Rattle.hq_base.specs.Due.{and_then, mapped}
 use Rattle.hq_base.specs.Json.{JsonTree, str, members_of, elements_of}
@@ -10,7 +10,6 @@ use Rattle.hq_base.specs.Path.{member_path}
 use Rattle.hq_base.proofs.Lists.{each_filter, each_passes, each_weaken, map_map}
 use Rattle.hq_base.proofs.Sorts.{sort_ascending}
 use Rattle.hq_filter_read.specs.Each.{each_member}
-use Rattle.hq_terms.specs.Catalog.{can_pair, type_of}
 use Rattle.hq_terms.specs.Fits.{objects_first}
 use Rattle.hq_terms.specs.Meta.{TrackedTree, MetaTree, tracked_table}
 use Rattle.hq_terms.specs.Names.{is_free_name}
@@ -20,24 +19,22 @@ use Rattle.hq_terms.specs.declared.table.Column.{Column}
 use Rattle.hq_terms.specs.declared.table.Table.{Table}
 use Rattle.hq_meta_tables.specs.Each.{each, each_after}
 use Rattle.hq_meta_tables.specs.Field.{field_name}
-use Rattle.hq_meta_tables.specs.Found.{columns_of, column_named, remote_at}
+use Rattle.hq_meta_tables.specs.Found.{columns_of}
 use Rattle.hq_meta_tables.specs.Node.{at, object_at, text_at, list_at, free_name_at, member_at, object_member, entries_member}
 use Rattle.hq_meta_tables.specs.Tracked.{tables_of}
 use Rattle.hq_meta_tables.specs.declared.field.Field.TheVariants as field
-use Rattle.hq_meta_tables.specs.declared.refusal.MetaRefusal.{MetaRefusal}
-use Rattle.hq_meta_read.specs.Linked.{pair_at, pair_due, some_pair, pairs_at, by_hand, link_at}
+use Rattle.hq_meta_read.specs.Linked.{pair_at, some_pair, pairs_at, by_hand, link_at}
 use Rattle.hq_meta_read.specs.Related.{rel_name_at, rel_at, objects_at, rels_at, rels_beside, with_rels, related}
-use Rattle.hq_meta_read.specs.declared.link.Link.{Link}
 use Rattle.hq_written_json.specs.Building.{object}
 use Rattle.hq_written_json.specs.ReadBack.{by_name, in_name_order, elements_in_name_order, ordered_inside}
 use Rattle.hq_written_json.proofs.Building.{elements_read, members_inside, members_listed}
 use Rattle.hq_written_json.proofs.Ordered.{by_name_total}
 use Rattle.hq_written_catalog.specs.Written.{name_at}
-use Rattle.hq_written_catalog.proofs.Places.{IsPlace, differ}
+use Rattle.hq_written_catalog.proofs.Places.{differ}
 use Rattle.hq_written_catalog.proofs.Shapes.{itself}
-use Rattle.hq_written_meta.specs.Plain.{IsPlainRel, IsPlainTable}
-use Rattle.hq_written_meta.specs.Written.{table_ref, pair_json, link_json, rel_json, tracked_json}
-use Rattle.hq_written_meta.proofs.Fitting.{IsPair, IsRel, IsEntry}
+use Rattle.hq_written_meta.specs.Plain.{IsPlainRel}
+use Rattle.hq_written_meta.specs.Written.{pair_json, link_json, rel_json, tracked_json}
+use Rattle.hq_written_meta.proofs.Fitting.{IsPair, IsRel}
 use Rattle.hq_written_meta.proofs.Lists.{after_back, after_each, each_back, each_both, zip_maps}
 use Rattle.hq_written_meta.proofs.Named.{bare}
 use Rattle.hq_written_meta.proofs.Parts.{Apart, remote_back, named_back}

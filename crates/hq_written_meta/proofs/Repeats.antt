@@ -1,6 +1,5 @@
 -- Where no name stands twice in the schema of admin, none is refused.
-use Rattle.std.proofs.Common.{◌≡◌, ◌∙◌, ℕ, ◌+◌, ◌&&◌, ◌++◌, List, [], ◌∷◌, map, filter, flat_map, take, drop, Bool, true, false, cond, not, Result, Ok, Err, bytes_eq, codes, refl, sym, ap, ap₂, subst, append_assoc, append-nil}
-use Rattle.std.specs.List.{list_all, list_any}
+use Rattle.std.proofs.Common.{◌≡◌, ◌∙◌, ℕ, ◌+◌, ◌&&◌, ◌++◌, List, [], ◌∷◌, map, filter, flat_map, Bool, true, false, cond, Ok, bytes_eq, codes, refl, sym, ap, ap₂, subst, append_assoc, append-nil}
 use Rattle.std.proofs.lemmas.Bool.{and_parts}
 use Rattle.std.proofs.lemmas.List.{take-append-drop}
 use Rattle.hq_base.specs.Due.{and_then, mapped}
@@ -14,7 +13,6 @@ use Rattle.hq_meta_names.specs.Added.{added}
 use Rattle.hq_meta_names.specs.Repeats.{with_rel, with_shown_rel, with_rels, object_count, objects_of, arrays_of, with_all_rels, with_columns, own_names, with_table, with_tables, names_due}
 use Rattle.hq_meta_names.specs.declared.known.Own.{Own}
 use Rattle.hq_meta_names.specs.declared.known.Shared.{Shared}
-use Rattle.hq_meta_names.specs.declared.refusal.NameRefusal.{NameRefusal}
 use Rattle.hq_written_catalog.proofs.Lists.{each_true, none_before}
 use Rattle.hq_written_meta.proofs.Lists.{front_differ}
 

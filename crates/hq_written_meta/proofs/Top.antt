@@ -1,8 +1,6 @@
 -- The top of a written metadata: one source with the entries of the tables, of version 3.
-use Rattle.std.proofs.Common.{◌≡◌, ◌∙◌, ℕ, List, [], ◌∷◌, map, Ok, refl, ap}
-use Rattle.hq_base.specs.Due.{and_then}
-use Rattle.hq_base.specs.Json.{JsonTree}
-use Rattle.hq_terms.specs.Meta.{TrackedTree, MetaTree}
+use Rattle.std.proofs.Common.{◌≡◌, List, [], map, Ok, refl, ap}
+use Rattle.hq_terms.specs.Meta.{MetaTree}
 use Rattle.hq_terms.specs.declared.table.Table.{Table}
 use Rattle.hq_meta_tables.specs.Field.{field_name}
 use Rattle.hq_meta_tables.specs.Node.{object_at, text_at, list_at, member_at, text_member, list_member, entries_member, named_value}

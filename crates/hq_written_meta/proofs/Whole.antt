@@ -1,20 +1,16 @@
 -- A plain metadata's value in name order gives the metadata.
-use Rattle.std.proofs.Common.{◌≡◌, ◌∙◌, ℕ, ◌==◌, ◌&&◌, List, [], ◌∷◌, map, Bool, true, false, cond, Option, Some, None, Result, Ok, slice_get, is_some, find, refl, sym, ap}
-use Rattle.std.specs.List.{list_all}
+use Rattle.std.proofs.Common.{◌≡◌, ◌∙◌, ℕ, ◌==◌, List, [], ◌∷◌, map, Bool, true, false, cond, Option, Some, None, Ok, slice_get, is_some, find, refl, sym, ap}
 use Rattle.std.proofs.lemmas.Bool.{and_parts}
 use Rattle.std.proofs.lemmas.Bool.Decides.{Decides-eqb}
-use Rattle.hq_base.specs.Due.{and_then}
 use Rattle.hq_base.specs.Lists.{Each, all_differ}
-use Rattle.hq_base.proofs.Lists.{each_all, each_weaken}
-use Rattle.hq_terms.specs.Catalog.{is_catalog}
-use Rattle.hq_terms.specs.Fits.{fits_tracked}
+use Rattle.hq_base.proofs.Lists.{each_all}
 use Rattle.hq_terms.specs.Meta.{TrackedTree, MetaTree, tracked_table}
 use Rattle.hq_terms.specs.Schema.{schema_of}
 use Rattle.hq_terms.specs.declared.meta.Rel.{Rel}
 use Rattle.hq_meta_names.specs.Repeats.{names_due}
 use Rattle.hq_terms.specs.declared.table.Table.{Table}
 use Rattle.hq_meta_tables.specs.Found.{columns_in, columns_of}
-use Rattle.hq_meta_tables.specs.Top.{table_entries, tables_path, role_entries, unwrapped}
+use Rattle.hq_meta_tables.specs.Top.{tables_path}
 use Rattle.hq_meta_tables.specs.declared.version.MetaVersion.TheVariants.{Three}
 use Rattle.hq_meta_read.specs.Inheriting.{inherited_due}
 use Rattle.hq_meta_read.specs.Reading.{named, tracked_of, meta_of}

@@ -1,10 +1,10 @@
 -- A worked metadata and its text.
-use Rattle.std.proofs.Common.{◌≡◌, List, [], ◌∷◌, Some, codes, true, false, refl}
+use Rattle.std.proofs.Common.{◌≡◌, [], ◌∷◌, Some, codes, true, false, refl}
 use Rattle.std.specs.Fmt.{digits}
 use Rattle.std.specs.Str.{is_utf8, chars}
 use lib.Utf8.{encode}
 use Rattle.hq_base.specs.Compact.{compact, escaped}
-use Rattle.hq_base.specs.declared.value.Ty.TheVariants.{Integer, Text}
+use Rattle.hq_base.specs.declared.value.Ty.TheVariants.{Integer}
 use Rattle.hq_meta_tables.specs.Field.{field_name}
 use Rattle.hq_terms.specs.Bexp.{always}
 use Rattle.hq_terms.specs.Meta.{TrackedTree, MetaTree}

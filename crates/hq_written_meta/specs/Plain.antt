@@ -1,7 +1,7 @@
 -- The metadata that are read back as they are written: no inherited roles, no filters, and lists that stand in the order in
 -- which they are read.
-use Rattle.std.specs.Prelude.{◌≡◌, ℕ, List, [], map, Bool, true, false, not, ◌&&◌, slice_index_or, bytes_eq, codes}
-use Rattle.std.specs.List.{list_all, list_any}
+use Rattle.std.specs.Prelude.{◌≡◌, List, [], map, true, false, not, ◌&&◌, slice_index_or, bytes_eq, codes}
+use Rattle.std.specs.List.{list_all}
 use Rattle.hq_base.specs.Lists.{Each, Ascends, all_differ}
 use Rattle.hq_terms.specs.Bexp.{always}
 use Rattle.hq_terms.specs.Catalog.{is_catalog}
