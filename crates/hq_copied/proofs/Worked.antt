@@ -138,7 +138,7 @@ unfolding digits
 masked_titles = refl
 
 masked_columns : option_map (λ c. map (λ t. map (λ x. x.nullable) t.columns) c.tables)
-(result_ok (made two_roles (sees (codes "ids") (0 ∷ []) always ∷ sees (codes "titles") (0 ∷ 2 ∷ []) published ∷ [])))
+    (result_ok (made two_roles (sees (codes "ids") (0 ∷ []) always ∷ sees (codes "titles") (0 ∷ 2 ∷ []) published ∷ [])))
     ≡ Some ((false ∷ true ∷ []) ∷ [])
 unfolding digits
 masked_columns = refl

@@ -47,9 +47,9 @@ given_numbered F f G Q zs on k (x ∷ xs) at h =
 
 given_mapped : {A C D : Type 0} (k : C → D) (f : A → Option C) (xs : List A) → filter_map (λ x. option_map k (f x)) xs ≡ map k (filter_map f xs)
 given_mapped k f [] = refl
-given_mapped k f (x ∷ xs) = ap (cons_option (option_map k (f x))) (given_mapped k f xs) ∙ joined (f x)
+given_mapped {A} {C} {D} k f (x ∷ xs) = ap (cons_option (option_map k (f x))) (given_mapped k f xs) ∙ joined (f x)
   where
-    joined : (o : Option _) → cons_option (option_map k o) (map k (filter_map f xs)) ≡ map k (cons_option o (filter_map f xs))
+    joined : (o : Option C) → cons_option (option_map k o) (map k (filter_map f xs)) ≡ map k (cons_option o (filter_map f xs))
     joined None = refl
     joined (Some y) = refl
 

@@ -2,12 +2,13 @@
 use Rattle.std.proofs.Common.{◌≡◌, ℕ, ◌+◌, List, [], ◌∷◌, ◌++◌, map, filter, length, Bool, true, false, cond, not, ◌||◌, Option, Some, None, refl, sym, ap, ap₂, ◌∙◌}
 use Rattle.std.specs.List.{filter_map, cons_option}
 use Rattle.std.specs.Prelude.{flat_map, option_map}
-use Rattle.hq_base.specs.Aggregates.{all_aggregates, given_type}
+use Rattle.hq_base.specs.Aggregates.{all_aggregates, aggregate_name, given_type}
+use Rattle.hq_base.proofs.Lists.{map_itself}
 use Rattle.hq_base.specs.declared.aggregate.Aggregate.{Aggregate as OneAggregate}
 use Rattle.hq_base.specs.declared.value.Ty.{Ty}
 use Rattle.hq_schema.specs.Fixed.{all_fixed, fixed_name, fixed_kind, fixed_origin}
 use Rattle.hq_schema.specs.Parts.{part_origin, part_suffix, part_kind, row_parts, aggregate_parts}
-use Rattle.hq_schema.specs.Schema.{ArgTree, FieldTree, TypeRefTree, TypeTree}
+use Rattle.hq_schema.specs.Schema.{ArgTree, FieldTree, TypeRefTree, TypeTree, named}
 use Rattle.hq_schema.specs.declared.fixed.Fixed.{Fixed}
 use Rattle.hq_schema.specs.declared.fixed.Fixed.TheVariants as fixed
 use Rattle.hq_schema.specs.declared.origin.ArgOrigin.TheVariants as of_arg
@@ -49,9 +50,9 @@ made_over f g h k e (x ∷ xs) = ap₂ (λ a b. a ++ b) (e x) (made_over f g h k
 given_over : {A B C D : Type 0} (f : A → Option C) (g : B → Option D) (h : A → B) (k : C → D) → ((x : A) → g (h x) ≡ option_map k (f x)) → (xs : List A)
     → filter_map g (map h xs) ≡ map k (filter_map f xs)
 given_over f g h k e [] = refl
-given_over f g h k e (x ∷ xs) = ap₂ cons_option (e x) (given_over f g h k e xs) ∙ joined (f x)
+given_over {A} {B} {C} {D} f g h k e (x ∷ xs) = ap₂ cons_option (e x) (given_over f g h k e xs) ∙ joined (f x)
   where
-    joined : (o : Option _) → cons_option (option_map k o) (map k (filter_map f xs)) ≡ map k (cons_option o (filter_map f xs))
+    joined : (o : Option C) → cons_option (option_map k o) (map k (filter_map f xs)) ≡ map k (cons_option o (filter_map f xs))
     joined None = refl
     joined (Some y) = refl
 
@@ -100,7 +101,7 @@ module _ (n : Renumbering) where
 
   aggregated_over : (t place : ℕ) (as' : List OneAggregate) → map (field_over n t) (aggregated_fields place as') ≡ aggregated_fields place as'
   aggregated_over t place [] = refl
-  aggregated_over t place (a ∷ as') = ap (λ l. _ ∷ l) (aggregated_over t (place + 1) as')
+  aggregated_over t place (a ∷ as') = ap (λ l. plain_field (aggregate_name a) (named place) (of_field.Aggregated a) ∷ l) (aggregated_over t (place + 1) as')
 
   -- the same aggregates are over columns of the same types
   over_same : (t : ℕ) (a : OneAggregate) (cs : List ShownColumn) → is_over (columns_over t cs) a ≡ is_over cs a
@@ -158,11 +159,8 @@ module _ (n : Renumbering) where
   part_inputs_over t first cs ls (Aggregated a) = refl
 
   part_values_over : (t : ℕ) (cs : List ShownColumn) (p : Part) → part_values (columns_over t cs) p ≡ part_values cs p
-  part_values_over t cs Columns = mapped_over (λ (c : ShownColumn). c.name) (λ (c : ShownColumn). c.name) (column_over t) (λ x. x) (λ c. refl) cs ∙ map_same _
-    where
-      map_same : (xs : List (List ℕ)) → map (λ x. x) xs ≡ xs
-      map_same [] = refl
-      map_same (x ∷ xs) = ap (λ l. x ∷ l) (map_same xs)
+  part_values_over t cs Columns =
+      mapped_over (λ (c : ShownColumn). c.name) (λ (c : ShownColumn). c.name) (column_over t) (λ x. x) (λ c. refl) cs ∙ map_itself (map (λ (c : ShownColumn). c.name) cs)
   part_values_over t cs Rows = refl
   part_values_over t cs Filter = refl
   part_values_over t cs Sort = refl
