@@ -126,7 +126,7 @@ fn statement(rt: &HostRuntime, case: &Case, words: &[Txt]) -> Result<Option<Byte
     };
     let left = run(rt.alloc(), words.as_slice(), world(rt, case)?);
     let text = left.world.out.bytes();
-    if left.status != 0 || text == b"none\n" {
+    if left.status != 0 || text == b"none\n".as_slice() {
         return Ok(None);
     }
     Ok(Some(Bytes::from_slice(rt.alloc(), text)?))
