@@ -133,7 +133,7 @@ class Rules:
             test = ["test", value, " IN ", [self.literal(kind, item) for item in items]]
             return test if op == "_in" else ["not", test]
         if op in ("_like", "_nlike", "_ilike", "_nilike"):
-            test = ["test", value, " ILIKE " if "i" in op else " LIKE ", [self.literal("text", operand)]]
+            test = ["test", value, " ILIKE " if "ilike" in op else " LIKE ", [self.literal("text", operand)]]
             return ["not", test] if op.startswith("_n") else test
         return self.compared(value, op, self.literal(kind, operand))
 
