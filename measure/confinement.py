@@ -70,6 +70,10 @@ def same_rows(renaming, s, u):
     return u.where is None if s.where is None else u.where is not None and same_condition(inside, s.where, u.where)
 
 
+def in_order(members):
+    return sorted(members.items(), key=lambda member: member[0].encode())
+
+
 class Rules:
     def __init__(self, model, role, variables):
         self.model, self.role, self.variables = model, role, variables
@@ -84,9 +88,9 @@ class Rules:
         return t.perms.get(self.role)
 
     def written(self, t, expression, alias, numbers):
-        """A filter or mask of t as a condition at an alias."""
+        """A filter or mask of t as a condition at an alias: the members of an object in ascending order of their names."""
         found = []
-        for name, value in expression.items():
+        for name, value in in_order(expression):
             if name in ("_and", "_or"):
                 found.append(joined(name[1:], [self.written(t, part, alias, numbers) for part in value]))
             elif name == "_not":
@@ -95,7 +99,7 @@ class Rules:
                 far = self.tables[resolvers.table_key(value["_table"])]
                 found.append(self.exists(far, [], value["_where"], alias, numbers))
             elif name in t.kinds:
-                tests = value.items() if isinstance(value, dict) else [("_eq", value)]
+                tests = in_order(value) if isinstance(value, dict) else [("_eq", value)]
                 found.append(joined("and", [self.test(t, name, op, operand, alias) for op, operand in tests]))
             else:
                 _, far, pairs, _ = t.rels[name]
