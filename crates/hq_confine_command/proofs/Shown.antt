@@ -37,6 +37,10 @@ tells_fault Faulty = Unit {0}
 no_answer : (output : Output) (line : List ℕ) → output ≡ says Faulty line → output.done ≡ Answered → ⊥
 no_answer output line is yes = subst tells_fault (sym (ap done_of is) ∙ yes) tt
 
+abbrev done_in : Done → Result Output Refusal → Done
+done_in other (Ok output) = output.done
+done_in other (Err e) = other
+
 module _ (tables : List Table) (meta : MetaTree) (session : Session) where
   pub fault_shows : (s : SelectTree) (line : List ℕ) (r : Result Said Memory) → IfOk r (λ said. said_view said ≡ says Faulty line) → IfOk r (λ said. TreeShows tables meta session s said.done)
   fault_shows s line (Ok said) is = λ yes. absurd (no_answer (said_view said) line is yes)
@@ -65,10 +69,6 @@ module _ (tables : List Table) (meta : MetaTree) (session : Session) where
   read_shows None body text output old new answer read is shows ends = tt
   read_shows (Some l) body text output old new (Ok done) read is shows ends =
       λ yes. subst (IsShown tables meta session) (is ∙ ap without_line_end read.0) (shows (ap (done_in output.done) ends.1 ∙ ends.2 ∙ yes))
-    where
-      abbrev done_in : Done → Result Output Refusal → Done
-      done_in other (Ok o) = o.done
-      done_in other (Err e) = other
   read_shows (Some l) body text output old new (Err e) read is shows ends = tt
 
 abbrev shown_over : List Header → (text : List ℕ) → Described → Type 0

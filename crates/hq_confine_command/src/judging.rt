@@ -64,7 +64,6 @@ fn said_by(alloc: Global, verdict: &Verdict) -> Result<Said, Memory>
 }
 
 // What is said of a statement.
-#[tactic(auto, using(crate::proofs::Shown::fault_shows, crate::proofs::Shown::verdict_shows))]
 fn judged(
     alloc: Global,
     statement: &Select,
