@@ -35,7 +35,7 @@ tells_fault Faulty = Unit {0}
 
 -- what tells a fault is no answer
 no_answer : (output : Output) (line : List ℕ) → output ≡ says Faulty line → output.done ≡ Answered → ⊥
-no_answer output line is yes = subst tells_fault (sym (ap done_of is) ∙ yes) tt
+no_answer output line is done_so = subst tells_fault (sym (ap done_of is) ∙ done_so) tt
 
 abbrev done_in : Done → Result Output Refusal → Done
 done_in other (Ok output) = output.done
@@ -43,23 +43,23 @@ done_in other (Err e) = other
 
 module _ (tables : List Table) (meta : MetaTree) (session : Session) where
   pub fault_shows : (s : SelectTree) (line : List ℕ) (r : Result Said Memory) → IfOk r (λ said. said_view said ≡ says Faulty line) → IfOk r (λ said. TreeShows tables meta session s said.done)
-  fault_shows s line (Ok said) is = λ yes. absurd (no_answer (said_view said) line is yes)
+  fault_shows s line (Ok said) is = λ done_so. absurd (no_answer (said_view said) line is done_so)
   fault_shows s line (Err e) is = tt
 
   pub verdict_shows : (s : SelectTree) (v : Verdict) (r : Result Said Memory) → YesShowsTheView v tables meta (grants_of session tables meta) s
       → IfOk r (λ said. said_view said ≡ verdict_output (told v)) → IfOk r (λ said. TreeShows tables meta session s said.done)
-  verdict_shows s Yes (Ok said) shows is = λ yes. shows
+  verdict_shows s Yes (Ok said) shows is = λ done_so. shows
   verdict_shows s Yes (Err e) shows is = tt
-  verdict_shows s (No rule alias) (Ok said) shows is = λ yes. absurd (no_answer (said_view said) _ is yes)
+  verdict_shows s (No rule alias) (Ok said) shows is = λ done_so. absurd (no_answer (said_view said) _ is done_so)
   verdict_shows s (No rule alias) (Err e) shows is = tt
 
   pub tree_shows : (text : List ℕ) (s : SelectTree) (r : Result Said Memory) → Spells text s → IfOk r (λ said. TreeShows tables meta session s said.done)
       → IfOk r (λ said. TextShows tables meta session text said.done)
-  tree_shows text s (Ok said) spelled shows = λ yes. (s, spelled, shows yes)
+  tree_shows text s (Ok said) spelled shows = λ done_so. (s, spelled, shows done_so)
   tree_shows text s (Err e) spelled shows = tt
 
   pub nothing_shows : (text line : List ℕ) (r : Result Said Memory) → IfOk r (λ said. said_view said ≡ says Faulty line) → IfOk r (λ said. TextShows tables meta session text said.done)
-  nothing_shows text line (Ok said) is = λ yes. absurd (no_answer (said_view said) line is yes)
+  nothing_shows text line (Ok said) is = λ done_so. absurd (no_answer (said_view said) line is done_so)
   nothing_shows text line (Err e) is = tt
 
   -- of all that was read
@@ -68,7 +68,7 @@ module _ (tables : List Table) (meta : MetaTree) (session : Session) where
       → IfSome left (λ l. IfOk answer (TextShows tables meta session (without_line_end l)))
   read_shows None body text output old new answer read is shows ends = tt
   read_shows (Some l) body text output old new (Ok done) read is shows ends =
-      λ yes. subst (IsShown tables meta session) (is ∙ ap without_line_end read.0) (shows (ap (done_in output.done) ends.1 ∙ ends.2 ∙ yes))
+      λ done_so. subst (IsShown tables meta session) (is ∙ ap without_line_end read.0) (shows (ap (done_in output.done) ends.1 ∙ ends.2 ∙ done_so))
   read_shows (Some l) body text output old new (Err e) read is shows ends = tt
 
 abbrev shown_over : List Header → (text : List ℕ) → Described → Type 0
@@ -86,7 +86,7 @@ pub folder_shows : (folder : Option (List File)) (dir : List ℕ) (headers : Lis
 folder_shows None dir headers d session left answer who holds shows = tt
 folder_shows (Some fs) dir headers d session None answer who holds shows = tt
 folder_shows (Some fs) dir headers d session (Some l) (Ok done) who holds shows =
-    λ other loads yes.
+    λ other loads done_so.
     subst (shown_over headers (without_line_end l)) (ap (described_or d) (sym (ap (λ r. refused_as of_loading r) holds) ∙ loads))
-    (subst (λ s. IsShown d.tables d.meta s (without_line_end l)) who (shows yes))
+    (subst (λ s. IsShown d.tables d.meta s (without_line_end l)) who (shows done_so))
 folder_shows (Some fs) dir headers d session (Some l) (Err e) who holds shows = tt
