@@ -7,6 +7,7 @@ import csv
 import functools
 import json
 import re
+import uuid
 
 
 class Table:
@@ -114,7 +115,7 @@ def read_model(directory):
 
 def read_rows(directory, model):
     """The rows of the table files, by tracked table."""
-    taken = {"integer": int, "bigint": int, "text": str, "boolean": lambda text: text in ("t", "true")}
+    taken = {"integer": int, "bigint": int, "text": str, "boolean": lambda text: text in ("t", "true"), "uuid": str}
     found = []
     for t in model:
         with open(f"{directory}/{'.'.join(table_key(t.catalog))}.csv", encoding="utf-8", newline="") as file:
@@ -231,6 +232,8 @@ class World:
             value = self.variables[value.lower()]
         if isinstance(value, str) and kind == "boolean":
             return value in ("t", "true")
+        if kind == "uuid":
+            return str(uuid.UUID(value))
         return int(value) if kind in ("integer", "bigint") else value
 
     def operands(self, value, in_filter):

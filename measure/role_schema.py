@@ -10,7 +10,7 @@ from graphql import build_schema
 
 from resolvers import combined, entries_of, is_free_name, sets_of
 
-SCALARS = {"integer": "Int", "bigint": "bigint", "text": "String", "boolean": "Boolean"}
+SCALARS = {"integer": "Int", "bigint": "bigint", "text": "String", "boolean": "Boolean", "uuid": "uuid"}
 ANY_OPERATORS = ["_eq", "_gt", "_gte", "_in", "_is_null", "_lt", "_lte", "_neq", "_nin"]
 TEXT_OPERATORS = ["_ilike", "_like", "_nilike", "_nlike"]
 DIRECTIONS = ["asc", "asc_nulls_first", "asc_nulls_last", "desc", "desc_nulls_first", "desc_nulls_last"]
@@ -129,7 +129,7 @@ def table_types(table, seen):
 
 def aggregate_types(table):
     n, named = table.name, table.column_names
-    ordered = [f"{named[c]}: {table.scalar(c)}" for c in table.columns if table.scalar(c) != "Boolean"]
+    ordered = [f"{named[c]}: {table.scalar(c)}" for c in table.columns if table.scalar(c) not in ("Boolean", "uuid")]
     summed = [f"{named[c]}: bigint" for c in table.columns if table.scalar(c) in ("Int", "bigint")]
     yield block("type", f"{n}_aggregate", [f"aggregate: {n}_aggregate_fields", f"nodes: [{n}!]!"])
     fields = [f"count(columns: [{n}_select_column!], distinct: Boolean): Int!"]
@@ -160,7 +160,7 @@ def due_schema(directory, role):
     tables = [Table(e, by_key, role, sets_of(metadata)) for e in entries]
     seen = {t.key: t for t in tables if t.seen}
     roots = [f for t in seen.values() for f in root_fields(t)] or ["no_queries_available: String!"]
-    parts = ["schema { query: query_root }", "scalar bigint", block("enum", "order_by", DIRECTIONS)]
-    parts += [comparison(s) for s in ("Boolean", "Int", "String", "bigint")]
+    parts = ["schema { query: query_root }", "scalar bigint", "scalar uuid", block("enum", "order_by", DIRECTIONS)]
+    parts += [comparison(s) for s in ("Boolean", "Int", "String", "bigint", "uuid")]
     parts += [block("type", "query_root", roots)] + [p for t in seen.values() for p in table_types(t, seen)]
     return build_schema("\n".join(parts), assume_valid=True)

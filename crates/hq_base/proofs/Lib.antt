@@ -1,6 +1,7 @@
 pub mod TextLemmas
 pub mod Looks
 pub mod Texts
+pub mod Uuids
 pub mod Views
 pub mod Reading
 pub mod Names

@@ -8,6 +8,7 @@ pub mod Body
 pub mod Compact
 pub mod Values
 pub mod Types
+pub mod Uuids
 pub mod Cells
 pub mod Lists
 pub mod Aggregates

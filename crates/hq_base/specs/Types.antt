@@ -1,12 +1,12 @@
--- The table of column types (PostgreSQL, data types: numeric, character and boolean types; Hasura, GraphQL types of
+-- The table of column types (PostgreSQL, data types: numeric, character, boolean and UUID types; Hasura, GraphQL types of
 -- PostgreSQL's).
 use Rattle.std.specs.Prelude.{ℕ, List, [], ◌∷◌, find, Bool, true, false, Option, bytes_eq, codes}
 use Rattle.hq_base.specs.declared.value.Ty.{Ty}
-use Rattle.hq_base.specs.declared.value.Ty.TheVariants.{Integer, Bigint, Text, Boolean}
+use Rattle.hq_base.specs.declared.value.Ty.TheVariants.{Integer, Bigint, Text, Boolean, Uuid}
 
 -- all types, in ascending order of the bytes of their scalars' names
 abbrev pub all_types : List Ty
-all_types = Boolean ∷ Integer ∷ Text ∷ Bigint ∷ []
+all_types = Boolean ∷ Integer ∷ Text ∷ Bigint ∷ Uuid ∷ []
 
 -- the place of each among them
 abbrev pub type_place : Ty → ℕ
@@ -14,6 +14,7 @@ type_place Boolean = 0
 type_place Integer = 1
 type_place Text = 2
 type_place Bigint = 3
+type_place Uuid = 4
 
 -- the name of each in a catalog
 abbrev pub catalog_name : Ty → List ℕ
@@ -21,6 +22,7 @@ catalog_name Integer = codes "integer"
 catalog_name Bigint = codes "bigint"
 catalog_name Text = codes "text"
 catalog_name Boolean = codes "boolean"
+catalog_name Uuid = codes "uuid"
 
 -- the type of this name in a catalog, where there is one
 abbrev pub type_named : List ℕ → Option Ty
@@ -32,6 +34,7 @@ scalar_name Integer = codes "Int"
 scalar_name Bigint = codes "bigint"
 scalar_name Text = codes "String"
 scalar_name Boolean = codes "Boolean"
+scalar_name Uuid = codes "uuid"
 
 -- the name of the input of its comparisons
 abbrev pub comparison_name : Ty → List ℕ
@@ -39,6 +42,7 @@ comparison_name Integer = codes "Int_comparison_exp"
 comparison_name Bigint = codes "bigint_comparison_exp"
 comparison_name Text = codes "String_comparison_exp"
 comparison_name Boolean = codes "Boolean_comparison_exp"
+comparison_name Uuid = codes "uuid_comparison_exp"
 
 -- the types of whole numbers
 abbrev pub is_whole : Ty → Bool
@@ -56,7 +60,12 @@ abbrev pub is_boolean : Ty → Bool
 is_boolean Boolean = true
 is_boolean _ = false
 
--- two types whose values can be compared: both whole numbers, both text, or both boolean
+-- the type uuid
+abbrev pub is_uuid : Ty → Bool
+is_uuid Uuid = true
+is_uuid _ = false
+
+-- two types whose values can be compared: both whole numbers, or both of one other type
 abbrev pub comparable : Ty → Ty → Bool
 comparable Integer Integer = true
 comparable Integer Bigint = true
@@ -64,4 +73,5 @@ comparable Bigint Integer = true
 comparable Bigint Bigint = true
 comparable Text Text = true
 comparable Boolean Boolean = true
+comparable Uuid Uuid = true
 comparable _ _ = false

@@ -7,10 +7,10 @@ use crate::Ty;
 
 impl Ty {
     /// All types, in ascending order of the bytes of their scalars' names.
-    pub fn all() -> [Ty; 4]
+    pub fn all() -> [Ty; 5]
         ensures { result ≡ all_types }
     {
-        [Ty::Boolean, Ty::Integer, Ty::Text, Ty::Bigint]
+        [Ty::Boolean, Ty::Integer, Ty::Text, Ty::Bigint, Ty::Uuid]
     }
 
     /// Its place among them.
@@ -29,6 +29,7 @@ impl Ty {
             Ty::Bigint => "bigint",
             Ty::Text => "text",
             Ty::Boolean => "boolean",
+            Ty::Uuid => "uuid",
         }
     }
 
@@ -49,6 +50,7 @@ impl Ty {
             Ty::Bigint => "bigint",
             Ty::Text => "String",
             Ty::Boolean => "Boolean",
+            Ty::Uuid => "uuid",
         }
     }
 
@@ -62,6 +64,7 @@ impl Ty {
             Ty::Bigint => "bigint_comparison_exp",
             Ty::Text => "String_comparison_exp",
             Ty::Boolean => "Boolean_comparison_exp",
+            Ty::Uuid => "uuid_comparison_exp",
         }
     }
 
@@ -80,6 +83,7 @@ impl Ty {
             (Ty::Integer | Ty::Bigint, Ty::Integer | Ty::Bigint) => true,
             (Ty::Text, Ty::Text) => true,
             (Ty::Boolean, Ty::Boolean) => true,
+            (Ty::Uuid, Ty::Uuid) => true,
             _ => false,
         }
     }

@@ -17,6 +17,7 @@ mod pattern;
 mod reply;
 mod stable_sort;
 mod txt;
+mod uuid;
 mod value;
 
 pub use aggregate::Aggregate;
@@ -32,4 +33,5 @@ pub use pattern::{Pattern, PatternRefusal, is_pattern};
 pub use reply::Reply;
 pub use stable_sort::sort;
 pub use txt::{Txt, TxtRefusal};
+pub use uuid::{is_uuid_form, spells_uuid, uuid_form};
 pub use value::{Cell, Ty, Val};

@@ -1,4 +1,4 @@
-ghost use Rattle.std.specs.Prelude.{◌≡◌, ◌++◌, [], IfOk, OnOk, OnErr, MatchOption, None, Some, true, false};
+ghost use Rattle.std.specs.Prelude.{◌≡◌, ◌++◌, ◌∷◌, ◌<◌, [], IfOk, OnOk, OnErr, MatchOption, None, Some, true, false};
 ghost use Rattle.std.specs.Str.{is_utf8};
 ghost use Rattle.std.specs.Hash as fed;
 ghost use Rattle.std.specs.Cmp.Lexicographic.{pointwise, slice_cmp, nat_list_eq_equiv};
@@ -106,6 +106,17 @@ impl Txt {
         ensures err { OnErr result (self.new ≡ self.old) }
     {
         self.text.push_str(piece)?;
+        Ok(())
+    }
+
+    /// Adds a character of ASCII at the end, which is no zero byte.
+    pub fn push_ascii(&mut self, character: u8) -> Result<(), Memory>
+        requires no_zero { 0 < character }
+        requires ascii { character < 128 }
+        ensures ok { OnOk result (self.new ≡ self.old ++ character ∷ []) }
+        ensures err { OnErr result (self.new ≡ self.old) }
+    {
+        self.text.push(char::from(character))?;
         Ok(())
     }
 

@@ -35,6 +35,8 @@ pub enum Ty {
     Text,
     /// Whole numbers of 64 bits with sign.
     Bigint,
+    /// 128 bits, each value a text in its one form.
+    Uuid,
 }
 
 /// A cell of a statement's rows.

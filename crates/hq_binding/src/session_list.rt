@@ -272,5 +272,6 @@ pub fn list_want(ty: Ty) -> Want
         Ty::Bigint => Want::BigintList,
         Ty::Text => Want::TextList,
         Ty::Boolean => Want::BooleanList,
+        Ty::Uuid => Want::UuidList,
     }
 }

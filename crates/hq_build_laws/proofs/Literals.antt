@@ -6,6 +6,7 @@ use Rattle.hq_base.specs.Json.{JsonTree, elements_of, members_of}
 use Rattle.hq_base.specs.Json as json
 use Rattle.hq_base.specs.Lists.{Each}
 use Rattle.hq_base.specs.Cells.{cell_of, json_of}
+use Rattle.hq_base.specs.Uuids.{spells_uuid}
 use Rattle.hq_base.specs.declared.value.Ty.{Ty}
 use Rattle.hq_base.specs.declared.value.Ty.TheVariants as ty
 use Rattle.hq_base.specs.declared.value.Val.TheVariants as val
@@ -44,6 +45,7 @@ wide ty.Integer (negsuc k) h = lt-ltb k (2 ^ 63) (omega (arith, ltb-true k (2 ^ 
 wide ty.Bigint n h = h
 wide ty.Text n h = absurd cc
 wide ty.Boolean n h = absurd cc
+wide ty.Uuid n h = absurd cc
 
 int_wide : (n : ℤ) (t : Ty) (text : List ℕ) → whole_number t text ≡ Some n → whole_number ty.Bigint text ≡ Some n
 int_wide n t text e = by (is_whole_number text) (int_fits t (signed_digits_value 10 text)) refl refl e
@@ -77,6 +79,7 @@ module _ (s : SchemaTree) (t : ℕ) where
       by : (o : Option ℤ) → is_some o ≡ true → is_some (option_map (λ v. json_of (cell_of v)) (option_map val.Int o)) ≡ true
       by None h = absurd cc
       by (Some n) h = refl
+  str_by text (origin.Scalar ty.Uuid) h = let spelled : spells_uuid text ≡ true = h in rw spelled refl
   str_by text o h = absurd cc
 
   bool_by : (b : Bool) (o : TypeOrigin) → literal.leaf_by s t o (bool b) ≡ true → is_some (coercion.leaf_by s t o (json.bool b)) ≡ true
@@ -84,6 +87,7 @@ module _ (s : SchemaTree) (t : ℕ) where
   bool_by b (origin.Scalar ty.Integer) h = absurd cc
   bool_by b (origin.Scalar ty.Text) h = absurd cc
   bool_by b (origin.Scalar ty.Bigint) h = absurd cc
+  bool_by b (origin.Scalar ty.Uuid) h = absurd cc
   bool_by b o h = absurd cc
 
   enum_by : (name : List ℕ) (o : TypeOrigin) → literal.leaf_by s t o (enum name) ≡ true → is_some (coercion.leaf_by s t o (json.str name)) ≡ true
@@ -91,6 +95,7 @@ module _ (s : SchemaTree) (t : ℕ) where
   enum_by name (origin.Scalar ty.Integer) h = absurd cc
   enum_by name (origin.Scalar ty.Text) h = absurd cc
   enum_by name (origin.Scalar ty.Bigint) h = absurd cc
+  enum_by name (origin.Scalar ty.Uuid) h = absurd cc
   enum_by name o h = by (enum_value_of s t name) h
     where
       by : (o : Option ℕ) → is_some o ≡ true → is_some (option_map (λ (place : ℕ). json.str name) o) ≡ true

@@ -57,29 +57,29 @@ module _ (tables : List Table) (m : MetaTree) (role : Role) (schemed : Schemed t
   pub data Found (place : ℕ) (o : TypeOrigin) (name : List ℕ) (f : FieldTree) : Type 0 where
     own : IsField o f → Found place o name f
     type_name : f ≡ type_name_field → Found place o name f
-    of_schema : place ≡ 17 → f ≡ schema_field → name ≡ codes "__schema" → Found place o name f
-    of_type : place ≡ 17 → f ≡ type_field → name ≡ codes "__type" → Found place o name f
+    of_schema : place ≡ 19 → f ≡ schema_field → name ≡ codes "__schema" → Found place o name f
+    of_type : place ≡ 19 → f ≡ type_field → name ≡ codes "__type" → Found place o name f
 
   meta_found : (place : ℕ) (o : TypeOrigin) (name : List ℕ) (f : FieldTree) → meta_field R place name ≡ Some f → Found place o name f
   unfolding role_schema
   meta_found place o name f e = by (bytes_eq (codes "__typename") name) e
     where
-      third : (b : Bool) → bytes_eq (codes "__type") name ≡ b → place ≡ 17 → cond b (Some type_field) None ≡ Some f → Found place o name f
+      third : (b : Bool) → bytes_eq (codes "__type") name ≡ b → place ≡ 19 → cond b (Some type_field) None ≡ Some f → Found place o name f
       third true is at e = let same : type_field ≡ f = cc in of_type at (sym same) (sym (names_equal (codes "__type") name is))
       third false is at e = cc
 
-      second : (b : Bool) → bytes_eq (codes "__schema") name ≡ b → place ≡ 17 → cond b (Some schema_field) (cond (bytes_eq (codes "__type") name) (Some type_field) None) ≡ Some f
+      second : (b : Bool) → bytes_eq (codes "__schema") name ≡ b → place ≡ 19 → cond b (Some schema_field) (cond (bytes_eq (codes "__type") name) (Some type_field) None) ≡ Some f
           → Found place o name f
       second true is at e = let same : schema_field ≡ f = cc in of_schema at (sym same) (sym (names_equal (codes "__schema") name is))
       second false is at e = third (bytes_eq (codes "__type") name) refl at e
 
-      at_root : (b : Bool) → (place == 17) ≡ b → cond b (field_in (schema_field ∷ type_field ∷ []) name) None ≡ Some f → Found place o name f
-      at_root true is e = second (bytes_eq (codes "__schema") name) refl (eqb-true place 17 is) e
+      at_root : (b : Bool) → (place == 19) ≡ b → cond b (field_in (schema_field ∷ type_field ∷ []) name) None ≡ Some f → Found place o name f
+      at_root true is e = second (bytes_eq (codes "__schema") name) refl (eqb-true place 19 is) e
       at_root false is e = cc
 
-      by : (b : Bool) → cond b (Some type_name_field) (cond (place == 17) (field_in (schema_field ∷ type_field ∷ []) name) None) ≡ Some f → Found place o name f
+      by : (b : Bool) → cond b (Some type_name_field) (cond (place == 19) (field_in (schema_field ∷ type_field ∷ []) name) None) ≡ Some f → Found place o name f
       by true e = let same : type_name_field ≡ f = cc in type_name (sym same)
-      by false e = at_root (place == 17) refl e
+      by false e = at_root (place == 19) refl e
 
   pub field_found : (place : ℕ) (o : TypeOrigin) (name : List ℕ) (f : FieldTree) → At types place o → known_field R (Some place) name ≡ Some f → Found place o name f
   field_found place o name f at e = by (field_of R place name) refl e
@@ -105,12 +105,12 @@ module _ (tables : List Table) (m : MetaTree) (role : Role) (schemed : Schemed t
   unfolding role_schema fixed_type
   root_at = refl
 
-  at_17 : At types 17 type.Query
+  at_19 : At types 19 type.Query
   unfolding role_schema fixed_type
-  at_17 = refl
+  at_19 = refl
 
-  pub root_is : (o : TypeOrigin) → At types 17 o → type.Query ≡ o
-  root_is o at = let same : Some type.Query ≡ Some o = sym at_17 ∙ at in cc
+  pub root_is : (o : TypeOrigin) → At types 19 o → type.Query ≡ o
+  root_is o at = let same : Some type.Query ≡ Some o = sym at_19 ∙ at in cc
 
   -- ---- inputs
 

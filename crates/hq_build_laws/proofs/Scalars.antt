@@ -104,6 +104,7 @@ pattern_lawful : (t : Ty) (fold : Bool) → applies (Like fold) t ≡ true → (
 pattern_lawful ty.Boolean fold of j h = absurd cc
 pattern_lawful ty.Integer fold of j h = absurd cc
 pattern_lawful ty.Bigint fold of j h = absurd cc
+pattern_lawful ty.Uuid fold of j h = absurd cc
 pattern_lawful ty.Text fold of null h = refl
 pattern_lawful ty.Text fold of (bool b) h = let no : false ≡ true = h refl in absurd cc
 pattern_lawful ty.Text fold of (int n) h = let no : false ≡ true = h refl in absurd cc

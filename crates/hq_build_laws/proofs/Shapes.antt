@@ -442,7 +442,7 @@ module _ (tables : List Table) (m : MetaTree) (role : Role) where
     types_shaped differ =
         let ps : List PlacedTable = placed (shown_tables tables m role) in
         each_append Shaped (fixed_types ps) (flat_map (table_types ps) ps)
-        (each_map Shaped (fixed_type ps) (fixed_shaped ps (placed_keys 18 (shown_tables tables m role) (keys_shown differ))) all_fixed)
+        (each_map Shaped (fixed_type ps) (fixed_shaped ps (placed_keys 20 (shown_tables tables m role) (keys_shown differ))) all_fixed)
         (each_flat_map Shaped (λ (p : PlacedTable). IsShown tables m role p.shown) (table_types ps)
         (λ p shown. each_map Shaped (part_type p (links_from ps 0 p.shown.rels)) (part_shaped p (links_from ps 0 p.shown.rels) shown) (parts_of p.shown)) ps
-        (placed_shown tables m role 18 (shown_tables tables m role) (tables_shown tables m role differ)))
+        (placed_shown tables m role 20 (shown_tables tables m role) (tables_shown tables m role differ)))

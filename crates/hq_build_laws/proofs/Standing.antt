@@ -107,11 +107,13 @@ module _ (tables : List Table) (m : MetaTree) (role : Role) where
   introspection_at (Scalar ty.Integer) = refl
   introspection_at (Scalar ty.Text) = refl
   introspection_at (Scalar ty.Bigint) = refl
+  introspection_at (Scalar ty.Uuid) = refl
   introspection_at OrderBy = refl
   introspection_at (Comparison ty.Boolean) = refl
   introspection_at (Comparison ty.Integer) = refl
   introspection_at (Comparison ty.Text) = refl
   introspection_at (Comparison ty.Bigint) = refl
+  introspection_at (Comparison ty.Uuid) = refl
   introspection_at SchemaType = refl
   introspection_at TypeType = refl
   introspection_at Field = refl

@@ -4,6 +4,8 @@ use Rattle.std.specs.List.{filter_map, list_any}
 use Rattle.hq_base.specs.Cells.{cell_of, json_of}
 use Rattle.hq_base.specs.Json.{JsonTree, null, bool, int, str, arr, obj, ElementTrees, no_element, element, MemberTrees, no_member, member, elements_of, members_of, names_of}
 use Rattle.hq_base.specs.Lists.{Each}
+use Rattle.hq_base.specs.Uuids.{spells_uuid, uuid_form}
+use Rattle.hq_base.proofs.Uuids.{form_is_read}
 use Rattle.hq_base.specs.declared.value.Ty.TheVariants as ty
 use Rattle.hq_base.specs.declared.value.Val.TheVariants as val
 use Rattle.hq_terms.specs.Database.{int_fits}
@@ -75,6 +77,7 @@ bool_kept s t b y (origin.Scalar ty.Boolean) e = let same : bool b ≡ y = cc in
 bool_kept s t b y (origin.Scalar ty.Integer) e = absurd cc
 bool_kept s t b y (origin.Scalar ty.Text) e = absurd cc
 bool_kept s t b y (origin.Scalar ty.Bigint) e = absurd cc
+bool_kept s t b y (origin.Scalar ty.Uuid) e = absurd cc
 bool_kept s t b y o e = absurd cc
 
 int_kept : (s : SchemaTree) (t : ℕ) (n : ℤ) (y : JsonTree) (o : TypeOrigin) → leaf_by s t o (int n) ≡ Some y → y ≡ int n
@@ -85,11 +88,17 @@ int_kept s t n y (origin.Scalar q) e = by (int_fits q n) e
     by false e = absurd cc
 int_kept s t n y o e = absurd cc
 
--- .. a text too, or it is the whole number that it spells
-abbrev TextKept : SchemaTree → (type : ℕ) → List ℕ → JsonTree → TypeOrigin → Type 0
-TextKept s t x y o = (n : ℤ) × (y ≡ int n) × (is_some (leaf_by s t o (int n)) ≡ true)
+-- .. a text too, or it is the whole number that it spells, or the one form of the uuid that it is read as
+abbrev NumberKept : SchemaTree → (type : ℕ) → JsonTree → TypeOrigin → Type 0
+NumberKept s t y o = (n : ℤ) × (y ≡ int n) × (is_some (leaf_by s t o (int n)) ≡ true)
 
-text_by : (s : SchemaTree) (t : ℕ) (x : List ℕ) (y : JsonTree) (o : TypeOrigin) → leaf_by s t o (str x) ≡ Some y → (y ≡ str x) ⊎ TextKept s t x y o
+abbrev FormKept : SchemaTree → (type : ℕ) → JsonTree → TypeOrigin → Type 0
+FormKept s t y o = (u : List ℕ) × (y ≡ str u) × (is_some (leaf_by s t o (str u)) ≡ true)
+
+abbrev Kept : SchemaTree → (type : ℕ) → (given : JsonTree) → JsonTree → TypeOrigin → Type 0
+Kept s t j y o = (y ≡ j) ⊎ (NumberKept s t y o ⊎ FormKept s t y o)
+
+text_by : (s : SchemaTree) (t : ℕ) (x : List ℕ) (y : JsonTree) (o : TypeOrigin) → leaf_by s t o (str x) ≡ Some y → Kept s t (str x) y o
 text_by s t x y (origin.Scalar ty.Boolean) e = absurd cc
 text_by s t x y (origin.Scalar ty.Integer) e = absurd cc
 text_by s t x y (origin.Scalar ty.Text) e = let same : str x ≡ y = cc in inl (sym same)
@@ -98,28 +107,40 @@ text_by s t x y (origin.Scalar ty.Bigint) e = by (whole_number ty.Bigint x) refl
     fitting : (n : ℤ) → int_fits ty.Bigint n ≡ true → is_some (leaf_by s t (origin.Scalar ty.Bigint) (int n)) ≡ true
     fitting n fits = rw fits refl
 
-    by : (o : Option ℤ) → whole_number ty.Bigint x ≡ o → option_map (λ v. json_of (cell_of v)) (option_map val.Int o) ≡ Some y → (y ≡ str x) ⊎ TextKept s t x y (origin.Scalar ty.Bigint)
+    by : (o : Option ℤ) → whole_number ty.Bigint x ≡ o → option_map (λ v. json_of (cell_of v)) (option_map val.Int o) ≡ Some y → Kept s t (str x) y (origin.Scalar ty.Bigint)
     by None is e = absurd cc
-    by (Some n) is e = let same : int n ≡ y = cc in inr (n, sym same, fitting n (whole_fits n ty.Bigint x is))
+    by (Some n) is e = let same : int n ≡ y = cc in inr (inl (n, sym same, fitting n (whole_fits n ty.Bigint x is)))
+text_by s t x y (origin.Scalar ty.Uuid) e = by (uuid_form x) refl e
+  where
+    again : (u : List ℕ) → spells_uuid u ≡ true → is_some (leaf_by s t (origin.Scalar ty.Uuid) (str u)) ≡ true
+    again u spelled = rw spelled refl
+
+    by : (o : Option (List ℕ)) → uuid_form x ≡ o → option_map (λ v. json_of (cell_of v)) (option_map val.Text o) ≡ Some y → Kept s t (str x) y (origin.Scalar ty.Uuid)
+    by None is e = absurd cc
+    by (Some u) is e = let same : str u ≡ y = cc in inr (inr (u, sym same, again u (form_is_read x u is)))
 text_by s t x y o e =
     let found = map_some (λ (place : ℕ). str x) (enum_value_of s t x) y e in
     inl (sym found.2)
 
 -- a leaf that is coerced
-leaf_flat : (s : SchemaTree) (t : ℕ) (j y : JsonTree) → ((o : TypeOrigin) → leaf_by s t o j ≡ Some y → (y ≡ j) ⊎ ((n : ℤ) × (y ≡ int n) × (is_some (leaf_by s t o (int n)) ≡ true)))
+leaf_flat : (s : SchemaTree) (t : ℕ) (j y : JsonTree) → ((o : TypeOrigin) → leaf_by s t o j ≡ Some y → Kept s t j y o)
     → (is_some (leaf_value s t j) ≡ true → IsFlat s t j) → leaf_value s t j ≡ Some y → IsFlat s t y
 leaf_flat s t j y kept flat e = by (type_at s t) refl e
   where
     number : (n : ℤ) → is_some (leaf_value s t (int n)) ≡ true → IsFlat s t (int n)
     number n h = record { of_base = λ r same. subst (λ u. is_some (leaf_value s u (int n)) ≡ true) (sym same) h; not_null = refl }
 
+    form : (u : List ℕ) → is_some (leaf_value s t (str u)) ≡ true → IsFlat s t (str u)
+    form u h = record { of_base = λ r same. subst (λ v. is_some (leaf_value s v (str u)) ≡ true) (sym same) h; not_null = refl }
+
     by : (o : Option TypeTree) → type_at s t ≡ o → option_and_then (λ d. leaf_by s t d.origin j) o ≡ Some y → IsFlat s t y
     by None is e = absurd cc
     by (Some d) is e' = cases (kept d.origin e')
       where
-        cases : (y ≡ j) ⊎ ((n : ℤ) × (y ≡ int n) × (is_some (leaf_by s t d.origin (int n)) ≡ true)) → IsFlat s t y
+        cases : Kept s t j y d.origin → IsFlat s t y
         cases (inl same) = subst (IsFlat s t) (sym same) (flat (ap is_some e))
-        cases (inr h) = subst (IsFlat s t) (sym h.1) (number h.0 (ap (λ o. is_some (option_and_then (λ (x : TypeTree). leaf_by s t x.origin (int h.0)) o)) is ∙ h.2))
+        cases (inr (inl h)) = subst (IsFlat s t) (sym h.1) (number h.0 (ap (λ o. is_some (option_and_then (λ (x : TypeTree). leaf_by s t x.origin (int h.0)) o)) is ∙ h.2))
+        cases (inr (inr h)) = subst (IsFlat s t) (sym h.1) (form h.0 (ap (λ o. is_some (option_and_then (λ (x : TypeTree). leaf_by s t x.origin (str h.0)) o)) is ∙ h.2))
 
 bool_flat : (s : SchemaTree) (t : ℕ) (b : Bool) (y : JsonTree) → leaf_value s t (bool b) ≡ Some y → IsFlat s t y
 bool_flat s t b y e = leaf_flat s t (bool b) y (λ o e. inl (bool_kept s t b y o e))

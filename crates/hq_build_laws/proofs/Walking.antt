@@ -112,9 +112,9 @@ module _ (tables : List Table) (m : MetaTree) (metadata_fits : fits tables m ≡
       at_root true e = inside e
       at_root false e = absurd cc
 
-      by : (b : Bool) → cond b (Some type_name_field) (cond (place == 17) (field_in (schema_field ∷ type_field ∷ []) name) None) ≡ Some f → Like f
+      by : (b : Bool) → cond b (Some type_name_field) (cond (place == 19) (field_in (schema_field ∷ type_field ∷ []) name) None) ≡ Some f → Like f
       by true e = let same : type_name_field ≡ f = cc in subst Like same (record { shape = tt; apart = refl })
-      by false e = at_root (place == 17) e
+      by false e = at_root (place == 19) e
 
   field_like : (place : ℕ) (o : TypeOrigin) (name : List ℕ) (f : FieldTree) → At types place o → known_field R (Some place) name ≡ Some f → Like f
   field_like place o name f at e = by (field_of R place name) refl e
@@ -157,7 +157,7 @@ module _ (tables : List Table) (m : MetaTree) (metadata_fits : fits tables m ≡
   name_building place o h at = let is = type_is tables m role schemed place o at in subst (λ (x : Option TypeTree). IsBuilding (name_of_type h x)) (sym is.here) tt
 
   -- no type but that of the root has the fields of introspection
-  not_root : (place : ℕ) (o : TypeOrigin) → At types place o → (type.Query ≡ o → ⊥) → place ≡ 17 → ⊥
+  not_root : (place : ℕ) (o : TypeOrigin) → At types place o → (type.Query ≡ o → ⊥) → place ≡ 19 → ⊥
   not_root place o at other is = other (root_is tables m role schemed o (subst (λ p. At types p o) is at))
 
   -- ---- what one aggregate gives

@@ -6,7 +6,7 @@
 //! COLUMN is `{"name": text, "type": text, "nullable": bool}`, and
 //! KEY is `{"columns": [text], "table": {"schema": text, "name": text}, "references": [text]}`.
 //!
-//! A type is `integer`, `bigint`, `text` or `boolean`. `nullable` may be absent, which says true, and so may
+//! A type is `integer`, `bigint`, `text`, `boolean` or `uuid`. `nullable` may be absent, which says true, and so may
 //! `foreign_keys`, which says none. Other members are passed over.
 #![tactic(auto)]
 

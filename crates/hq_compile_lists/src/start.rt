@@ -7,7 +7,7 @@ ghost use Rattle.hq_sql_tree.specs.Tree as tree;
 ghost use Rattle.hq_sql_tree.specs.View.{join_view, pred_view};
 ghost use Rattle.hq_compiled.specs.Conditions.{literal, joined_by_and, with_member};
 ghost use Rattle.hq_compiled.specs.Fields.{key_members};
-ghost use Rattle.hq_compiled.specs.Looks.{compared_at};
+ghost use Rattle.hq_compiled.specs.Looks.{compared_at, type_in};
 ghost use Rattle.hq_compiled.specs.Masks.{masks, shown_look, filter_numbers, filter_predicate};
 ghost use Rattle.hq_compiled.specs.Selects.{filter_from, behind_filter};
 ghost use Rattle.hq_compile_context.specs.Contexts.{context_schema, context_rights};
@@ -21,6 +21,7 @@ use hq_compile_masks::{FirstRow, mask_parts};
 use hq_compile_predicates::row_members;
 use hq_compile_tables::{
     MaskPlace, Shown, compared_shown, comparison, joined_by_and, link, literal, table_shown,
+    type_in,
 };
 use hq_sql_tree::{Pred, PredList};
 use hq_terms::{ColId, Op, RelId, TableId};
@@ -28,10 +29,10 @@ use std::alloc::Global;
 
 // A column of a key equals a value.
 fn key_member(alloc: Global, shown: &Shown, column: ColId, value: &Val) -> Result<Pred, Memory>
-    ensures { IfOk result (λ p. pred_view p ≡ tree.test (compared_at shown.now.columns.now (look_of shown.now column) column) (Compare Eq) (literal value.now ∷ [])) }
+    ensures { IfOk result (λ p. pred_view p ≡ tree.test (compared_at shown.now.columns.now (look_of shown.now column) column) (Compare Eq) (literal (type_in shown.now.columns.now column) value.now ∷ [])) }
 {
     let left = compared_shown(alloc, shown, column)?;
-    let right = literal(alloc, value)?;
+    let right = literal(alloc, type_in(shown.columns, column), value)?;
     comparison(alloc, left, Op::Eq, right)
 }
 

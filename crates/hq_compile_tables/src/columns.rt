@@ -2,7 +2,7 @@
 ghost use Rattle.std.specs.Prelude.{◌≡◌, [], IfOk, OnOk, false};
 ghost use Rattle.hq_sql_tree.specs.Tree as tree;
 ghost use Rattle.hq_sql_tree.specs.View.{expr_view};
-ghost use Rattle.hq_compiled.specs.Looks.{name_of, is_text_column, own_look, cell_at, compared_at, compares, is_used, add_new, add_all};
+ghost use Rattle.hq_compiled.specs.Looks.{name_of, is_text_column, own_look, cell_at, compared_at, compares, is_used, add_new, add_all, type_in};
 ghost use Rattle.hq_compiled.specs.Masks.{value_place};
 
 use hq_base::{List, Memory, Txt, Ty};
@@ -21,14 +21,21 @@ fn name_of(alloc: Global, columns: &[Column], column: ColId) -> Result<Txt, Memo
     }
 }
 
+/// The type of a column; text beyond the table's columns.
+pub fn type_in(columns: &[Column], column: ColId) -> Ty
+    ensures { result ≡ type_in columns.now column }
+{
+    match columns.get(column.at()) {
+        Some(found) => found.ty,
+        None => Ty::Text,
+    }
+}
+
 /// Whether a column is of texts, which are compared by COLLATE "C".
 pub fn is_text(columns: &[Column], column: ColId) -> bool
     ensures { result ≡ is_text_column columns.now column }
 {
-    match columns.get(column.at()) {
-        Some(found) => found.ty == Ty::Text,
-        None => true,
-    }
+    type_in(columns, column) == Ty::Text
 }
 
 /// A column of a table's rows at the alias of this number, with COLLATE "C" or without.

@@ -5,55 +5,67 @@ ghost use Rattle.hq_terms.specs.Tests.{is_of_nothing};
 ghost use Rattle.hq_terms.specs.declared.test.Test.TheVariants.{Compare};
 ghost use Rattle.hq_sql_tree.specs.Tree as tree;
 ghost use Rattle.hq_sql_tree.specs.View.{expr_view, pred_view, filter_view};
-ghost use Rattle.hq_compiled.specs.Conditions.{literal, operand_literal, joined_by_and, joined_by_or, with_member, where_of, negation_if, first_literal, literals_for, test_of};
-ghost use Rattle.hq_compiled.specs.Looks.{compared_at, tested_at};
+ghost use Rattle.hq_compiled.specs.Conditions.{text_literal, literal, operand_literal, joined_by_and, joined_by_or, with_member, where_of, negation_if, first_literal, literals_for, test_of};
+ghost use Rattle.hq_compiled.specs.Looks.{compared_at, tested_at, type_in};
 ghost use Rattle.hq_compile_tables.specs.Shown.{look_of};
 
+use crate::columns::type_in;
 use crate::shown::{Shown, compared_shown, tested_shown};
-use hq_base::{Memory, Val};
+use hq_base::{Memory, Txt, Ty, Val};
 use hq_sql_tree::{Expr, ExprList, Pred, PredList};
 use hq_terms::{Arity, ColId, Op, Operand, Operands, Test};
 use std::alloc::Global;
 
-/// The literal of a value.
-pub fn literal(alloc: Global, value: &Val) -> Result<Expr, Memory>
-    ensures { IfOk result (λ e. expr_view e ≡ literal value.now) }
+// The literal of a text: where it is compared with a uuid, one of that type.
+fn text_literal(alloc: Global, ty: Ty, text: &Txt) -> Result<Expr, Memory>
+    ensures { IfOk result (λ e. expr_view e ≡ text_literal ty text.now) }
+{
+    let text = text.copy(alloc)?;
+    match ty {
+        Ty::Uuid => Ok(Expr::Uuid(text)),
+        Ty::Integer | Ty::Bigint | Ty::Text | Ty::Boolean => Ok(Expr::Text(text)),
+    }
+}
+
+/// The literal of a value that is compared with a column of a type.
+pub fn literal(alloc: Global, ty: Ty, value: &Val) -> Result<Expr, Memory>
+    ensures { IfOk result (λ e. expr_view e ≡ literal ty value.now) }
 {
     match value {
         Val::Null => Ok(Expr::Object(Vec::new(alloc))),
         Val::Int(n) => Ok(Expr::Int(*n)),
-        Val::Text(text) => Ok(Expr::Text(text.copy(alloc)?)),
+        Val::Text(text) => text_literal(alloc, ty, text),
         Val::Bool(b) => Ok(Expr::Bool(*b)),
     }
 }
 
 // The literal of an operand.
-fn operand_literal(alloc: Global, operand: &Operand) -> Result<Expr, Memory>
-    ensures { IfOk result (λ e. expr_view e ≡ operand_literal operand.now) }
+fn operand_literal(alloc: Global, ty: Ty, operand: &Operand) -> Result<Expr, Memory>
+    ensures { IfOk result (λ e. expr_view e ≡ operand_literal ty operand.now) }
 {
     match operand {
-        Operand::Const(value) => literal(alloc, value),
+        Operand::Const(value) => literal(alloc, ty, value),
         Operand::Session(_) => Ok(Expr::Object(Vec::new(alloc))),
     }
 }
 
-fn operand_literals(alloc: Global, operands: &[Operand]) -> Result<ExprList, Memory>
-    ensures { IfOk result (λ es. map expr_view es.items ≡ map operand_literal operands.now) }
+fn operand_literals(alloc: Global, ty: Ty, operands: &[Operand]) -> Result<ExprList, Memory>
+    ensures { IfOk result (λ es. map expr_view es.items ≡ map (operand_literal ty) operands.now) }
 {
     let mut literals = Vec::with_capacity(alloc, operands.len())?;
     for operand in operands {
-        literals.push(operand_literal(alloc, operand)?)?;
+        literals.push(operand_literal(alloc, ty, operand)?)?;
     }
     Ok(literals)
 }
 
 // The literal of the first operand; that of NULL where there is none.
-fn first_literal(alloc: Global, operands: &[Operand]) -> Result<Expr, Memory>
-    ensures { IfOk result (λ e. expr_view e ≡ first_literal operands.now) }
+fn first_literal(alloc: Global, ty: Ty, operands: &[Operand]) -> Result<Expr, Memory>
+    ensures { IfOk result (λ e. expr_view e ≡ first_literal ty operands.now) }
 {
     match operands {
-        [] => literal(alloc, &Val::Null),
-        [first, ..] => operand_literal(alloc, first),
+        [] => literal(alloc, ty, &Val::Null),
+        [first, ..] => operand_literal(alloc, ty, first),
     }
 }
 
@@ -153,16 +165,21 @@ pub fn comparison(alloc: Global, left: Expr, op: Op, right: Expr) -> Result<Pred
 }
 
 // The literals of as many operands as are taken; one that is absent is NULL.
-fn literals_for(alloc: Global, arity: Arity, operands: &[Operand]) -> Result<ExprList, Memory>
-    ensures { IfOk result (λ es. map expr_view es.items ≡ literals_for arity operands.now) }
+fn literals_for(
+    alloc: Global,
+    ty: Ty,
+    arity: Arity,
+    operands: &[Operand],
+) -> Result<ExprList, Memory>
+    ensures { IfOk result (λ es. map expr_view es.items ≡ literals_for ty arity operands.now) }
 {
     match arity {
         Arity::Nothing => Ok(Vec::new(alloc)),
         Arity::One => {
-            let first = first_literal(alloc, operands)?;
+            let first = first_literal(alloc, ty, operands)?;
             one_expr(alloc, first)
         }
-        Arity::Many => operand_literals(alloc, operands),
+        Arity::Many => operand_literals(alloc, ty, operands),
     }
 }
 
@@ -189,13 +206,14 @@ fn listed_test(
     operands: &[Operand],
     negated: bool,
 ) -> Result<Pred, Memory>
-    ensures { IfOk result (λ p. pred_view p ≡ test_of (tested_at shown.now.columns.now (look_of shown.now column) column test) test operands.now negated) }
+    ensures { IfOk result (λ p. pred_view p ≡ test_of (type_in shown.now.columns.now column) (tested_at shown.now.columns.now (look_of shown.now column) column test) test operands.now negated) }
 {
     if is_of_nothing(test, operands) {
         return Ok(one_of_nothing(negated));
     }
     let value = tested_shown(alloc, shown, column, test)?;
-    let operands = literals_for(alloc, test.arity(), operands)?;
+    let ty = type_in(shown.columns, column);
+    let operands = literals_for(alloc, ty, test.arity(), operands)?;
     let pred = Pred::Test {
         value,
         test,
@@ -213,7 +231,7 @@ pub fn column_test(
     operands: &Operands,
     negated: bool,
 ) -> Result<Pred, Memory>
-    ensures { IfOk result (λ p. pred_view p ≡ test_of (tested_at shown.now.columns.now (look_of shown.now column) column test) test (operands_of operands.now) negated) }
+    ensures { IfOk result (λ p. pred_view p ≡ test_of (type_in shown.now.columns.now column) (tested_at shown.now.columns.now (look_of shown.now column) column test) test (operands_of operands.now) negated) }
 {
     match operands {
         Operands::List(operands) => {

@@ -7,7 +7,7 @@ mod shown;
 mod table;
 
 pub use columns::{
-    add_new, column_at, each_once, is_text, is_used, own_column, value_at, value_column,
+    add_new, column_at, each_once, is_text, is_used, own_column, type_in, value_at, value_column,
 };
 pub use condition::{
     column_test, columns_test, comparison, first_member, joined_by_and, joined_by_or, literal,

@@ -2,6 +2,7 @@
 use Rattle.std.proofs.Common.{◌≡◌, ℕ, ◌<◌, ◌≤◌, ◌^◌, List, [], ◌∷◌, ◌++◌, length, Bool, true, false, cond, bytes_eq, ◌+◌, refl, ap, sym, ◌∙◌, arith, append_assoc, append-nil}
 use Rattle.std.specs.List.{list_any}
 use Rattle.hq_base.specs.Lists.{all_differ}
+use Rattle.hq_base.specs.declared.value.Ty.{Ty}
 use Rattle.hq_base.specs.declared.value.Val.{Val}
 use Rattle.hq_terms.specs.Bexp.{BexpTree, always, and_of, or_of, not_of, test, through, exists_in, two_columns, BexpTrees, no_bexp, bexp, operands_of}
 use Rattle.hq_terms.specs.Permission.{Mask}
@@ -209,9 +210,9 @@ key_none columns look cs vs l = of_and (key_members columns look cs vs) l ∙ go
     go (c ∷ cs) [] = refl
     go (c ∷ cs) (v ∷ vs) = go cs vs
 
-test_none : (e : ExprTree) (t : Test) (vs : List Operand) (negated : Bool) (l : Texts) → aliases_in_pred (test_of e t vs negated) l ≡ l
-test_none e t vs negated l =
-    let go : (b c : Bool) → aliases_in_pred (cond b (cond c tree.always tree.never) (negation_if c (tree.test e t (literals_for (arity t) vs)))) l ≡ l =
+test_none : (ty : Ty) (e : ExprTree) (t : Test) (vs : List Operand) (negated : Bool) (l : Texts) → aliases_in_pred (test_of ty e t vs negated) l ≡ l
+test_none ty e t vs negated l =
+    let go : (b c : Bool) → aliases_in_pred (cond b (cond c tree.always tree.never) (negation_if c (tree.test e t (literals_for ty (arity t) vs)))) l ≡ l =
     elim [ true ↦ elim [ true ↦ refl | false ↦ refl ] | false ↦ elim [ true ↦ refl | false ↦ refl ] ] in
     go (is_of_nothing t vs) negated
 
@@ -266,7 +267,7 @@ module _ (s : Schema) (m : Mode) (ok : ModeBinds m) where
     predicate_binds (or_of bs) look t p n bound =
         binds_as n (n + numbers_all bs s m t) (lists_in (predicates bs s m look t p n)) _ (of_or (predicates bs s m look t p n)) (predicates_bind bs look t p n bound)
     predicate_binds (not_of b) look t p n bound = predicate_binds b look t p n bound
-    predicate_binds (test c tested vs negated) look t p n bound = binds_as n (n + 0) (λ l. l) _ (test_none _ tested (operands_of vs) negated) (binds_none n (n + 0))
+    predicate_binds (test c tested vs negated) look t p n bound = binds_as n (n + 0) (λ l. l) _ (test_none _ _ tested (operands_of vs) negated) (binds_none n (n + 0))
     predicate_binds (through r b) look t p n bound =
         let u : ℕ = (rel s t r).remote in
         let cs : List ℕ = columns_in b in

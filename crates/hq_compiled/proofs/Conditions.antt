@@ -1,6 +1,7 @@
 -- What lists of conditions and tests of a value mean.
 use Rattle.std.proofs.Common.{◌≡◌, List, [], ◌∷◌, map, Bool, true, false, cond, ◌&&◌, refl, sym, ap, ap₂, ◌∙◌}
 use Rattle.hq_base.specs.Cells.{CellTree, cell_of, null, int, text, bool, json}
+use Rattle.hq_base.specs.declared.value.Ty.{Ty}
 use Rattle.hq_base.specs.declared.value.Val.{Val}
 use Rattle.hq_base.specs.declared.value.Val.TheVariants as val
 use Rattle.hq_terms.specs.declared.truth.Truth.{Truth}
@@ -17,6 +18,7 @@ use Rattle.hq_terms.specs.declared.op.Op.{Op}
 use Rattle.hq_sql_tree.specs.Tree as tree
 use Rattle.hq_sql_tree.specs.Tree.{ExprTree, PredTree, preds_of}
 use Rattle.hq_sql_tree.specs.Meaning.{Scope, World, value, kept, truth_at, all_true, any_true}
+use Rattle.hq_compiled.proofs.TextLiterals.{of_either}
 use Rattle.hq_compiled.specs.Conditions.{literal, operand_literal, joined_by_and, joined_by_or, with_member, where_of, negation_if, literals_for, test_of}
 
 -- ---- truth
@@ -112,51 +114,51 @@ module _ (w : World) (scope : Scope) where
   -- ---- literals
 
   -- a literal compares with each cell as its value does
-  pub compares : (op : Op) (a : CellTree) (v : Val) → compared op a (value (literal v) [] scope) ≡ compared op a (cell_of v)
-  compares op null val.Null = refl
-  compares op (int n) val.Null = refl
-  compares op (text s) val.Null = refl
-  compares op (bool b) val.Null = refl
-  compares op (json j) val.Null = refl
-  compares op a (val.Int n) = refl
-  compares op a (val.Text s) = refl
-  compares op a (val.Bool b) = refl
+  pub compares : (ty : Ty) (op : Op) (a : CellTree) (v : Val) → compared op a (value (literal ty v) [] scope) ≡ compared op a (cell_of v)
+  compares ty op null val.Null = refl
+  compares ty op (int n) val.Null = refl
+  compares ty op (text s) val.Null = refl
+  compares ty op (bool b) val.Null = refl
+  compares ty op (json j) val.Null = refl
+  compares ty op a (val.Int n) = refl
+  compares ty op a (val.Text s) = of_either (λ e. compared op a (value e [] scope) ≡ compared op a (text s)) ty s refl refl
+  compares ty op a (val.Bool b) = refl
 
-  compares_null : (op : Op) (a : CellTree) → compared op a (value (literal val.Null) [] scope) ≡ compared op a null
-  compares_null op a = compares op a val.Null
+  compares_null : (ty : Ty) (op : Op) (a : CellTree) → compared op a (value (literal ty val.Null) [] scope) ≡ compared op a null
+  compares_null ty op a = compares ty op a val.Null
 
-  compares_operand : (op : Op) (a : CellTree) (o : Operand) → compared op a (value (operand_literal o) [] scope) ≡ compared op a (operand_cell o)
-  compares_operand op a (Const v) = compares op a v
-  compares_operand op a (Session name) = compares_null op a
+  compares_operand : (ty : Ty) (op : Op) (a : CellTree) (o : Operand) → compared op a (value (operand_literal ty o) [] scope) ≡ compared op a (operand_cell o)
+  compares_operand ty op a (Const v) = compares ty op a v
+  compares_operand ty op a (Session name) = compares_null ty op a
 
-  matches : (fold : Bool) (a : CellTree) (v : Val) → matched fold a (value (literal v) [] scope) ≡ matched fold a (cell_of v)
-  matches fold null val.Null = refl
-  matches fold (int n) val.Null = refl
-  matches fold (text s) val.Null = refl
-  matches fold (bool b) val.Null = refl
-  matches fold (json j) val.Null = refl
-  matches fold a (val.Int n) = refl
-  matches fold a (val.Text s) = refl
-  matches fold a (val.Bool b) = refl
+  matches : (ty : Ty) (fold : Bool) (a : CellTree) (v : Val) → matched fold a (value (literal ty v) [] scope) ≡ matched fold a (cell_of v)
+  matches ty fold null val.Null = refl
+  matches ty fold (int n) val.Null = refl
+  matches ty fold (text s) val.Null = refl
+  matches ty fold (bool b) val.Null = refl
+  matches ty fold (json j) val.Null = refl
+  matches ty fold a (val.Int n) = refl
+  matches ty fold a (val.Text s) = of_either (λ e. matched fold a (value e [] scope) ≡ matched fold a (text s)) ty s refl refl
+  matches ty fold a (val.Bool b) = refl
 
-  matches_operand : (fold : Bool) (a : CellTree) (o : Operand) → matched fold a (value (operand_literal o) [] scope) ≡ matched fold a (operand_cell o)
-  matches_operand fold a (Const v) = matches fold a v
-  matches_operand fold a (Session name) = matches fold a val.Null
+  matches_operand : (ty : Ty) (fold : Bool) (a : CellTree) (o : Operand) → matched fold a (value (operand_literal ty o) [] scope) ≡ matched fold a (operand_cell o)
+  matches_operand ty fold a (Const v) = matches ty fold a v
+  matches_operand ty fold a (Session name) = matches ty fold a val.Null
 
-  among_literals : (a : CellTree) (os : List Operand) → among (map (λ e. value e [] scope) (map operand_literal os)) a ≡ among (map operand_cell os) a
-  among_literals a [] = refl
-  among_literals a (o ∷ os) = ap₂ or3 (compares_operand Eq a o) (among_literals a os)
+  among_literals : (ty : Ty) (a : CellTree) (os : List Operand) → among (map (λ e. value e [] scope) (map (operand_literal ty) os)) a ≡ among (map operand_cell os) a
+  among_literals ty a [] = refl
+  among_literals ty a (o ∷ os) = ap₂ or3 (compares_operand ty Eq a o) (among_literals ty a os)
 
   -- ---- tests
 
   -- a test of the literals of its operands is one of their cells
-  operands_mean : (t : Test) (a : CellTree) (vs : List Operand) → test_truth t a (map (λ e. value e [] scope) (literals_for (arity t) vs)) ≡ test_truth t a (map operand_cell vs)
-  operands_mean (Compare op) a [] = compares op a val.Null
-  operands_mean (Compare op) a (v ∷ vs) = compares_operand op a v
-  operands_mean Among a vs = among_literals a vs
-  operands_mean IsNull a vs = refl
-  operands_mean (Like fold) a [] = matches fold a val.Null
-  operands_mean (Like fold) a (v ∷ vs) = matches_operand fold a v
+  operands_mean : (ty : Ty) (t : Test) (a : CellTree) (vs : List Operand) → test_truth t a (map (λ e. value e [] scope) (literals_for ty (arity t) vs)) ≡ test_truth t a (map operand_cell vs)
+  operands_mean ty (Compare op) a [] = compares ty op a val.Null
+  operands_mean ty (Compare op) a (v ∷ vs) = compares_operand ty op a v
+  operands_mean ty Among a vs = among_literals ty a vs
+  operands_mean ty IsNull a vs = refl
+  operands_mean ty (Like fold) a [] = matches ty fold a val.Null
+  operands_mean ty (Like fold) a (v ∷ vs) = matches_operand ty fold a v
 
   nothing_no : (t : Test) (a : CellTree) (vs : List Operand) → is_of_nothing t vs ≡ true → test_truth t a (map operand_cell vs) ≡ No
   nothing_no Among a [] h = refl
@@ -172,12 +174,12 @@ module _ (w : World) (scope : Scope) where
   negation_means false p = refl
 
   -- a test has the truth of the cell that its value shows, which matters only where it is looked at
-  pub test_means : (e : ExprTree) (cell : CellTree) (t : Test) (vs : List Operand) (negated : Bool) → (is_of_nothing t vs ≡ false → value e [] scope ≡ cell)
-      → truth_at (test_of e t vs negated) w scope ≡ negated_if negated (test_truth t cell (map operand_cell vs))
-  test_means e cell t vs negated shows =
-      let p : PredTree = tree.test e t (literals_for (arity t) vs) in
+  pub test_means : (ty : Ty) (e : ExprTree) (cell : CellTree) (t : Test) (vs : List Operand) (negated : Bool) → (is_of_nothing t vs ≡ false → value e [] scope ≡ cell)
+      → truth_at (test_of ty e t vs negated) w scope ≡ negated_if negated (test_truth t cell (map operand_cell vs))
+  test_means ty e cell t vs negated shows =
+      let p : PredTree = tree.test e t (literals_for ty (arity t) vs) in
       let go : (b : Bool) → is_of_nothing t vs ≡ b → truth_at (cond b (cond negated tree.always tree.never) (negation_if negated p)) w scope ≡ negated_if negated (test_truth t cell (map operand_cell vs)) = elim [
         | true ↦ λ h. nothing_means negated ∙ ap (negated_if negated) (sym (nothing_no t cell vs h))
-        | false ↦ λ h. negation_means negated p ∙ ap (negated_if negated) (operands_mean t (value e [] scope) vs ∙ ap (λ c. test_truth t c (map operand_cell vs)) (shows h))
+        | false ↦ λ h. negation_means negated p ∙ ap (negated_if negated) (operands_mean ty t (value e [] scope) vs ∙ ap (λ c. test_truth t c (map operand_cell vs)) (shows h))
       ] in
       go (is_of_nothing t vs) refl

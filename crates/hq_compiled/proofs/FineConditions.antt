@@ -4,8 +4,9 @@ use Rattle.std.specs.Prelude.{slice_get, nat_le, codes}
 use Rattle.std.specs.List.{list_all}
 use Rattle.std.proofs.lemmas.Bool.{and_parts, leb-true, false≢true}
 use borrow.Author.Tests.{ltb-true}
+use Rattle.hq_base.specs.Uuids.{is_uuid_form}
 use Rattle.hq_base.specs.declared.value.Ty.{Ty}
-use Rattle.hq_base.specs.declared.value.Ty.TheVariants.{Integer, Bigint, Text, Boolean}
+use Rattle.hq_base.specs.declared.value.Ty.TheVariants.{Integer, Bigint, Text, Boolean, Uuid}
 use Rattle.hq_base.specs.declared.value.Val.{Val}
 use Rattle.hq_base.specs.declared.value.Val.TheVariants as val
 use Rattle.hq_terms.specs.Bexp.{BexpTree, always, and_of, or_of, not_of, test, through, exists_in, two_columns, BexpTrees, no_bexp, bexp, operands_of, depth}
@@ -41,49 +42,57 @@ at_most n k h = leb-true n k h
 -- ---- tests of columns
 
 -- a constant is compared with a value of its type's kind
-constant_item : (scope : Aliases) (e : ExprTree) (ty : Ty) (v : Val) → kind scope e ≡ Some (kind_of_type ty) → constant_fits ty v ≡ true → is_item scope e (literal v) ≡ true
+constant_item : (scope : Aliases) (e : ExprTree) (ty : Ty) (v : Val) → kind scope e ≡ Some (kind_of_type ty) → constant_fits ty v ≡ true → is_item scope e (literal ty v) ≡ true
 constant_item scope e ty val.Null h f = cc
 constant_item scope e Integer (val.Int n) h f = rw h refl
 constant_item scope e Bigint (val.Int n) h f = rw h refl
 constant_item scope e Text (val.Int n) h f = cc
 constant_item scope e Boolean (val.Int n) h f = cc
+constant_item scope e Uuid (val.Int n) h f = cc
 constant_item scope e Integer (val.Text s) h f = cc
 constant_item scope e Bigint (val.Text s) h f = cc
 constant_item scope e Text (val.Text s) h f = rw h refl
 constant_item scope e Boolean (val.Text s) h f = cc
+constant_item scope e Uuid (val.Text s) h f = let form : is_uuid_form s ≡ true = f in rw (h, form) refl
 constant_item scope e Integer (val.Bool b) h f = cc
 constant_item scope e Bigint (val.Bool b) h f = cc
 constant_item scope e Text (val.Bool b) h f = cc
 constant_item scope e Boolean (val.Bool b) h f = rw h refl
+constant_item scope e Uuid (val.Bool b) h f = cc
 
-pattern_item : (v : Val) → is_pattern v ≡ true → well.is_pattern (literal v) ≡ true
-pattern_item val.Null f = cc
-pattern_item (val.Int n) f = cc
-pattern_item (val.Text s) f = f
-pattern_item (val.Bool b) f = cc
+-- a pattern of a column of texts is one
+pattern_item : (ty : Ty) (v : Val) → applies (Like true) ty ≡ true → is_pattern v ≡ true → well.is_pattern (literal ty v) ≡ true
+pattern_item ty val.Null a f = cc
+pattern_item ty (val.Int n) a f = cc
+pattern_item Text (val.Text s) a f = f
+pattern_item Integer (val.Text s) a f = cc
+pattern_item Bigint (val.Text s) a f = cc
+pattern_item Boolean (val.Text s) a f = cc
+pattern_item Uuid (val.Text s) a f = cc
+pattern_item ty (val.Bool b) a f = cc
 
 -- an operand that fits a test of a column is one of the test of a value of the column's kind
-module _ (scope : Aliases) (e : ExprTree) (ty : Ty) (t : Test) (h : kind scope e ≡ Some (kind_of_type ty)) where
-  operand_const : (t : Test) (v : Val) → test_fits t ty v ≡ true → is_operand scope t e (literal v) ≡ true
-  operand_const (Like fold) v f = pattern_item v f
-  operand_const _ v f = constant_item scope e ty v h f
+module _ (scope : Aliases) (e : ExprTree) (ty : Ty) (t : Test) (of : applies t ty ≡ true) (h : kind scope e ≡ Some (kind_of_type ty)) where
+  operand_const : (t : Test) (v : Val) → applies t ty ≡ true → test_fits t ty v ≡ true → is_operand scope t e (literal ty v) ≡ true
+  operand_const (Like fold) v a f = pattern_item ty v a f
+  operand_const _ v a f = constant_item scope e ty v h f
 
-  operand_typed : (v : Operand) → operand_fits t ty v ≡ true → is_constant v ≡ true → is_operand scope t e (operand_literal v) ≡ true
-  operand_typed (Const v) f g = operand_const t v f
+  operand_typed : (v : Operand) → operand_fits t ty v ≡ true → is_constant v ≡ true → is_operand scope t e (operand_literal ty v) ≡ true
+  operand_typed (Const v) f g = operand_const t v of f
   operand_typed (Session name) f g = cc
 
-  operands_typed : (vs : List Operand) → list_all (operand_fits t ty) vs ≡ true → list_all is_constant vs ≡ true → list_all (is_operand scope t e) (map operand_literal vs) ≡ true
+  operands_typed : (vs : List Operand) → list_all (operand_fits t ty) vs ≡ true → list_all is_constant vs ≡ true → list_all (is_operand scope t e) (map (operand_literal ty) vs) ≡ true
   operands_typed [] f g = refl
   operands_typed (v ∷ vs) f g =
       let a = and_parts (operand_fits t ty v) (list_all (operand_fits t ty) vs) f in
       let b = and_parts (is_constant v) (list_all is_constant vs) g in
-      two (is_operand scope t e (operand_literal v)) (list_all (is_operand scope t e) (map operand_literal vs)) (operand_typed v a.0 b.0) (operands_typed vs a.1 b.1)
+      two (is_operand scope t e (operand_literal ty v)) (list_all (is_operand scope t e) (map (operand_literal ty) vs)) (operand_typed v a.0 b.0) (operands_typed vs a.1 b.1)
 
-  literals_typed : (k : Arity) (vs : List Operand) → has_arity k (length vs) ≡ true → list_all (operand_fits t ty) vs ≡ true → list_all is_constant vs ≡ true → list_all (is_operand scope t e) (literals_for k vs) ≡ true
+  literals_typed : (k : Arity) (vs : List Operand) → has_arity k (length vs) ≡ true → list_all (operand_fits t ty) vs ≡ true → list_all is_constant vs ≡ true → list_all (is_operand scope t e) (literals_for ty k vs) ≡ true
   literals_typed Nothing vs n f g = refl
   literals_typed One [] n f g = cc
   literals_typed One (v ∷ vs) n f g =
-      two (is_operand scope t e (operand_literal v)) true
+      two (is_operand scope t e (operand_literal ty v)) true
       (operand_typed v (and_parts (operand_fits t ty v) (list_all (operand_fits t ty) vs) f).0 (and_parts (is_constant v) (list_all is_constant vs) g).0) refl
   literals_typed Many vs n f g = operands_typed vs f g
 
@@ -93,6 +102,7 @@ value_alone Integer (Like fold) f = cc
 value_alone Bigint (Like fold) f = cc
 value_alone Text (Like fold) f = refl
 value_alone Boolean (Like fold) f = cc
+value_alone Uuid (Like fold) f = cc
 value_alone ty IsNull f = refl
 value_alone ty _ f = compared_of (column_alone ty) (codes "t") (codes "c") ty refl
 
@@ -102,7 +112,7 @@ test_fine ty t (operands.List vs) f g =
     let e : ExprTree = tree.column (codes "t") (codes "c") (compares t && is_text ty) in
     let parts = and_parts (takes t (length vs) && applies t ty) (list_all (operand_fits t ty) vs) f in
     let of = and_parts (takes t (length vs)) (applies t ty) parts.0 in
-    two (is_tested (column_alone ty) t e) (list_all (is_operand (column_alone ty) t e) (literals_for (arity t) vs)) (value_alone ty t of.1) (literals_typed (column_alone ty) e ty t refl (arity t) vs of.0 parts.1 g)
+    two (is_tested (column_alone ty) t e) (list_all (is_operand (column_alone ty) t e) (literals_for ty (arity t) vs)) (value_alone ty t of.1) (literals_typed (column_alone ty) e ty t of.1 refl (arity t) vs of.0 parts.1 g)
 test_fine ty t (operands.Session name) f g = cc
 
 -- ---- columns whose type passes a test
@@ -120,18 +130,27 @@ kinds_compare Integer Integer h = refl
 kinds_compare Integer Bigint h = refl
 kinds_compare Integer Text h = absurd (false≢true h)
 kinds_compare Integer Boolean h = absurd (false≢true h)
+kinds_compare Integer Uuid h = absurd (false≢true h)
 kinds_compare Bigint Integer h = refl
 kinds_compare Bigint Bigint h = refl
 kinds_compare Bigint Text h = absurd (false≢true h)
 kinds_compare Bigint Boolean h = absurd (false≢true h)
+kinds_compare Bigint Uuid h = absurd (false≢true h)
 kinds_compare Text Integer h = absurd (false≢true h)
 kinds_compare Text Bigint h = absurd (false≢true h)
 kinds_compare Text Text h = refl
 kinds_compare Text Boolean h = absurd (false≢true h)
+kinds_compare Text Uuid h = absurd (false≢true h)
 kinds_compare Boolean Integer h = absurd (false≢true h)
 kinds_compare Boolean Bigint h = absurd (false≢true h)
 kinds_compare Boolean Text h = absurd (false≢true h)
 kinds_compare Boolean Boolean h = refl
+kinds_compare Boolean Uuid h = absurd (false≢true h)
+kinds_compare Uuid Integer h = absurd (false≢true h)
+kinds_compare Uuid Bigint h = absurd (false≢true h)
+kinds_compare Uuid Text h = absurd (false≢true h)
+kinds_compare Uuid Boolean h = absurd (false≢true h)
+kinds_compare Uuid Uuid h = refl
 
 -- columns whose values can be compared
 columns_fine : (s : Schema) (t i j : ℕ) → can_pair (column_ty s t i) (column_ty s t j) ≡ true → Has s t i × Has s t j × (compare_kinds (Some (kind_of s t i)) (Some (kind_of s t j)) ≡ true)

@@ -4,6 +4,7 @@ use Rattle.std.specs.Prelude.{nat_le}
 use Rattle.std.specs.List.{list_all}
 use Rattle.std.proofs.lemmas.Bool.{le-leb}
 use Rattle.hq_base.specs.declared.aggregate.Aggregate.{Aggregate}
+use Rattle.hq_base.specs.declared.value.Ty.{Ty}
 use Rattle.hq_base.specs.declared.value.Val.{Val}
 use Rattle.hq_base.specs.declared.value.Val.TheVariants as val
 use Rattle.hq_terms.specs.Bexp.{BexpTree, always, and_of, or_of, not_of, test, through, exists_in, two_columns, BexpTrees, no_bexp, bexp, operands_of}
@@ -32,8 +33,9 @@ use Rattle.hq_sql_tree.specs.Tree as tree
 use Rattle.hq_sql_tree.specs.Tree.{ExprTree, AggTree, PairTree, OrderTree, OutTree, SelectTree, JoinTree, JoinTrees, FilterTree, PredTree, pred_list, preds_of, joins_of, pairs_of, orders_of}
 use Rattle.hq_sql_tree.specs.Form.{is_expr, are_pairs, is_agg, are_orders, holds_agg, hold_agg, is_lone_agg, is_select, are_joins, is_filter, is_pred, are_preds}
 use Rattle.hq_compiled.specs.Names.{table_alias, fold_alias, value_name, unit_name}
-use Rattle.hq_compiled.specs.Looks.{Look, own_look, cell_at}
+use Rattle.hq_compiled.specs.Looks.{Look, own_look, cell_at, type_in}
 use Rattle.hq_compiled.specs.Rights.{Rights}
+use Rattle.hq_compiled.proofs.TextLiterals.{of_either}
 use Rattle.hq_compiled.specs.Conditions.{literal, operand_literal, joined_by_and, joined_by_or, with_member, where_of, negation_if, first_literal, literals_for, test_of}
 use Rattle.hq_compiled.specs.Predicates.{link_members, link, Mode, columns_in, guard_from, inner_from, numbers, predicate, predicates, filter_mode, own_numbers, own_predicate}
 use Rattle.hq_compiled.specs.Masks.{mask_joins, used_masks, masks, filter_predicate, shown_look, where_mode}
@@ -94,54 +96,54 @@ three_form a b c e f g =
     where_form (with_member a (with_member b (with_member c [])))
     (member_form a (with_member b (with_member c [])) e (member_form b (with_member c []) f (member_form c [] g tt)))
 
-literal_form : (v : Val) → is_expr (literal v) ≡ true
-literal_form val.Null = refl
-literal_form (val.Int n) = refl
-literal_form (val.Text s) = refl
-literal_form (val.Bool b) = refl
+literal_form : (ty : Ty) (v : Val) → is_expr (literal ty v) ≡ true
+literal_form ty val.Null = refl
+literal_form ty (val.Int n) = refl
+literal_form ty (val.Text s) = of_either (λ e. is_expr e ≡ true) ty s refl refl
+literal_form ty (val.Bool b) = refl
 
-operand_form : (o : Operand) → is_expr (operand_literal o) ≡ true
-operand_form (Const v) = literal_form v
-operand_form (Session name) = refl
+operand_form : (ty : Ty) (o : Operand) → is_expr (operand_literal ty o) ≡ true
+operand_form ty (Const v) = literal_form ty v
+operand_form ty (Session name) = refl
 
-operands_form : (os : List Operand) → list_all is_expr (map operand_literal os) ≡ true
-operands_form [] = refl
-operands_form (o ∷ os) = rw (operand_form o) (operands_form os)
+operands_form : (ty : Ty) (os : List Operand) → list_all is_expr (map (operand_literal ty) os) ≡ true
+operands_form ty [] = refl
+operands_form ty (o ∷ os) = rw (operand_form ty o) (operands_form ty os)
 
 negation_form : (b : Bool) (p : PredTree) → is_pred p ≡ true → is_pred (negation_if b p) ≡ true
 negation_form true p e = e
 negation_form false p e = e
 
-first_literal_form : (os : List Operand) → is_expr (first_literal os) ≡ true
-first_literal_form [] = refl
-first_literal_form (o ∷ os) = operand_form o
+first_literal_form : (ty : Ty) (os : List Operand) → is_expr (first_literal ty os) ≡ true
+first_literal_form ty [] = refl
+first_literal_form ty (o ∷ os) = operand_form ty o
 
 -- as many literals as are taken, each an expression, and none only where there is no operand
-literals_form : (k : Arity) (os : List Operand) → list_all is_expr (literals_for k os) ≡ true
-literals_form Nothing os = refl
-literals_form One os = rw (first_literal_form os) refl
-literals_form Many os = operands_form os
+literals_form : (ty : Ty) (k : Arity) (os : List Operand) → list_all is_expr (literals_for ty k os) ≡ true
+literals_form ty Nothing os = refl
+literals_form ty One os = rw (first_literal_form ty os) refl
+literals_form ty Many os = operands_form ty os
 
-literals_taken : (k : Arity) (os : List Operand) → has_arity k (length (literals_for k os)) ≡ true
-literals_taken Nothing os = refl
-literals_taken One os = refl
-literals_taken Many os = refl
+literals_taken : (ty : Ty) (k : Arity) (os : List Operand) → has_arity k (length (literals_for ty k os)) ≡ true
+literals_taken ty Nothing os = refl
+literals_taken ty One os = refl
+literals_taken ty Many os = refl
 
-nothing_left : (t : Test) (os : List Operand) → is_of_nothing t (literals_for (arity t) os) ≡ is_of_nothing t os
-nothing_left Among [] = refl
-nothing_left Among (o ∷ os) = refl
-nothing_left _ os = refl
+nothing_left : (ty : Ty) (t : Test) (os : List Operand) → is_of_nothing t (literals_for ty (arity t) os) ≡ is_of_nothing t os
+nothing_left ty Among [] = refl
+nothing_left ty Among (o ∷ os) = refl
+nothing_left ty _ os = refl
 
 nothing_form : (b : Bool) → is_pred (cond b tree.always tree.never) ≡ true
 nothing_form true = refl
 nothing_form false = refl
 
-test_form : (alias name : List ℕ) (collate : Bool) (t : Test) (os : List Operand) (negated : Bool) → is_pred (test_of (tree.column alias name collate) t os negated) ≡ true
-test_form alias name collate t os negated =
-    let p : PredTree = tree.test (tree.column alias name collate) t (literals_for (arity t) os) in
+test_form : (ty : Ty) (alias name : List ℕ) (collate : Bool) (t : Test) (os : List Operand) (negated : Bool) → is_pred (test_of ty (tree.column alias name collate) t os negated) ≡ true
+test_form ty alias name collate t os negated =
+    let p : PredTree = tree.test (tree.column alias name collate) t (literals_for ty (arity t) os) in
     let go : (b : Bool) → is_of_nothing t os ≡ b → is_pred (cond b (cond negated tree.always tree.never) (negation_if negated p)) ≡ true = elim [
       | true ↦ λ h. nothing_form negated
-      | false ↦ λ h. negation_form negated p (rw (literals_taken (arity t) os, nothing_left t os, h, literals_form (arity t) os) refl)
+      | false ↦ λ h. negation_form negated p (rw (literals_taken ty (arity t) os, nothing_left ty t os, h, literals_form ty (arity t) os) refl)
     ] in
     go (is_of_nothing t os) refl
 
@@ -198,7 +200,7 @@ module _ (s : Schema) (m : Mode) (h : ModeForms m) where
     predicate_form (and_of bs) look t p n = and_form (predicates bs s m look t p n) (predicates_form bs look t p n)
     predicate_form (or_of bs) look t p n = or_form (predicates bs s m look t p n) (predicates_form bs look t p n)
     predicate_form (not_of b) look t p n = predicate_form b look t p n
-    predicate_form (test c tested vs negated) look t p n = test_form _ _ _ tested (operands_of vs) negated
+    predicate_form (test c tested vs negated) look t p n = test_form _ _ _ _ tested (operands_of vs) negated
     predicate_form (through r b) look t p n =
         let u : ℕ = (rel s t r).remote in
         let cs : List ℕ = columns_in b in
@@ -295,7 +297,7 @@ parts_form (part key p ps) s g u a n = rw (part_form p n) (parts_form ps s g u a
 key_form : (columns : List Column) (look : Look) (cs : List ℕ) (vs : List Val) → Forms (key_members columns look cs vs)
 key_form columns look [] vs = tt
 key_form columns look (c ∷ cs) [] = tt
-key_form columns look (c ∷ cs) (v ∷ vs) = (rw (literal_form v) refl, key_form columns look cs vs)
+key_form columns look (c ∷ cs) (v ∷ vs) = (rw (literal_form (type_in columns c) v) refl, key_form columns look cs vs)
 
 -- ---- aggregates
 

@@ -9,6 +9,7 @@ mod TableRequests
 mod Asked
 pub mod Names
 pub mod Sound
+pub mod TextLiterals
 pub mod Conditions
 pub mod Extends
 pub mod Bodies

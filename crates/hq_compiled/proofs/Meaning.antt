@@ -24,7 +24,7 @@ use Rattle.hq_sql_tree.specs.Tree.{JoinTree, joins_of, pairs_of, PredTree}
 use Rattle.hq_sql_tree.specs.Meaning.{NamedRow, cell_named, Scope, nothing, with_alias, World, value, members, outputs, order_cmp, or_null_row, first_value, rows_of, kept, truth_at}
 use Rattle.hq_compiled.specs.Rights.{rights_of}
 use Rattle.hq_compiled.specs.Names.{table_alias, join_alias, value_name}
-use Rattle.hq_compiled.specs.Looks.{Look, own_look}
+use Rattle.hq_compiled.specs.Looks.{Look, own_look, type_in}
 use Rattle.hq_compiled.specs.Conditions.{joined_by_and}
 use Rattle.hq_compiled.specs.Predicates.{link}
 use Rattle.hq_compiled.specs.Masks.{value_output, extra, masks, shown_look, filter_numbers, filter_predicate}
@@ -133,7 +133,7 @@ module _ (s : Schema) (tables : List Table) (d : List (List Row)) (g : Grants) w
       go (c ∷ cs) [] l = refl
       go (c ∷ cs) (v ∷ vs) l =
           ap₂ (λ a b. is_true a && b)
-          (compares w scope Eq (cell_named (scope (look c).alias) (look c).name) v ∙ rw (l c (used_left c (c ∷ []) cs (used_one c))) refl)
+          (compares w scope (type_in (table s u).columns c) Eq (cell_named (scope (look c).alias) (look c).name) v ∙ rw (l c (used_left c (c ∷ []) cs (used_one c))) refl)
           (go cs vs (looks_right look (c ∷ []) cs scope (shown s g d u far) l))
 
   -- ---- a join changes its own alias alone

@@ -16,7 +16,7 @@ use Rattle.hq_sql_tree.specs.Tree as tree
 use Rattle.hq_sql_tree.specs.Tree.{FilterTree, JoinTree, OutTree, PredTree}
 use Rattle.hq_sql_tree.specs.Meaning.{NamedRow, Scope, World, has_rows, outputs, kept, truth_at}
 use Rattle.hq_compiled.specs.Names.{table_alias, unit_name}
-use Rattle.hq_compiled.specs.Looks.{Look, own_look, tested_at}
+use Rattle.hq_compiled.specs.Looks.{Look, own_look, tested_at, type_in}
 use Rattle.hq_compiled.specs.Conditions.{with_member, where_of}
 use Rattle.hq_compiled.specs.Predicates.{link_members, link, Mode, columns_in, columns_in_all, guard_from, inner_from, numbers, numbers_all, counted_rows, predicate, predicates, filter_mode, own_numbers, own_predicate}
 use Rattle.hq_compiled.proofs.Names.{Shows, Narrow, at_row, shows_row, shows_behind, table_aliases_differ, used_else, Looks, looks_left, looks_right}
@@ -148,7 +148,7 @@ module _ (s : Schema) (tables : List Table) (d : List (List Row)) (sound : Sound
     predicate_means (or_of bs) look t p n scope row lt bound shows l = truth_alternatives w scope (predicates bs s m look t p n) ∙ any_means bs look t p n scope row lt bound shows l
     predicate_means (not_of b) look t p n scope row lt bound shows l = ap not3 (predicate_means b look t p n scope row lt bound shows l)
     predicate_means (test c tested vs negated) look t p n scope row lt bound shows l =
-        test_means w scope (tested_at (table s t).columns (look c) c tested) (S.cell t row c) tested (operands_of vs) negated (λ some. l c (used_else c (is_of_nothing tested (operands_of vs)) some))
+        test_means w scope (type_in (table s t).columns c) (tested_at (table s t).columns (look c) c tested) (S.cell t row c) tested (operands_of vs) negated (λ some. l c (used_else c (is_of_nothing tested (operands_of vs)) some))
     predicate_means (through r b) look t p n scope row lt bound shows l =
         through_means r b t p n scope row lt bound shows
         (λ inner far far_shows far_looks.

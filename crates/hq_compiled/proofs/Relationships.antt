@@ -6,7 +6,7 @@ use Rattle.std.proofs.lemmas.Bool.{and_parts, eqb-true, ltb-true, false≢true}
 use Rattle.std.proofs.lemmas.Option.{get_or_from_slice_get}
 use Rattle.hq_base.specs.Lists.{Each}
 use Rattle.hq_base.specs.declared.value.Ty.{Ty}
-use Rattle.hq_base.specs.declared.value.Ty.TheVariants.{Integer, Bigint, Text, Boolean}
+use Rattle.hq_base.specs.declared.value.Ty.TheVariants.{Integer, Bigint, Text, Boolean, Uuid}
 use Rattle.hq_terms.specs.Catalog.{comparable, can_pair}
 use Rattle.hq_terms.specs.Filters.{column_ty}
 use Rattle.hq_terms.specs.Fits.{fits, fits_rel, fits_tracked}
@@ -65,18 +65,27 @@ comparable_kinds Integer Integer h = refl
 comparable_kinds Integer Bigint h = refl
 comparable_kinds Integer Text h = absurd (false≢true h)
 comparable_kinds Integer Boolean h = absurd (false≢true h)
+comparable_kinds Integer Uuid h = absurd (false≢true h)
 comparable_kinds Bigint Integer h = refl
 comparable_kinds Bigint Bigint h = refl
 comparable_kinds Bigint Text h = absurd (false≢true h)
 comparable_kinds Bigint Boolean h = absurd (false≢true h)
+comparable_kinds Bigint Uuid h = absurd (false≢true h)
 comparable_kinds Text Integer h = absurd (false≢true h)
 comparable_kinds Text Bigint h = absurd (false≢true h)
 comparable_kinds Text Text h = refl
 comparable_kinds Text Boolean h = absurd (false≢true h)
+comparable_kinds Text Uuid h = absurd (false≢true h)
 comparable_kinds Boolean Integer h = absurd (false≢true h)
 comparable_kinds Boolean Bigint h = absurd (false≢true h)
 comparable_kinds Boolean Text h = absurd (false≢true h)
 comparable_kinds Boolean Boolean h = refl
+comparable_kinds Boolean Uuid h = absurd (false≢true h)
+comparable_kinds Uuid Integer h = absurd (false≢true h)
+comparable_kinds Uuid Bigint h = absurd (false≢true h)
+comparable_kinds Uuid Text h = absurd (false≢true h)
+comparable_kinds Uuid Boolean h = absurd (false≢true h)
+comparable_kinds Uuid Uuid h = refl
 
 pair_fine : (s : Schema) (t u : ℕ) (p : Pair) → can_pair (column_ty s t p.own) (column_ty s u p.remote) ≡ true → FinePair s t u p
 pair_fine s t u p h =

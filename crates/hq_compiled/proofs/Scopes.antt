@@ -2,7 +2,7 @@
 use Rattle.std.proofs.Common.{◌≡◌, ℕ, zero, suc, ◌<◌, ◌≤◌, ◌^◌, List, [], ◌∷◌, ◌++◌, length, true, false, bytes_eq, ◌+◌, refl, ◌∙◌, arith, Some}
 use Rattle.std.specs.Prelude.{slice_index_or}
 use Rattle.hq_base.specs.declared.value.Ty.{Ty}
-use Rattle.hq_base.specs.declared.value.Ty.TheVariants.{Integer, Bigint, Text, Boolean}
+use Rattle.hq_base.specs.declared.value.Ty.TheVariants.{Integer, Bigint, Text, Boolean, Uuid}
 use Rattle.hq_terms.specs.Database.{is_text}
 use Rattle.hq_terms.specs.Schema.{Schema, table, no_column}
 use Rattle.hq_terms.specs.declared.table.Column.{Column}
@@ -94,3 +94,4 @@ compared_of scope alias name Integer e = rw e refl
 compared_of scope alias name Bigint e = rw e refl
 compared_of scope alias name Text e = rw e refl
 compared_of scope alias name Boolean e = rw e refl
+compared_of scope alias name Uuid e = rw e refl

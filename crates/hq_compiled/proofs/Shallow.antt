@@ -4,6 +4,7 @@ use Rattle.std.specs.Prelude.{max}
 use Rattle.std.proofs.Math.Nat.{max-le, le-max_left, le-max_right}
 use Rattle.hq_base.specs.Lists.{Each}
 use Rattle.hq_base.specs.declared.aggregate.Aggregate.{Aggregate}
+use Rattle.hq_base.specs.declared.value.Ty.{Ty}
 use Rattle.hq_base.specs.declared.value.Val.{Val}
 use Rattle.hq_base.specs.declared.value.Val.TheVariants as val
 use Rattle.hq_terms.specs.Bexp.{BexpTree, always, and_of, or_of, not_of, test, through, exists_in, two_columns, BexpTrees, no_bexp, bexp, depth, depth_of_all, operands_of}
@@ -31,8 +32,9 @@ use Rattle.hq_sql_tree.specs.Tree as tree
 use Rattle.hq_sql_tree.specs.Tree.{ExprTree, AggTree, PairTree, OrderTree, OutTree, SelectTree, FromTree, JoinTree, JoinTrees, FilterTree, PredTree, preds_of, joins_of, pairs_of, orders_of}
 use Rattle.hq_sql_tree.specs.Form.{greatest, arity_parens, expr_depth, pairs_depth, orders_depth, distinct_depth, select_depth, from_depth, joins_depth, filter_depth, pred_depth, preds_depth}
 use Rattle.hq_compiled.specs.Names.{table_alias, value_name, unit_name}
-use Rattle.hq_compiled.specs.Looks.{Look, is_text_column, compares, is_used, own_look, cell_at}
+use Rattle.hq_compiled.specs.Looks.{Look, is_text_column, type_in, compares, is_used, own_look, cell_at}
 use Rattle.hq_compiled.specs.Rights.{Rights}
+use Rattle.hq_compiled.proofs.TextLiterals.{of_either}
 use Rattle.hq_compiled.specs.Conditions.{literal, operand_literal, joined_by_and, joined_by_or, with_member, where_of, negation_if, first_literal, literals_for, test_of}
 use Rattle.hq_compiled.specs.Predicates.{link_members, link, Mode, columns_in, guard_from, inner_from, numbers, predicate, predicates, filter_mode, own_numbers, own_predicate}
 use Rattle.hq_compiled.specs.Masks.{mask_joins, mask_select, used_masks, masks, filter_predicate, shown_look, where_mode}
@@ -94,43 +96,43 @@ lone_low k (tree.all_of qs) e = e
 lone_low k (tree.any_of qs) e = e
 lone_low k (tree.exists s) e = e
 
-literal_low : (v : Val) → expr_depth (literal v) ≤ 1
-literal_low val.Null = omega arith
-literal_low (val.Int n) = omega arith
-literal_low (val.Text s) = omega arith
-literal_low (val.Bool b) = omega arith
+literal_low : (ty : Ty) (v : Val) → expr_depth (literal ty v) ≤ 1
+literal_low ty val.Null = omega arith
+literal_low ty (val.Int n) = omega arith
+literal_low ty (val.Text s) = of_either (λ e. expr_depth e ≤ 1) ty s (omega arith) (omega arith)
+literal_low ty (val.Bool b) = omega arith
 
-operand_low : (o : Operand) → expr_depth (operand_literal o) ≤ 1
-operand_low (Const v) = literal_low v
-operand_low (Session name) = omega arith
+operand_low : (ty : Ty) (o : Operand) → expr_depth (operand_literal ty o) ≤ 1
+operand_low ty (Const v) = literal_low ty v
+operand_low ty (Session name) = omega arith
 
-operands_low : (os : List Operand) → greatest (map expr_depth (map operand_literal os)) ≤ 1
-operands_low [] = omega arith
-operands_low (o ∷ os) = max-le (operand_low o) (operands_low os)
+operands_low : (ty : Ty) (os : List Operand) → greatest (map expr_depth (map (operand_literal ty) os)) ≤ 1
+operands_low ty [] = omega arith
+operands_low ty (o ∷ os) = max-le (operand_low ty o) (operands_low ty os)
 
 negation_low : (b : Bool) (p : PredTree) (k : ℕ) → pred_depth p ≤ k → pred_depth (negation_if b p) ≤ 1 + k
 negation_low true p k e = omega (arith, e)
 negation_low false p k e = omega (arith, e)
 
-first_literal_low : (os : List Operand) → expr_depth (first_literal os) ≤ 1
-first_literal_low [] = omega arith
-first_literal_low (o ∷ os) = operand_low o
+first_literal_low : (ty : Ty) (os : List Operand) → expr_depth (first_literal ty os) ≤ 1
+first_literal_low ty [] = omega arith
+first_literal_low ty (o ∷ os) = operand_low ty o
 
 -- the literals of a test, with the parentheses around a list of them
-literals_low : (k : Arity) (os : List Operand) → arity_parens k + greatest (map expr_depth (literals_for k os)) ≤ 2
-literals_low Nothing os = omega arith
-literals_low One os = let z : 0 ≤ 1 = omega arith in let one : max (expr_depth (first_literal os)) 0 ≤ 1 = max-le (first_literal_low os) z in omega (arith, one)
-literals_low Many os = omega (arith, operands_low os)
+literals_low : (ty : Ty) (k : Arity) (os : List Operand) → arity_parens k + greatest (map expr_depth (literals_for ty k os)) ≤ 2
+literals_low ty Nothing os = omega arith
+literals_low ty One os = let z : 0 ≤ 1 = omega arith in let one : max (expr_depth (first_literal ty os)) 0 ≤ 1 = max-le (first_literal_low ty os) z in omega (arith, one)
+literals_low ty Many os = omega (arith, operands_low ty os)
 
 nothing_low : (b : Bool) → pred_depth (cond b tree.always tree.never) ≤ 4
 nothing_low true = omega arith
 nothing_low false = omega arith
 
-test_low : (alias name : List ℕ) (collate : Bool) (t : Test) (os : List Operand) (negated : Bool) → pred_depth (test_of (tree.column alias name collate) t os negated) ≤ 4
-test_low alias name collate t os negated =
-    let p : PredTree = tree.test (tree.column alias name collate) t (literals_for (arity t) os) in
+test_low : (ty : Ty) (alias name : List ℕ) (collate : Bool) (t : Test) (os : List Operand) (negated : Bool) → pred_depth (test_of ty (tree.column alias name collate) t os negated) ≤ 4
+test_low ty alias name collate t os negated =
+    let p : PredTree = tree.test (tree.column alias name collate) t (literals_for ty (arity t) os) in
     let z : 0 ≤ 2 = omega arith in
-    let both : max 0 (arity_parens (arity t) + greatest (map expr_depth (literals_for (arity t) os))) ≤ 2 = max-le z (literals_low (arity t) os) in
+    let both : max 0 (arity_parens (arity t) + greatest (map expr_depth (literals_for ty (arity t) os))) ≤ 2 = max-le z (literals_low ty (arity t) os) in
     let go : (b : Bool) → pred_depth (cond b (cond negated tree.always tree.never) (negation_if negated p)) ≤ 4 =
     elim [ true ↦ nothing_low negated | false ↦ negation_low negated p 3 (omega (arith, both)) ] in
     go (is_of_nothing t os)
@@ -185,7 +187,7 @@ module _ (s : Schema) (m : Mode) (G : ℕ) (h : LowMode m G) where
         omega (arith, all)
     predicate_low (not_of b) look t p n = let one = predicate_low b look t p n in omega (arith, one)
     predicate_low (test c tested vs negated) look t p n =
-        let w = test_low (look c).alias (look c).name (compares tested && is_text_column (table s t).columns c) tested (operands_of vs) negated in omega (arith, w)
+        let w = test_low (type_in (table s t).columns c) (look c).alias (look c).name (compares tested && is_text_column (table s t).columns c) tested (operands_of vs) negated in omega (arith, w)
     predicate_low (through r b) look t p n =
         let u : ℕ = (rel s t r).remote in
         let k : ℕ = 2 * depth b + G + 2 in
@@ -294,8 +296,8 @@ key_low columns look [] vs = tt
 key_low columns look (c ∷ cs) [] = tt
 key_low columns look (c ∷ cs) (v ∷ vs) =
     let z : 0 ≤ 1 = omega arith in
-    let one : max (expr_depth (literal v)) 0 ≤ 1 = max-le (literal_low v) z in
-    let both : max 0 (0 + max (expr_depth (literal v)) 0) ≤ 1 = max-le z (omega (arith, one)) in
+    let one : max (expr_depth (literal (type_in columns c) v)) 0 ≤ 1 = max-le (literal_low (type_in columns c) v) z in
+    let both : max 0 (0 + max (expr_depth (literal (type_in columns c) v)) 0) ≤ 1 = max-le z (omega (arith, one)) in
     (omega (arith, both), key_low columns look cs vs)
 
 -- ---- aggregates

@@ -3,6 +3,7 @@ use Rattle.std.proofs.Common.{◌≡◌, ℕ, ◌+◌, ◌<◌, ◌≤◌, ◌^�
 use Rattle.std.specs.List.{list_all}
 use Rattle.std.proofs.lemmas.Bool.{and_parts}
 use Rattle.hq_base.specs.Lists.{all_differ, Each}
+use Rattle.hq_base.specs.Types.{is_uuid}
 use Rattle.hq_base.specs.declared.value.Ty.{Ty}
 use Rattle.hq_base.specs.declared.value.Ty.TheVariants.{Text}
 use Rattle.hq_base.specs.declared.value.Val.TheVariants as val
@@ -87,22 +88,26 @@ three_typed tables scope a b c e f g =
 
 -- the literal of an operand has its type beside one value of a kind as beside another of that kind
 module _ (scope around : Aliases) (e f : ExprTree) (ty : Ty) (h : kind scope e ≡ Some (kind_of_type ty)) (g : kind around f ≡ Some (kind_of_type ty)) where
-  item_same : (v : Operand) → is_item scope e (operand_literal v) ≡ is_item around f (operand_literal v)
+  text_same : (x : List ℕ) (b : Bool) → is_item scope e (cond b (tree.uuid x) (tree.text x)) ≡ is_item around f (cond b (tree.uuid x) (tree.text x))
+  text_same x true = rw (h, g) refl
+  text_same x false = rw (h, g) refl
+
+  item_same : (v : Operand) → is_item scope e (operand_literal ty v) ≡ is_item around f (operand_literal ty v)
   item_same (Const val.Null) = refl
   item_same (Const (val.Int n)) = rw (h, g) refl
-  item_same (Const (val.Text s)) = rw (h, g) refl
+  item_same (Const (val.Text s)) = text_same s (is_uuid ty)
   item_same (Const (val.Bool b)) = rw (h, g) refl
   item_same (Session name) = refl
 
-  operand_same : (t : Test) (v : Operand) → is_operand scope t e (operand_literal v) ≡ is_operand around t f (operand_literal v)
+  operand_same : (t : Test) (v : Operand) → is_operand scope t e (operand_literal ty v) ≡ is_operand around t f (operand_literal ty v)
   operand_same (Like fold) v = refl
   operand_same _ v = item_same v
 
-  operands_same : (t : Test) (vs : List Operand) → list_all (is_operand scope t e) (map operand_literal vs) ≡ list_all (is_operand around t f) (map operand_literal vs)
+  operands_same : (t : Test) (vs : List Operand) → list_all (is_operand scope t e) (map (operand_literal ty) vs) ≡ list_all (is_operand around t f) (map (operand_literal ty) vs)
   operands_same t [] = refl
   operands_same t (v ∷ vs) = ap₂ (λ a b. a && b) (operand_same t v) (operands_same t vs)
 
-  literals_same : (t : Test) (k : Arity) (vs : List Operand) → list_all (is_operand scope t e) (literals_for k vs) ≡ list_all (is_operand around t f) (literals_for k vs)
+  literals_same : (t : Test) (k : Arity) (vs : List Operand) → list_all (is_operand scope t e) (literals_for ty k vs) ≡ list_all (is_operand around t f) (literals_for ty k vs)
   literals_same t Nothing vs = refl
   literals_same t One [] = ap (λ a. a && true) (operand_same t (Const val.Null))
   literals_same t One (v ∷ vs) = ap (λ a. a && true) (operand_same t v)
@@ -118,12 +123,12 @@ value_typed scope alias name ty _ h f = compared_of scope alias name ty h
 
 -- a test that has its types where its column stands alone has them in each scope
 pub test_typed : (scope : Aliases) (alias name : List ℕ) (ty : Ty) (t : Test) (vs : List Operand) → kind_at scope alias name ≡ Some (kind_of_type ty) → TestFits t ty vs
-    → is_typed_test scope (tree.column alias name (compares t && is_text ty)) t (literals_for (arity t) vs) ≡ true
+    → is_typed_test scope (tree.column alias name (compares t && is_text ty)) t (literals_for ty (arity t) vs) ≡ true
 test_typed scope alias name ty t vs h f =
     let e : ExprTree = tree.column alias name (compares t && is_text ty) in
     let own : ExprTree = tree.column (codes "t") (codes "c") (compares t && is_text ty) in
-    let parts = and_parts (is_tested (column_alone ty) t own) (list_all (is_operand (column_alone ty) t own) (literals_for (arity t) vs)) f in
-    two (is_tested scope t e) (list_all (is_operand scope t e) (literals_for (arity t) vs)) (value_typed scope alias name ty t h parts.0)
+    let parts = and_parts (is_tested (column_alone ty) t own) (list_all (is_operand (column_alone ty) t own) (literals_for ty (arity t) vs)) f in
+    two (is_tested scope t e) (list_all (is_operand scope t e) (literals_for ty (arity t) vs)) (value_typed scope alias name ty t h parts.0)
     (literals_same scope (column_alone ty) e own ty h refl t (arity t) vs ∙ parts.1)
 
 negation_typed : (tables : List Table) (scope : Aliases) (b : Bool) (p : PredTree) → is_typed_pred p tables scope ≡ true → is_typed_pred (negation_if b p) tables scope ≡ true
@@ -135,9 +140,9 @@ nothing_typed tables scope true = refl
 nothing_typed tables scope false = refl
 
 -- a test of a value, which is to have its type only where it is looked at
-test_of_typed : (tables : List Table) (scope : Aliases) (e : ExprTree) (t : Test) (vs : List Operand) (negated : Bool) → (is_of_nothing t vs ≡ false → is_typed_test scope e t (literals_for (arity t) vs) ≡ true) → is_typed_pred (test_of e t vs negated) tables scope ≡ true
-test_of_typed tables scope e t vs negated typed =
-    let p : PredTree = tree.test e t (literals_for (arity t) vs) in
+test_of_typed : (tables : List Table) (scope : Aliases) (ty : Ty) (e : ExprTree) (t : Test) (vs : List Operand) (negated : Bool) → (is_of_nothing t vs ≡ false → is_typed_test scope e t (literals_for ty (arity t) vs) ≡ true) → is_typed_pred (test_of ty e t vs negated) tables scope ≡ true
+test_of_typed tables scope ty e t vs negated typed =
+    let p : PredTree = tree.test e t (literals_for ty (arity t) vs) in
     let go : (b : Bool) → is_of_nothing t vs ≡ b → is_typed_pred (cond b (cond negated tree.always tree.never) (negation_if negated p)) tables scope ≡ true =
     elim [ true ↦ λ h. nothing_typed tables scope negated | false ↦ λ h. negation_typed tables scope negated p (typed h) ] in
     go (is_of_nothing t vs) refl
@@ -260,7 +265,7 @@ module _ (s : Schema) (g : Rights) (tables : List Table) (ok : FineTables s g ta
       predicate_typed (or_of bs) look t p n scope f own lt k u bound = or_typed tables scope (predicates bs s m look t p n) (predicates_typed bs look t p n scope f own lt k u bound)
       predicate_typed (not_of b) look t p n scope f own lt k u bound = predicate_typed b look t p n scope f own lt k u bound
       predicate_typed (test c tested vs negated) look t p n scope f own lt k u bound =
-          test_of_typed tables scope (tested_at (table s t).columns (look c) c tested) tested (operands_of vs) negated
+          test_of_typed tables scope (type_of s t c) (tested_at (table s t).columns (look c) c tested) tested (operands_of vs) negated
           (λ some. test_typed scope (look c).alias (look c).name (type_of s t c) tested (operands_of vs) (k c f.0 (used_else c (is_of_nothing tested (operands_of vs)) some)) f.1)
       predicate_typed (through r b) look t p n scope f own lt k u bound =
           let far : ℕ = (rel s t r).remote in

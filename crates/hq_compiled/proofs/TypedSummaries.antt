@@ -8,7 +8,7 @@ use Rattle.hq_base.specs.Types.{is_whole, is_text}
 use Rattle.hq_base.specs.declared.aggregate.Aggregate.{Aggregate}
 use Rattle.hq_base.specs.declared.aggregate.Aggregate.TheVariants.{Sum}
 use Rattle.hq_base.specs.declared.value.Ty.{Ty}
-use Rattle.hq_base.specs.declared.value.Ty.TheVariants.{Integer, Bigint, Text, Boolean}
+use Rattle.hq_base.specs.declared.value.Ty.TheVariants.{Integer, Bigint, Text, Boolean, Uuid}
 use Rattle.hq_terms.specs.Schema.{Schema, table}
 use Rattle.hq_terms.specs.Selected.{ListArguments}
 use Rattle.hq_terms.specs.declared.table.Column.{Column}
@@ -112,12 +112,14 @@ extreme_of scope alias name Integer e h = rw e refl
 extreme_of scope alias name Bigint e h = rw e refl
 extreme_of scope alias name Text e h = rw e refl
 extreme_of scope alias name Boolean e h = cc
+extreme_of scope alias name Uuid e h = cc
 
 sum_of : (scope : Aliases) (alias name : List ℕ) (ty : Ty) → kind_at scope alias name ≡ Some (kind_of_type ty) → is_whole ty ≡ true → is_taken scope (tree.take Sum (tree.column alias name (is_text ty))) ≡ true
 sum_of scope alias name Integer e h = rw e refl
 sum_of scope alias name Bigint e h = rw e refl
 sum_of scope alias name Text e h = cc
 sum_of scope alias name Boolean e h = cc
+sum_of scope alias name Uuid e h = cc
 
 taken_of : (scope : Aliases) (f : Aggregate) (alias name : List ℕ) (ty : Ty) → kind_at scope alias name ≡ Some (kind_of_type ty) → is_aggregate_of f ty ≡ true → is_taken scope (tree.take f (tree.column alias name (is_text ty))) ≡ true
 taken_of scope Sum alias name ty e h = sum_of scope alias name ty e h

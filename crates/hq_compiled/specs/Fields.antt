@@ -12,7 +12,7 @@ use Rattle.hq_ask_tree.specs.Resolve.{origin_table}
 use Rattle.hq_sql_tree.specs.Tree as tree
 use Rattle.hq_sql_tree.specs.Tree.{ExprTree, PairTree, pairs_of, SelectTree, JoinTree, joins_of, PredTree}
 use Rattle.hq_compiled.specs.Names.{table_alias, join_alias}
-use Rattle.hq_compiled.specs.Looks.{Look, cell_at, compared_at}
+use Rattle.hq_compiled.specs.Looks.{Look, cell_at, compared_at, type_in}
 use Rattle.hq_compiled.specs.Conditions.{literal, joined_by_and}
 use Rattle.hq_compiled.specs.Predicates.{link}
 use Rattle.hq_compiled.specs.Masks.{value_output, value_place, extra, masks, shown_look, filter_numbers, filter_predicate}
@@ -42,7 +42,7 @@ origin_tie (along r) s t p n = link s t (rel s t r) p n
 abbrev pub key_members : List Column → Look → List ℕ → List Val → List PredTree
 key_members columns look [] vs = []
 key_members columns look (c ∷ cs) [] = []
-key_members columns look (c ∷ cs) (v ∷ vs) = tree.test (compared_at columns (look c) c) (Compare Eq) (literal v ∷ []) ∷ key_members columns look cs vs
+key_members columns look (c ∷ cs) (v ∷ vs) = tree.test (compared_at columns (look c) c) (Compare Eq) (literal (type_in columns c) v ∷ []) ∷ key_members columns look cs vs
 
 -- how many numbers fields at a row of table t take, and those of an aggregate over a list of table u
 abbrev mutual

@@ -67,7 +67,7 @@ column_alone ty = (codes "t", (codes "c", Some (kind_of_type ty)) ∷ []) ∷ []
 
 -- a test of a column of a type has its types with these operands
 abbrev pub TestFits : Test → Ty → List Operand → Type 0
-TestFits t ty vs = is_typed_test (column_alone ty) (sql.column (codes "t") (codes "c") (compares t && is_text ty)) t (literals_for (arity t) vs) ≡ true
+TestFits t ty vs = is_typed_test (column_alone ty) (sql.column (codes "t") (codes "c") (compares t && is_text ty)) t (literals_for ty (arity t) vs) ≡ true
 
 -- the columns of a pair are the tables' and can be compared
 abbrev pub FinePair : Schema → (t u : ℕ) → Pair → Type 0

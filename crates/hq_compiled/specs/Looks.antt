@@ -1,6 +1,7 @@
 -- How the columns of a row are looked at in SQL: each by an alias and a name there.
 use Rattle.std.specs.Prelude.{ℕ, List, [], ◌∷◌, ◌++◌, Bool, true, false, cond, ◌&&◌, ◌==◌, slice_index_or}
 use Rattle.std.specs.List.{list_any}
+use Rattle.hq_base.specs.declared.value.Ty.{Ty}
 use Rattle.hq_terms.specs.Database.{is_text}
 use Rattle.hq_terms.specs.Schema.{no_column}
 use Rattle.hq_terms.specs.declared.test.Test.{Test}
@@ -22,9 +23,13 @@ Look = ℕ → Place
 abbrev pub name_of : List Column → ℕ → List ℕ
 name_of columns c = (slice_index_or columns c no_column).name
 
+-- the type of a column; text beyond the table's columns
+abbrev pub type_in : List Column → ℕ → Ty
+type_in columns c = (slice_index_or columns c no_column).ty
+
 -- whether a column is of texts, which are compared by COLLATE "C"
 abbrev pub is_text_column : List Column → ℕ → Bool
-is_text_column columns c = is_text (slice_index_or columns c no_column).ty
+is_text_column columns c = is_text (type_in columns c)
 
 -- the table's own column at the alias of number p
 abbrev pub own_look : List Column → (p : ℕ) → Look

@@ -12,7 +12,7 @@ use Rattle.hq_terms.specs.declared.table.Column.{Column}
 use Rattle.hq_sql_tree.specs.Tree as tree
 use Rattle.hq_sql_tree.specs.Tree.{ExprTree, OutTree, SelectTree, JoinTree, joins_of, PredTree}
 use Rattle.hq_compiled.specs.Names.{table_alias, unit_name}
-use Rattle.hq_compiled.specs.Looks.{Look, own_look, compared_at, tested_at}
+use Rattle.hq_compiled.specs.Looks.{Look, own_look, compared_at, tested_at, type_in}
 use Rattle.hq_compiled.specs.Conditions.{joined_by_and, joined_by_or, with_member, where_of, test_of}
 
 -- a link: the remote row's columns equal the row's own, pair by pair
@@ -96,7 +96,7 @@ abbrev mutual
   predicate (and_of bs) s m look t p n = joined_by_and (predicates bs s m look t p n)
   predicate (or_of bs) s m look t p n = joined_by_or (predicates bs s m look t p n)
   predicate (not_of b) s m look t p n = tree.negation (predicate b s m look t p n)
-  predicate (test c tested vs negated) s m look t p n = test_of (tested_at (table s t).columns (look c) c tested) tested (operands_of vs) negated
+  predicate (test c tested vs negated) s m look t p n = test_of (type_in (table s t).columns c) (tested_at (table s t).columns (look c) c tested) tested (operands_of vs) negated
   predicate (through r b) s m look t p n =
       tree.exists (remote_rows s m t p n (rel s t r) (columns_in b)
       (predicate b s m (m.look (rel s t r).remote (columns_in b) n) (rel s t r).remote n (inner_from m (rel s t r).remote (columns_in b) n)))

@@ -50,6 +50,7 @@ module _ (r : Renaming) (e f : Scope) (h : Related r e f) where
       ap₂ cell_named (h alias other_alias both.0) ((bytes_eq-Decides name other_name).0 both.1)
   expr_value (tree.int n) (tree.int m) k = ap (λ i. value (tree.int i) [] e) (exact_signed n m (order_is (int_cmp n m) k))
   expr_value (tree.text s) (tree.text t) k = ap (λ i. value (tree.text i) [] e) ((bytes_eq-Decides s t).0 k)
+  expr_value (tree.uuid s) (tree.uuid t) k = ap (λ i. value (tree.uuid i) [] e) ((bytes_eq-Decides s t).0 k)
   expr_value (tree.bool b) (tree.bool c) k = ap (λ i. value (tree.bool i) [] e) (bool_is b c k)
   expr_value (tree.object tree.no_pair) (tree.object tree.no_pair) k = refl
   expr_value _ _ k = cc

@@ -7,6 +7,7 @@ use Rattle.hq_terms.specs.Schema.{Schema}
 use Rattle.hq_terms.specs.Tests.{arity, is_of_nothing}
 use Rattle.hq_terms.specs.declared.bexp.Operand.{Operand}
 use Rattle.hq_terms.specs.declared.bexp.Operand.TheVariants.{Const, Session}
+use Rattle.hq_base.specs.declared.value.Ty.{Ty}
 use Rattle.hq_base.specs.declared.value.Val.{Val}
 use Rattle.hq_base.specs.declared.value.Val.TheVariants as val
 use Rattle.hq_terms.specs.declared.test.Arity.{Arity}
@@ -14,6 +15,7 @@ use Rattle.hq_terms.specs.declared.test.Arity.TheVariants.{Nothing, One, Many}
 use Rattle.hq_terms.specs.declared.test.Test.{Test}
 use Rattle.hq_sql_tree.specs.Tree as tree
 use Rattle.hq_sql_tree.specs.Tree.{ExprTree, PredTree, PredTrees, preds_of}
+use Rattle.hq_compiled.proofs.TextLiterals.{of_either}
 use Rattle.hq_compiled.specs.Conditions.{literal, operand_literal, joined_by_and, joined_by_or, with_member, where_of, negation_if, literals_for, test_of}
 use Rattle.hq_confined.specs.Conjuncts.{opened, all_opened, conjuncts}
 use Rattle.hq_confined.specs.Origins.{Shapes}
@@ -64,32 +66,32 @@ module _ (s : Schema) (g : Grants) (scope : Shapes) where
 
   -- ---- tests
 
-  literal_clean : (v : Val) → expr_faults s g scope (literal v) ≡ []
-  literal_clean val.Null = refl
-  literal_clean (val.Int n) = refl
-  literal_clean (val.Text t) = refl
-  literal_clean (val.Bool b) = refl
+  literal_clean : (ty : Ty) (v : Val) → expr_faults s g scope (literal ty v) ≡ []
+  literal_clean ty val.Null = refl
+  literal_clean ty (val.Int n) = refl
+  literal_clean ty (val.Text t) = of_either (λ e. expr_faults s g scope e ≡ []) ty t refl refl
+  literal_clean ty (val.Bool b) = refl
 
-  operand_clean : (v : Operand) → expr_faults s g scope (operand_literal v) ≡ []
-  operand_clean (Const v) = literal_clean v
-  operand_clean (Session name) = refl
+  operand_clean : (ty : Ty) (v : Operand) → expr_faults s g scope (operand_literal ty v) ≡ []
+  operand_clean ty (Const v) = literal_clean ty v
+  operand_clean ty (Session name) = refl
 
-  operands_clean : (vs : List Operand) → exprs_faults s g scope (literals_for Many vs) ≡ []
-  operands_clean [] = refl
-  operands_clean (v ∷ vs) = rw (operand_clean v) (operands_clean vs)
+  operands_clean : (ty : Ty) (vs : List Operand) → exprs_faults s g scope (literals_for ty Many vs) ≡ []
+  operands_clean ty [] = refl
+  operands_clean ty (v ∷ vs) = rw (operand_clean ty v) (operands_clean ty vs)
 
-  literals_clean : (k : Arity) (vs : List Operand) → exprs_faults s g scope (literals_for k vs) ≡ []
-  literals_clean Nothing vs = refl
-  literals_clean One [] = refl
-  literals_clean One (v ∷ vs) = rw (operand_clean v) refl
-  literals_clean Many vs = operands_clean vs
+  literals_clean : (ty : Ty) (k : Arity) (vs : List Operand) → exprs_faults s g scope (literals_for ty k vs) ≡ []
+  literals_clean ty Nothing vs = refl
+  literals_clean ty One [] = refl
+  literals_clean ty One (v ∷ vs) = rw (operand_clean ty v) refl
+  literals_clean ty Many vs = operands_clean ty vs
 
-  pub test_clean : (e : ExprTree) (t : Test) (vs : List Operand) (negated : Bool) → (is_of_nothing t vs ≡ false → expr_faults s g scope e ≡ []) → IsClean (test_of e t vs negated)
-  test_clean e t vs negated h =
-      let turned : (b : Bool) → expr_faults s g scope e ≡ [] → IsClean (negation_if b (tree.test e t (literals_for (arity t) vs))) =
-      elim [ true ↦ λ k. none _ _ k (literals_clean (arity t) vs) | false ↦ λ k. none _ _ k (literals_clean (arity t) vs) ] in
+  pub test_clean : (ty : Ty) (e : ExprTree) (t : Test) (vs : List Operand) (negated : Bool) → (is_of_nothing t vs ≡ false → expr_faults s g scope e ≡ []) → IsClean (test_of ty e t vs negated)
+  test_clean ty e t vs negated h =
+      let turned : (b : Bool) → expr_faults s g scope e ≡ [] → IsClean (negation_if b (tree.test e t (literals_for ty (arity t) vs))) =
+      elim [ true ↦ λ k. none _ _ k (literals_clean ty (arity t) vs) | false ↦ λ k. none _ _ k (literals_clean ty (arity t) vs) ] in
       let nothing : (b : Bool) → IsClean (cond b tree.always tree.never) = elim [ true ↦ refl | false ↦ refl ] in
-      let done : (b : Bool) → is_of_nothing t vs ≡ b → IsClean (cond b (cond negated tree.always tree.never) (negation_if negated (tree.test e t (literals_for (arity t) vs)))) =
+      let done : (b : Bool) → is_of_nothing t vs ≡ b → IsClean (cond b (cond negated tree.always tree.never) (negation_if negated (tree.test e t (literals_for ty (arity t) vs)))) =
       elim [ true ↦ λ k. nothing negated | false ↦ λ k. turned negated (h k) ] in
       done (is_of_nothing t vs) refl
 

@@ -2,6 +2,7 @@
 use Rattle.std.proofs.Common.{◌≡◌, ℕ, suc, ◌+◌, ◌<◌, ◌≤◌, ◌^◌, List, [], ◌∷◌, ◌++◌, length, Bool, true, false, cond, Option, Some, None, bytes_eq, refl, sym, ap, ◌∙◌, subst, arith}
 use Rattle.std.specs.Prelude.{slice_index_or}
 use Rattle.hq_base.specs.Lists.{Each}
+use Rattle.hq_base.specs.declared.value.Ty.{Ty}
 use Rattle.hq_base.specs.declared.value.Val.{Val}
 use Rattle.hq_base.specs.declared.value.Val.TheVariants as val
 use Rattle.hq_terms.specs.Grants.{Grants, grant}
@@ -15,10 +16,11 @@ use Rattle.hq_ask_tree.specs.Resolve.{origin_table}
 use Rattle.hq_sql_tree.specs.Tree as tree
 use Rattle.hq_sql_tree.specs.Tree.{ExprTree, PairTrees, PairTree, SelectTree, JoinTree, PredTree, joins_of, pairs_of}
 use Rattle.hq_compiled.specs.Aggregates.{needed, some_aggregate, summary_used, folded_select, plain_select}
+use Rattle.hq_compiled.proofs.TextLiterals.{of_either}
 use Rattle.hq_compiled.specs.Conditions.{literal, joined_by_and}
 use Rattle.hq_compiled.specs.Fields.{field_used, fields_used, key_used, origin_tie, key_members, fields_numbers, field_numbers, parts_numbers, part_numbers, field_value, fields_values, part_value, parts_values, empty_select, parts_select, kids_from, list_join, fields_joins, field_joins, parts_joins, part_joins}
 use Rattle.hq_compiled.specs.Lists.{list_used, list_numbers, children_from, list_select}
-use Rattle.hq_compiled.specs.Looks.{Look, own_look, cell_at, compared_at, is_text_column, is_used}
+use Rattle.hq_compiled.specs.Looks.{Look, own_look, type_in, cell_at, compared_at, is_text_column, is_used}
 use Rattle.hq_compiled.specs.Masks.{value_place, extra, masks, shown_look, filter_numbers, filter_predicate}
 use Rattle.hq_compiled.specs.Names.{table_alias, join_alias, value_name}
 use Rattle.hq_compiled.specs.Predicates.{link}
@@ -72,17 +74,17 @@ module _ (s : Schema) (g : Grants) where
 
   -- ---- a look-up by key
 
-  literal_clean : (final : Shapes) (v : Val) → exprs_faults s g final (literal v ∷ []) ≡ []
-  literal_clean final val.Null = refl
-  literal_clean final (val.Int n) = refl
-  literal_clean final (val.Text t) = refl
-  literal_clean final (val.Bool b) = refl
+  literal_clean : (final : Shapes) (ty : Ty) (v : Val) → exprs_faults s g final (literal ty v ∷ []) ≡ []
+  literal_clean final ty val.Null = refl
+  literal_clean final ty (val.Int n) = refl
+  literal_clean final ty (val.Text t) = of_either (λ e. exprs_faults s g final (e ∷ []) ≡ []) ty t refl refl
+  literal_clean final ty (val.Bool b) = refl
 
   members_clean : (final : Shapes) (columns : List Column) (look : Look) (cs : List ℕ) (vs : List Val) → Shows s g final look cs → Each (IsClean s g final) (key_members columns look cs vs)
   members_clean final columns look [] vs k = tt
   members_clean final columns look (c ∷ cs) [] k = tt
   members_clean final columns look (c ∷ cs) (v ∷ vs) k = (
-    none _ _ (column_clean s g final (look c).alias (look c).name (is_text_column columns c) (k c (used_left c (c ∷ []) cs (used_one c)))) (literal_clean final v),
+    none _ _ (column_clean s g final (look c).alias (look c).name (is_text_column columns c) (k c (used_left c (c ∷ []) cs (used_one c)))) (literal_clean final (type_in columns c) v),
     members_clean final columns look cs vs (λ d used. k d (used_right d (c ∷ []) cs used)),
   )
 

@@ -6,6 +6,7 @@ use Rattle.std.specs.List.{list_all, list_any}
 use Rattle.std.specs.Ordering.{int_cmp, bool_cmp, is_eq}
 use Rattle.std.proofs.lemmas.Bool.{and_parts}
 use Rattle.hq_base.specs.Lists.{Zip}
+use Rattle.hq_base.specs.declared.value.Ty.{Ty}
 use Rattle.hq_base.specs.declared.value.Val.{Val}
 use Rattle.hq_base.specs.declared.value.Val.TheVariants as val
 use Rattle.hq_terms.specs.Bexp.{BexpTree, always, and_of, or_of, not_of, test, through, exists_in, two_columns, BexpTrees, no_bexp, bexp, operands_of}
@@ -25,7 +26,8 @@ use Rattle.hq_terms.specs.declared.test.Test.TheVariants.{Compare, Among, IsNull
 use Rattle.hq_sql_tree.specs.Tree as tree
 use Rattle.hq_sql_tree.specs.Tree.{ExprTree, PredTree, PredTrees, preds_of}
 use Rattle.hq_compiled.specs.Names.{table_alias, unit_name}
-use Rattle.hq_compiled.specs.Looks.{own_look, tested_at, compares, is_text_column, name_of}
+use Rattle.hq_compiled.specs.Looks.{own_look, type_in, tested_at, compares, is_text_column, name_of}
+use Rattle.hq_compiled.proofs.TextLiterals.{of_either}
 use Rattle.hq_compiled.specs.Conditions.{literal, operand_literal, joined_by_and, joined_by_or, with_member, where_of, negation_if, literals_for, test_of}
 use Rattle.hq_compiled.specs.Predicates.{link_members, link, columns_in, numbers, numbers_all, predicate, predicates, filter_mode, own_numbers, own_predicate}
 use Rattle.hq_compiled.proofs.Names.{same_text, table_aliases_differ}
@@ -65,32 +67,32 @@ module _ (r : Renaming) where
   column_alike : (a b name : List ℕ) (collate : Bool) → stands_for r a b ≡ true → is_alike_expr r (tree.column a name collate) (tree.column b name collate) ≡ true
   column_alike a b name collate e = rw (e, same_text name, same_bool collate) refl
 
-  literal_alike : (v : Val) → is_alike_expr r (literal v) (literal v) ≡ true
-  literal_alike val.Null = refl
-  literal_alike (val.Int n) = same_int n
-  literal_alike (val.Text s) = same_text s
-  literal_alike (val.Bool b) = same_bool b
+  literal_alike : (ty : Ty) (v : Val) → is_alike_expr r (literal ty v) (literal ty v) ≡ true
+  literal_alike ty val.Null = refl
+  literal_alike ty (val.Int n) = same_int n
+  literal_alike ty (val.Text s) = of_either (λ e. is_alike_expr r e e ≡ true) ty s (same_text s) (same_text s)
+  literal_alike ty (val.Bool b) = same_bool b
 
-  operand_alike : (v : Operand) → is_alike_expr r (operand_literal v) (operand_literal v) ≡ true
-  operand_alike (Const v) = literal_alike v
-  operand_alike (Session name) = refl
+  operand_alike : (ty : Ty) (v : Operand) → is_alike_expr r (operand_literal ty v) (operand_literal ty v) ≡ true
+  operand_alike ty (Const v) = literal_alike ty v
+  operand_alike ty (Session name) = refl
 
-  operands_alike : (vs : List Operand) → are_alike_exprs r (map operand_literal vs) (map operand_literal vs) ≡ true
-  operands_alike [] = refl
-  operands_alike (v ∷ vs) = rw (operand_alike v) (operands_alike vs)
+  operands_alike : (ty : Ty) (vs : List Operand) → are_alike_exprs r (map (operand_literal ty) vs) (map (operand_literal ty) vs) ≡ true
+  operands_alike ty [] = refl
+  operands_alike ty (v ∷ vs) = rw (operand_alike ty v) (operands_alike ty vs)
 
-  literals_alike : (k : Arity) (vs : List Operand) → are_alike_exprs r (literals_for k vs) (literals_for k vs) ≡ true
-  literals_alike Nothing vs = refl
-  literals_alike One [] = refl
-  literals_alike One (v ∷ vs) = rw (operand_alike v) refl
-  literals_alike Many vs = operands_alike vs
+  literals_alike : (ty : Ty) (k : Arity) (vs : List Operand) → are_alike_exprs r (literals_for ty k vs) (literals_for ty k vs) ≡ true
+  literals_alike ty Nothing vs = refl
+  literals_alike ty One [] = refl
+  literals_alike ty One (v ∷ vs) = rw (operand_alike ty v) refl
+  literals_alike ty Many vs = operands_alike ty vs
 
-  test_alike : (e f : ExprTree) (t : Test) (vs : List Operand) (negated : Bool) → is_alike_expr r e f ≡ true → is_alike r (test_of e t vs negated) (test_of f t vs negated) ≡ true
-  test_alike e f t vs negated h =
-      let here : is_alike r (tree.test e t (literals_for (arity t) vs)) (tree.test f t (literals_for (arity t) vs)) ≡ true = rw (h, test_same t) (literals_alike (arity t) vs) in
-      let turned : (b : Bool) → is_alike r (negation_if b (tree.test e t (literals_for (arity t) vs))) (negation_if b (tree.test f t (literals_for (arity t) vs))) ≡ true = elim [ true ↦ here | false ↦ here ] in
+  test_alike : (ty : Ty) (e f : ExprTree) (t : Test) (vs : List Operand) (negated : Bool) → is_alike_expr r e f ≡ true → is_alike r (test_of ty e t vs negated) (test_of ty f t vs negated) ≡ true
+  test_alike ty e f t vs negated h =
+      let here : is_alike r (tree.test e t (literals_for ty (arity t) vs)) (tree.test f t (literals_for ty (arity t) vs)) ≡ true = rw (h, test_same t) (literals_alike ty (arity t) vs) in
+      let turned : (b : Bool) → is_alike r (negation_if b (tree.test e t (literals_for ty (arity t) vs))) (negation_if b (tree.test f t (literals_for ty (arity t) vs))) ≡ true = elim [ true ↦ here | false ↦ here ] in
       let nothing : (b : Bool) → is_alike r (cond b tree.always tree.never) (cond b tree.always tree.never) ≡ true = elim [ true ↦ refl | false ↦ refl ] in
-      let go : (b : Bool) → is_alike r (cond b (cond negated tree.always tree.never) (negation_if negated (tree.test e t (literals_for (arity t) vs)))) (cond b (cond negated tree.always tree.never) (negation_if negated (tree.test f t (literals_for (arity t) vs)))) ≡ true =
+      let go : (b : Bool) → is_alike r (cond b (cond negated tree.always tree.never) (negation_if negated (tree.test e t (literals_for ty (arity t) vs)))) (cond b (cond negated tree.always tree.never) (negation_if negated (tree.test f t (literals_for ty (arity t) vs)))) ≡ true =
       elim [ true ↦ nothing negated | false ↦ turned negated ] in
       go (is_of_nothing t vs)
 
@@ -161,7 +163,7 @@ module _ (s : Schema) where
     own_alike (or_of bs) r t p q n m h lt lu bn bm = or_alike r (predicates bs s (filter_mode s) (own_look (table s t).columns p) t p n) (predicates bs s (filter_mode s) (own_look (table s t).columns q) t q m) (owns_alike bs r t p q n m h lt lu bn bm)
     own_alike (not_of b) r t p q n m h lt lu bn bm = own_alike b r t p q n m h lt lu bn bm
     own_alike (test c tested vs negated) r t p q n m h lt lu bn bm =
-        test_alike r (tested_at (table s t).columns (own_look (table s t).columns p c) c tested) (tested_at (table s t).columns (own_look (table s t).columns q c) c tested) tested (operands_of vs) negated (column_alike r (table_alias p) (table_alias q) (own_look (table s t).columns p c).name (compares tested && is_text_column (table s t).columns c) h)
+        test_alike r (type_in (table s t).columns c) (tested_at (table s t).columns (own_look (table s t).columns p c) c tested) (tested_at (table s t).columns (own_look (table s t).columns q c) c tested) tested (operands_of vs) negated (column_alike r (table_alias p) (table_alias q) (own_look (table s t).columns p c).name (compares tested && is_text_column (table s t).columns c) h)
     own_alike (through k b) r t p q n m h lt lu bn bm =
         let u : ℕ = (rel s t k).remote in
         let within : Renaming = (table_alias n, table_alias m) ∷ r in

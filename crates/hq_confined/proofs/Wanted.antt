@@ -11,7 +11,7 @@ use Rattle.hq_sql_tree.specs.Tree as tree
 use Rattle.hq_sql_tree.specs.Tree.{ExprTree, OrderTree, OrderTrees, OutTree, SelectTree, FromTree, JoinTree, JoinTrees, FilterTree, PredTree, orders_of, joins_of}
 use Rattle.hq_compiled.specs.Conditions.{with_member, where_of}
 use Rattle.hq_compiled.specs.Fine.{Has}
-use Rattle.hq_compiled.specs.Looks.{Look, name_of, own_look, compared_at, tested_at, compares, is_text_column, is_used}
+use Rattle.hq_compiled.specs.Looks.{Look, name_of, own_look, compared_at, tested_at, compares, is_text_column, is_used, type_in}
 use Rattle.hq_compiled.specs.Masks.{value_output, extra, masks, shown_look, filter_numbers, filter_predicate, where_mode}
 use Rattle.hq_compiled.specs.Names.{table_alias, value_name, unit_name}
 use Rattle.hq_compiled.specs.Predicates.{columns_in, columns_in_all, guard_from, inner_from, numbers, numbers_all, predicate, predicates, link}
@@ -74,7 +74,7 @@ module _ (s : Schema) (g : Grants) where
     wanted_clean (or_of bs) look t p n scope f own lt k u bound = or_clean s g scope (predicates bs s (where_mode s (rights_of g)) look t p n) (wanteds_clean bs look t p n scope f own lt k u bound)
     wanted_clean (not_of b) look t p n scope f own lt k u bound = wanted_clean b look t p n scope f own lt k u bound
     wanted_clean (test c tested vs negated) look t p n scope f own lt k u bound =
-        test_clean s g scope (tested_at (table s t).columns (look c) c tested) tested (operands_of vs) negated (λ some. column_clean s g scope (look c).alias (look c).name (compares tested && is_text_column (table s t).columns c) (k c (used_else c (is_of_nothing tested (operands_of vs)) some)))
+        test_clean s g scope (type_in (table s t).columns c) (tested_at (table s t).columns (look c) c tested) tested (operands_of vs) negated (λ some. column_clean s g scope (look c).alias (look c).name (compares tested && is_text_column (table s t).columns c) (k c (used_else c (is_of_nothing tested (operands_of vs)) some)))
     wanted_clean (through r b) look t p n scope f own lt k u bound =
         let R : Rights = rights_of g in
         let far : ℕ = (rel s t r).remote in

@@ -40,6 +40,7 @@ is_alike_expr r (tree.column alias name collate) (tree.column other_alias other_
     stands_for r alias other_alias && bytes_eq name other_name && is_eq (bool_cmp collate other_collate)
 is_alike_expr r (tree.int n) (tree.int m) = is_eq (int_cmp n m)
 is_alike_expr r (tree.text s) (tree.text t) = bytes_eq s t
+is_alike_expr r (tree.uuid s) (tree.uuid t) = bytes_eq s t
 is_alike_expr r (tree.bool b) (tree.bool c) = is_eq (bool_cmp b c)
 is_alike_expr r (tree.object tree.no_pair) (tree.object tree.no_pair) = true
 is_alike_expr r _ _ = false

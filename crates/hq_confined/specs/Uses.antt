@@ -74,6 +74,7 @@ abbrev mutual
   expr_faults s g scope (tree.column alias name collate) = column_faults s g scope alias name
   expr_faults s g scope (tree.int n) = []
   expr_faults s g scope (tree.text t) = []
+  expr_faults s g scope (tree.uuid t) = []
   expr_faults s g scope (tree.bool b) = []
   expr_faults s g scope (tree.object ps) = pairs_faults s g scope ps
   expr_faults s g scope (tree.aggregate a) = agg_faults s g scope a

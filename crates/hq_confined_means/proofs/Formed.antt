@@ -65,6 +65,7 @@ mutual
   folded_of (tree.column alias name collate) scope h = cc
   folded_of (tree.int n) scope h = tt
   folded_of (tree.text t) scope h = tt
+  folded_of (tree.uuid t) scope h = tt
   folded_of (tree.bool b) scope h = tt
   folded_of (tree.object ps) scope h = all_folded_of ps scope (both (all_differ bytes_eq (pair_names ps)) (are_folded scope ps) h).1
   folded_of (tree.aggregate a) scope h = tt

@@ -72,6 +72,7 @@ own_value s scope a t at x row shown (tree.column b n collate) c q =
     go (shape_at scope b) refl q
 own_value s scope a t at x row shown (tree.int n) c q = cc
 own_value s scope a t at x row shown (tree.text n) c q = cc
+own_value s scope a t at x row shown (tree.uuid n) c q = cc
 own_value s scope a t at x row shown (tree.bool n) c q = cc
 own_value s scope a t at x row shown (tree.object ps) c q = cc
 own_value s scope a t at x row shown (tree.aggregate n) c q = cc
@@ -139,6 +140,7 @@ mutual
   steady_value (tree.column a n collate) st f xs ys h x = refl
   steady_value (tree.int n) st f xs ys h x = refl
   steady_value (tree.text n) st f xs ys h x = refl
+  steady_value (tree.uuid n) st f xs ys h x = refl
   steady_value (tree.bool n) st f xs ys h x = refl
   steady_value (tree.object ps) st f xs ys h x = ap (λ m. json (tree_of.obj m)) (steady_members ps st f xs ys h x)
   steady_value (tree.aggregate tree.count_all) st f xs ys h x = ap (λ n. int (pos n)) (length_shuffled f xs ys h)

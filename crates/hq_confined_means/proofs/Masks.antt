@@ -82,6 +82,7 @@ module _ (s : Schema) (g : Grants) (scope : Shapes) where
             record { one = one; alias = alias; name = name; collate = collate; out = out; condition = condition; t = x.t; c = x.c; is = refl; other = x.other; at = x.at; column = x.column; permitted = x.permitted; stand = x.stand; ones = x.ones }
         | tree.int n ↦ λ k. cc
         | tree.text n ↦ λ k. cc
+        | tree.uuid n ↦ λ k. cc
         | tree.bool n ↦ λ k. cc
         | tree.object ps ↦ λ k. cc
         | tree.aggregate n ↦ λ k. cc

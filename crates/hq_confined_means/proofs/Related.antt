@@ -131,6 +131,7 @@ module _ (s : Schema) (g : Grants) (d e : List (List Row)) where
   origin_value scope P x y h (tree.column a n collate) t path c q = subst (λ o. CellRel o P (cell_named (x a) n) (cell_named (y a) n)) q (cell_ok scope P x y h a n)
   origin_value scope P x y h (tree.int n) t path c q = cc
   origin_value scope P x y h (tree.text n) t path c q = cc
+  origin_value scope P x y h (tree.uuid n) t path c q = cc
   origin_value scope P x y h (tree.bool b) t path c q = cc
   origin_value scope P x y h (tree.object ps) t path c q = cc
   origin_value scope P x y h (tree.aggregate a) t path c q = cc
@@ -149,6 +150,7 @@ module _ (s : Schema) (g : Grants) (d e : List (List Row)) where
             plain_cell h.0 (origin_at s scope a n) (cell_named (x a) n) (cell_named (y a) n) (needed (is_plain g (origin_at s scope a n)) (rule_of s g (origin_at s scope a n)) a k) (cell_ok scope h.0 x y h.1 a n)
         plain_alike (tree.int n) k x y h = refl
         plain_alike (tree.text t) k x y h = refl
+        plain_alike (tree.uuid t) k x y h = refl
         plain_alike (tree.bool b) k x y h = refl
         plain_alike (tree.object ps) k x y h = ap (λ m. json (tree_of.obj m)) (pairs_alike ps k x y h)
         plain_alike (tree.aggregate a) k x y h = refl
@@ -169,6 +171,7 @@ module _ (s : Schema) (g : Grants) (d e : List (List Row)) where
       out_alike P x y h (tree.column a n collate) k = cell_ok scope P x y h a n
       out_alike P x y h (tree.int n) k = refl
       out_alike P x y h (tree.text t) k = refl
+      out_alike P x y h (tree.uuid t) k = refl
       out_alike P x y h (tree.bool b) k = refl
       out_alike P x y h (tree.object ps) k = plain_alike (tree.object ps) k x y (P, h)
       out_alike P x y h (tree.aggregate a) k = refl
@@ -249,6 +252,7 @@ module _ (s : Schema) (g : Grants) (d e : List (List Row)) where
         fold_alike (tree.column a n collate) f k x y xs ys z = absurd f
         fold_alike (tree.int n) f k x y xs ys z = refl
         fold_alike (tree.text t) f k x y xs ys z = refl
+        fold_alike (tree.uuid t) f k x y xs ys z = refl
         fold_alike (tree.bool b) f k x y xs ys z = refl
         fold_alike (tree.object ps) f k x y xs ys z = ap (λ m. json (tree_of.obj m)) (folds_alike ps f k x y xs ys z)
         fold_alike (tree.aggregate a) f k x y xs ys z = agg_alike a k xs ys z

@@ -44,6 +44,7 @@ object_made : (s : Schema) (scope : Shapes) (v : ExprTree) → is_object v ≡ t
 object_made s scope (tree.column a n collate) h = cc
 object_made s scope (tree.int n) h = refl
 object_made s scope (tree.text t) h = refl
+object_made s scope (tree.uuid t) h = refl
 object_made s scope (tree.bool b) h = refl
 object_made s scope (tree.object ps) h = refl
 object_made s scope (tree.aggregate a) h = refl

@@ -81,6 +81,7 @@ object_named o (x ∷ xs) is h =
       | tree.column alias name collate ↦ λ e. absurd cc
       | tree.int n ↦ λ e. absurd cc
       | tree.text s ↦ λ e. absurd cc
+      | tree.uuid s ↦ λ e. absurd cc
       | tree.bool b ↦ λ e. absurd cc
       | tree.aggregate a ↦ λ e. absurd cc
     ] in

@@ -49,11 +49,13 @@ fn put_want(words: &mut Words, want: Option<Want>) {
         Some(Want::Integer) => "an integer",
         Some(Want::Bigint) => "a bigint",
         Some(Want::Boolean) => "a boolean: true or false",
+        Some(Want::Uuid) => "a uuid",
         Some(Want::Pattern) => "a pattern: it ends in a single \\",
         Some(Want::IntegerList) => "a list of integers, as {1,2}",
         Some(Want::BigintList) => "a list of bigints, as {1,2}",
         Some(Want::TextList) => "a list of texts, as {a,b}",
         Some(Want::BooleanList) => "a list of booleans, as {true,false}",
+        Some(Want::UuidList) => "a list of uuids",
     });
 }
 

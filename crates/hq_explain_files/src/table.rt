@@ -89,6 +89,8 @@ fn put_want(words: &mut Words, column: Option<&Column>) {
         Ty::Integer => ", a whole number from -2147483648 to 2147483647",
         Ty::Bigint => ", a whole number of 64 bits",
         Ty::Boolean => ", which is t, f, true or false",
+        Ty::Uuid =>
+            ", 32 digits of hexadecimal in small letters, in groups of 8, 4, 4, 4 and 12 with a hyphen between two",
         _ => "",
     });
 }
@@ -182,7 +184,7 @@ fn of_refusal(words: &mut Words, text: &[u8], table: &Table, refusal: LoadRefusa
         LoadRefusal::NotInteger { line, col } => {
             of_field(words, text, table, line, col, " is no value of")
         }
-        LoadRefusal::NotBoolean { line, col } => {
+        LoadRefusal::NotBoolean { line, col } | LoadRefusal::NotUuid { line, col } => {
             of_field(words, text, table, line, col, " is no value of")
         }
         LoadRefusal::NullInNotNull { line, col } => {

@@ -49,11 +49,13 @@ want_text None = []
 want_text (Some want.Integer) = codes "integer"
 want_text (Some want.Bigint) = codes "bigint"
 want_text (Some want.Boolean) = codes "boolean"
+want_text (Some want.Uuid) = codes "uuid"
 want_text (Some want.Pattern) = codes "pattern"
 want_text (Some want.IntegerList) = codes "list of integer"
 want_text (Some want.BigintList) = codes "list of bigint"
 want_text (Some want.TextList) = codes "list of text"
 want_text (Some want.BooleanList) = codes "list of boolean"
+want_text (Some want.UuidList) = codes "list of uuid"
 
 -- the message that names a session variable, or else the number of a rule of validation
 unfoldable pub named_message : Fault → RuleId → List ℕ

@@ -62,11 +62,13 @@ fn want_text(want: Option<Want>) -> &'static str
         Some(Want::Integer) => "integer",
         Some(Want::Bigint) => "bigint",
         Some(Want::Boolean) => "boolean",
+        Some(Want::Uuid) => "uuid",
         Some(Want::Pattern) => "pattern",
         Some(Want::IntegerList) => "list of integer",
         Some(Want::BigintList) => "list of bigint",
         Some(Want::TextList) => "list of text",
         Some(Want::BooleanList) => "list of boolean",
+        Some(Want::UuidList) => "list of uuid",
     }
 }
 

@@ -4,7 +4,7 @@ use Rattle.std.specs.Fmt.{decimal}
 use Rattle.hq_catalog_read.specs.declared.refusal.CatalogRefusal.{CatalogRefusal}
 use Rattle.hq_catalog_read.specs.declared.refusal.CatalogRefusal.TheVariants as catalog
 use Rattle.hq_loading.specs.declared.phrase.Phrase.{Phrase}
-use Rattle.hq_loading.specs.declared.phrase.Phrase.TheVariants.{Missing, TooLarge, NotJson, Shape, Repeated, NoKey, NameLength, TooMany, Header, Width, NotUtf8, ZeroByte, NotInteger, NotBoolean, NullInNotNull, Unclosed, RepeatedKey, Version, UnknownTable, UnknownColumn, NoForeignKey, BadOperand, BadMapping, RepeatedName, RepeatedRole, Sources, Memory}
+use Rattle.hq_loading.specs.declared.phrase.Phrase.TheVariants.{Missing, TooLarge, NotJson, Shape, Repeated, NoKey, NameLength, TooMany, Header, Width, NotUtf8, ZeroByte, NotInteger, NotBoolean, NotUuid, NullInNotNull, Unclosed, RepeatedKey, Version, UnknownTable, UnknownColumn, NoForeignKey, BadOperand, BadMapping, RepeatedName, RepeatedRole, Sources, Memory}
 use Rattle.hq_meta_tables.specs.declared.refusal.MetaRefusal.{MetaRefusal}
 use Rattle.hq_meta_tables.specs.declared.refusal.MetaRefusal.TheVariants as meta
 use Rattle.hq_tables.specs.declared.load.refusal.LoadRefusal.{LoadRefusal}
@@ -66,6 +66,7 @@ table_name (table.NotUtf8 line col) = NotUtf8
 table_name (table.ZeroByte line col) = ZeroByte
 table_name (table.NotInteger line col) = NotInteger
 table_name (table.NotBoolean line col) = NotBoolean
+table_name (table.NotUuid line col) = NotUuid
 table_name (table.NullInNotNull line col) = NullInNotNull
 table_name (table.Unclosed line) = Unclosed
 table_name (table.RepeatedKey line earlier) = RepeatedKey
@@ -78,6 +79,7 @@ table_fields (table.NotUtf8 line col) = decimal line ∷ decimal col ∷ []
 table_fields (table.ZeroByte line col) = decimal line ∷ decimal col ∷ []
 table_fields (table.NotInteger line col) = decimal line ∷ decimal col ∷ []
 table_fields (table.NotBoolean line col) = decimal line ∷ decimal col ∷ []
+table_fields (table.NotUuid line col) = decimal line ∷ decimal col ∷ []
 table_fields (table.NullInNotNull line col) = decimal line ∷ decimal col ∷ []
 table_fields (table.Unclosed line) = decimal line ∷ []
 table_fields (table.RepeatedKey line earlier) = decimal line ∷ decimal earlier ∷ []

@@ -8,7 +8,7 @@ use Rattle.hq_loading.specs.declared.parts.Field.TheVariants.{Text, Number}
 use Rattle.hq_loading.specs.declared.parts.Fields.{Fields}
 use Rattle.hq_loading.specs.declared.parts.Fields.TheVariants.{Zero, One, Two}
 use Rattle.hq_loading.specs.declared.phrase.Phrase.{Phrase}
-use Rattle.hq_loading.specs.declared.phrase.Phrase.TheVariants.{Hq, Colon, Space, End, BadArguments, ReadFailed, WriteFailed, DatabaseFailed, OutOfMemory, InputTooLong, Missing, TooLarge, NotJson, Shape, Repeated, NoKey, NameLength, TooMany, Header, Width, NotUtf8, ZeroByte, NotInteger, NotBoolean, NullInNotNull, Unclosed, RepeatedKey, Version, UnknownTable, UnknownColumn, NoForeignKey, BadOperand, BadMapping, RepeatedName, RepeatedRole, Sources, Memory, Ok, Tables, Roles, Rows}
+use Rattle.hq_loading.specs.declared.phrase.Phrase.TheVariants.{Hq, Colon, Space, End, BadArguments, ReadFailed, WriteFailed, DatabaseFailed, OutOfMemory, InputTooLong, Missing, TooLarge, NotJson, Shape, Repeated, NoKey, NameLength, TooMany, Header, Width, NotUtf8, ZeroByte, NotInteger, NotBoolean, NotUuid, NullInNotNull, Unclosed, RepeatedKey, Version, UnknownTable, UnknownColumn, NoForeignKey, BadOperand, BadMapping, RepeatedName, RepeatedRole, Sources, Memory, Ok, Tables, Roles, Rows}
 
 -- the text of a phrase
 unfoldable pub phrase_text : Phrase → List ℕ
@@ -36,6 +36,7 @@ phrase_text NotUtf8 = codes "NotUtf8"
 phrase_text ZeroByte = codes "ZeroByte"
 phrase_text NotInteger = codes "NotInteger"
 phrase_text NotBoolean = codes "NotBoolean"
+phrase_text NotUuid = codes "NotUuid"
 phrase_text NullInNotNull = codes "NullInNotNull"
 phrase_text Unclosed = codes "Unclosed"
 phrase_text RepeatedKey = codes "RepeatedKey"

@@ -108,6 +108,7 @@ fn table_name(refusal: &LoadRefusal) -> Phrase
         LoadRefusal::ZeroByte { .. } => Phrase::ZeroByte,
         LoadRefusal::NotInteger { .. } => Phrase::NotInteger,
         LoadRefusal::NotBoolean { .. } => Phrase::NotBoolean,
+        LoadRefusal::NotUuid { .. } => Phrase::NotUuid,
         LoadRefusal::NullInNotNull { .. } => Phrase::NullInNotNull,
         LoadRefusal::Unclosed { .. } => Phrase::Unclosed,
         LoadRefusal::RepeatedKey { .. } => Phrase::RepeatedKey,
@@ -127,6 +128,7 @@ fn table_fields(refusal: &LoadRefusal) -> Fields<'_>
         | LoadRefusal::ZeroByte { line, col }
         | LoadRefusal::NotInteger { line, col }
         | LoadRefusal::NotBoolean { line, col }
+        | LoadRefusal::NotUuid { line, col }
         | LoadRefusal::NullInNotNull { line, col } => {
             Fields::Two(Field::Number(*line), Field::Number(*col))
         }

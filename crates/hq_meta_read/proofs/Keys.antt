@@ -6,7 +6,7 @@ use Rattle.std.proofs.lemmas.Bool.{and_parts, and_from}
 use Rattle.std.proofs.lemmas.Bool.Decides.{Decides-eqb}
 use Rattle.hq_base.specs.Lists.{all_differ}
 use Rattle.hq_base.specs.declared.value.Ty.{Ty}
-use Rattle.hq_base.specs.declared.value.Ty.TheVariants.{Integer, Bigint, Text, Boolean}
+use Rattle.hq_base.specs.declared.value.Ty.TheVariants.{Integer, Bigint, Text, Boolean, Uuid}
 use Rattle.hq_terms.specs.Catalog.{comparable, can_pair, type_of, pairs_fit, pairs_fit_with, is_foreign_key, is_table, is_catalog, is_catalog_name, holds_no_null, full_name}
 use Rattle.hq_terms.specs.declared.meta.Pair.{Pair}
 use Rattle.hq_terms.specs.declared.table.Column.{Column}
@@ -32,18 +32,27 @@ comparable-sym Integer Integer = refl
 comparable-sym Integer Bigint = refl
 comparable-sym Integer Text = refl
 comparable-sym Integer Boolean = refl
+comparable-sym Integer Uuid = refl
 comparable-sym Bigint Integer = refl
 comparable-sym Bigint Bigint = refl
 comparable-sym Bigint Text = refl
 comparable-sym Bigint Boolean = refl
+comparable-sym Bigint Uuid = refl
 comparable-sym Text Integer = refl
 comparable-sym Text Bigint = refl
 comparable-sym Text Text = refl
 comparable-sym Text Boolean = refl
+comparable-sym Text Uuid = refl
 comparable-sym Boolean Integer = refl
 comparable-sym Boolean Bigint = refl
 comparable-sym Boolean Text = refl
 comparable-sym Boolean Boolean = refl
+comparable-sym Boolean Uuid = refl
+comparable-sym Uuid Integer = refl
+comparable-sym Uuid Bigint = refl
+comparable-sym Uuid Text = refl
+comparable-sym Uuid Boolean = refl
+comparable-sym Uuid Uuid = refl
 
 can_pair-sym : (a b : Option Ty) → can_pair a b ≡ can_pair b a
 can_pair-sym None None = refl

@@ -174,7 +174,7 @@ directive_rows = (
 -- a type of introspection with fields, and what it is in a schema
 record IsMeta (f : Fixed) (type : MetaType) : Type 0 where
   rows : RowsAre (introspection_fields f) (meta_fields type)
-  below_root : fixed_place f ≡ 17 → ⊥
+  below_root : fixed_place f ≡ 19 → ⊥
 
 is_meta : (f : Fixed) (type : MetaType) → meta_of f ≡ Some type → IsMeta f type
 is_meta fixed.Schema type e = let same : schema_type ≡ type = cc in subst (IsMeta fixed.Schema) same (record { rows = schema_rows; below_root = λ h. absurd (omega arith) })
@@ -292,7 +292,7 @@ module _ (tables : List Table) (m : MetaTree) (role : Role) (vars : List VarTree
             → OneLooked type below (look h.name None deprecated ls)
         meta true b' is_name root e' = let same : R.type_name ≡ k.0 = cc in name_looked (sym same) is_name ls e deprecated
         meta false false is_name root e' = cc
-        meta false true is_name root e' = absurd ((is_meta f type is).below_root (eqb-true (fixed_place f) 17 root))
+        meta false true is_name root e' = absurd ((is_meta f type is).below_root (eqb-true (fixed_place f) 19 root))
 
         by : (o : Option FieldTree) → field_of R (fixed_place f) h.name ≡ o → option_or o (meta_field R (fixed_place f) h.name) ≡ Some k.0 → OneLooked type below (look h.name None deprecated ls)
         by (Some g) here found = let same : g ≡ k.0 = cc in own_looked (sym (fields_are f type is h.name) ∙ (here ∙ ap Some same)) ls e deprecated

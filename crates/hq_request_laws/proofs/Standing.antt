@@ -203,7 +203,7 @@ module _ (tables : List Table) (m : MetaTree) (role : Role) where
       (each_map Stands (fixed_type ps) (fixed_stands ps) all_fixed)
       (each_flat_map Stands (λ (p : PlacedTable). IsShown p.shown) (table_types ps)
       (λ p shown. each_map Stands (part_type p (links_from ps 0 p.shown.rels)) (part_stands p (links_from ps 0 p.shown.rels) shown) (parts_of p.shown)) ps
-      (placed_shown 18 (shown_tables tables m role) (tables_shown differ)))
+      (placed_shown 20 (shown_tables tables m role) (tables_shown differ)))
 
   -- the types that each schema has stand at their places
   pub introspection_at : (f : Fixed) → slice_get (role_schema tables m role).types (fixed_place f) ≡ Some (fixed_type (placed (shown_tables tables m role)) f)
@@ -212,11 +212,13 @@ module _ (tables : List Table) (m : MetaTree) (role : Role) where
   introspection_at (Scalar ty.Integer) = refl
   introspection_at (Scalar ty.Text) = refl
   introspection_at (Scalar ty.Bigint) = refl
+  introspection_at (Scalar ty.Uuid) = refl
   introspection_at OrderBy = refl
   introspection_at (Comparison ty.Boolean) = refl
   introspection_at (Comparison ty.Integer) = refl
   introspection_at (Comparison ty.Text) = refl
   introspection_at (Comparison ty.Bigint) = refl
+  introspection_at (Comparison ty.Uuid) = refl
   introspection_at SchemaType = refl
   introspection_at TypeType = refl
   introspection_at Field = refl

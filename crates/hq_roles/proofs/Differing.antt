@@ -259,9 +259,9 @@ module _ (ts : List ShownTable) (each_differs : Each (λ (p : PlacedTable). Tabl
   query_names : differ (map field_name (query_fields (placed ts))) ≡ true
   query_names = by ts roots
     where
-      by : (us : List ShownTable) → differ (flat_map root_names us) ≡ true → differ (map field_name (query_fields (placed_from 18 us))) ≡ true
+      by : (us : List ShownTable) → differ (flat_map root_names us) ≡ true → differ (map field_name (query_fields (placed_from 20 us))) ≡ true
       by [] h = refl
-      by (u ∷ us) h = ap differ (roots_named 18 (u ∷ us)) ∙ h
+      by (u ∷ us) h = ap differ (roots_named 20 (u ∷ us)) ∙ h
 
   query_args : Each ArgsDiffer (query_fields (placed ts))
   query_args = by (placed ts) each_differs
@@ -374,7 +374,7 @@ module _ (tables : List Table) (m : MetaTree) (role : Role) (catalog : is_catalo
       (each_both First (λ (k : TrackedTree). OwnDiffer k ≡ true) m.tracked firsts (each_of OwnDiffer m.tracked (and_parts (types_once && roots_once) (list_all OwnDiffer m.tracked) names).1))
     where
       seen : Each (λ (p : PlacedTable). admin.is_in_schema m p.shown.table ≡ true) (placed shown)
-      seen = placed_each (λ (t : ShownTable). admin.is_in_schema m t.table ≡ true) 18 shown seen_tables
+      seen = placed_each (λ (t : ShownTable). admin.is_in_schema m t.table ≡ true) 20 shown seen_tables
 
       valid : (i : ℕ) (t : Table) → slice_get tables i ≡ Some t → is_table tables t ≡ true
       valid i t e = each_get (λ (t : Table). is_table tables t ≡ true) tables i t (each_of (is_table tables) tables (and_parts (nat_le (length tables) 500 && all_differ (λ t u. bytes_eq (full_name t) (full_name u)) tables) (list_all (is_table tables) tables) catalog).1) e
@@ -412,7 +412,7 @@ module _ (tables : List Table) (m : MetaTree) (role : Role) (catalog : is_catalo
       let are : map type_name (all_types (placed shown)) ≡ admin.fixed_types ++ flat_map type_names shown =
       map-append type_name (fixed_types (placed shown)) (flat_map (table_types (placed shown)) (placed shown))
       ∙ (ap (λ xs. xs ++ map type_name (flat_map (table_types (placed shown)) (placed shown))) (fixed_named (placed shown))
-      ∙ ap (λ xs. admin.fixed_types ++ xs) (tables_named (placed shown) 18 shown))
+      ∙ ap (λ xs. admin.fixed_types ++ xs) (tables_named (placed shown) 20 shown))
       in
       let some : Sub (admin.fixed_types ++ flat_map type_names shown) (admin.fixed_types ++ flat_map (admin.types_of (schema_of tables m)) m.tracked) =
       sub_append admin.fixed_types admin.fixed_types (flat_map type_names shown) (flat_map (admin.types_of (schema_of tables m)) m.tracked) (sub_same admin.fixed_types) types_some
@@ -420,7 +420,7 @@ module _ (tables : List Table) (m : MetaTree) (role : Role) (catalog : is_catalo
       record {
         types = ap differ are ∙ differ_some (admin.fixed_types ++ flat_map type_names shown) (admin.fixed_types ++ flat_map (admin.types_of (schema_of tables m)) m.tracked) some both.0;
         members =
-            types_differ shown (placed_each (TableDiffers (placed shown)) 18 shown tables_differ)
+            types_differ shown (placed_each (TableDiffers (placed shown)) 20 shown tables_differ)
             (differ_some (flat_map root_names shown) (flat_map (admin.roots_of (schema_of tables m)) m.tracked) roots_some both.1);
       }
 

@@ -193,7 +193,7 @@ over_fits : (a : Access) (ts : List ShownTable) → Each (Permits a) ts → Each
 over_fits a ts permits =
     let ps = placed ts in
     let types = all_types ps in
-    let sound : Each (Sound types a) ps = each_sound types a ps (stand_from ps (fixed_types ps) 18 ts refl) (placed_permit a 18 ts permits) in
+    let sound : Each (Sound types a) ps = each_sound types a ps (stand_from ps (fixed_types ps) 20 ts refl) (placed_permit a 20 ts permits) in
     let fixed_ones = fixed_stands ps (flat_map (table_types ps) ps) in
     each_append (TypeFits types a) (fixed_types ps) (flat_map (table_types ps) ps)
     (each_map (TypeFits types a) (λ (f : Fixed). Unit {0}) (fixed_type ps) (λ f g. fixed_fits types a fixed_ones ps sound f) all_fixed (each_all (λ (f : Fixed). Unit {0}) (λ f. tt) all_fixed))

@@ -1,8 +1,9 @@
 -- Which literal stands for a value of which type (GraphQL October 2021, 3.5, 3.9, 3.10, 3.11, 3.12 and 5.6.1).
 use Rattle.std.specs.Prelude.{ℕ, Bool, true, false, not, is_some}
 use Rattle.std.specs.Option.{option_map_or}
+use Rattle.hq_base.specs.Uuids.{spells_uuid}
 use Rattle.hq_base.specs.declared.value.Ty.{Ty}
-use Rattle.hq_base.specs.declared.value.Ty.TheVariants.{Bigint, Text, Boolean}
+use Rattle.hq_base.specs.declared.value.Ty.TheVariants.{Bigint, Text, Boolean, Uuid}
 use Rattle.hq_terms.specs.Reading.{whole_number}
 use Rattle.hq_schema.specs.declared.origin.TypeOrigin.{TypeOrigin}
 use Rattle.hq_schema.specs.declared.origin.TypeOrigin.TheVariants as origin
@@ -11,11 +12,13 @@ use Rattle.hq_schema.specs.Schema.{TypeRefTree, base, SchemaTree}
 use Rattle.hq_gql_tree.specs.Values.{ValueTree, int, float, str, bool, null, enum, list, object, variable}
 use Rattle.hq_gql_nodes.specs.Known.{element_type, input_at, is_non_null}
 
--- a scalar takes a whole number that it holds; of 64 bits also a text that spells one; or a text; or a truth value
+-- a scalar takes a whole number that it holds; of 64 bits also a text that spells one; or a text; or a text that is read as a uuid; or a
+-- truth value
 abbrev pub scalar_takes : Ty → ValueTree → Bool
 scalar_takes ty (int text) = is_some (whole_number ty text)
 scalar_takes Bigint (str text) = is_some (whole_number Bigint text)
 scalar_takes Text (str text) = true
+scalar_takes Uuid (str text) = spells_uuid text
 scalar_takes Boolean (bool b) = true
 scalar_takes ty v = false
 

@@ -6,7 +6,7 @@ ghost use Rattle.hq_terms.specs.Reading.{whole_number};
 ghost use Rattle.hq_rules_fields.specs.Literals.{scalar_takes, enum_takes, leaf_by, leaf_takes, takes};
 ghost use Rattle.hq_rules_fields.specs.NodeRules.{object_members};
 
-use hq_base::Ty;
+use hq_base::{Ty, spells_uuid};
 use hq_gql_nodes::{element_type, input_at, is_non_null};
 use hq_gql_tree::{Argument, Value};
 use hq_schema::{Schema, TypeId, TypeOrigin, TypeRef};
@@ -25,6 +25,7 @@ fn scalar_takes(ty: Ty, value: &Value) -> bool
     match (ty, value) {
         (_, Value::Int(text)) => spells(ty, text.as_str()),
         (Ty::Bigint, Value::Str(text)) => spells(Ty::Bigint, text.as_str()),
+        (Ty::Uuid, Value::Str(text)) => spells_uuid(text.as_str()),
         (Ty::Text, Value::Str(_)) | (Ty::Boolean, Value::Bool(_)) => true,
         _ => false,
     }

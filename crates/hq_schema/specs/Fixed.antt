@@ -43,17 +43,17 @@ fixed_name QueryRoot = codes "query_root"
 -- their places, the same in all schemas
 abbrev pub fixed_place : Fixed → ℕ
 fixed_place (Scalar t) = type_place t
-fixed_place OrderBy = 4
-fixed_place (Comparison t) = 5 + type_place t
-fixed_place Schema = 9
-fixed_place TypeType = 10
-fixed_place Field = 11
-fixed_place InputValue = 12
-fixed_place EnumValue = 13
-fixed_place Directive = 14
-fixed_place TypeKind = 15
-fixed_place DirectiveLocation = 16
-fixed_place QueryRoot = 17
+fixed_place OrderBy = 5
+fixed_place (Comparison t) = 6 + type_place t
+fixed_place Schema = 11
+fixed_place TypeType = 12
+fixed_place Field = 13
+fixed_place InputValue = 14
+fixed_place EnumValue = 15
+fixed_place Directive = 16
+fixed_place TypeKind = 17
+fixed_place DirectiveLocation = 18
+fixed_place QueryRoot = 19
 
 -- what they are
 abbrev pub fixed_kind : Fixed → Kind

@@ -36,20 +36,22 @@ impl Fixed {
     pub const STRING: Fixed = Fixed::Scalar(Ty::Text);
 
     /// All of them, in order.
-    pub fn all() -> [Fixed; 18]
+    pub fn all() -> [Fixed; 20]
         ensures { result ≡ all_fixed }
     {
-        let [a, b, c, d] = Ty::all();
+        let [a, b, c, d, e] = Ty::all();
         [
             Fixed::Scalar(a),
             Fixed::Scalar(b),
             Fixed::Scalar(c),
             Fixed::Scalar(d),
+            Fixed::Scalar(e),
             Fixed::OrderBy,
             Fixed::Comparison(a),
             Fixed::Comparison(b),
             Fixed::Comparison(c),
             Fixed::Comparison(d),
+            Fixed::Comparison(e),
             Fixed::Schema,
             Fixed::Type,
             Fixed::Field,
@@ -89,17 +91,17 @@ impl Fixed {
     {
         match self {
             Fixed::Scalar(ty) => ty.place(),
-            Fixed::OrderBy => 4,
-            Fixed::Comparison(ty) => 5 + ty.place(),
-            Fixed::Schema => 9,
-            Fixed::Type => 10,
-            Fixed::Field => 11,
-            Fixed::InputValue => 12,
-            Fixed::EnumValue => 13,
-            Fixed::Directive => 14,
-            Fixed::TypeKind => 15,
-            Fixed::DirectiveLocation => 16,
-            Fixed::QueryRoot => 17,
+            Fixed::OrderBy => 5,
+            Fixed::Comparison(ty) => 6 + ty.place(),
+            Fixed::Schema => 11,
+            Fixed::Type => 12,
+            Fixed::Field => 13,
+            Fixed::InputValue => 14,
+            Fixed::EnumValue => 15,
+            Fixed::Directive => 16,
+            Fixed::TypeKind => 17,
+            Fixed::DirectiveLocation => 18,
+            Fixed::QueryRoot => 19,
         }
     }
 

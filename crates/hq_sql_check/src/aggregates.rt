@@ -9,7 +9,7 @@ use crate::differ::pairs_differ;
 use crate::parts::are_keys;
 use crate::scope::Scope;
 use crate::values::{is_collated, is_compared, is_value, kind, takes_kind};
-use hq_base::Memory;
+use hq_base::{Memory, is_uuid_form};
 use hq_sql_tree::{Agg, Expr, ExprPairList};
 use std::alloc::Global;
 
@@ -46,6 +46,7 @@ pub(crate) fn is_folded(alloc: Global, scope: &Scope<'_, '_>, value: &Expr) -> R
         Expr::Column { .. } => Ok(false),
         Expr::Object(pairs) => Ok(pairs_differ(alloc, pairs)? && are_folded(alloc, scope, pairs)?),
         Expr::Agg(agg) => is_taken(alloc, scope, agg),
+        Expr::Uuid(text) => Ok(is_uuid_form(text.as_str())),
         Expr::Int(_) | Expr::Text(_) | Expr::Bool(_) => Ok(true),
     }
 }

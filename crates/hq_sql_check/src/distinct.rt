@@ -30,6 +30,7 @@ fn same_expr(a: &Expr, b: &Expr) -> bool
         }
         (Expr::Int(n), Expr::Int(m)) => *n == *m,
         (Expr::Text(s), Expr::Text(t)) => s.as_bytes() == t.as_bytes(),
+        (Expr::Uuid(s), Expr::Uuid(t)) => s.as_bytes() == t.as_bytes(),
         (Expr::Bool(b), Expr::Bool(c)) => *b == *c,
         _ => false,
     }

@@ -18,6 +18,7 @@ fn kind_of(ty: Ty) -> Kind
         Ty::Integer | Ty::Bigint => Kind::Whole { of_column: true },
         Ty::Text => Kind::Text,
         Ty::Boolean => Kind::Truth,
+        Ty::Uuid => Kind::Uuid,
     }
 }
 

@@ -11,6 +11,7 @@ use std::alloc::Global;
 pub(crate) enum Kind {
     Whole { of_column: bool },
     Text,
+    Uuid,
     Truth,
     Json,
 }

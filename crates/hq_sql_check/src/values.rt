@@ -7,7 +7,7 @@ ghost use Rattle.hq_sql_check.specs.Scopes.{kind_view, scope_view};
 
 use crate::differ::pairs_differ;
 use crate::scope::{Kind, Scope, kind_at};
-use hq_base::{Aggregate, Memory};
+use hq_base::{Aggregate, Memory, is_uuid_form};
 use hq_sql_tree::{Agg, Expr, ExprPairList, OrderList};
 use std::alloc::Global;
 
@@ -40,6 +40,7 @@ pub(crate) fn kind(scope: &Scope<'_, '_>, value: &Expr) -> Option<Kind>
         Expr::Column { alias, name, .. } => kind_at(*scope, alias, name),
         Expr::Int(_) => Some(Kind::Whole { of_column: false }),
         Expr::Text(_) => Some(Kind::Text),
+        Expr::Uuid(_) => Some(Kind::Uuid),
         Expr::Bool(_) => Some(Kind::Truth),
         Expr::Object(_) => Some(Kind::Json),
         Expr::Agg(agg) => agg_kind(scope, agg),
@@ -71,7 +72,7 @@ pub(crate) fn has_order(kind: Option<Kind>) -> bool
 {
     matches!(
         kind,
-        Some(Kind::Whole { .. }) | Some(Kind::Text) | Some(Kind::Truth)
+        Some(Kind::Whole { .. }) | Some(Kind::Text) | Some(Kind::Uuid) | Some(Kind::Truth)
     )
 }
 
@@ -106,13 +107,14 @@ fn can_compare(left: Option<Kind>, right: Option<Kind>) -> bool
     match (left, right) {
         (Some(Kind::Whole { .. }), Some(Kind::Whole { .. })) => true,
         (Some(Kind::Text), Some(Kind::Text)) => true,
+        (Some(Kind::Uuid), Some(Kind::Uuid)) => true,
         (Some(Kind::Truth), Some(Kind::Truth)) => true,
         _ => false,
     }
 }
 
-/// Whether no aggregate stands in the expression, its columns are in scope, COLLATE stands on text columns alone, and
-/// the names of each object differ.
+/// Whether no aggregate stands in the expression, its columns are in scope, COLLATE stands on text columns alone, each
+/// uuid is in its one form, and the names of each object differ.
 #[inline(never)]
 #[cycle(is_value)]
 pub(crate) fn is_value(alloc: Global, scope: &Scope<'_, '_>, value: &Expr) -> Result<bool, Memory>
@@ -133,6 +135,7 @@ pub(crate) fn is_value(alloc: Global, scope: &Scope<'_, '_>, value: &Expr) -> Re
         }
         Expr::Object(pairs) => Ok(pairs_differ(alloc, pairs)? && are_values(alloc, scope, pairs)?),
         Expr::Agg(_) => Ok(false),
+        Expr::Uuid(text) => Ok(is_uuid_form(text.as_str())),
         Expr::Int(_) | Expr::Text(_) | Expr::Bool(_) => Ok(true),
     }
 }

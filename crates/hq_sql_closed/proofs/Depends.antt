@@ -55,6 +55,7 @@ value_alike : (names : List (List ℕ)) (x y : Scope) → AgreeAt names x y → 
 value_alike names x y agree (tree.column alias name collate) h = ap (λ row. cell_named row name) (agree alias h)
 value_alike names x y agree (tree.int n) h = refl
 value_alike names x y agree (tree.text s) h = refl
+value_alike names x y agree (tree.uuid s) h = refl
 value_alike names x y agree (tree.bool b) h = refl
 value_alike names x y agree (tree.object ps) h = absurd (false≢true h)
 value_alike names x y agree (tree.aggregate a) h = absurd (false≢true h)

@@ -2,7 +2,7 @@
 -- whatever else is in scope (PostgreSQL, subquery expressions: EXISTS).
 use Rattle.std.specs.Prelude.{ℕ, List, [], ◌∷◌, Bool, true, false, ◌&&◌, ◌||◌, bytes_eq, is_none}
 use Rattle.hq_sql_tree.specs.Form.{is_no_join}
-use Rattle.hq_sql_tree.specs.Tree.{ExprTree, column, int, text, bool, object, aggregate, SelectTree, rows, fold, FromTree, table, sub, one, FilterTree, no_filter, filter, PredTree, always, never, test, negation, all_of, any_of, exists, PredTrees, no_pred, pred}
+use Rattle.hq_sql_tree.specs.Tree.{ExprTree, column, int, text, uuid, bool, object, aggregate, SelectTree, rows, fold, FromTree, table, sub, one, FilterTree, no_filter, filter, PredTree, always, never, test, negation, all_of, any_of, exists, PredTrees, no_pred, pred}
 
 abbrev pub is_named : List (List ℕ) → List ℕ → Bool
 is_named [] alias = false
@@ -13,6 +13,7 @@ abbrev pub is_bound : List (List ℕ) → ExprTree → Bool
 is_bound names (column alias name collate) = is_named names alias
 is_bound names (int n) = true
 is_bound names (text s) = true
+is_bound names (uuid s) = true
 is_bound names (bool b) = true
 is_bound names (object ps) = false
 is_bound names (aggregate a) = false

@@ -29,6 +29,7 @@ abbrev pub expr_step : Expr-F ℕ ℕ ℕ ℕ → ℕ
 expr_step (Expr-F.Column alias name collate) = 1
 expr_step (Expr-F.Int n) = 1
 expr_step (Expr-F.Text t) = 1
+expr_step (Expr-F.Uuid t) = 1
 expr_step (Expr-F.Bool b) = 1
 expr_step (Expr-F.Object ps) = 2 + total ps.items
 expr_step (Expr-F.Agg a) = 1 + a

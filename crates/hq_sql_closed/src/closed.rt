@@ -38,7 +38,7 @@ fn is_bound(expr: &Expr, names: &Names<'_>) -> bool
 {
     match expr {
         Expr::Column { alias, .. } => is_named(names, alias),
-        Expr::Int(_) | Expr::Text(_) | Expr::Bool(_) => true,
+        Expr::Int(_) | Expr::Text(_) | Expr::Uuid(_) | Expr::Bool(_) => true,
         Expr::Object(_) | Expr::Agg(_) => false,
     }
 }

@@ -26,6 +26,7 @@ fn same_expr(a: &Expr, b: &Expr) -> bool
         ) => *alias == *other_alias && (*name == *other_name && *collate == *other_collate),
         (Expr::Int(a), Expr::Int(b)) => *a == *b,
         (Expr::Text(a), Expr::Text(b)) => *a == *b,
+        (Expr::Uuid(a), Expr::Uuid(b)) => *a == *b,
         (Expr::Bool(a), Expr::Bool(b)) => *a == *b,
         _ => false,
     }

@@ -9,7 +9,7 @@ use Rattle.hq_sql_tree.specs.Word.{word_text}
 use Rattle.hq_sql_tree.specs.Form.{is_text, is_bigint}
 use Rattle.hq_sql_tree.specs.Tree as tree
 use Rattle.hq_sql_tree.specs.Tree.{ExprTree, PairTree, PairTrees, AggTree, OrderTree, OrderTrees, OutTree, pairs_of, pair_list, orders_of, order_list}
-use Rattle.hq_sql_tree.specs.Spelling.{quoted, name_text, literal_text, int_text, separated, each_after, collate_text, bool_text, direction_word, expr_text, pair_text, pair_texts, order_text, order_texts, out_text}
+use Rattle.hq_sql_tree.specs.Spelling.{quoted, name_text, literal_text, uuid_text, int_text, separated, each_after, collate_text, bool_text, direction_word, expr_text, pair_text, pair_texts, order_text, order_texts, out_text}
 use Rattle.hq_sql_expr.specs.declared.head.Head.{Head}
 use Rattle.hq_sql_expr.specs.declared.head.Head.TheVariants as head
 use Rattle.hq_sql_expr.specs.Reading.{◌>>=◌, Reader, nothing, after, strip, all_many, literal_at, collate_at, column_at, head_word, head_at, expr_with, pair_with, pairs_with, argument_with, direction_at, order_with, ordered_with, inside_with, expr_at, ordered_at, out_with}
@@ -98,14 +98,31 @@ bigint_no_text : (rest : List ℕ) → after word.AsText (word_text word.AsBigin
 unfolding word_text after
 bigint_no_text rest = refl
 
+uuid_free : (rest : List ℕ) → Free 39 (word_text word.AsUuid ++ rest)
+unfolding word_text
+uuid_free rest = refl
+
+uuid_no_text : (rest : List ℕ) → after word.AsText (word_text word.AsUuid ++ rest) ≡ None
+unfolding word_text after
+uuid_no_text rest = refl
+
+bigint_no_uuid : (rest : List ℕ) → after word.AsUuid (word_text word.AsBigint ++ rest) ≡ None
+unfolding word_text after
+bigint_no_uuid rest = refl
+
 text_literal_again : (t rest : List ℕ) → is_text t ≡ true → literal_at (literal_text t ++ rest) ≡ Some (tree.text t, rest)
 unfolding literal_at
 text_literal_again t rest is = rw (append_assoc (quoted 39 t) (word_text word.AsText) rest, quoted_again 39 t (word_text word.AsText ++ rest) is (text_free rest), after_again word.AsText rest) refl
 
+uuid_literal_again : (t rest : List ℕ) → is_text t ≡ true → literal_at (uuid_text t ++ rest) ≡ Some (tree.uuid t, rest)
+unfolding literal_at
+uuid_literal_again t rest is =
+    rw (append_assoc (quoted 39 t) (word_text word.AsUuid) rest, quoted_again 39 t (word_text word.AsUuid ++ rest) is (uuid_free rest), uuid_no_text rest, after_again word.AsUuid rest) refl
+
 int_literal_again : (n : _) (rest : List ℕ) → is_bigint n ≡ true → literal_at (int_text n ++ rest) ≡ Some (tree.int n, rest)
 unfolding literal_at
 int_literal_again n rest is =
-    rw (append_assoc (quoted 39 (signed_decimal n)) (word_text word.AsBigint) rest, quoted_again 39 (signed_decimal n) (word_text word.AsBigint ++ rest) (int_is_text n is) (bigint_free rest), bigint_no_text rest, after_again word.AsBigint rest, int_again n is) refl
+    rw (append_assoc (quoted 39 (signed_decimal n)) (word_text word.AsBigint) rest, quoted_again 39 (signed_decimal n) (word_text word.AsBigint ++ rest) (int_is_text n is) (bigint_free rest), bigint_no_text rest, bigint_no_uuid rest, after_again word.AsBigint rest, int_again n is) refl
 
 direction_again : (desc nulls_first : Bool) (rest : List ℕ) → direction_at (word_text (direction_word desc nulls_first) ++ rest) ≡ Some ((desc, nulls_first), rest)
 unfolding direction_at after word_text
@@ -125,6 +142,7 @@ unfolding word_text quoted
 expr_plain (tree.column a n c) rest = (refl, refl)
 expr_plain (tree.int n) rest = (refl, refl)
 expr_plain (tree.text t) rest = (refl, refl)
+expr_plain (tree.uuid t) rest = (refl, refl)
 expr_plain (tree.bool true) rest = (refl, refl)
 expr_plain (tree.bool false) rest = (refl, refl)
 expr_plain (tree.object ps) rest = (refl, refl)
@@ -275,6 +293,7 @@ module _ (inside : Head → Reader ExprTree) where
   simple_again (tree.column a n c) rest fits ends = quoted_column inside a n c rest ∙ column_again a n c rest fits.0 fits.1 ends
   simple_again (tree.int n) rest fits ends = quoted_literal inside (signed_decimal n) (word_text word.AsBigint) rest ∙ int_literal_again n rest fits
   simple_again (tree.text t) rest fits ends = quoted_literal inside t (word_text word.AsText) rest ∙ text_literal_again t rest fits
+  simple_again (tree.uuid t) rest fits ends = quoted_literal inside t (word_text word.AsUuid) rest ∙ uuid_literal_again t rest fits
   simple_again (tree.bool b) rest fits ends = with_bool inside b rest
   simple_again (tree.object ps) rest fits ends = absurd fits
   simple_again (tree.aggregate a) rest fits ends = absurd fits
@@ -303,6 +322,7 @@ module _ (d : ℕ) (expr ordered : Reader ExprTree) (expr_again : Again d expr) 
   deeper (tree.column a n c) rest fits ends = simple_again inner (tree.column a n c) rest fits ends
   deeper (tree.int n) rest fits ends = simple_again inner (tree.int n) rest fits ends
   deeper (tree.text t) rest fits ends = simple_again inner (tree.text t) rest fits ends
+  deeper (tree.uuid t) rest fits ends = simple_again inner (tree.uuid t) rest fits ends
   deeper (tree.bool b) rest fits ends = simple_again inner (tree.bool b) rest fits ends
   deeper (tree.object ps) rest fits ends = headed inner head.Object (separated word.Comma (pair_texts ps) ++ word_text word.Close) rest tt ∙ pairs_again d expr expr_again ps rest fits
   deeper (tree.aggregate a) rest fits ends = agg_again a rest fits

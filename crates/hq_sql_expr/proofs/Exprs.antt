@@ -48,12 +48,17 @@ int_taken d t rest (Some n) e =
     let k = int_takes t n e in
     ([], refl, (ap (λ c. quoted 39 t ++ c) (append-nil (word_text word.AsBigint)) ∙ ap (λ s. quoted 39 s ++ word_text word.AsBigint) k.0, k.1))
 
+-- a literal that is no text
+abbrev uuid_or_int : List ℕ → Reader ExprTree
+uuid_or_int t bytes = choose (after word.AsUuid bytes) (λ rest. Some (tree.uuid t, rest)) (after word.AsBigint bytes >>= λ rest. int_from t >>= λ n. Some (tree.int n, rest))
+
 literal_takes : (d : ℕ) → Sound literal_at (OneExpr d)
 unfolding literal_at
 literal_takes d =
-    sound_next (quoted_at 39) (λ t bytes. choose (after word.AsText bytes) (λ rest. Some (tree.text t, rest)) (after word.AsBigint bytes >>= λ rest. int_from t >>= λ n. Some (tree.int n, rest))) (quoted 39) IsText (OneExpr d) (quoted_takes 39)
-    (λ t is. sound_choose_end word.AsText (tree.text t) (λ b e. OneExpr d (quoted 39 t ++ b) e) (refl, is) (λ bytes. after word.AsBigint bytes >>= λ rest. int_from t >>= λ n. Some (tree.int n, rest))
-    (sound_word word.AsBigint (λ rest. int_from t >>= λ n. Some (tree.int n, rest)) (λ b e. OneExpr d (quoted 39 t ++ b) e) (record { takes = λ rest. int_taken d t rest (int_from t) refl })))
+    sound_next (quoted_at 39) (λ t bytes. choose (after word.AsText bytes) (λ rest. Some (tree.text t, rest)) (uuid_or_int t bytes)) (quoted 39) IsText (OneExpr d) (quoted_takes 39)
+    (λ t is. sound_choose_end word.AsText (tree.text t) (λ b e. OneExpr d (quoted 39 t ++ b) e) (refl, is) (uuid_or_int t)
+    (sound_choose_end word.AsUuid (tree.uuid t) (λ b e. OneExpr d (quoted 39 t ++ b) e) (refl, is) (λ bytes. after word.AsBigint bytes >>= λ rest. int_from t >>= λ n. Some (tree.int n, rest))
+    (sound_word word.AsBigint (λ rest. int_from t >>= λ n. Some (tree.int n, rest)) (λ b e. OneExpr d (quoted 39 t ++ b) e) (record { takes = λ rest. int_taken d t rest (int_from t) refl }))))
 
 -- ---- the two words of a sort key, and heads
 

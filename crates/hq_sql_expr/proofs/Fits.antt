@@ -13,6 +13,7 @@ abbrev mutual
   FitsExpr (tree.column alias name collate) d = (is_text alias ≡ true) × (is_text name ≡ true)
   FitsExpr (tree.int n) d = is_bigint n ≡ true
   FitsExpr (tree.text bytes) d = is_text bytes ≡ true
+  FitsExpr (tree.uuid bytes) d = is_text bytes ≡ true
   FitsExpr (tree.bool b) d = Unit {0}
   FitsExpr (tree.object ps) zero = ⊥
   FitsExpr (tree.object ps) (suc d) = FitsPairs ps d

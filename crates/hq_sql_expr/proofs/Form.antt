@@ -26,6 +26,7 @@ mutual
   fits_expr (tree.column a n c) d form depth fits = and_both (is_text a) (is_text n) fits
   fits_expr (tree.int n) d form depth fits = fits
   fits_expr (tree.text t) d form depth fits = fits
+  fits_expr (tree.uuid t) d form depth fits = fits
   fits_expr (tree.bool b) d form depth fits = tt
   fits_expr (tree.object ps) zero form depth fits = absurd (omega arith)
   fits_expr (tree.object ps) (suc d) form depth fits = fits_pairs ps d form (omega arith) fits
@@ -65,6 +66,7 @@ mutual
   expr_told (tree.column a n c) d h = (refl, omega arith, both_and (is_text a) (is_text n) h.0 h.1)
   expr_told (tree.int n) d h = (refl, omega arith, h)
   expr_told (tree.text t) d h = (refl, omega arith, h)
+  expr_told (tree.uuid t) d h = (refl, omega arith, h)
   expr_told (tree.bool b) d h = (refl, omega arith, refl)
   expr_told (tree.object ps) zero h = absurd h
   expr_told (tree.object ps) (suc d) h = let k = pairs_told ps d h in let le : pairs_depth ps ≤ d = k.1 in (k.0, omega arith, k.2)

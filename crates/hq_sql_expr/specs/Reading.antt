@@ -112,11 +112,12 @@ text_at bytes = do
 unfoldable pub int_from : List ℕ → Option ℤ
 int_from digits = let n = signed_digits_value 10 digits in if is_bigint n && bytes_eq digits (signed_decimal n) then Some n else None
 
--- a literal: a text, or a whole number
+-- a literal: a text, a uuid, or a whole number
 unfoldable pub literal_at : Reader ExprTree
 literal_at bytes = do
   t ← quoted_at 39 bytes
-  choose (after word.AsText t.1) (λ rest. Some (tree.text t.0, rest)) (after word.AsBigint t.1 >>= λ rest. int_from t.0 >>= λ n. Some (tree.int n, rest))
+  choose (after word.AsText t.1) (λ rest. Some (tree.text t.0, rest)) (choose (after word.AsUuid t.1) (λ rest. Some (tree.uuid t.0, rest))
+      (after word.AsBigint t.1 >>= λ rest. int_from t.0 >>= λ n. Some (tree.int n, rest)))
 
 -- the digits at the front, and what follows them
 abbrev pub is_digit : ℕ → Bool

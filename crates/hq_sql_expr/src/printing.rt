@@ -4,7 +4,7 @@ ghost use Rattle.std.specs.Fmt.{decimal};
 ghost use Rattle.hq_sql_tree.specs.Word.{word_text};
 ghost use Rattle.hq_sql_tree.specs.View.{agg_view, expr_view, pair_view, order_view, out_view};
 ghost use Rattle.hq_sql_tree.specs.Tree.{pairs_of, orders_of};
-ghost use Rattle.hq_sql_tree.specs.Spelling.{name_text, literal_text, int_text, separated, collate_text, direction_word, pair_texts, order_texts, expr_text, agg_text, order_text, out_text, pair_text};
+ghost use Rattle.hq_sql_tree.specs.Spelling.{name_text, literal_text, uuid_text, int_text, separated, collate_text, direction_word, pair_texts, order_texts, expr_text, agg_text, order_text, out_text, pair_text};
 ghost use Rattle.hq_sql_expr.specs.Between.{before};
 
 use hq_base::{Memory, Txt};
@@ -44,6 +44,13 @@ fn put_literal(out: &mut Vec<u8>, text: &Txt) -> Result<(), Memory>
 {
     put_quoted(out, b'\'', text.as_bytes())?;
     put_word(out, Word::AsText)
+}
+
+fn put_uuid(out: &mut Vec<u8>, text: &Txt) -> Result<(), Memory>
+    ensures { OnOk result (out.new.items ≡ out.old.items ++ uuid_text text.now) }
+{
+    put_quoted(out, b'\'', text.as_bytes())?;
+    put_word(out, Word::AsUuid)
 }
 
 fn put_int(alloc: Global, out: &mut Vec<u8>, n: i64) -> Result<(), Memory>
@@ -94,6 +101,7 @@ pub fn put_expr(alloc: Global, out: &mut Vec<u8>, expr: &Expr) -> Result<(), Mem
         } => put_column(out, alias, name, *collate),
         Expr::Int(n) => put_int(alloc, out, *n),
         Expr::Text(text) => put_literal(out, text),
+        Expr::Uuid(text) => put_uuid(out, text),
         Expr::Bool(true) => put_word(out, Word::True),
         Expr::Bool(false) => put_word(out, Word::False),
         Expr::Object(pairs) => {

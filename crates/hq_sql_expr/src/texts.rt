@@ -120,6 +120,9 @@ pub(crate) fn literal_of(alloc: Global, bytes: &[u8]) -> Result<(Expr, &[u8]), R
     if let Some(rest) = starts(rest, Word::AsText) {
         return Ok((Expr::Text(text), rest));
     }
+    if let Some(rest) = starts(rest, Word::AsUuid) {
+        return Ok((Expr::Uuid(text), rest));
+    }
     let rest = skip(rest, Word::AsBigint)?;
     let n = int_of(alloc, &text)?;
     Ok((Expr::Int(n), rest))

@@ -76,6 +76,7 @@ column_value alias name (tree.column a n collate) m is =
     ap₂ (λ b c. cell_named (m b) c) (sym (same_name alias a both.0)) (sym (same_name name n both.1))
 column_value alias name (tree.int n) m is = cc
 column_value alias name (tree.text t) m is = cc
+column_value alias name (tree.uuid t) m is = cc
 column_value alias name (tree.bool b) m is = cc
 column_value alias name (tree.object ps) m is = cc
 column_value alias name (tree.aggregate a) m is = cc
@@ -108,6 +109,7 @@ outer_value alias js (tree.column a name collate) m n is around =
     ap (λ row. cell_named row name) (around a (not_true (bytes_eq alias a) both.0) (not_true (is_joined js a) both.1))
 outer_value alias js (tree.int k) m n is around = refl
 outer_value alias js (tree.text t) m n is around = refl
+outer_value alias js (tree.uuid t) m n is around = refl
 outer_value alias js (tree.bool b) m n is around = refl
 outer_value alias js (tree.object ps) m n is around = cc
 outer_value alias js (tree.aggregate a) m n is around = cc

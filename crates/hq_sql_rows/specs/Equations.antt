@@ -11,7 +11,7 @@ use Rattle.hq_terms.specs.declared.test.Test.TheVariants.{Compare}
 use Rattle.hq_terms.specs.declared.truth.Truth.TheVariants.{Yes}
 use Rattle.hq_terms.specs.declared.table.Column.{Column}
 use Rattle.hq_index.specs.Keys.{cell_in, has_key}
-use Rattle.hq_sql_tree.specs.Tree.{ExprTree, column, int, text, bool, object, aggregate, JoinTrees, no_join, join, PredTree}
+use Rattle.hq_sql_tree.specs.Tree.{ExprTree, column, int, text, uuid, bool, object, aggregate, JoinTrees, no_join, join, PredTree}
 use Rattle.hq_sql_tree.specs.Meaning.{Scope as Names, World, cell_named, named_row, value, truth_at}
 use Rattle.hq_sql_rows.specs.View.{scope_of}
 use Rattle.hq_sql_rows.specs.declared.scope.Scope.{Scope}
@@ -31,6 +31,7 @@ abbrev pub is_outer : (alias : List ℕ) → JoinTrees → ExprTree → Bool
 is_outer alias js (column a name collate) = not (bytes_eq alias a) && not (is_joined js a)
 is_outer alias js (int n) = true
 is_outer alias js (text t) = true
+is_outer alias js (uuid t) = true
 is_outer alias js (bool b) = true
 is_outer alias js (object ps) = false
 is_outer alias js (aggregate a) = false

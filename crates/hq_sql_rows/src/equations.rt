@@ -41,7 +41,12 @@ pub(crate) fn is_column(expr: &Expr, alias: &Txt, name: &Txt) -> bool
             name: column,
             ..
         } => *alias == *named && *name == *column,
-        Expr::Int(_) | Expr::Text(_) | Expr::Bool(_) | Expr::Object(_) | Expr::Agg(_) => false,
+        Expr::Int(_)
+        | Expr::Text(_)
+        | Expr::Uuid(_)
+        | Expr::Bool(_)
+        | Expr::Object(_)
+        | Expr::Agg(_) => false,
     }
 }
 
@@ -51,7 +56,7 @@ fn is_outer(expr: &Expr, alias: &Txt, joins: &[Join]) -> bool
 {
     match expr {
         Expr::Column { alias: named, .. } => *alias != *named && !is_joined(joins, named),
-        Expr::Int(_) | Expr::Text(_) | Expr::Bool(_) => true,
+        Expr::Int(_) | Expr::Text(_) | Expr::Uuid(_) | Expr::Bool(_) => true,
         Expr::Object(_) | Expr::Agg(_) => false,
     }
 }
@@ -151,7 +156,7 @@ fn outer_cell<'d>(
             Resolved::Missing | Resolved::First { .. } => Ok(None),
         },
         Expr::Int(n) => Ok(Some(KeyCell::Int(*n as i128))),
-        Expr::Text(text) => Ok(Some(KeyCell::Text(text))),
+        Expr::Text(text) | Expr::Uuid(text) => Ok(Some(KeyCell::Text(text))),
         Expr::Bool(b) => Ok(Some(KeyCell::Bool(*b))),
         Expr::Object(_) | Expr::Agg(_) => Ok(None),
     }

@@ -10,7 +10,7 @@ use hq_sql_tree::{
 pub fn in_expr(expr: &Expr, alias: &Txt) -> usize {
     match expr {
         Expr::Column { alias: named, .. } => { if *named == *alias { 1 } else { 0 } }
-        Expr::Int(_) | Expr::Text(_) | Expr::Bool(_) => 0,
+        Expr::Int(_) | Expr::Text(_) | Expr::Uuid(_) | Expr::Bool(_) => 0,
         Expr::Object(pairs) => in_pairs(pairs, alias),
         Expr::Agg(agg) => in_agg(agg, alias),
     }

@@ -80,6 +80,7 @@ unfolding word_text quoted
 output_not_one (tree.column a m c) n rest free = refl
 output_not_one (tree.int m) n rest free = refl
 output_not_one (tree.text t) n rest free = refl
+output_not_one (tree.uuid t) n rest free = refl
 output_not_one (tree.bool true) n rest free = u_begins n rest free
 output_not_one (tree.bool false) n rest free = refl
 output_not_one (tree.object ps) n rest free = refl

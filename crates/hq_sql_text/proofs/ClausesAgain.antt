@@ -140,6 +140,7 @@ unfolding word_text after quoted
 expr_no_distinct (tree.column a n c) rest = refl
 expr_no_distinct (tree.int n) rest = refl
 expr_no_distinct (tree.text t) rest = refl
+expr_no_distinct (tree.uuid t) rest = refl
 expr_no_distinct (tree.bool true) rest = refl
 expr_no_distinct (tree.bool false) rest = refl
 expr_no_distinct (tree.object ps) rest = refl

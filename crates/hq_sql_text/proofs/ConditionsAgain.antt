@@ -57,6 +57,7 @@ unfolding word_text after quoted
 expr_no_member (tree.column a n c) rest none = (refl, refl)
 expr_no_member (tree.int n) rest none = (refl, refl)
 expr_no_member (tree.text t) rest none = (refl, refl)
+expr_no_member (tree.uuid t) rest none = (refl, refl)
 expr_no_member (tree.bool true) rest none = (refl, or_false (joint_next rest) none)
 expr_no_member (tree.bool false) rest none = (refl, none)
 expr_no_member (tree.object ps) rest none = (refl, refl)

@@ -203,6 +203,7 @@ abbrev mutual
   expr_fits (tree.column alias name collate) = is_text alias && is_text name
   expr_fits (tree.int n) = is_bigint n
   expr_fits (tree.text bytes) = is_text bytes
+  expr_fits (tree.uuid bytes) = is_text bytes
   expr_fits (tree.bool b) = true
   expr_fits (tree.object ps) = pairs_fit ps
   expr_fits (tree.aggregate a) = agg_fits a

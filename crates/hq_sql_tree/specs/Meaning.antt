@@ -17,7 +17,7 @@ use Rattle.hq_terms.specs.declared.truth.Truth.{Truth}
 use Rattle.hq_terms.specs.declared.truth.Truth.TheVariants.{Yes, No}
 use Rattle.hq_terms.specs.declared.table.Column.{Column}
 use Rattle.hq_terms.specs.declared.table.Table.{Table}
-use Rattle.hq_sql_tree.specs.Tree.{ExprTree, column, int, text, bool, object, aggregate, PairTrees, no_pair, pair, AggTree, count_all, count, take as taken_by, json_agg, OrderTrees, no_order, order, OrderTree, OutTree, SelectTree, rows, fold, FromTree, table, sub, one, JoinTrees, no_join, join, FilterTree, no_filter, filter, PredTree, always, never, test, negation, all_of, any_of, exists, PredTrees, no_pred, pred}
+use Rattle.hq_sql_tree.specs.Tree.{ExprTree, column, int, text, uuid, bool, object, aggregate, PairTrees, no_pair, pair, AggTree, count_all, count, take as taken_by, json_agg, OrderTrees, no_order, order, OrderTree, OutTree, SelectTree, rows, fold, FromTree, table, sub, one, JoinTrees, no_join, join, FilterTree, no_filter, filter, PredTree, always, never, test, negation, all_of, any_of, exists, PredTrees, no_pred, pred}
 
 -- a row of named cells; a name that it lacks gives NULL
 abbrev pub NamedRow : Type 0
@@ -70,6 +70,7 @@ abbrev mutual
   value (column alias name collate) group scope = cell_named (scope alias) name
   value (int n) group scope = cell.int n
   value (text s) group scope = cell.text s
+  value (uuid s) group scope = cell.text s
   value (bool b) group scope = cell.bool b
   value (object ps) group scope = cell.json (tree.obj (members ps group scope))
   value (aggregate a) group scope = taken a group

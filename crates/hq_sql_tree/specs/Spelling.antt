@@ -25,6 +25,10 @@ name_text name = quoted 34 name
 abbrev pub literal_text : List ℕ → List ℕ
 literal_text bytes = quoted 39 bytes ++ word_text word.AsText
 
+-- a uuid literal, in single quotes
+abbrev pub uuid_text : List ℕ → List ℕ
+uuid_text bytes = quoted 39 bytes ++ word_text word.AsUuid
+
 -- a whole number, its shortest decimal in single quotes
 abbrev pub int_text : ℤ → List ℕ
 int_text n = quoted 39 (signed_decimal n) ++ word_text word.AsBigint
@@ -70,6 +74,7 @@ abbrev mutual
   expr_text (tree.column alias name collate) = name_text alias ++ (word_text word.Dot ++ (name_text name ++ collate_text collate))
   expr_text (tree.int n) = int_text n
   expr_text (tree.text bytes) = literal_text bytes
+  expr_text (tree.uuid bytes) = uuid_text bytes
   expr_text (tree.bool b) = bool_text b
   expr_text (tree.object ps) = word_text word.BuildObject ++ (separated word.Comma (pair_texts ps) ++ word_text word.Close)
   expr_text (tree.aggregate a) = agg_text a

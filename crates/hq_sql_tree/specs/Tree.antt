@@ -9,6 +9,7 @@ mutual
     column : (alias name : List ℕ) → (collate : Bool) → ExprTree
     int : ℤ → ExprTree
     text : List ℕ → ExprTree
+    uuid : List ℕ → ExprTree
     bool : Bool → ExprTree
     object : PairTrees → ExprTree
     aggregate : AggTree → ExprTree

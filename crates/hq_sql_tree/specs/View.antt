@@ -26,6 +26,7 @@ abbrev pub expr_step : Expr-F AggTree ExprTree PairTree OrderTree → ExprTree
 expr_step (Expr-F.Column alias name collate) = tree.column alias name collate
 expr_step (Expr-F.Int n) = tree.int n
 expr_step (Expr-F.Text t) = tree.text t
+expr_step (Expr-F.Uuid t) = tree.uuid t
 expr_step (Expr-F.Bool b) = tree.bool b
 expr_step (Expr-F.Object ps) = tree.object (pairs_of ps.items)
 expr_step (Expr-F.Agg a) = tree.aggregate a

@@ -1,14 +1,15 @@
--- Which trees are well-formed for a catalog (PostgreSQL manual: Value Expressions, Aggregate Expressions, Collation Support;
+-- Which trees are well-formed for a catalog (PostgreSQL manual: Value Expressions, Aggregate Expressions, Collation Support, UUID Type;
 -- SELECT with its FROM, LATERAL, WHERE, DISTINCT and ORDER BY clauses). PostgreSQL takes more; what is said here is this subset.
 use Rattle.std.specs.Prelude.{ℕ, List, [], ◌∷◌, map, Bool, true, false, ◌&&◌, ◌||◌, nat_le, Option, Some, None, is_some, is_ok, bytes_eq, codes, if◌then◌else◌}
 use Rattle.std.specs.List.{list_all, list_any}
 use Rattle.std.specs.Ordering.{int_cmp, bool_cmp, is_eq}
 use Rattle.hq_base.specs.Lists.{all_differ}
 use Rattle.hq_base.specs.Patterns.{pattern_of}
+use Rattle.hq_base.specs.Uuids.{is_uuid_form}
 use Rattle.hq_base.specs.declared.aggregate.Aggregate.{Aggregate}
 use Rattle.hq_base.specs.declared.aggregate.Aggregate.TheVariants.{Sum}
 use Rattle.hq_base.specs.declared.value.Ty.{Ty}
-use Rattle.hq_base.specs.declared.value.Ty.TheVariants.{Integer, Bigint, Text, Boolean}
+use Rattle.hq_base.specs.declared.value.Ty.TheVariants.{Integer, Bigint, Text, Boolean, Uuid}
 use Rattle.hq_terms.specs.declared.table.Table.{Table}
 use Rattle.hq_terms.specs.declared.test.Test.{Test}
 use Rattle.hq_terms.specs.declared.test.Test.TheVariants.{IsNull, Like}
@@ -18,10 +19,11 @@ use Rattle.hq_sql_tree.specs.Tree.{ExprTree, PairTrees, AggTree, OrderTrees, Ord
 
 -- ---- kinds of values, and what is in scope
 
--- a whole number, which may be that of a table's column; a text; a truth value; JSON
+-- a whole number, which may be that of a table's column; a text; a uuid; a truth value; JSON
 pub data Kind : Type 0 where
   whole : (of_column : Bool) → Kind
   text : Kind
+  uuid : Kind
   truth : Kind
   json : Kind
 
@@ -38,6 +40,7 @@ kind_of_type Integer = whole true
 kind_of_type Bigint = whole true
 kind_of_type Text = text
 kind_of_type Boolean = truth
+kind_of_type Uuid = uuid
 
 abbrev pub kind_named : Names → List ℕ → Option Kind
 kind_named [] name = None
@@ -73,6 +76,7 @@ abbrev mutual
   kind scope (tree.column alias name collate) = kind_at scope alias name
   kind scope (tree.int n) = Some (whole false)
   kind scope (tree.text s) = Some text
+  kind scope (tree.uuid s) = Some uuid
   kind scope (tree.bool b) = Some truth
   kind scope (tree.object ps) = Some json
   kind scope (tree.aggregate a) = agg_kind scope a
@@ -91,6 +95,7 @@ is_text_kind _ = false
 abbrev pub has_order : Option Kind → Bool
 has_order (Some (whole of_column)) = true
 has_order (Some text) = true
+has_order (Some uuid) = true
 has_order (Some truth) = true
 has_order _ = false
 
@@ -110,10 +115,11 @@ abbrev pub takes_kind : Aggregate → Option Kind → Bool
 takes_kind Sum k = is_summed k
 takes_kind _ k = has_extremes k
 
--- both whole numbers, both texts or both truth values
+-- both whole numbers, both texts, both uuids or both truth values
 abbrev pub compare_kinds : Option Kind → Option Kind → Bool
 compare_kinds (Some (whole a)) (Some (whole b)) = true
 compare_kinds (Some text) (Some text) = true
+compare_kinds (Some uuid) (Some uuid) = true
 compare_kinds (Some truth) (Some truth) = true
 compare_kinds _ _ = false
 
@@ -122,11 +128,12 @@ pair_names tree.no_pair = []
 pair_names (tree.pair name e ps) = name ∷ pair_names ps
 
 -- No aggregate stands in the expression, its columns are in scope, COLLATE stands on text columns alone,
--- and the names of each object differ.
+-- each uuid is in its one form, and the names of each object differ.
 abbrev mutual
   pub is_value : Aliases → ExprTree → Bool
   is_value scope (tree.column alias name false) = is_some (kind_at scope alias name)
   is_value scope (tree.column alias name true) = is_text_kind (kind_at scope alias name)
+  is_value scope (tree.uuid s) = is_uuid_form s
   is_value scope (tree.object ps) = all_differ bytes_eq (pair_names ps) && are_values scope ps
   is_value scope (tree.aggregate a) = false
   is_value scope _ = true
@@ -156,10 +163,11 @@ is_taken scope (tree.count e true) = is_compared scope e
 is_taken scope (tree.take a e) = is_value scope e && takes_kind a (kind scope e) && is_collated scope e
 is_taken scope (tree.json_agg e os) = is_value scope e && are_keys scope os
 
--- the output of a fold: its columns stand inside aggregates alone
+-- the output of a fold: its columns stand inside aggregates alone, and each uuid is in its one form
 abbrev mutual
   pub is_folded : Aliases → ExprTree → Bool
   is_folded scope (tree.column alias name collate) = false
+  is_folded scope (tree.uuid s) = is_uuid_form s
   is_folded scope (tree.object ps) = all_differ bytes_eq (pair_names ps) && are_folded scope ps
   is_folded scope (tree.aggregate a) = is_taken scope a
   is_folded scope _ = true
@@ -175,6 +183,7 @@ abbrev pub same_expr : ExprTree → ExprTree → Bool
 same_expr (tree.column alias name collate) (tree.column other_alias other_name other_collate) = bytes_eq alias other_alias && bytes_eq name other_name && is_eq (bool_cmp collate other_collate)
 same_expr (tree.int n) (tree.int m) = is_eq (int_cmp n m)
 same_expr (tree.text s) (tree.text t) = bytes_eq s t
+same_expr (tree.uuid s) (tree.uuid t) = bytes_eq s t
 same_expr (tree.bool b) (tree.bool c) = is_eq (bool_cmp b c)
 same_expr _ _ = false
 

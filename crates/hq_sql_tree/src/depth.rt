@@ -17,7 +17,7 @@ fn expr_within(value: &Expr, room: u32) -> bool
     match value {
         Expr::Object(pairs) => room > 0 && pairs_within(pairs, room - 1),
         Expr::Agg(agg) => room > 0 && agg_within(agg, room - 1),
-        Expr::Column { .. } | Expr::Int(_) | Expr::Text(_) | Expr::Bool(_) => true,
+        Expr::Column { .. } | Expr::Int(_) | Expr::Text(_) | Expr::Uuid(_) | Expr::Bool(_) => true,
     }
 }
 

@@ -23,6 +23,8 @@ pub enum Expr {
     Int(i64),
     /// A `text` literal.
     Text(Txt),
+    /// A `uuid` literal, which is well-formed where its text is in the one form of a uuid.
+    Uuid(Txt),
     /// `TRUE` or `FALSE`.
     Bool(bool),
     /// `json_build_object` of these names and values.

@@ -15,7 +15,7 @@ pub(crate) fn is_expr(value: &Expr) -> bool
     match value {
         Expr::Object(pairs) => are_pairs(pairs),
         Expr::Agg(agg) => is_agg(agg),
-        Expr::Column { .. } | Expr::Int(_) | Expr::Text(_) | Expr::Bool(_) => true,
+        Expr::Column { .. } | Expr::Int(_) | Expr::Text(_) | Expr::Uuid(_) | Expr::Bool(_) => true,
     }
 }
 

@@ -37,7 +37,7 @@ impl Expr {
             }
             Expr::Int(n) => int_fits(*n),
             Expr::Bool(_) => {}
-            Expr::Text(text) => text_fits(text),
+            Expr::Text(text) | Expr::Uuid(text) => text_fits(text),
             Expr::Object(pairs) => pairs_fit(pairs),
             Expr::Agg(agg) => agg.fits(),
         }

@@ -15,7 +15,8 @@ impl Expr {
         match self {
             Expr::Object(pairs) => hold_agg(pairs),
             Expr::Agg(_) => true,
-            Expr::Column { .. } | Expr::Int(_) | Expr::Text(_) | Expr::Bool(_) => false,
+            Expr::Column { .. } | Expr::Int(_) | Expr::Text(_) | Expr::Uuid(_) | Expr::Bool(_) =>
+                false,
         }
     }
 }

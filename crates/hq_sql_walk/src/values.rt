@@ -54,7 +54,7 @@ pub fn value<'d>(
     match expr {
         Expr::Column { alias, name, .. } => column_cell(alloc, world, scope, alias, name),
         Expr::Int(n) => Ok(Cell::Int(*n as i128)),
-        Expr::Text(text) => Ok(Cell::Text(text)),
+        Expr::Text(text) | Expr::Uuid(text) => Ok(Cell::Text(text)),
         Expr::Bool(b) => Ok(Cell::Bool(*b)),
         Expr::Object(pairs) => {
             let members = members(alloc, pairs, world, group, scope)?;

@@ -148,7 +148,7 @@ fn is_summary(expr: &Expr, alias: &Txt, outs: &[Out], from: &Txt) -> bool {
             true
         }
         Expr::Agg(agg) => is_plain(agg, alias, outs, from),
-        Expr::Column { .. } | Expr::Int(_) | Expr::Text(_) | Expr::Bool(_) => false,
+        Expr::Column { .. } | Expr::Int(_) | Expr::Text(_) | Expr::Uuid(_) | Expr::Bool(_) => false,
     }
 }
 

@@ -15,6 +15,9 @@ use Rattle.hq_base.specs.Due.{and_then, mapped}
 use Rattle.hq_base.specs.Lists.{Each, all_differ}
 use Rattle.hq_base.specs.Refused.{text_of}
 use Rattle.hq_base.specs.declared.txt.TxtRefusal.{TxtRefusal}
+use Rattle.hq_base.specs.Uuids.{is_uuid_form}
+use Rattle.hq_base.specs.declared.value.Ty.{Ty}
+use Rattle.hq_base.specs.declared.value.Ty.TheVariants.{Integer, Bigint, Text, Boolean, Uuid}
 use Rattle.hq_base.specs.declared.value.Val.{Val}
 use Rattle.hq_base.specs.declared.value.Val.TheVariants as val
 use Rattle.hq_terms.specs.Database.{Row, are_rows, key_of, row_fits, same_values, value_fits}
@@ -24,10 +27,11 @@ use Rattle.hq_terms.specs.declared.want.Want.{Want}
 use Rattle.hq_terms.proofs.Fitting.{read_fits}
 use Rattle.hq_terms.specs.declared.table.Column.{Column}
 use Rattle.hq_terms.specs.declared.table.Table.{Table}
-use Rattle.hq_tables.specs.Field.{field_due, field_text, null_due, null_field, value_read, typed_due, value_due}
+use Rattle.hq_tables.specs.Field.{field_due, field_text, null_due, null_field, value_read, uuid_due, typed_due, value_due}
 use Rattle.hq_tables.specs.Header.{columns_named, header_due, in_catalog_order, names_differ, value_named}
 use Rattle.hq_tables.specs.Load.{fields_due, line_of_key, placed, record_due, row_due, rows_due, unless_repeated}
 use Rattle.hq_tables.specs.declared.field.FieldRefusal.{FieldRefusal}
+use Rattle.hq_tables.specs.declared.field.FieldRefusal.TheVariants.{NotUuid}
 use Rattle.hq_tables.specs.declared.load.refusal.LoadRefusal.{LoadRefusal}
 use Rattle.hq_tables.specs.declared.load.refusal.LoadRefusal.TheVariants.{Width}
 use Rattle.hq_tables.proofs.Placed.{head_of, is_some-position_from}
@@ -77,13 +81,31 @@ constant_value c (val.Int n) h = h
 constant_value c (val.Text s) h = h
 constant_value c (val.Bool b) h = h
 
+-- a value that is read as one of a type is one
+read_due-fits : (ty : Ty) (s : List ℕ) (v : Val) → value_read (read_as ty s) ≡ Ok v → constant_fits ty v ≡ true
+read_due-fits ty s v e = by (read_as ty s) refl e
+  where
+    by : (r : Result Val Want) → read_as ty s ≡ r → value_read r ≡ Ok v → constant_fits ty v ≡ true
+    by (Ok w) is e = let same : w ≡ v = cc in read_fits ty s v (is ∙ ap Ok same)
+    by (Err wanted) is e = cc
+
+uuid_due-fits : (s : List ℕ) (v : Val) → uuid_due s ≡ Ok v → constant_fits Uuid v ≡ true
+uuid_due-fits s v e = by (is_uuid_form s) refl e
+  where
+    by : (b : Bool) → is_uuid_form s ≡ b → cond b (Ok (val.Text s)) (Err NotUuid) ≡ Ok v → constant_fits Uuid v ≡ true
+    by true is e = let same : val.Text s ≡ v = cc in subst (λ w. constant_fits Uuid w ≡ true) same is
+    by false is e = cc
+
+type_due-fits : (ty : Ty) (s : List ℕ) (v : Val) → typed_due ty s ≡ Ok v → constant_fits ty v ≡ true
+type_due-fits Uuid s v e = uuid_due-fits s v e
+type_due-fits Integer s v e = read_due-fits Integer s v e
+type_due-fits Bigint s v e = read_due-fits Bigint s v e
+type_due-fits Text s v e = read_due-fits Text s v e
+type_due-fits Boolean s v e = read_due-fits Boolean s v e
+
 -- a value that is read by the column's type fits it
 typed_fits : (c : Column) (s : List ℕ) (v : Val) → typed_due c.ty s ≡ Ok v → value_fits c v ≡ true
-typed_fits c s v e = by (read_as c.ty s) refl e
-  where
-    by : (r : Result Val Want) → read_as c.ty s ≡ r → value_read r ≡ Ok v → value_fits c v ≡ true
-    by (Ok w) is e = let same : w ≡ v = cc in constant_value c v (read_fits c.ty s v (is ∙ ap Ok same))
-    by (Err wanted) is e = cc
+typed_fits c s v e = constant_value c v (type_due-fits c.ty s v e)
 
 -- the value of a text fits its column
 value_due-fits : (c : Column) (s : List ℕ) (v : Val) → value_due c s ≡ Ok v → value_fits c v ≡ true

@@ -4,7 +4,9 @@ use Rattle.hq_base.specs.Due.{and_then}
 use Rattle.hq_base.specs.Refused.{text_of}
 use Rattle.hq_base.specs.declared.txt.TxtRefusal.{TxtRefusal}
 use Rattle.hq_base.specs.declared.txt.TxtRefusal.TheVariants as txt
+use Rattle.hq_base.specs.Uuids.{is_uuid_form}
 use Rattle.hq_base.specs.declared.value.Ty.{Ty}
+use Rattle.hq_base.specs.declared.value.Ty.TheVariants.{Uuid}
 use Rattle.hq_base.specs.declared.value.Val.{Val}
 use Rattle.hq_base.specs.declared.value.Val.TheVariants as val
 use Rattle.hq_terms.specs.Reading.{read_as}
@@ -12,7 +14,7 @@ use Rattle.hq_terms.specs.declared.table.Column.{Column}
 use Rattle.hq_terms.specs.declared.want.Want.{Want}
 use Rattle.hq_terms.specs.declared.want.Want.TheVariants.{Boolean}
 use Rattle.hq_tables.specs.declared.field.FieldRefusal.{FieldRefusal}
-use Rattle.hq_tables.specs.declared.field.FieldRefusal.TheVariants.{NotUtf8, ZeroByte, NotInteger, NotBoolean, NullInNotNull, Memory}
+use Rattle.hq_tables.specs.declared.field.FieldRefusal.TheVariants.{NotUtf8, ZeroByte, NotInteger, NotBoolean, NotUuid, NullInNotNull, Memory}
 
 -- the field that stands for NULL, in quotes or not
 abbrev pub null_field : List ℕ
@@ -43,8 +45,13 @@ abbrev pub value_read : Result Val Want → Result Val FieldRefusal
 value_read (Ok v) = Ok v
 value_read (Err wanted) = Err (not_read wanted)
 
+-- a uuid, which stands in its one form
+abbrev pub uuid_due : List ℕ → Result Val FieldRefusal
+uuid_due s = if is_uuid_form s then Ok (val.Text s) else Err NotUuid
+
 -- a text as a value of the type; a text column takes it as it stands
 abbrev pub typed_due : Ty → List ℕ → Result Val FieldRefusal
+typed_due Uuid s = uuid_due s
 typed_due ty s = value_read (read_as ty s)
 
 -- a text as a value of the column: NULL, or a value of its type

@@ -13,7 +13,7 @@ use Rattle.hq_tables.specs.Header.{header_due, in_catalog_order}
 use Rattle.hq_tables.specs.declared.field.FieldRefusal.{FieldRefusal}
 use Rattle.hq_tables.specs.declared.field.FieldRefusal.TheVariants as field
 use Rattle.hq_tables.specs.declared.load.refusal.LoadRefusal.{LoadRefusal}
-use Rattle.hq_tables.specs.declared.load.refusal.LoadRefusal.TheVariants.{Header, Width, NotUtf8, ZeroByte, NotInteger, NotBoolean, NullInNotNull, RepeatedKey, Memory}
+use Rattle.hq_tables.specs.declared.load.refusal.LoadRefusal.TheVariants.{Header, Width, NotUtf8, ZeroByte, NotInteger, NotBoolean, NotUuid, NullInNotNull, RepeatedKey, Memory}
 use Rattle.hq_tables.specs.Unclosed.{closed_due, ends_inside}
 
 -- the refusal of a field with its place
@@ -22,6 +22,7 @@ refusal_at line col field.NotUtf8 = NotUtf8 line col
 refusal_at line col field.ZeroByte = ZeroByte line col
 refusal_at line col field.NotInteger = NotInteger line col
 refusal_at line col field.NotBoolean = NotBoolean line col
+refusal_at line col field.NotUuid = NotUuid line col
 refusal_at line col field.NullInNotNull = NullInNotNull line col
 refusal_at line col field.Memory = Memory
 

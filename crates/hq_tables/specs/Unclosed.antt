@@ -6,7 +6,7 @@ use Rattle.csv.specs.declared.parser.State.{State}
 use Rattle.csv.specs.declared.parser.State.TheVariants as st
 use Rattle.hq_terms.specs.Database.{Row}
 use Rattle.hq_tables.specs.declared.load.refusal.LoadRefusal.{LoadRefusal}
-use Rattle.hq_tables.specs.declared.load.refusal.LoadRefusal.TheVariants.{Header, Width, NotUtf8, ZeroByte, NotInteger, NotBoolean, NullInNotNull, RepeatedKey, Unclosed, Memory}
+use Rattle.hq_tables.specs.declared.load.refusal.LoadRefusal.TheVariants.{Header, Width, NotUtf8, ZeroByte, NotInteger, NotBoolean, NotUuid, NullInNotNull, RepeatedKey, Unclosed, Memory}
 use Rattle.hq_tables.specs.declared.load.quotes.Stand.{Stand}
 use Rattle.hq_tables.specs.declared.load.quotes.Stand.TheVariants as stand
 
@@ -49,6 +49,7 @@ refused_record (NotUtf8 line col) = Some line
 refused_record (ZeroByte line col) = Some line
 refused_record (NotInteger line col) = Some line
 refused_record (NotBoolean line col) = Some line
+refused_record (NotUuid line col) = Some line
 refused_record (NullInNotNull line col) = Some line
 refused_record (Unclosed line) = Some line
 refused_record (RepeatedKey line earlier) = Some line

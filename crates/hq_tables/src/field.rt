@@ -1,12 +1,13 @@
 ghost use Rattle.std.specs.Prelude.{◌≡◌, IfOk, MatchOption, false, true};
 ghost use Rattle.std.specs.Str.{is_utf8};
-ghost use Rattle.hq_tables.specs.Field.{field_due, field_text, not_read, null_due, typed_due};
+ghost use Rattle.hq_tables.specs.Field.{field_due, field_text, not_read, null_due, typed_due, uuid_due, value_read};
+ghost use Rattle.hq_terms.specs.Reading.{read_as};
 ghost use Rattle.hq_tables.specs.declared.field.FieldRefusal.TheVariants as refusal;
 ghost use Rattle.hq_base.specs.Due.{Gives};
 ghost use Rattle.hq_base.specs.Refused.{text_of};
 ghost use Rattle.hq_base.specs.Text.{has_zero};
 
-use hq_base::{Memory, Ty, Val};
+use hq_base::{Memory, Txt, Ty, Val, is_uuid_form};
 use hq_terms::{Column, Want, read_as};
 use std::alloc::Global;
 use std::str;
@@ -21,6 +22,8 @@ pub enum FieldRefusal {
     ZeroByte,
     NotInteger,
     NotBoolean,
+    /// A uuid that is not in its one form.
+    NotUuid,
     NullInNotNull,
     Memory,
 }
@@ -76,14 +79,38 @@ fn not_read(wanted: Want) -> FieldRefusal
     }
 }
 
+// A text in the one form of a uuid.
+fn uuid(alloc: Global, text: &str) -> Result<Val, FieldRefusal>
+    requires { has_zero text.now ≡ false }
+    ensures { Gives (λ v. v) refusal.Memory (uuid_due text.now) result }
+{
+    if !is_uuid_form(text) {
+        return Err(FieldRefusal::NotUuid);
+    }
+    let mut value = Txt::new(alloc);
+    value.push_str(text)?;
+    Ok(Val::Text(value))
+}
+
+// A text as what it is read as.
+fn read(alloc: Global, ty: Ty, text: &str) -> Result<Val, FieldRefusal>
+    requires { has_zero text.now ≡ false }
+    ensures { Gives (λ v. v) refusal.Memory (value_read (read_as ty text.now)) result }
+{
+    match read_as(alloc, ty, text)? {
+        Ok(value) => Ok(value),
+        Err(wanted) => Err(not_read(wanted)),
+    }
+}
+
 // A text as a value of the type.
 fn typed(alloc: Global, ty: Ty, text: &str) -> Result<Val, FieldRefusal>
     requires { has_zero text.now ≡ false }
     ensures { Gives (λ v. v) refusal.Memory (typed_due ty text.now) result }
 {
-    match read_as(alloc, ty, text)? {
-        Ok(value) => Ok(value),
-        Err(wanted) => Err(not_read(wanted)),
+    match ty {
+        Ty::Uuid => uuid(alloc, text),
+        Ty::Integer | Ty::Bigint | Ty::Text | Ty::Boolean => read(alloc, ty, text),
     }
 }
 
@@ -98,7 +125,7 @@ fn null(column: &Column) -> Result<Val, FieldRefusal>
     }
 }
 
-/// The value of a column's field. Only a text takes memory.
+/// The value of a column's field. Only a text and a uuid take memory.
 pub fn read_field(alloc: Global, column: &Column, field: &[u8]) -> Result<Val, FieldRefusal>
     ensures { Gives (λ v. v) refusal.Memory (field_due column.now field.now) result }
 {

@@ -9,7 +9,7 @@ use crate::Rows;
 use crate::rows::keyed_index;
 use hq_base::{Memory, Ty, Val};
 use hq_index::Grid;
-use hq_terms::{Column, Table};
+use hq_terms::{Column, Table, is_text_of};
 use std::alloc::Global;
 
 /// A table has fewer rows.
@@ -22,7 +22,7 @@ fn whole_number_fits(ty: Ty, n: i64) -> bool
     match ty {
         Ty::Integer => i64::from(i32::MIN) <= n && n <= i64::from(i32::MAX),
         Ty::Bigint => true,
-        Ty::Text | Ty::Boolean => false,
+        Ty::Text | Ty::Boolean | Ty::Uuid => false,
     }
 }
 
@@ -33,7 +33,7 @@ fn fits(column: &Column, value: &Val) -> bool
     match value {
         Val::Null => column.nullable,
         Val::Int(n) => whole_number_fits(column.ty, *n),
-        Val::Text(_) => matches!(column.ty, Ty::Text),
+        Val::Text(text) => is_text_of(column.ty, text.as_str()),
         Val::Bool(_) => matches!(column.ty, Ty::Boolean),
     }
 }

@@ -1,12 +1,13 @@
--- A database over a catalog: for each table its rows in file order (PostgreSQL, Data Types: numeric, character and boolean
--- types; Constraints: not-null, primary keys).
+-- A database over a catalog: for each table its rows in file order (PostgreSQL, Data Types: numeric, character, boolean and
+-- UUID types; Constraints: not-null, primary keys).
 use Rattle.std.specs.Prelude.{ℕ, ◌^◌, ◌-◌, ℤ, pos, negsuc, List, [], ◌∷◌, map, length, Bool, true, false, ◌&&◌, nat_lt, slice_index_or}
 use Rattle.std.specs.List.{list_all}
 use Rattle.hq_base.specs.Lists.{all_differ}
 use Rattle.hq_base.specs.Cells.{same_cell, cell_of}
+use Rattle.hq_base.specs.Uuids.{is_uuid_form}
 use Rattle.hq_base.specs.declared.value.Ty.{Ty}
 pub use Rattle.hq_base.specs.Types.{is_text, is_boolean}
-use Rattle.hq_base.specs.declared.value.Ty.TheVariants.{Integer, Bigint, Text, Boolean}
+use Rattle.hq_base.specs.declared.value.Ty.TheVariants.{Integer, Bigint, Text, Boolean, Uuid}
 use Rattle.hq_base.specs.declared.value.Val.{Val}
 use Rattle.hq_base.specs.declared.value.Val.TheVariants as val
 use Rattle.hq_terms.specs.declared.table.Column.{Column}
@@ -27,12 +28,19 @@ int_fits Integer n = fits_bits 32 n
 int_fits Bigint n = fits_bits 64 n
 int_fits Text n = false
 int_fits Boolean n = false
+int_fits Uuid n = false
+
+-- a text of the column's type: any text, or the one form of a uuid
+abbrev pub is_text_of : Ty → List ℕ → Bool
+is_text_of Text s = true
+is_text_of Uuid s = is_uuid_form s
+is_text_of _ s = false
 
 -- a value that the column may hold
 abbrev pub value_fits : Column → Val → Bool
 value_fits c val.Null = c.nullable
 value_fits c (val.Int n) = int_fits c.ty n
-value_fits c (val.Text s) = is_text c.ty
+value_fits c (val.Text s) = is_text_of c.ty s
 value_fits c (val.Bool b) = is_boolean c.ty
 
 -- a row has a value for each column, and each fits its column

@@ -7,7 +7,7 @@ use Rattle.hq_base.specs.declared.value.Ty.{Ty}
 use Rattle.hq_base.specs.declared.value.Val.{Val}
 use Rattle.hq_base.specs.declared.value.Val.TheVariants as val
 use Rattle.hq_terms.specs.Bexp.{BexpTree, always, and_of, or_of, not_of, test, through, exists_in, two_columns, BexpTrees, no_bexp, bexp, operands_of}
-use Rattle.hq_terms.specs.Database.{int_fits, is_text, is_boolean}
+use Rattle.hq_terms.specs.Database.{int_fits, is_text_of, is_boolean}
 use Rattle.hq_terms.specs.Schema.{Schema, table, rel}
 use Rattle.hq_terms.specs.Catalog.{can_pair}
 use Rattle.hq_terms.specs.Tests.{Test, Compare, Among, IsNull, Like, takes, takes_many, arity, applies}
@@ -24,7 +24,7 @@ column_ty s t c = option_map (λ column. column.ty) (slice_get (table s t).colum
 abbrev pub constant_fits : Ty → Val → Bool
 constant_fits ty val.Null = false
 constant_fits ty (val.Int n) = int_fits ty n
-constant_fits ty (val.Text s) = is_text ty
+constant_fits ty (val.Text s) = is_text_of ty s
 constant_fits ty (val.Bool b) = is_boolean ty
 
 -- a pattern is a text that does not end in an escape

@@ -13,8 +13,9 @@ use Rattle.hq_terms.specs.declared.meta.Rel.{Rel}
 -- the types that each schema has
 abbrev pub fixed_types : List (List ℕ)
 fixed_types =
-    codes "Boolean" ∷ codes "Int" ∷ codes "String" ∷ codes "bigint" ∷ codes "order_by"
+    codes "Boolean" ∷ codes "Int" ∷ codes "String" ∷ codes "bigint" ∷ codes "uuid" ∷ codes "order_by"
     ∷ codes "Boolean_comparison_exp" ∷ codes "Int_comparison_exp" ∷ codes "String_comparison_exp" ∷ codes "bigint_comparison_exp"
+    ∷ codes "uuid_comparison_exp"
     ∷ codes "__Schema" ∷ codes "__Type" ∷ codes "__Field" ∷ codes "__InputValue" ∷ codes "__EnumValue" ∷ codes "__Directive"
     ∷ codes "__TypeKind" ∷ codes "__DirectiveLocation" ∷ codes "query_root" ∷ []
 

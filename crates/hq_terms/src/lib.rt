@@ -40,7 +40,7 @@ pub use name::is_free_name;
 pub use op::Op;
 pub use operator::Operator;
 pub use perm::{Mask, MaskList, PermView};
-pub use reading::{truth_value, whole_number};
+pub use reading::{is_text_of, truth_value, whole_number};
 pub use role::Role;
 pub use scope::Scope;
 pub use session::{Session, Var, VarList};

@@ -1,8 +1,8 @@
 ghost use Rattle.std.specs.Prelude.{◌≡◌, ◌==◌, slice_index};
-ghost use Rattle.hq_terms.specs.Database.{int_fits};
+ghost use Rattle.hq_terms.specs.Database.{int_fits, is_text_of};
 ghost use Rattle.hq_terms.specs.Reading.{truth_value, whole_number};
 
-use hq_base::Ty;
+use hq_base::{Ty, is_uuid_form};
 
 // Whether the type holds the number.
 fn fits(ty: Ty, n: i64) -> bool
@@ -11,7 +11,7 @@ fn fits(ty: Ty, n: i64) -> bool
     match ty {
         Ty::Integer => i64::from(i32::MIN) <= n && n <= i64::from(i32::MAX),
         Ty::Bigint => true,
-        Ty::Text | Ty::Boolean => false,
+        Ty::Text | Ty::Boolean | Ty::Uuid => false,
     }
 }
 
@@ -33,6 +33,17 @@ pub fn whole_number(ty: Ty, text: &str) -> Option<i64>
         Ok(n) if fits(ty, n) => Some(n),
         Ok(_) => None,
         Err(_) => None,
+    }
+}
+
+/// Whether a text is one of the type: any text, or the one form of a uuid.
+pub fn is_text_of(ty: Ty, text: &str) -> bool
+    ensures { result ≡ is_text_of ty text.now }
+{
+    match ty {
+        Ty::Text => true,
+        Ty::Uuid => is_uuid_form(text),
+        Ty::Integer | Ty::Bigint | Ty::Boolean => false,
     }
 }
 

@@ -4,9 +4,11 @@ pub enum Want {
     Integer,
     Bigint,
     Boolean,
+    Uuid,
     Pattern,
     IntegerList,
     BigintList,
     TextList,
     BooleanList,
+    UuidList,
 }

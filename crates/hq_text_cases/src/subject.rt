@@ -11,6 +11,7 @@ pub enum About {
     Names,
     Numbers,
     TruthValues,
+    Uuids,
     Truths,
     Headers,
     Sessions,
@@ -21,7 +22,7 @@ pub enum About {
 
 impl About {
     /// Each subject, in the order of its line.
-    pub const ALL: [About; 13] = [
+    pub const ALL: [About; 14] = [
         About::Texts,
         About::Bodies,
         About::Values,
@@ -29,6 +30,7 @@ impl About {
         About::Names,
         About::Numbers,
         About::TruthValues,
+        About::Uuids,
         About::Truths,
         About::Headers,
         About::Sessions,
@@ -48,6 +50,7 @@ impl Subject for About {
             About::Names => "names",
             About::Numbers => "numbers",
             About::TruthValues => "truth_values",
+            About::Uuids => "uuids",
             About::Truths => "truths",
             About::Headers => "headers",
             About::Sessions => "sessions",
@@ -67,6 +70,7 @@ impl Subject for About {
             About::Names => words::tell_name(alloc, case, out),
             About::Numbers => words::tell_number(alloc, case, out),
             About::TruthValues => words::tell_truth_value(alloc, case, out),
+            About::Uuids => words::tell_uuid(alloc, case, out),
             About::Truths => words::tell_truths(case, out),
             About::Headers => headers::tell_header(alloc, case, out),
             About::Sessions => headers::tell_session(alloc, case, out),

@@ -1,6 +1,6 @@
 //! Names, numbers and truth values as texts write them, and truth in three values.
 
-use hq_base::{Json, Ty};
+use hq_base::{Json, Ty, is_uuid_form, uuid_form};
 use hq_case::{Case, Stop, Words};
 use hq_terms::{Truth, is_free_name, truth_value, whole_number};
 use std::alloc::Global;
@@ -22,6 +22,7 @@ fn type_of(case: &Case) -> Result<Ty, Stop> {
         "bigint" => Ok(Ty::Bigint),
         "text" => Ok(Ty::Text),
         "boolean" => Ok(Ty::Boolean),
+        "uuid" => Ok(Ty::Uuid),
         _ => Err(Stop::Shape),
     }
 }
@@ -30,6 +31,21 @@ fn type_of(case: &Case) -> Result<Ty, Stop> {
 pub fn tell_number(alloc: Global, case: &Case, words: &mut Words) -> Result<(), Stop> {
     let number = whole_number(type_of(case)?, case.text(alloc, "in")?.as_str());
     words.push_debug(&number);
+    Ok(())
+}
+
+/// The one form of the uuid that a text is read as, and whether the text is in it.
+pub fn tell_uuid(alloc: Global, case: &Case, words: &mut Words) -> Result<(), Stop> {
+    let text = case.text(alloc, "in")?;
+    match uuid_form(alloc, text.as_str())? {
+        Some(form) => words.push(form.as_str()),
+        None => words.push("none"),
+    }
+    words.push(if is_uuid_form(text.as_str()) {
+        ", its form"
+    } else {
+        ""
+    });
     Ok(())
 }
 

@@ -26,6 +26,9 @@ pub enum LoadRefusal {
     /// The field is none of `t`, `f`, `true` and `false`.
     #[error("field {col} of record {line} is no truth value")]
     NotBoolean { line: u64, col: u64 },
+    /// The field is no uuid in its one form.
+    #[error("field {col} of record {line} is no uuid in its one form")]
+    NotUuid { line: u64, col: u64 },
     #[error("field {col} of record {line} is NULL")]
     NullInNotNull { line: u64, col: u64 },
     /// The file ends inside a quoted field of this record, its last.
@@ -68,6 +71,7 @@ impl LoadRefusal {
             | LoadRefusal::ZeroByte { line, .. }
             | LoadRefusal::NotInteger { line, .. }
             | LoadRefusal::NotBoolean { line, .. }
+            | LoadRefusal::NotUuid { line, .. }
             | LoadRefusal::NullInNotNull { line, .. }
             | LoadRefusal::Unclosed { line }
             | LoadRefusal::RepeatedKey { line, .. } => Some(line),
@@ -98,6 +102,7 @@ impl FieldRefusal {
             FieldRefusal::ZeroByte => LoadRefusal::ZeroByte { line, col },
             FieldRefusal::NotInteger => LoadRefusal::NotInteger { line, col },
             FieldRefusal::NotBoolean => LoadRefusal::NotBoolean { line, col },
+            FieldRefusal::NotUuid => LoadRefusal::NotUuid { line, col },
             FieldRefusal::NullInNotNull => LoadRefusal::NullInNotNull { line, col },
             FieldRefusal::Memory => LoadRefusal::Memory,
         }

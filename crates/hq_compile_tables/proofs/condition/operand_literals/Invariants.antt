@@ -5,4 +5,4 @@ use Rattle.hq_compile_tables.proofs.condition.operand_literals.Given as goal
 
 abbrev pub invariant-loop-operand : goal.invariant-loop-operand
 invariant-loop-operand l =
-    map expr_view l.literals.items ++ map operand_literal (drop l.operand-index l.operands) ≡ map operand_literal l.operands
+    map expr_view l.literals.items ++ map (operand_literal l.ty) (drop l.operand-index l.operands) ≡ map (operand_literal l.ty) l.operands
