@@ -12,4 +12,4 @@ mod texts;
 mod type_kind;
 mod types;
 
-pub use root::answer;
+pub use root::put_answer;

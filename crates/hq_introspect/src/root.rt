@@ -1,5 +1,5 @@
-ghost use Rattle.std.specs.Prelude.{◌≡◌, IfOk, option_map};
-ghost use Rattle.hq_base.specs.Json.{json_view};
+ghost use Rattle.std.specs.Prelude.{◌≡◌, ◌++◌, IfOk, OnOk, option_map};
+ghost use Rattle.hq_base.specs.Compact.{compact};
 ghost use Rattle.hq_ask_tree.specs.Introspection.{introspection_view};
 ghost use Rattle.hq_schema.specs.Schema.{schema_view, type_view};
 ghost use Rattle.hq_introspect.specs.Answers.{whole_schema, type_by_name, answered};
@@ -10,10 +10,10 @@ ghost use Rattle.hq_introspect.specs.Views.{resolved_view, types_view, fields_vi
 use crate::by_name::types_by_name;
 use crate::field_name::FieldName;
 use crate::node::Resolved;
-use crate::select::completed;
+use crate::select::put_completed;
 use crate::types::{schema_value, type_or_null};
 use hq_ask_tree::{IntroField, IntroFields};
-use hq_base::{Json, Member, Memory, Txt};
+use hq_base::{Bytes, Json, Memory, Txt, put_comma, put_quoted};
 use hq_schema::{Schema, TypeDef};
 use std::alloc::Global;
 
@@ -33,43 +33,51 @@ fn resolved_in_schema<'a>(
     }
 }
 
-// The value of a field of the schema.
-fn value_in_schema<'a>(
+// Appends the text of the value of a field of the schema.
+fn put_value_in_schema<'a>(
     alloc: Global,
+    out: &mut Bytes,
     schema: &'a Schema,
     types: &[&'a TypeDef],
     field: &IntroField,
-) -> Result<Json, Memory>
-    ensures { IfOk result (λ j. json_view j ≡ value (introspection_view field.now) (schema_view schema.now) (schema_node (types_view types.now))) }
+) -> Result<(), Memory>
+    ensures { OnOk result (out.new ≡ out.old ++ compact (value (introspection_view field.now) (schema_view schema.now) (schema_node (types_view types.now)))) }
 {
     let resolved = resolved_in_schema(alloc, schema, types, &field.name)?;
-    completed(alloc, schema, resolved, &field.fields)
+    put_completed(alloc, out, schema, resolved, &field.fields)
 }
 
-// The schema as an object, where its types stand in this order.
-fn schema_object<'a>(
+// Appends the text of the schema as an object, where its types stand in this order.
+fn put_schema_object<'a>(
     alloc: Global,
+    out: &mut Bytes,
     schema: &'a Schema,
     types: &[&'a TypeDef],
     fields: &IntroFields,
-) -> Result<Json, Memory>
-    ensures { IfOk result (λ j. json_view j ≡ object_of (fields_view fields.now.items) (schema_view schema.now) (schema_node (types_view types.now))) }
+) -> Result<(), Memory>
+    ensures { OnOk result (out.new ≡ out.old ++ compact (object_of (fields_view fields.now.items) (schema_view schema.now) (schema_node (types_view types.now)))) }
 {
-    let mut members = Vec::with_capacity(alloc, fields.len())?;
-    for keyed in fields {
-        let name = keyed.key.copy(alloc)?;
-        let value = value_in_schema(alloc, schema, types, &keyed.field)?;
-        members.push(Member { name, value })?;
+    out.push(b'{')?;
+    for (at, keyed) in fields.iter().enumerate() {
+        put_comma(out, at)?;
+        put_quoted(out, &keyed.key)?;
+        out.push(b':')?;
+        put_value_in_schema(alloc, out, schema, types, &keyed.field)?;
     }
-    Ok(Json::Obj(members))
+    out.push(b'}')
 }
 
-// The schema.
-fn whole_schema(alloc: Global, schema: &Schema, fields: &IntroFields) -> Result<Json, Memory>
-    ensures { IfOk result (λ j. json_view j ≡ object_of (fields_view fields.now.items) (schema_view schema.now) (whole_schema (schema_view schema.now))) }
+// Appends the text of the schema.
+fn put_whole_schema(
+    alloc: Global,
+    out: &mut Bytes,
+    schema: &Schema,
+    fields: &IntroFields,
+) -> Result<(), Memory>
+    ensures { OnOk result (out.new ≡ out.old ++ compact (object_of (fields_view fields.now.items) (schema_view schema.now) (whole_schema (schema_view schema.now)))) }
 {
     let types = types_by_name(alloc, schema)?;
-    schema_object(alloc, schema, &types, fields)
+    put_schema_object(alloc, out, schema, &types, fields)
 }
 
 // The type of this name, where one is given.
@@ -85,19 +93,24 @@ fn type_by_name<'a>(schema: &'a Schema, name: &Option<Txt>) -> Option<&'a TypeDe
     }
 }
 
-/// The value of a root field of introspection over a role's schema: `__schema`, or `__type` with the name of a type, null where
-/// there is none of that name. Types stand in ascending byte order of their names, all else in the schema's order. Any other
-/// field gives null.
+/// Appends the text of the value of a root field of introspection over a role's schema: `__schema`, or `__type` with the name of a
+/// type, null where there is none of that name. Types stand in ascending byte order of their names, all else in the schema's order.
+/// Any other field gives null. The text is written as it is made; where memory runs out, a part of it may stand behind `out`.
 #[tactic(auto, unfolding(crate::specs::Answers::answered))]
-pub fn answer(alloc: Global, schema: &Schema, field: &IntroField) -> Result<Json, Memory>
-    ensures { IfOk result (λ j. json_view j ≡ answered (schema_view schema.now) (introspection_view field.now)) }
+pub fn put_answer(
+    alloc: Global,
+    out: &mut Bytes,
+    schema: &Schema,
+    field: &IntroField,
+) -> Result<(), Memory>
+    ensures { OnOk result (out.new ≡ out.old ++ compact (answered (schema_view schema.now) (introspection_view field.now))) }
 {
     match FieldName::of(&field.name) {
-        Some(FieldName::WholeSchema) => whole_schema(alloc, schema, &field.fields),
+        Some(FieldName::WholeSchema) => put_whole_schema(alloc, out, schema, &field.fields),
         Some(FieldName::TypeByName) => {
             let found = type_or_null(type_by_name(schema, &field.type_name));
-            completed(alloc, schema, found, &field.fields)
+            put_completed(alloc, out, schema, found, &field.fields)
         }
-        _ => Ok(Json::Null),
+        _ => out.append(b"null"),
     }
 }

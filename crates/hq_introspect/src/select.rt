@@ -1,5 +1,5 @@
-ghost use Rattle.std.specs.Prelude.{◌≡◌, IfOk, map};
-ghost use Rattle.hq_base.specs.Json.{json_view};
+ghost use Rattle.std.specs.Prelude.{◌≡◌, ◌++◌, IfOk, OnOk, map};
+ghost use Rattle.hq_base.specs.Compact.{compact};
 ghost use Rattle.hq_ask_tree.specs.Introspection.{introspection_view};
 ghost use Rattle.hq_schema.specs.Schema.{schema_view};
 ghost use Rattle.hq_introspect.specs.Selections.{node_value, resolved, object_of, json_of, value};
@@ -12,7 +12,7 @@ use crate::node::{Node, Resolved};
 use crate::type_kind::TypeKind;
 use crate::types::{type_value, wrapper_value};
 use hq_ask_tree::{IntroField, IntroFields};
-use hq_base::{Json, Member, Memory, Txt};
+use hq_base::{Bytes, Json, Memory, Txt, put_comma, put_quoted};
 use hq_schema::Schema;
 use std::alloc::Global;
 
@@ -52,62 +52,73 @@ fn resolved<'a>(
     }
 }
 
-/// An object with a member for each selected field.
+/// Appends the text of an object with a member for each selected field.
 #[cycle(select)]
-pub fn object(
+pub fn put_object(
     alloc: Global,
+    out: &mut Bytes,
     schema: &Schema,
     node: Node<'_>,
     fields: &IntroFields,
-) -> Result<Json, Memory>
-    ensures { IfOk result (λ j. json_view j ≡ object_of (fields_view fields.now.items) (schema_view schema.now) (node_view node.entry)) }
+) -> Result<(), Memory>
+    ensures { OnOk result (out.new ≡ out.old ++ compact (object_of (fields_view fields.now.items) (schema_view schema.now) (node_view node.entry))) }
 {
-    let mut members = Vec::with_capacity(alloc, fields.len())?;
-    for keyed in fields {
-        let name = keyed.key.copy(alloc)?;
-        let value = value(alloc, schema, node, &keyed.field)?;
-        members.push(Member { name, value })?;
+    out.push(b'{')?;
+    for (at, keyed) in fields.iter().enumerate() {
+        put_comma(out, at)?;
+        put_quoted(out, &keyed.key)?;
+        out.push(b':')?;
+        put_value(alloc, out, schema, node, &keyed.field)?;
     }
-    Ok(Json::Obj(members))
+    out.push(b'}')
 }
 
 #[cycle(select)]
-fn value(alloc: Global, schema: &Schema, node: Node<'_>, field: &IntroField) -> Result<Json, Memory>
-    ensures { IfOk result (λ j. json_view j ≡ value (introspection_view field.now) (schema_view schema.now) (node_view node.entry)) }
+fn put_value(
+    alloc: Global,
+    out: &mut Bytes,
+    schema: &Schema,
+    node: Node<'_>,
+    field: &IntroField,
+) -> Result<(), Memory>
+    ensures { OnOk result (out.new ≡ out.old ++ compact (value (introspection_view field.now) (schema_view schema.now) (node_view node.entry))) }
 {
     let resolved = resolved(alloc, schema, node, &field.name)?;
-    completed(alloc, schema, resolved, &field.fields)
+    put_completed(alloc, out, schema, resolved, &field.fields)
 }
 
-/// What is resolved, as JSON.
+/// Appends the text of what is resolved.
 #[cycle(select)]
-pub fn completed(
+pub fn put_completed(
     alloc: Global,
+    out: &mut Bytes,
     schema: &Schema,
     resolved: Resolved<'_>,
     fields: &IntroFields,
-) -> Result<Json, Memory>
-    ensures { IfOk result (λ j. json_view j ≡ json_of (fields_view fields.now.items) (schema_view schema.now) (resolved_view resolved.entry)) }
+) -> Result<(), Memory>
+    ensures { OnOk result (out.new ≡ out.old ++ compact (json_of (fields_view fields.now.items) (schema_view schema.now) (resolved_view resolved.entry))) }
 {
     match resolved {
-        Resolved::Leaf(json) => Ok(json),
-        Resolved::One(node) => object(alloc, schema, node, fields),
-        Resolved::Many(nodes) => objects(alloc, schema, &nodes, fields),
+        Resolved::Leaf(json) => json.write_to(alloc, out),
+        Resolved::One(node) => put_object(alloc, out, schema, node, fields),
+        Resolved::Many(nodes) => put_objects(alloc, out, schema, &nodes, fields),
     }
 }
 
 #[cycle(select)]
-fn objects(
+fn put_objects(
     alloc: Global,
+    out: &mut Bytes,
     schema: &Schema,
     nodes: &[Node<'_>],
     fields: &IntroFields,
-) -> Result<Json, Memory>
-    ensures { IfOk result (λ j. json_view j ≡ json_of (fields_view fields.now.items) (schema_view schema.now) (many (map node_view nodes.now))) }
+) -> Result<(), Memory>
+    ensures { OnOk result (out.new ≡ out.old ++ compact (json_of (fields_view fields.now.items) (schema_view schema.now) (many (map node_view nodes.now)))) }
 {
-    let mut elements = Vec::with_capacity(alloc, nodes.len())?;
-    for node in nodes {
-        elements.push(object(alloc, schema, *node, fields)?)?;
+    out.push(b'[')?;
+    for (at, node) in nodes.iter().enumerate() {
+        put_comma(out, at)?;
+        put_object(alloc, out, schema, *node, fields)?;
     }
-    Ok(Json::Arr(elements))
+    out.push(b']')
 }

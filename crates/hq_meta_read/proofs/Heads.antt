@@ -10,14 +10,14 @@ use Rattle.hq_base.specs.Look.{str_in, object_in}
 use Rattle.hq_base.specs.Lists.{all_differ}
 use Rattle.hq_terms.specs.Fits.{are_free_roots}
 use Rattle.hq_terms.specs.Meta.{TrackedTree}
-use Rattle.hq_terms.specs.Names.{is_free_name}
+use Rattle.hq_terms.specs.Names.{is_free_name, is_table_name}
 use Rattle.hq_terms.specs.declared.meta.RootNames.{RootNames}
 use Rattle.hq_terms.specs.declared.table.Column.{Column}
 use Rattle.hq_terms.specs.declared.table.Table.{Table}
 use Rattle.hq_meta_tables.specs.declared.field.Field.{Field}
 use Rattle.hq_meta_tables.specs.declared.field.Field.TheVariants as field
 use Rattle.hq_meta_tables.specs.declared.refusal.MetaRefusal.TheVariants.{Shape, UnknownTable, RepeatedName}
-use Rattle.hq_meta_tables.specs.Configured.{is_table_name, own_name, own_name_due, table_name_at, table_name_due, column_config_at, column_text_at, members_due, column_name_of, column_names_due, root_text_due, root_by, root_in, root_due, roots_due}
+use Rattle.hq_meta_tables.specs.Configured.{own_name, own_name_due, table_name_at, table_name_due, column_config_at, column_text_at, members_due, column_name_of, column_names_due, root_text_due, root_by, root_in, root_due, roots_due}
 use Rattle.hq_meta_tables.specs.Each.{each_after}
 use Rattle.hq_meta_tables.specs.Found.{table_at}
 use Rattle.hq_meta_tables.specs.Node.{at, checked, object_at, text_at, free_name_at, member_at, given_value, given_object}

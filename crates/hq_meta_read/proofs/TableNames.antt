@@ -3,8 +3,7 @@ use Rattle.std.proofs.Common.{◌≡◌, ℕ, List, [], ◌∷◌, ◌++◌, Boo
 use Rattle.std.specs.Prelude.{bytes_eq, nat_eq}
 use Rattle.std.specs.List.{list_all}
 use Rattle.std.proofs.lemmas.Bool.{and_parts, and_from, not-true, not_from_false}
-use Rattle.hq_terms.specs.Names.{is_reserved, is_name, is_free_name, starts_name, continues_name}
-use Rattle.hq_meta_tables.specs.Configured.{is_table_name}
+use Rattle.hq_terms.specs.Names.{is_reserved, is_name, is_free_name, starts_name, continues_name, is_table_name}
 
 all_continue-append : (xs ys : List ℕ) → list_all continues_name xs ≡ true → list_all continues_name ys ≡ true → list_all continues_name (xs ++ ys) ≡ true
 all_continue-append [] ys h k = k

@@ -1,11 +1,11 @@
 -- The names that the configuration of a table gives (Hasura v2, metadata format: TableConfig). A null counts as absent at
 -- every member.
-use Rattle.std.specs.Prelude.{ℕ, List, [], ◌++◌, map, Bool, not, ◌&&◌, Option, Some, None, option_and_then, unwrap_or, Result, Ok, if◌then◌else◌, bytes_eq, codes}
+use Rattle.std.specs.Prelude.{ℕ, List, [], ◌++◌, map, Option, Some, None, option_and_then, unwrap_or, Result, Ok, if◌then◌else◌, bytes_eq, codes}
 use Rattle.hq_base.specs.Due.{◌>>=◌, mapped}
 use Rattle.hq_base.specs.Json.{JsonTree}
 use Rattle.hq_base.specs.Look.{str_in, object_in}
 use Rattle.hq_base.specs.Path.{member_path}
-use Rattle.hq_terms.specs.Names.{is_free_name}
+use Rattle.hq_terms.specs.Names.{is_table_name}
 use Rattle.hq_terms.specs.declared.meta.RootNames.{RootNames}
 use Rattle.hq_terms.specs.declared.table.Column.{Column}
 use Rattle.hq_terms.specs.declared.table.Table.{Table}
@@ -15,11 +15,6 @@ use Rattle.hq_meta_tables.specs.declared.refusal.MetaRefusal.{MetaRefusal}
 use Rattle.hq_meta_tables.specs.Each.{all_pass}
 use Rattle.hq_meta_tables.specs.Found.{column_named}
 use Rattle.hq_meta_tables.specs.Node.{required, checked, at, object_at, text_at, free_name_at, unless_null, named_value, given_value, given_object}
-
--- A table's name is a Name that does not begin with two underscores, and nor do the names of its types and root fields,
--- which go on with an underscore.
-abbrev pub is_table_name : List ℕ → Bool
-is_table_name name = is_free_name name && not (bytes_eq name (codes "_"))
 
 -- a table's name where no other is given: its own for the schema `public`, else the schema's before it
 abbrev pub own_name : Table → List ℕ

@@ -2,7 +2,8 @@ ghost use Rattle.std.specs.Prelude.{◌≡◌, ◌++◌, map, option_map, option
 ghost use Rattle.hq_base.specs.Due.{Gives};
 ghost use Rattle.hq_base.specs.Json.{json_view, member_view};
 ghost use Rattle.hq_base.specs.Text.{has_zero};
-ghost use Rattle.hq_meta_tables.specs.Configured.{is_table_name, own_name, own_name_due, table_name_at, table_name_due, given_text_due, column_config_at, column_text_at, column_due, member_due, members_due, text_or, column_name_of, column_names_due, root_text_due, root_in, root_due, roots_due};
+ghost use Rattle.hq_terms.specs.Names.{is_table_name};
+ghost use Rattle.hq_meta_tables.specs.Configured.{own_name, own_name_due, table_name_at, table_name_due, given_text_due, column_config_at, column_text_at, column_due, member_due, members_due, text_or, column_name_of, column_names_due, root_text_due, root_in, root_due, roots_due};
 ghost use Rattle.hq_meta_tables.specs.Each.{all_pass};
 ghost use Rattle.hq_meta_tables.specs.Node.{at, checked, given_value, unless_null, named_value};
 

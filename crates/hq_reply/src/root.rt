@@ -1,16 +1,17 @@
 //! The text of the object of root fields.
-ghost use Rattle.std.specs.Prelude.{◌≡◌, ◌++◌, IfOk, OnOk, map, option_map};
+ghost use Rattle.std.specs.Prelude.{◌≡◌, ◌++◌, IfOk, OnOk, map};
 ghost use Rattle.hq_ask_tree.specs.Fields.{fields_of, field_view, keyed_field_view};
-ghost use Rattle.hq_base.specs.Json.{json_view};
+ghost use Rattle.hq_base.specs.Compact.{compact};
+ghost use Rattle.hq_base.specs.Json.{str};
 ghost use Rattle.hq_schema.specs.Schema.{schema_view};
-ghost use Rattle.hq_reply.specs.RootObject.{own_value, no_queries_text};
+ghost use Rattle.hq_reply.specs.RootObject.{no_queries_text};
 ghost use Rattle.hq_reply.specs.RootTexts.{field_text, keyed_text, members_text, texts_behind, texts_in, texts_of};
 
 use crate::tables::put_next;
 use hq_answer::AnswerMember;
 use hq_ask_tree::{AskField, AskFields, KeyedAskField};
-use hq_base::{Bytes, Json, Memory, Txt, put_comma, put_quoted};
-use hq_introspect::answer;
+use hq_base::{Bytes, Memory, Txt, put_comma, put_quoted};
+use hq_introspect::put_answer;
 use hq_schema::Schema;
 use std::alloc::Global;
 use std::vec::IntoIter;
@@ -23,20 +24,14 @@ fn no_queries_text(alloc: Global) -> Result<Txt, Memory>
     Ok(text)
 }
 
-// What a root field gives without a database; none where it starts at a table.
-fn own_value(alloc: Global, schema: &Schema, field: &AskField) -> Result<Option<Json>, Memory>
-    ensures { IfOk result (λ value. option_map json_view value ≡ own_value (schema_view schema.now) (field_view field.now)) }
+// Appends a text in quotes.
+fn put_text(out: &mut Bytes, text: &Txt) -> Result<(), Memory>
+    ensures { OnOk result (out.new ≡ out.old ++ compact (str text.now)) }
 {
-    match field {
-        AskField::Typename { name } => Ok(Some(Json::Str(name.copy(alloc)?))),
-        AskField::NoQueries => Ok(Some(Json::Str(no_queries_text(alloc)?))),
-        AskField::Introspect { field } => Ok(Some(answer(alloc, schema, field)?)),
-        AskField::List { .. } | AskField::ByPk { .. } | AskField::Aggregate { .. } => Ok(None),
-        AskField::Column { .. } | AskField::Object { .. } => Ok(Some(Json::Null)),
-    }
+    put_quoted(out, text)
 }
 
-// Appends the value of a root field: its own, or the next of the members that are left.
+// Appends the value of a root field: its own, which is written as it is made, or the next of the members that are left.
 fn put_value(
     alloc: Global,
     out: &mut Bytes,
@@ -47,9 +42,17 @@ fn put_value(
     ensures text { OnOk result (out.new ≡ out.old ++ field_text (schema_view schema.now) (texts_in left.old) (field_view field.now)) }
     ensures left { OnOk result (texts_in left.new ≡ texts_behind (schema_view schema.now) (texts_in left.old) (field_view field.now)) }
 {
-    match own_value(alloc, schema, field)? {
-        Some(value) => value.write_to(alloc, out),
-        None => put_next(out, left),
+    match field {
+        AskField::Typename { name } => put_text(out, name),
+        AskField::NoQueries => {
+            let text = no_queries_text(alloc)?;
+            put_text(out, &text)
+        }
+        AskField::Introspect { field } => put_answer(alloc, out, schema, field),
+        AskField::List { .. } | AskField::ByPk { .. } | AskField::Aggregate { .. } => {
+            put_next(out, left)
+        }
+        AskField::Column { .. } | AskField::Object { .. } => out.append(b"null"),
     }
 }
 

@@ -1,12 +1,12 @@
 -- When a metadata fits a catalog (Hasura, Metadata API reference: tables, relationships, permissions).
-use Rattle.std.specs.Prelude.{ℕ, ◌^◌, List, [], ◌∷◌, length, Bool, true, not, cond, ◌&&◌, ◌==◌, nat_lt, nat_le, Option, Some, None, is_some, bytes_eq}
+use Rattle.std.specs.Prelude.{ℕ, ◌^◌, List, [], ◌∷◌, length, Bool, true, not, cond, ◌&&◌, ◌==◌, nat_lt, nat_le, Option, Some, None, is_some, bytes_eq, codes}
 use Rattle.std.specs.List.{list_all, list_any}
 use Rattle.hq_base.specs.Lists.{all_differ}
 use Rattle.hq_terms.specs.Bexp.{BexpTree, always, and_of, or_of, not_of, test, through, exists_in, two_columns, BexpTrees, no_bexp, bexp, depth}
 use Rattle.hq_terms.specs.Catalog.{can_pair}
 use Rattle.hq_terms.specs.Filters.{column_ty, is_filter}
 use Rattle.hq_terms.specs.Meta.{PermTree, TrackedTree, MetaTree, tracked_table}
-use Rattle.hq_terms.specs.Names.{is_admin_name, is_free_name}
+use Rattle.hq_terms.specs.Names.{is_admin_name, is_free_name, is_table_name}
 use Rattle.hq_terms.specs.Schema.{Schema, schema_of, table}
 use Rattle.hq_terms.specs.SchemaNames.{names_differ}
 use Rattle.hq_terms.specs.declared.meta.Inherited.{Inherited}
@@ -14,10 +14,14 @@ use Rattle.hq_terms.specs.declared.meta.RootNames.{RootNames}
 use Rattle.hq_terms.specs.declared.meta.Rel.{Rel}
 use Rattle.hq_terms.specs.declared.table.Table.{Table}
 
+-- a relationship's name: that of the aggregate of an array one goes on with an underscore
+abbrev pub is_rel_name : Rel → Bool
+is_rel_name r = is_free_name r.name && not (r.many && bytes_eq r.name (codes "_"))
+
 -- a relationship goes to a tracked table by at least one pair, and the columns of each pair can be compared
 abbrev pub fits_rel : Schema → MetaTree → ℕ → Rel → Bool
 fits_rel s m t r =
-    is_free_name r.name
+    is_rel_name r
     && is_some (tracked_table m r.remote)
     && nat_lt 0 (length r.pairs)
     && list_all (λ p. can_pair (column_ty s t p.own) (column_ty s r.remote p.remote)) r.pairs
@@ -82,7 +86,7 @@ are_free_roots r = is_free_name r.select && is_free_name r.select_aggregate && i
 abbrev pub fits_tracked : Schema → MetaTree → TrackedTree → Bool
 fits_tracked s m k =
     nat_lt k.table (length s)
-    && is_free_name k.name
+    && is_table_name k.name
     && (length k.column_names == length (table s k.table).columns)
     && are_free_roots k.roots
     && list_all (fits_rel s m k.table) k.rels

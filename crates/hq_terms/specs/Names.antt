@@ -26,6 +26,10 @@ is_reserved (a ∷ b ∷ cs) = (a == 95) && (b == 95)
 abbrev pub is_free_name : List ℕ → Bool
 is_free_name n = is_name n && not (is_reserved n)
 
+-- a name for a table: those of its types and root fields go on with an underscore
+abbrev pub is_table_name : List ℕ → Bool
+is_table_name n = is_free_name n && not (bytes_eq n (codes "_"))
+
 -- the role that may see everything
 abbrev pub is_admin_name : List ℕ → Bool
 is_admin_name n = bytes_eq n (codes "admin")

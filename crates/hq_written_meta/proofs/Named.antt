@@ -7,11 +7,11 @@ use Rattle.hq_base.specs.Json.{str}
 use Rattle.hq_base.specs.Lists.{Each, all_differ}
 use Rattle.hq_terms.specs.Fits.{are_free_roots}
 use Rattle.hq_terms.specs.Meta.{TrackedTree, MetaTree}
-use Rattle.hq_terms.specs.Names.{is_free_name}
+use Rattle.hq_terms.specs.Names.{is_free_name, is_table_name}
 use Rattle.hq_terms.specs.declared.meta.RootNames.{RootNames}
 use Rattle.hq_terms.specs.declared.table.Column.{Column}
 use Rattle.hq_terms.specs.declared.table.Table.{Table}
-use Rattle.hq_meta_tables.specs.Configured.{is_table_name, table_name_at, table_name_due, column_name_of, column_names_due, root_due, roots_due}
+use Rattle.hq_meta_tables.specs.Configured.{table_name_at, table_name_due, column_name_of, column_names_due, root_due, roots_due}
 use Rattle.hq_meta_tables.specs.Each.{each_after}
 use Rattle.hq_meta_tables.specs.Field.{field_name}
 use Rattle.hq_meta_tables.specs.Found.{columns_in, columns_of}

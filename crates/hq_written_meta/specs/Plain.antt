@@ -10,7 +10,7 @@ use Rattle.hq_terms.specs.Meta.{PermTree, TrackedTree, MetaTree}
 use Rattle.hq_terms.specs.declared.meta.Rel.{Rel}
 use Rattle.hq_terms.specs.declared.table.Column.{Column}
 use Rattle.hq_terms.specs.declared.table.Table.{Table}
-use Rattle.hq_meta_tables.specs.Configured.{is_table_name}
+use Rattle.hq_terms.specs.Names.{is_table_name}
 use Rattle.hq_meta_tables.specs.Found.{columns_of}
 use Rattle.hq_meta_read.specs.Permitted.{all_columns, chosen}
 use Rattle.hq_written_json.specs.ReadBack.{by_name, is_clean}

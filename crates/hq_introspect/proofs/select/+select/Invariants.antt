@@ -1,18 +1,16 @@
-use Rattle.std.proofs.Common.{◌≡◌, map, take}
-use Rattle.hq_base.specs.Json.{json_view, member_view}
-use Rattle.hq_ask_tree.specs.Introspection.{keyed_introspection_view}
+use Rattle.std.proofs.Common.{◌≡◌, ◌++◌, map, take}
+use Rattle.std.specs.List.{join_with_byte}
+use Rattle.hq_base.specs.Compact.{element_texts, member_texts}
+use Rattle.hq_base.specs.Json.{elements_of}
 use Rattle.hq_schema.specs.Schema.{schema_view}
-use Rattle.hq_introspect.specs.Selections.{object_of}
+use Rattle.hq_introspect.specs.Selections.{members, object_of}
 use Rattle.hq_introspect.specs.Views.{node_view, fields_view}
-use Rattle.hq_introspect.proofs.Selected.{selected}
 use Rattle.hq_introspect.proofs.select.+select.Given as goal
 
 -- the members for the fields so far
-abbrev pub invariant-object-loop-keyed : goal.invariant-object-loop-keyed
-invariant-object-loop-keyed l =
-    map member_view l.members.items ≡ map (selected (schema_view l.schema) (node_view l.node)) (map keyed_introspection_view (take l.keyed-index l.fields.items))
+abbrev pub invariant-put_object-loop-at : goal.invariant-put_object-loop-at
+invariant-put_object-loop-at l = l.out ≡ l.initial.out ++ join_with_byte 44 (member_texts (members (fields_view (take l.at l.fields.items)) (schema_view l.schema) (node_view l.node)))
 
 -- the objects so far
-abbrev pub invariant-objects-loop-node : goal.invariant-objects-loop-node
-invariant-objects-loop-node l =
-    map json_view l.elements.items ≡ map (object_of (fields_view l.fields.items) (schema_view l.schema)) (map node_view (take l.node-index l.nodes))
+abbrev pub invariant-put_objects-loop-at : goal.invariant-put_objects-loop-at
+invariant-put_objects-loop-at l = l.out ≡ l.initial.out ++ join_with_byte 44 (element_texts (elements_of (map (object_of (fields_view l.fields.items) (schema_view l.schema)) (map node_view (take l.at l.nodes)))))
