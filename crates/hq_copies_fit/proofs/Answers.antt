@@ -10,11 +10,9 @@ use Rattle.hq_terms.specs.declared.session.Session.{Session}
 use Rattle.hq_terms.specs.declared.table.Table.{Table}
 use Rattle.hq_copied.specs.Copied.{Copied, copy_of}
 use Rattle.hq_copies.proofs.Refused.{given, causes_absent}
-use Rattle.hq_copies_fit.specs.Laws.{CatalogFits, NamesReadable}
-use Rattle.hq_copies_fit.specs.ReadableNames.{has_readable_names}
+use Rattle.hq_copies_fit.specs.Laws.{CatalogFits}
 use Rattle.hq_copies_fit.proofs.Catalogs.{catalog_is_one}
 use Rattle.hq_copies_fit.proofs.Metas.{metadata_fits}
-use Rattle.hq_copies_fit.proofs.Readable.{names_readable}
 
 pub catalog_fits : (tables : List Table) (m : MetaTree) (session : Session) (v : View) (c : Copied) → CatalogFits tables m session v c
 catalog_fits tables m session v c whole fit done =
@@ -23,8 +21,3 @@ catalog_fits tables m session v c whole fit done =
       ap (λ k. is_catalog k.tables) (sym made.1) ∙ catalog_is_one tables m (role_of session.role) whole fit session.vars (seen_in v) none,
       ap (λ k. fits k.tables k.meta) (sym made.1) ∙ metadata_fits tables m (role_of session.role) whole fit session.vars (seen_in v) none,
     )
-
-pub names_read : (tables : List Table) (m : MetaTree) (session : Session) (v : View) (c : Copied) → NamesReadable tables m session v c
-names_read tables m session v c fit readable done =
-    let made = given _ (copy_of tables m session v) c done in
-    ap (λ k. has_readable_names k.meta) (sym made.1) ∙ names_readable tables m (role_of session.role) fit readable

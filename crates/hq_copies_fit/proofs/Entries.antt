@@ -11,9 +11,8 @@ use Rattle.hq_base.proofs.Lists.{each_weaken}
 use Rattle.hq_terms.specs.Bexp.{always}
 use Rattle.hq_terms.specs.Catalog.{can_pair}
 use Rattle.hq_terms.specs.Filters.{column_ty}
-use Rattle.hq_terms.specs.Fits.{fits, fits_rel, fits_perm, fits_tracked, limit_fits, objects_first}
+use Rattle.hq_terms.specs.Fits.{fits, is_rel_name, fits_rel, fits_perm, fits_tracked, limit_fits, objects_first}
 use Rattle.hq_terms.specs.Meta.{MetaTree, PermTree, TrackedTree, tracked_table}
-use Rattle.hq_terms.specs.Names.{is_free_name}
 use Rattle.hq_terms.specs.Permission.{Permission, permission, permission_in, with_columns, own_permission, told_permission, permissions_of, option_list, set_of, or_inherited, columns_of_any, either, filters_of, limit_of, largest, larger, some_aggregate, masks_for, named_columns}
 use Rattle.hq_terms.specs.Schema.{Schema, schema_of, numbered, table, rel, no_rel, no_column}
 use Rattle.hq_terms.specs.View.{places_from}
@@ -226,7 +225,7 @@ module _ (tables : List Table) (m : MetaTree) (role : Role) (fit : fits tables m
   rel_fits u o at h r x there seen fits_x kept =
       let t : ℕ = o.entry.table in
       let is : rel s t r ≡ x = present (table s t).rels r no_rel x there in
-      let name : is_free_name (rel s t r).name ≡ true = ap (λ (y : Rel). is_free_name y.name) is ∙ (and_parts _ _ (and_parts _ _ (and_parts _ _ fits_x).0).0).0 in
+      let name : is_rel_name (rel s t r) ≡ true = ap is_rel_name is ∙ (and_parts _ _ (and_parts _ _ (and_parts _ _ fits_x).0).0).0 in
       let far : is_some (permission role m (rel s t r).remote) ≡ true = ap (λ (y : Rel). is_some (permission role m y.remote)) is ∙ seen in
       let copied : is_some (tracked_table k (table_place os (rel s t r).remote)) ≡ true =
       by_source role m (λ v. is_some (tracked_table k (table_place os v)) ≡ true) (λ w isw. ap is_some (entry_at role m s (table_place os w.entry.table) w isw.place)) (rel s t r).remote far in

@@ -10,7 +10,7 @@ use Rattle.hq_terms.specs.Laws.{IsPermission}
 use Rattle.hq_terms.specs.Bexp.{always}
 use Rattle.hq_terms.specs.Meta.{MetaTree, PermTree, TrackedTree, tracked_table}
 use Rattle.hq_terms.specs.declared.meta.Inherited.{Inherited}
-use Rattle.hq_terms.specs.Names.{is_free_name}
+use Rattle.hq_terms.specs.Names.{is_free_name, is_table_name}
 use Rattle.hq_terms.specs.Permission.{Permission, permission, permission_in, named_columns, named_from, with_columns, own_permission, told_permission, permissions_of, set_of, or_inherited, permits, columns_of_any, either, filters_of, limit_of, some_aggregate, masks_for}
 use Rattle.hq_terms.specs.Schema.{Schema, schema_of, schema_table, table}
 use Rattle.hq_terms.specs.SchemaNames.{names_differ}
@@ -63,7 +63,7 @@ module _ (role : Role) (m : MetaTree) where
 -- the parts of an entry that fits
 pub record FitsEntry (s : Schema) (m : MetaTree) (k : TrackedTree) : Type 0 where
   pub there : k.table < length s
-  pub name : is_free_name k.name ≡ true
+  pub name : is_table_name k.name ≡ true
   pub long : length k.column_names ≡ length (table s k.table).columns
   pub roots : are_free_roots k.roots ≡ true
   pub rels : Each (λ r. fits_rel s m k.table r ≡ true) k.rels

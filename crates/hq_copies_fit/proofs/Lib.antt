@@ -7,5 +7,4 @@ mod Catalogs
 pub mod Entries
 mod Named
 mod Metas
-mod Readable
 mod Answers

@@ -1,4 +1,4 @@
--- The catalog of a copy is a catalog, and its metadata fits it and can be read back.
+-- The catalog of a copy is a catalog, and its metadata fits it.
 use Rattle.std.specs.Prelude.{◌≡◌, List, true, Ok}
 use Rattle.hq_terms.specs.Catalog.{is_catalog}
 use Rattle.hq_terms.specs.Fits.{fits}
@@ -7,12 +7,7 @@ use Rattle.hq_terms.specs.View.{View}
 use Rattle.hq_terms.specs.declared.session.Session.{Session}
 use Rattle.hq_terms.specs.declared.table.Table.{Table}
 use Rattle.hq_copied.specs.Copied.{Copied, copied}
-use Rattle.hq_copies_fit.specs.ReadableNames.{has_readable_names}
 
 -- of whatever view it is made, its catalog is one and its metadata fits it
 abbrev pub CatalogFits : List Table → MetaTree → Session → View → Copied → Type 0
 CatalogFits tables m session v c = is_catalog tables ≡ true → fits tables m ≡ true → copied tables m session v ≡ Ok c → (is_catalog c.tables ≡ true) × (fits c.tables c.meta ≡ true)
-
--- its names can be read back where those of the original can
-abbrev pub NamesReadable : List Table → MetaTree → Session → View → Copied → Type 0
-NamesReadable tables m session v c = fits tables m ≡ true → has_readable_names m ≡ true → copied tables m session v ≡ Ok c → has_readable_names c.meta ≡ true

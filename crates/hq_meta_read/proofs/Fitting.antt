@@ -14,9 +14,9 @@ use Rattle.hq_meta_names.specs.Repeats.{names_due}
 use Rattle.hq_terms.specs.Bexp.{BexpTree, always, and_of, or_of, not_of, test, through, exists_in, two_columns, BexpTrees, no_bexp, bexp, depth}
 use Rattle.hq_terms.specs.Catalog.{is_catalog, can_pair, type_of}
 use Rattle.hq_terms.specs.Filters.{column_ty, is_filter}
-use Rattle.hq_terms.specs.Fits.{fits, fits_tracked, fits_rel, fits_perm, asks_tracked, all_ask_tracked, are_inherited, are_free_roots, objects_first, limit_fits}
+use Rattle.hq_terms.specs.Fits.{fits, fits_tracked, fits_rel, fits_perm, asks_tracked, all_ask_tracked, are_inherited, are_free_roots, is_rel_name, objects_first, limit_fits}
 use Rattle.hq_terms.specs.Meta.{PermTree, TrackedTree, MetaTree, tracked_table}
-use Rattle.hq_terms.specs.Names.{is_free_name, is_admin_name}
+use Rattle.hq_terms.specs.Names.{is_table_name, is_admin_name}
 use Rattle.hq_terms.specs.Schema.{Schema, SchemaTable, schema_of, schema_table, numbered, table, no_table}
 use Rattle.hq_terms.specs.SchemaNames.{names_differ}
 use Rattle.hq_terms.specs.declared.meta.Inherited.{Inherited}
@@ -92,7 +92,7 @@ eight a b c d e f g h p q r s t u v w = cc
 
 rel_fits : (tables : List Table) (m n : MetaTree) (t : ℕ) (r : Rel) → map (λ k. k.table) n.tracked ≡ map (λ k. k.table) m.tracked → Related tables m t r → fits_rel (schema_of tables n) n t r ≡ true
 rel_fits tables m n t r same h =
-    four (is_free_name r.name) (is_some (tracked_table n r.remote)) (nat_lt 0 (length r.pairs)) (list_all (λ p. can_pair (column_ty (schema_of tables n) t p.own) (column_ty (schema_of tables n) r.remote p.remote)) r.pairs)
+    four (is_rel_name r) (is_some (tracked_table n r.remote)) (nat_lt 0 (length r.pairs)) (list_all (λ p. can_pair (column_ty (schema_of tables n) t p.own) (column_ty (schema_of tables n) r.remote p.remote)) r.pairs)
     h.named (same_tracked n m r.remote same ∙ h.remote) h.pairs.some
     (list_all-same (λ p. can_pair (column_ty (schema_of tables n) t p.own) (column_ty (schema_of tables n) r.remote p.remote)) (λ p. joins (columns_of tables t) (columns_of tables r.remote) p.own p.remote)
     (λ p. ap (λ o. can_pair o (column_ty (schema_of tables n) r.remote p.remote)) (schema_type tables n t p.own) ∙ ap (can_pair (type_of (slice_get (columns_of tables t) p.own))) (schema_type tables n r.remote p.remote))
@@ -122,7 +122,7 @@ tracked_fits tables m n k same h =
     let found : columns_of tables k.table ≡ h.head.table.columns = ap columns_there h.head.there in
     let long : length k.column_names ≡ length (table s k.table).columns = h.head.columns ∙ ap length (sym (schema_columns tables n k.table ∙ found)) in
     let below : k.table < length s = subst (λ size. k.table < size) (sym (numbered-long (schema_table n) 0 tables)) (slice_get_within tables k.table h.head.table h.head.there) in
-    eight (nat_lt k.table (length s)) (is_free_name k.name) (length k.column_names == length (table s k.table).columns) (are_free_roots k.roots)
+    eight (nat_lt k.table (length s)) (is_table_name k.name) (length k.column_names == length (table s k.table).columns) (are_free_roots k.roots)
     (list_all (fits_rel s n k.table) k.rels) (objects_first k.rels) (all_differ (λ p q. bytes_eq p.role q.role) k.perms) (list_all (fits_perm s n k.table) k.perms)
     (lt-ltb k.table (length s) below) h.head.named (eq-eqb (length k.column_names) (length (table s k.table).columns) long) h.head.roots
     (list_all-from (Related tables m k.table) (fits_rel s n k.table) (λ r g. rel_fits tables m n k.table r same g) k.rels h.rels.each)

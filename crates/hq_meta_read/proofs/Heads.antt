@@ -118,11 +118,11 @@ roots_due-free path name given h =
     (root_due path custom field.Select name []) (root_due-free path custom field.Select name [] plain))
     (given_object path given)
 
--- a table of the catalog, with a free name, a name for each of its columns, and free names of its root fields
+-- a table of the catalog, with a table's name, a name for each of its columns, and free names of its root fields
 pub record Head (tables : List Table) (k : TrackedTree) : Type 0 where
   pub table : Table
   pub there : slice_get tables k.table ≡ Some table
-  pub named : is_free_name k.name ≡ true
+  pub named : is_table_name k.name ≡ true
   pub columns : length k.column_names ≡ length table.columns
   pub roots : are_free_roots k.roots ≡ true
 
@@ -159,7 +159,7 @@ configured-Head tables path given t table there own =
     (λ c same. ok_and_then (λ name. and_then (λ ns. and_then (λ roots. Ok (made name ns roots)) (roots_due root_path name (given_value c field.CustomRootFields))) (column_names_due table.columns path c)) (λ n. is_table_name n ≡ true) all
     (λ name f. ok_and_then (λ ns. and_then (λ roots. Ok (made name ns roots)) (roots_due root_path name (given_value c field.CustomRootFields))) (λ ns. length ns ≡ length table.columns) all
     (λ ns g. ok_and_then (λ roots. Ok (made name ns roots)) (λ r. are_free_roots r ≡ true) all
-    (λ roots h. (record { table = table; there = there; named = table_name-free name f; columns = g; roots = h }, refl))
+    (λ roots h. (record { table = table; there = there; named = f; columns = g; roots = h }, refl))
     (roots_due root_path name (given_value c field.CustomRootFields)) (roots_due-free root_path name (given_value c field.CustomRootFields) f))
     (column_names_due table.columns path c) (column_names_due-long table.columns path c))
     (table_name_due name_path (given_value c field.CustomName) table)

@@ -1,13 +1,14 @@
 -- Relationships go to tracked tables by pairs that can be compared.
 use Rattle.std.proofs.Common.{◌≡◌, ℕ, List, [], ◌∷◌, ◌++◌, length, Bool, true, false, not, Option, Some, None, Result, Ok, Err, refl, sym, ap, subst}
 use Rattle.std.specs.Prelude.{IfOk, is_some, nat_lt, ◌&&◌, bytes_eq, codes}
+use Rattle.std.proofs.lemmas.Bool.{and_from}
 use Rattle.std.specs.List.{AllByRecursion, AllZip, list_all}
 use Rattle.hq_base.specs.Due.{and_then}
 use Rattle.hq_base.specs.Json.{JsonTree}
 use Rattle.hq_base.specs.Look.{str_in, array_in, object_in}
 use Rattle.hq_filter_read.specs.Each.{each_member}
 use Rattle.hq_terms.specs.Catalog.{is_catalog}
-use Rattle.hq_terms.specs.Fits.{objects_first}
+use Rattle.hq_terms.specs.Fits.{objects_first, is_rel_name}
 use Rattle.hq_terms.specs.Meta.{MetaTree, tracked_table}
 use Rattle.hq_terms.specs.Names.{is_free_name}
 use Rattle.hq_terms.specs.declared.meta.Pair.{Pair}
@@ -171,15 +172,20 @@ link_at-Joined tables m t many path j catalog =
 
 -- a relationship of table t
 pub record Related (tables : List Table) (m : MetaTree) (t : ℕ) (r : Rel) : Type 0 where
-  pub named : is_free_name r.name ≡ true
+  pub named : is_rel_name r ≡ true
   pub remote : is_some (tracked_table m r.remote) ≡ true
   pub pairs : Pairs (columns_of tables t) (columns_of tables r.remote) r.pairs
 
-rel_name_at-free : (many : Bool) (path : List ℕ) (j : JsonTree) → IfOk (rel_name_at many path j) (λ n. is_free_name n ≡ true)
+-- a relationship's name, where it is an array one and where it is not
+abbrev IsRelName : Bool → List ℕ → Type 0
+IsRelName many n = (is_free_name n && not (many && bytes_eq n (codes "_"))) ≡ true
+
+rel_name_at-is : (many : Bool) (path : List ℕ) (j : JsonTree) → IfOk (rel_name_at many path j) (IsRelName many)
 unfolding rel_name_at
-rel_name_at-free many path j =
-    ok_and_then (λ name. and_then (λ u. Ok name) (checked path (not (many && bytes_eq name (codes "_"))))) (λ n. is_free_name n ≡ true) (λ n. is_free_name n ≡ true)
-    (λ name f. ok_next (λ u. Ok name) (λ n. is_free_name n ≡ true) (λ u. f) (checked path (not (many && bytes_eq name (codes "_")))))
+rel_name_at-is many path j =
+    let other = λ (name : List ℕ). not (many && bytes_eq name (codes "_")) in
+    ok_and_then (λ name. and_then (λ u. Ok name) (checked path (other name))) (λ n. is_free_name n ≡ true) (IsRelName many)
+    (λ name f. ok_and_then (λ u. Ok name) (λ u. other name ≡ true) (IsRelName many) (λ u g. and_from (is_free_name name) (other name) f g) (checked path (other name)) (ok_checked path (other name)))
     (free_name_at path j) (free_name_at-free path j)
 
 rel_at-Related : (tables : List Table) (m : MetaTree) (t : ℕ) (many : Bool) (path : List ℕ) (j : JsonTree) → is_catalog tables ≡ true → IfOk (rel_at tables m t many path j) (λ r. Related tables m t r × (r.many ≡ many))
@@ -191,13 +197,13 @@ rel_at-Related tables m t many path j catalog =
     let up = at path field.Using in
     ok_next (λ object. and_then (λ text. and_then (λ name. and_then (λ using. and_then (λ l. Ok (made name l)) (link_at tables m t many up using)) (object_member path object field.Using)) (rel_name_at many np text)) (member_at path object field.Name)) all
     (λ object. ok_next (λ text. and_then (λ name. and_then (λ using. and_then (λ l. Ok (made name l)) (link_at tables m t many up using)) (object_member path object field.Using)) (rel_name_at many np text)) all
-    (λ text. ok_and_then (λ name. and_then (λ using. and_then (λ l. Ok (made name l)) (link_at tables m t many up using)) (object_member path object field.Using)) (λ n. is_free_name n ≡ true) all
+    (λ text. ok_and_then (λ name. and_then (λ using. and_then (λ l. Ok (made name l)) (link_at tables m t many up using)) (object_member path object field.Using)) (IsRelName many) all
     (λ name f. ok_next (λ using. and_then (λ l. Ok (made name l)) (link_at tables m t many up using)) all
     (λ using. ok_and_then (λ l. Ok (made name l)) (Joined tables m t) all
     (λ l g. (record { named = f; remote = g.remote; pairs = g.pairs }, refl))
     (link_at tables m t many up using) (link_at-Joined tables m t many up using catalog))
     (object_member path object field.Using))
-    (rel_name_at many np text) (rel_name_at-free many np text))
+    (rel_name_at many np text) (rel_name_at-is many np text))
     (member_at path object field.Name))
     (object_at path j)
 

@@ -1,5 +1,5 @@
 -- What a metadata that fits a catalog has, part by part.
-use Rattle.std.proofs.Common.{◌≡◌, ◌∙◌, ℕ, suc, nat_lt, List, [], ◌∷◌, length, true, not, Option, Some, None, slice_get, is_some, option_map, bytes_eq, refl, sym, ap, ap₂}
+use Rattle.std.proofs.Common.{◌≡◌, ◌∙◌, ℕ, suc, nat_lt, List, [], ◌∷◌, length, true, not, Option, Some, None, slice_get, is_some, option_map, bytes_eq, codes, refl, sym, ap, ap₂}
 use Rattle.std.specs.List.{list_all}
 use Rattle.std.proofs.lemmas.Bool.{and_parts}
 use Rattle.std.proofs.lemmas.Bool.Decides.{Decides-eqb}
@@ -9,7 +9,7 @@ use Rattle.hq_terms.specs.Catalog.{type_of, can_pair}
 use Rattle.hq_terms.specs.Filters.{column_ty}
 use Rattle.hq_terms.specs.Fits.{fits_rel, objects_first, limit_fits, fits_perm, are_free_roots, fits_tracked}
 use Rattle.hq_terms.specs.Meta.{PermTree, TrackedTree, MetaTree, tracked_table}
-use Rattle.hq_terms.specs.Names.{is_admin_name, is_free_name}
+use Rattle.hq_terms.specs.Names.{is_admin_name, is_free_name, is_table_name}
 use Rattle.hq_terms.specs.Schema.{SchemaTable, numbered, schema_of, schema_table, table}
 use Rattle.hq_terms.specs.declared.meta.Pair.{Pair}
 use Rattle.hq_terms.specs.declared.meta.Rel.{Rel}
@@ -84,6 +84,7 @@ pairs_there tables m t u (p ∷ ps) h =
 -- a relationship that fits
 pub record IsRel (tables : List Table) (m : MetaTree) (t : ℕ) (r : Rel) : Type 0 where
   pub free : is_free_name r.name ≡ true
+  pub other : not (r.many && bytes_eq r.name (codes "_")) ≡ true
   pub tracked : is_some (tracked_table m r.remote) ≡ true
   pub some : nat_lt 0 (length r.pairs) ≡ true
   pub pairs : Each (IsPair (columns_of tables t) (columns_of tables r.remote)) r.pairs
@@ -95,7 +96,8 @@ rels_fit tables m t (r ∷ rs) h =
     let a = and_parts _ _ p.0 in
     let b = and_parts _ _ a.0 in
     let c = and_parts _ _ b.0 in
-    (record { free = c.0; tracked = c.1; some = b.1; pairs = pairs_there tables m t r.remote r.pairs a.1 }, rels_fit tables m t rs p.1)
+    let named = and_parts _ _ c.0 in
+    (record { free = named.0; other = named.1; tracked = c.1; some = b.1; pairs = pairs_there tables m t r.remote r.pairs a.1 }, rels_fit tables m t rs p.1)
 
 -- a permission that fits
 pub record IsPerm (tables : List Table) (t : ℕ) (p : PermTree) : Type 0 where
@@ -117,6 +119,7 @@ perms_fit tables m t (p ∷ ps) h =
 -- an entry that fits
 pub record IsEntry (tables : List Table) (m : MetaTree) (k : TrackedTree) : Type 0 where
   pub table : (u : Table) × (slice_get tables k.table ≡ Some u)
+  pub name : is_table_name k.name ≡ true
   pub named : length k.column_names ≡ length (columns_of tables k.table)
   pub roots : are_free_roots k.roots ≡ true
   pub rels : Each (IsRel tables m k.table) k.rels
@@ -139,6 +142,7 @@ entry_fits tables m k h =
     let g = and_parts _ _ f.0 in
     record {
       table = below tables k.table (ap (nat_lt k.table) (sym (length_numbered (schema_table m) 0 tables)) ∙ g.0);
+      name = g.1;
       named = (Decides-eqb (length k.column_names) (length (table (schema_of tables m) k.table).columns)).0 f.1 ∙ ap length (same_columns tables m k.table);
       roots = e.1;
       rels = rels_fit tables m k.table k.rels d.1;

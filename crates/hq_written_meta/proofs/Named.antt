@@ -87,7 +87,7 @@ tracked_back tables m k before path h apart entry plain new =
     let u = entry.table.0 in
     let columns : columns_of tables k.table ≡ u.columns = ap columns_in entry.table.1 in
     rw (entry_back tables k u before path h entry.table.1 new)
-    (configured_back k (columns_of tables k.table) u (at path field.Configuration) columns apart plain.own entry.named plain.named entry.roots)
+    (configured_back k (columns_of tables k.table) u (at path field.Configuration) columns apart plain.own entry.named entry.name entry.roots)
 
 -- the entries are read as the tables with their names
 pub all_tracked : (tables : List Table) (m : MetaTree) (ks : List TrackedTree) (path : List ℕ) → Apart tables → Each (λ k. differ (columns_of tables k.table) ≡ true) ks

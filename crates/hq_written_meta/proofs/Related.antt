@@ -92,7 +92,7 @@ module _ (tables : List Table) (h : Apart tables) (all : (t : ℕ) → differ (c
       → IsPlainRel (columns_of tables t) (columns_of tables r.remote) r → rel_at tables m t many path (in_name_order (rel_json tables (columns_of tables t) r)) ≡ Ok r
   unfolding rel_at object_at member_at object_member field_name
   rel_back many r path u same is_at tracked is plain =
-      let name = name_back many (at path field.Name) r.name is.free (ap (λ b. not (b && bytes_eq r.name (codes "_"))) (sym same) ∙ plain.named) in
+      let name = name_back many (at path field.Name) r.name is.free (ap (λ b. not (b && bytes_eq r.name (codes "_"))) (sym same) ∙ is.other) in
       let link = link_back many r (at path field.Using) u is_at tracked is.some is.pairs plain.ascending in
       rw name (rw link (ap (λ b. Ok (record r { many = b })) (sym same)))
 

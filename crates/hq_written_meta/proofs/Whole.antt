@@ -79,7 +79,7 @@ module _ (tables : List Table) (m : MetaTree) (h : IsPlain tables m) where
   good_rel : (k : TrackedTree) (r : Rel) → IsRel tables m k.table r → IsPlainRel (columns_of tables k.table) (columns_of tables r.remote) r → related.IsGood tables catalog_parts.0 all names k.table r
   good_rel k r is plain =
       let tracked = same_tracked r.remote is.tracked in
-      record { there = tracked_there tables m m.tracked r.remote entries is.tracked; tracked = tracked; is = record { free = is.free; tracked = tracked; some = is.some; pairs = is.pairs }; plain = plain }
+      record { there = tracked_there tables m m.tracked r.remote entries is.tracked; tracked = tracked; is = record { free = is.free; other = is.other; tracked = tracked; some = is.some; pairs = is.pairs }; plain = plain }
 
   related_entries : Each (related.IsGoodEntry tables catalog_parts.0 all names) m.tracked
   related_entries =

@@ -44,7 +44,7 @@ whole_text = refl
 -- it can be read back
 plain_rel : IsPlainRel authors.columns authors.columns (record { name = codes "boss"; remote = 0; pairs = record { own = 1; remote = 0 } ∷ []; many = false })
 unfolding is_utf8 chars encode
-plain_rel = record { ascending = (tt, tt); differ = refl; named = refl; clean = refl }
+plain_rel = record { ascending = (tt, tt); differ = refl; clean = refl }
 
 plain_perm : IsPlainPerm authors.columns (record { role = codes "reader"; cols = 0 ∷ []; filter = always; limit = Some 10; aggregations = true })
 unfolding is_utf8 chars encode
@@ -52,7 +52,7 @@ plain_perm = record { unfiltered = refl; ordered = refl; clean = refl }
 
 plain_table : IsPlainTable (authors ∷ []) tracked
 unfolding is_utf8 chars encode
-plain_table = record { named = refl; own = ((λ e. cc), ((λ e. refl), tt)); rels = (plain_rel, tt); perms = (plain_perm, tt); clean = refl; roots = refl }
+plain_table = record { own = ((λ e. cc), ((λ e. refl), tt)); rels = (plain_rel, tt); perms = (plain_perm, tt); clean = refl; roots = refl }
 
 plain_whole : IsPlain (authors ∷ []) whole
 unfolding is_utf8 chars encode

@@ -1,6 +1,6 @@
 -- The metadata that are read back as they are written: no inherited roles, no filters, and lists that stand in the order in
 -- which they are read.
-use Rattle.std.specs.Prelude.{◌≡◌, List, [], map, true, false, not, ◌&&◌, slice_index_or, bytes_eq, codes}
+use Rattle.std.specs.Prelude.{◌≡◌, List, [], map, true, false, ◌&&◌, slice_index_or, bytes_eq}
 use Rattle.std.specs.List.{list_all}
 use Rattle.hq_base.specs.Lists.{Each, Ascends, all_differ}
 use Rattle.hq_terms.specs.Bexp.{always}
@@ -10,18 +10,16 @@ use Rattle.hq_terms.specs.Meta.{PermTree, TrackedTree, MetaTree}
 use Rattle.hq_terms.specs.declared.meta.Rel.{Rel}
 use Rattle.hq_terms.specs.declared.table.Column.{Column}
 use Rattle.hq_terms.specs.declared.table.Table.{Table}
-use Rattle.hq_terms.specs.Names.{is_table_name}
 use Rattle.hq_meta_tables.specs.Found.{columns_of}
 use Rattle.hq_meta_read.specs.Permitted.{all_columns, chosen}
 use Rattle.hq_written_json.specs.ReadBack.{by_name, is_clean}
 use Rattle.hq_written_catalog.specs.Written.{name_at, has_clean_names}
 use Rattle.hq_written_meta.specs.Written.{is_shown, pair_json}
 
--- a relationship: its pairs stand in ascending order of the own columns' names, which differ, and an array one is not named `_`
+-- a relationship: its pairs stand in ascending order of the own columns' names, which differ
 pub record IsPlainRel (own remote : List Column) (r : Rel) : Type 0 where
   pub ascending : Ascends by_name (map (pair_json own remote) r.pairs)
   pub differ : all_differ bytes_eq (map (λ p. name_at own p.own) r.pairs) ≡ true
-  pub named : not (r.many && bytes_eq r.name (codes "_")) ≡ true
   pub clean : is_clean r.name ≡ true
 
 -- a permission: it has the filter True, and its columns in the catalog's order
@@ -30,9 +28,8 @@ pub record IsPlainPerm (columns : List Column) (p : PermTree) : Type 0 where
   pub ordered : chosen p.cols columns ≡ p.cols
   pub clean : is_clean p.role ≡ true
 
--- a tracked table: its name begins no reserved one, and a column that no permission shows has its own name
+-- a tracked table: a column that no permission shows has its own name
 pub record IsPlainTable (tables : List Table) (k : TrackedTree) : Type 0 where
-  pub named : is_table_name k.name ≡ true
   pub own : Each (λ c. is_shown k c ≡ false → slice_index_or k.column_names c [] ≡ name_at (columns_of tables k.table) c) (all_columns (columns_of tables k.table))
   pub rels : Each (λ (r : Rel). IsPlainRel (columns_of tables k.table) (columns_of tables r.remote) r) k.rels
   pub perms : Each (IsPlainPerm (columns_of tables k.table)) k.perms
