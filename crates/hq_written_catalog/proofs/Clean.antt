@@ -8,7 +8,7 @@ use Rattle.hq_base.specs.Json.{JsonTree}
 use Rattle.hq_base.specs.Lists.{Each}
 use Rattle.hq_base.specs.Types.{catalog_name}
 use Rattle.hq_base.specs.declared.value.Ty.{Ty}
-use Rattle.hq_base.specs.declared.value.Ty.TheVariants.{Integer, Bigint, Text, Boolean}
+use Rattle.hq_base.specs.declared.value.Ty.TheVariants.{Integer, Bigint, Text, Boolean, Uuid}
 use Rattle.hq_terms.specs.declared.table.Column.{Column}
 use Rattle.hq_terms.specs.declared.table.ForeignKey.{ForeignKey}
 use Rattle.hq_terms.specs.declared.table.Table.{Table}
@@ -48,6 +48,7 @@ clean_type Integer = refl
 clean_type Bigint = refl
 clean_type Text = refl
 clean_type Boolean = refl
+clean_type Uuid = refl
 
 clean_nothing : is_clean [] ≡ true
 unfolding is_utf8 chars encode

@@ -7,7 +7,7 @@ use Rattle.hq_base.specs.Look.{element_list}
 use Rattle.hq_base.specs.Path.{top_path, item_path}
 use Rattle.hq_base.specs.Types.{catalog_name, type_named}
 use Rattle.hq_base.specs.declared.value.Ty.{Ty}
-use Rattle.hq_base.specs.declared.value.Ty.TheVariants.{Integer, Bigint, Text, Boolean}
+use Rattle.hq_base.specs.declared.value.Ty.TheVariants.{Integer, Bigint, Text, Boolean, Uuid}
 use Rattle.hq_base.proofs.Lists.{each_all}
 use Rattle.hq_terms.specs.declared.table.Column.{Column}
 use Rattle.hq_terms.specs.declared.table.ForeignKey.{ForeignKey}
@@ -56,6 +56,7 @@ type_back Integer = refl
 type_back Bigint = refl
 type_back Text = refl
 type_back Boolean = refl
+type_back Uuid = refl
 
 column_back : (c : Column) (path : List ℕ) → column_at path (in_name_order (column_json c)) ≡ Ok c
 unfolding column_at object_at text_member type_member nullable_member field_name

@@ -14,10 +14,10 @@ use Rattle.hq_base.specs.Due.{and_then, mapped}
 use Rattle.hq_base.specs.Refused.{text_of}
 use Rattle.hq_base.specs.Text.{has_zero}
 use Rattle.hq_base.specs.declared.value.Ty.{Ty}
-use Rattle.hq_base.specs.declared.value.Ty.TheVariants.{Integer, Bigint, Text, Boolean}
+use Rattle.hq_base.specs.declared.value.Ty.TheVariants.{Integer, Bigint, Text, Boolean, Uuid}
 use Rattle.hq_base.specs.declared.value.Val.{Val}
 use Rattle.hq_base.specs.declared.value.Val.TheVariants as val
-use Rattle.hq_terms.specs.Database.{int_fits, value_fits, row_fits, is_text, is_boolean}
+use Rattle.hq_terms.specs.Database.{int_fits, value_fits, row_fits, is_text_of, is_boolean}
 use Rattle.hq_terms.specs.declared.table.Column.{Column}
 use Rattle.hq_terms.proofs.Numbers.{whole_number-parsed}
 use Rattle.hq_tables.specs.Field.{field_due, null_field, typed_due}
@@ -34,6 +34,7 @@ small Bigint (pos n) h = ltb-true n (2 ^ 63) h
 small Bigint (negsuc n) h = ltb-true n (2 ^ 63) h
 small Text n h = cc
 small Boolean n h = cc
+small Uuid n h = cc
 
 -- digits hold no zero byte
 digits_clean : (ds : List ℕ) → AllDigits 10 ds → has_zero ds ≡ false
@@ -96,11 +97,13 @@ read_whole Bigint n h =
     rw (← whole_number-parsed Bigint (signed_decimal n) n t.no_plus t.numeral t.value h) refl
 read_whole Text n h = cc
 read_whole Boolean n h = cc
+read_whole Uuid n h = cc
 
 -- ---- fields
 
-read_text : (ty : Ty) (s : List ℕ) → is_text ty ≡ true → typed_due ty s ≡ Ok (val.Text s)
+read_text : (ty : Ty) (s : List ℕ) → is_text_of ty s ≡ true → typed_due ty s ≡ Ok (val.Text s)
 read_text Text s h = refl
+read_text Uuid s h = rw h refl
 read_text Integer s h = cc
 read_text Bigint s h = cc
 read_text Boolean s h = cc
@@ -111,6 +114,7 @@ read_truth Boolean false h = refl
 read_truth Integer b h = cc
 read_truth Bigint b h = cc
 read_truth Text b h = cc
+read_truth Uuid b h = cc
 
 not_true : (b : Bool) → not b ≡ true → b ≡ false
 not_true true h = cc
