@@ -93,7 +93,12 @@ fn shows_one(
 {
     match expr {
         Expr::Column { alias, name, .. } => shows_in(alloc, rules, scope, all, alias, name),
-        Expr::Int(_) | Expr::Text(_) | Expr::Bool(_) | Expr::Object(_) | Expr::Agg(_) => Ok(false),
+        Expr::Int(_)
+        | Expr::Text(_)
+        | Expr::Uuid(_)
+        | Expr::Bool(_)
+        | Expr::Object(_)
+        | Expr::Agg(_) => Ok(false),
     }
 }
 

@@ -110,6 +110,10 @@ fn is_alike_expr(one: &Expr, other: &Expr, renaming: &Renaming<'_>) -> bool
             Expr::Text(other) => *one == *other,
             _ => false,
         },
+        Expr::Uuid(one) => match other {
+            Expr::Uuid(other) => *one == *other,
+            _ => false,
+        },
         Expr::Bool(one) => match other {
             Expr::Bool(other) => *one == *other,
             _ => false,

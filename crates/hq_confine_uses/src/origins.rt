@@ -138,7 +138,12 @@ pub(crate) fn origin<'s, 'd>(
 {
     match expr {
         Expr::Column { alias, name, .. } => { origin_at(rules, scope, alias, name) }
-        Expr::Int(_) | Expr::Text(_) | Expr::Bool(_) | Expr::Object(_) | Expr::Agg(_) => None,
+        Expr::Int(_)
+        | Expr::Text(_)
+        | Expr::Uuid(_)
+        | Expr::Bool(_)
+        | Expr::Object(_)
+        | Expr::Agg(_) => None,
     }
 }
 

@@ -25,7 +25,7 @@ pub fn expr_fault<'d>(
 {
     match expr {
         Expr::Column { alias, name, .. } => column_fault(rules, scope, alias, name),
-        Expr::Int(_) | Expr::Text(_) | Expr::Bool(_) => None,
+        Expr::Int(_) | Expr::Text(_) | Expr::Uuid(_) | Expr::Bool(_) => None,
         Expr::Object(pairs) => pairs_fault(pairs, rules, scope),
         Expr::Agg(agg) => agg_fault(agg, rules, scope),
     }
@@ -113,9 +113,12 @@ fn out_fault<'d>(expr: &'d Expr, rules: &Rules<'_>, scope: &Shapes<'_, 'd>) -> O
 {
     match expr {
         Expr::Column { alias, name, .. } => passed_fault(rules, scope, alias, name),
-        Expr::Int(_) | Expr::Text(_) | Expr::Bool(_) | Expr::Object(_) | Expr::Agg(_) => {
-            expr_fault(expr, rules, scope)
-        }
+        Expr::Int(_)
+        | Expr::Text(_)
+        | Expr::Uuid(_)
+        | Expr::Bool(_)
+        | Expr::Object(_)
+        | Expr::Agg(_) => { expr_fault(expr, rules, scope) }
     }
 }
 
@@ -142,7 +145,7 @@ pub fn shows_order(expr: &Expr) -> bool
     match expr {
         Expr::Object(pairs) => show_order(pairs),
         Expr::Agg(agg) => agg_shows_order(agg),
-        Expr::Column { .. } | Expr::Int(_) | Expr::Text(_) | Expr::Bool(_) => false,
+        Expr::Column { .. } | Expr::Int(_) | Expr::Text(_) | Expr::Uuid(_) | Expr::Bool(_) => false,
     }
 }
 
