@@ -29,7 +29,7 @@ pub enum About {
 
 impl About {
     /// Each subject, in the order of its line.
-    pub const ALL: [About; 20] = [
+    pub const ALL: [About; 21] = [
         About::Worked,
         About::Blog,
         About::Shop,
