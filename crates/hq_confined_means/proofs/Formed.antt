@@ -151,7 +151,7 @@ mutual
       let c = filter_of condition others tables inside j.1 two.1 in
       ((f.0, j.0, c.0), c.1)
   formed_of (tree.fold out inner alias) others tables around a h =
-      let parts = both (is_typed inner tables around) (is_folded ((alias, select_names inner tables around) ∷ around) out.value) h in
+      let parts = both (is_typed inner tables around) (is_folded ((alias, select_names inner tables around) ∷ []) out.value) h in
       let rest = formed_of inner others tables around (first_apart alias (aliases_in inner others) a).1 parts.0 in
       ((rest.0, folded_of out.value ((alias, select_names inner tables around) ∷ around) parts.1), rest.1)
 

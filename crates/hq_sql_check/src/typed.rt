@@ -62,7 +62,7 @@ pub(crate) fn select_names<'d>(
             let Some(names) = select_names(alloc, rows, tables, scope)? else {
                 return Ok(None);
             };
-            fold_names(alloc, out, alias.as_str(), names, scope)
+            fold_names(alloc, out, alias.as_str(), names)
         }
     }
 }
@@ -74,17 +74,17 @@ fn fold_names<'d>(
     out: &'d Out,
     alias: &'d str,
     names: Vec<Name<'d>>,
-    scope: &Scope<'_, 'd>,
 ) -> Result<Option<Vec<Name<'d>>>, Memory>
     ensures { IfOk result (λ found. MatchOption found
-        (is_folded ((alias.entry.now, map name_view names.entry.items) ∷ scope_view scope.now) (expr_view out.now.value) ≡ false)
-        (λ outputs. (is_folded ((alias.entry.now, map name_view names.entry.items) ∷ scope_view scope.now) (expr_view out.now.value) ≡ true)
-        × (map name_view outputs.items ≡ (out.now.name, kind ((alias.entry.now, map name_view names.entry.items) ∷ scope_view scope.now) (expr_view out.now.value)) ∷ []))) }
+        (is_folded ((alias.entry.now, map name_view names.entry.items) ∷ []) (expr_view out.now.value) ≡ false)
+        (λ outputs. (is_folded ((alias.entry.now, map name_view names.entry.items) ∷ []) (expr_view out.now.value) ≡ true)
+        × (map name_view outputs.items ≡ (out.now.name, kind ((alias.entry.now, map name_view names.entry.items) ∷ []) (expr_view out.now.value)) ∷ []))) }
 {
     let aliases = [Alias { alias, names }];
+    let nothing = Scope::Nothing;
     let scope = Scope::Level {
         aliases: &aliases,
-        outer: &*scope,
+        outer: &nothing,
     };
     if !is_folded(alloc, &scope, &out.value)? {
         return Ok(None);

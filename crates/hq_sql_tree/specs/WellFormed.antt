@@ -200,11 +200,13 @@ begin_with distinct front (k ∷ ks) = list_all (is_among front) distinct || (is
 abbrev pub out_names : Aliases → List OutTree → Names
 out_names scope outs = map (λ o. (o.name, kind scope o.value)) outs
 
--- A select sees what is in scope around it; its joins see the earlier aliases of its FROM too, and its other parts all of them.
+-- A select sees what is in scope around it; its joins see the earlier aliases of its FROM too, and its other parts all of them. The
+-- output of a fold sees its own rows alone: an aggregate over outer columns alone would be one of the outer select, in whose FROM none
+-- may stand.
 abbrev mutual
   pub select_names : SelectTree → List Table → Aliases → Names
   select_names (tree.rows distinct outs from joins condition keys limit offset) tables around = out_names (joined_scope joins tables (from_scope from tables around)) outs
-  select_names (tree.fold out inner alias) tables around = (out.name, kind ((alias, select_names inner tables around) ∷ around) out.value) ∷ []
+  select_names (tree.fold out inner alias) tables around = (out.name, kind ((alias, select_names inner tables around) ∷ []) out.value) ∷ []
 
   pub from_scope : FromTree → List Table → Aliases → Aliases
   from_scope (tree.table schema name alias) tables around = (alias, table_names tables schema name) ∷ around
@@ -249,7 +251,7 @@ abbrev mutual
   is_typed (tree.rows distinct outs from joins condition keys limit offset) tables around =
       is_typed_from from tables around && are_typed_joins joins tables (from_scope from tables around) && is_typed_filter condition tables (joined_scope joins tables (from_scope from tables around))
       && are_parts (joined_scope joins tables (from_scope from tables around)) distinct outs keys
-  is_typed (tree.fold out inner alias) tables around = is_typed inner tables around && is_folded ((alias, select_names inner tables around) ∷ around) out.value
+  is_typed (tree.fold out inner alias) tables around = is_typed inner tables around && is_folded ((alias, select_names inner tables around) ∷ []) out.value
 
   pub is_typed_from : FromTree → List Table → Aliases → Bool
   is_typed_from (tree.table schema name alias) tables around = list_any (is_table schema name) tables
