@@ -308,7 +308,7 @@ module _ (s : Schema) (g : Rights) (tables : List Table) (ok : FineTables s g ta
       let differ : all_differ bytes_eq (map (λ o. o.name) outs) ≡ true = rw (no_value ks s g look u n first 0, keys_differ ks s g look u n first 0 (let few = fine.few in omega (arith, few))) refl in
       let inner : SelectTree = list_rows s g u cs a n tie limit outs J in
       let inner_is = r.typed limit outs values differ in
-      let behind : Aliases = (fold_alias n, select_names inner tables scope) ∷ scope in
+      let behind : Aliases = (fold_alias n, select_names inner tables scope) ∷ [] in
       let shows : (name : List ℕ) → kind_at behind (fold_alias n) name ≡ kind_named (out_names final outs) name = λ name. rw (same_text (fold_alias n)) (ap (λ ns. kind_named ns name) (r.names limit outs)) in
       let value : kind_at behind (fold_alias n) value_name ≡ Some well.json = shows value_name ∙ rw (same_text value_name) refl in
       let past : (k : ℕ) → kind_named (out_names final outs) (key_name k) ≡ kind_named (out_names final (key_outputs ks s g look u n first 0)) (key_name k) = λ k. rw (value_is_no_key k) refl in

@@ -208,7 +208,7 @@ module _ (s : Schema) (g : Rights) (tables : List Table) (ok : FineTables s g ta
       let outs : List OutTree = needed_outputs look need in
       let inner : SelectTree = list_rows s g u cs a n tie a.limit outs [] in
       let inner_is = r.typed a.limit outs (needed_outputs_typed s u final look need has shown) (outputs_differ look need each.2) in
-      let behind : Aliases = (fold_alias n, select_names inner tables scope) ∷ scope in
+      let behind : Aliases = (fold_alias n, select_names inner tables scope) ∷ [] in
       let cells : (c : ℕ) → Has s u c → is_used c need ≡ true → kind_at behind (fold_alias n) (needed_name (place_of c need 0)) ≡ Some (kind_of s u c) =
       λ c has used. rw (same_text (fold_alias n)) (ap (λ ns. kind_named ns (needed_name (place_of c need 0))) (r.names a.limit outs) ∙ (outputs_kind s u final look need c used each.2 ∙ shown c has used)) in
       let pairs = summary_all s u n need behind cells fs each.0 (covers fs [] need (λ c h. h)) in
