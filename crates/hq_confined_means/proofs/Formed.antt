@@ -153,7 +153,7 @@ mutual
   formed_of (tree.fold out inner alias) others tables around a h =
       let parts = both (is_typed inner tables around) (is_folded ((alias, select_names inner tables around) ∷ []) out.value) h in
       let rest = formed_of inner others tables around (first_apart alias (aliases_in inner others) a).1 parts.0 in
-      ((rest.0, folded_of out.value ((alias, select_names inner tables around) ∷ around) parts.1), rest.1)
+      ((rest.0, folded_of out.value ((alias, select_names inner tables around) ∷ []) parts.1), rest.1)
 
   from_of : (from : FromTree) (js : JoinTrees) (others : List (List ℕ)) (tables : List Table) (around : Aliases) → Apart (aliases_in_from from (aliases_in_joins js others)) → is_typed_from from tables around ≡ true → FormedFrom from js × Apart (aliases_in_joins js others)
   from_of (tree.table schema name alias) js others tables around a h =
