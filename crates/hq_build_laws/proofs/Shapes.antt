@@ -4,6 +4,7 @@ use Rattle.std.specs.List.{filter_map, list_all, list_any, cons_option}
 use Rattle.std.specs.Option.{option_map_or}
 use Rattle.std.proofs.lemmas.Bool.{eqb-true, or_left, or_right}
 use Rattle.std.proofs.lemmas.Option.{slice_get_within, slice_get-get_or, get_or_from_slice_get}
+use Rattle.hq_base.specs.Types.{is_ordered}
 use Rattle.hq_base.specs.Lists.{Each, all_differ}
 use Rattle.hq_base.proofs.Lists.{each_all, each_weaken, each_passes}
 use Rattle.hq_base.specs.declared.aggregate.Aggregate.{Aggregate as OneAggregate}
@@ -36,7 +37,7 @@ use Rattle.hq_schema.specs.declared.schema.Kind.{Kind}
 use Rattle.hq_role_schema.specs.Shown.{aggregates_over}
 use Rattle.hq_role_schema.specs.Fields.{list_field, aggregate_field, list_args, count_args, column_type, column_field, column_fields, link_fields, aggregated_fields, part_fields}
 use Rattle.hq_role_schema.specs.FixedTypes.{fixed_values, fixed_type, fixed_types}
-use Rattle.hq_role_schema.specs.Inputs.{connectives, column_input, is_filter, link_input, inputs_of, part_inputs}
+use Rattle.hq_role_schema.specs.Inputs.{connectives, input_type, column_input, is_filter, link_input, inputs_of, part_inputs}
 use Rattle.hq_role_schema.specs.Introspection.{introspection_fields}
 use Rattle.hq_role_schema.specs.Operators.{value_type, operator_arg, is_operator_of, operator_inputs}
 use Rattle.hq_role_schema.specs.Placed.{parts_of, placed, placed_from, part_count, links_from}
@@ -209,8 +210,12 @@ module _ (tables : List Table) (m : MetaTree) (role : Role) where
       by l false = tt
 
   plain_inputs : (p : Part) (cs : List ShownColumn) (ls : List Link) → Each (λ (a : ArgTree). a.default_false ≡ false) (inputs_of p cs ls)
-  plain_inputs p cs ls = each_append (λ (a : ArgTree). a.default_false ≡ false) (map (column_input p) cs) (filter_map (link_input p) ls)
-      (each_map (λ (a : ArgTree). a.default_false ≡ false) (column_input p) (λ c. refl) cs) (plain_links p ls)
+  plain_inputs p cs ls = each_append (λ (a : ArgTree). a.default_false ≡ false) (filter_map (column_input p) cs) (filter_map (link_input p) ls)
+      (each_filter_map (λ (a : ArgTree). a.default_false ≡ false) (λ (c : ShownColumn). Unit {0}) (column_input p) (λ c u. by c (is_filter p || is_ordered c.ty)) cs (each_all (λ (c : ShownColumn). Unit {0}) (λ c. tt) cs)) (plain_links p ls)
+    where
+      by : (c : ShownColumn) (b : Bool) → IfSome (cond b (Some (arg c.name (fixed (input_type p c.ty)) (stands.Column c.col))) None) (λ (a : ArgTree). a.default_false ≡ false)
+      by c true = refl
+      by c false = tt
 
   -- a column of the type that the catalog has
   typed_column : (t : ℕ) (c : ShownColumn) → column_ty s t c.col ≡ Some c.ty → c.ty ≡ (column s t c.col).ty
@@ -222,13 +227,17 @@ module _ (tables : List Table) (m : MetaTree) (role : Role) where
       → Each (InputIs (type.Filter t)) (connectives first ++ inputs_of Filter cs ls)
   filter_shaped t first cs ls typed =
       each_append (InputIs (type.Filter t)) (connectives first) (inputs_of Filter cs ls) ((non_null (part first Filter), refl, refl), (refl, ((non_null (part first Filter), refl, refl), tt)))
-      (each_append (InputIs (type.Filter t)) (map (column_input Filter) cs) (filter_map (link_input Filter) ls)
-      (each_mapped (InputIs (type.Filter t)) (λ (c : ShownColumn). column_ty s t c.col ≡ Some c.ty) (column_input Filter) (λ c h. ap (λ q. fixed (Comparison q)) (typed_column t c h)) cs typed)
+      (each_append (InputIs (type.Filter t)) (filter_map (column_input Filter) cs) (filter_map (link_input Filter) ls)
+      (each_filter_map (InputIs (type.Filter t)) (λ (c : ShownColumn). column_ty s t c.col ≡ Some c.ty) (column_input Filter) (λ c h. ap (λ q. fixed (Comparison q)) (typed_column t c h)) cs typed)
       (links_shaped (type.Filter t) Filter (λ l. refl) ls))
 
   sort_shaped : (t : ℕ) (cs : List ShownColumn) (ls : List Link) → Each (InputIs (type.Sort t)) (inputs_of Sort cs ls)
-  sort_shaped t cs ls = each_append (InputIs (type.Sort t)) (map (column_input Sort) cs) (filter_map (link_input Sort) ls)
-      (each_map (InputIs (type.Sort t)) (column_input Sort) (λ c. refl) cs) (links_shaped (type.Sort t) Sort (λ l. refl) ls)
+  sort_shaped t cs ls = each_append (InputIs (type.Sort t)) (filter_map (column_input Sort) cs) (filter_map (link_input Sort) ls)
+      (each_filter_map (InputIs (type.Sort t)) (λ (c : ShownColumn). Unit {0}) (column_input Sort) (λ c u. by c (is_ordered c.ty)) cs (each_all (λ (c : ShownColumn). Unit {0}) (λ c. tt) cs)) (links_shaped (type.Sort t) Sort (λ l. refl) ls)
+    where
+      by : (c : ShownColumn) (b : Bool) → IfSome (cond (false || b) (Some (arg c.name (fixed OrderBy) (stands.Column c.col))) None) (InputIs (type.Sort t))
+      by c true = refl
+      by c false = tt
 
   part_shaped : (p : PlacedTable) (ls : List Link) → IsShown tables m role p.shown → (q : Part) → Shaped (part_type p ls q)
   unfolding part_type part_inputs
@@ -442,7 +451,7 @@ module _ (tables : List Table) (m : MetaTree) (role : Role) where
     types_shaped differ =
         let ps : List PlacedTable = placed (shown_tables tables m role) in
         each_append Shaped (fixed_types ps) (flat_map (table_types ps) ps)
-        (each_map Shaped (fixed_type ps) (fixed_shaped ps (placed_keys 20 (shown_tables tables m role) (keys_shown differ))) all_fixed)
+        (each_map Shaped (fixed_type ps) (fixed_shaped ps (placed_keys 21 (shown_tables tables m role) (keys_shown differ))) all_fixed)
         (each_flat_map Shaped (λ (p : PlacedTable). IsShown tables m role p.shown) (table_types ps)
         (λ p shown. each_map Shaped (part_type p (links_from ps 0 p.shown.rels)) (part_shaped p (links_from ps 0 p.shown.rels) shown) (parts_of p.shown)) ps
-        (placed_shown tables m role 20 (shown_tables tables m role) (tables_shown tables m role differ)))
+        (placed_shown tables m role 21 (shown_tables tables m role) (tables_shown tables m role differ)))

@@ -5,7 +5,7 @@ ghost use Rattle.hq_base.specs.Look.{str_in};
 ghost use Rattle.hq_base.specs.Types.{type_named};
 ghost use Rattle.hq_catalog_read.specs.Each.{each};
 ghost use Rattle.hq_catalog_read.specs.Node.{value_of};
-ghost use Rattle.hq_catalog_read.specs.Shape.{type_member, nullable_member, column_at, columns_member, foreign_key_at, foreign_keys_member, table_at, written_tables};
+ghost use Rattle.hq_catalog_read.specs.Shape.{type_member, of_member, nullable_member, column_at, columns_member, foreign_key_at, foreign_keys_member, table_at, written_tables};
 
 use crate::CatalogRefusal;
 use crate::field::Field;
@@ -38,6 +38,16 @@ fn type_member(alloc: Global, path: &Txt, object: &Json) -> Result<Ty, CatalogRe
     }
 }
 
+// The type of PostgreSQL that an opaque column is of, which must be there; empty for a column of another type.
+fn of_member(alloc: Global, path: &Txt, object: &Json, ty: Ty) -> Result<Txt, CatalogRefusal>
+    ensures { Gives (λ of. of) CatalogRefusal.Memory (of_member path.now (json_view object.now) ty) result }
+{
+    match ty {
+        Ty::Opaque => text_member(alloc, path, object, Field::Of),
+        Ty::Integer | Ty::Bigint | Ty::Text | Ty::Boolean | Ty::Uuid => Ok(Txt::new(alloc)),
+    }
+}
+
 // Whether a column may hold NULL: it may where the file does not say.
 #[tactic(auto, unfolding(crate::specs::Shape::nullable_member))]
 fn nullable_member(alloc: Global, path: &Txt, object: &Json) -> Result<bool, CatalogRefusal>
@@ -60,8 +70,14 @@ fn column_at(alloc: Global, path: &Txt, json: &Json) -> Result<Column, CatalogRe
     let object = object_at(alloc, path, json)?;
     let name = text_member(alloc, path, object, Field::Name)?;
     let ty = type_member(alloc, path, object)?;
+    let of = of_member(alloc, path, object, ty)?;
     let nullable = nullable_member(alloc, path, object)?;
-    Ok(Column { name, ty, nullable })
+    Ok(Column {
+        name,
+        ty,
+        of,
+        nullable,
+    })
 }
 
 // The columns of the list at a path.

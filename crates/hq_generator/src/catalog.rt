@@ -20,6 +20,7 @@ fn columns(alloc: Global, rows: &[(&str, Ty, bool)]) -> Result<ColumnList, Memor
         columns.push(Column {
             name: text(alloc, name)?,
             ty: *ty,
+            of: Txt::new(alloc),
             nullable: *nullable,
         })?;
     }

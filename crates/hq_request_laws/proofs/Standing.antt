@@ -28,8 +28,9 @@ use Rattle.hq_schema.specs.declared.origin.TypeOrigin.{TypeOrigin}
 use Rattle.hq_schema.specs.declared.origin.TypeOrigin.TheVariants as type
 use Rattle.hq_schema.specs.declared.part.Part.{Part}
 use Rattle.hq_schema.specs.declared.part.Part.TheVariants.{Rows, Filter, Sort, Columns, Aggregate, AggregateFields, Aggregated}
+use Rattle.hq_role_schema.specs.Introspection.{introspection_fields}
 use Rattle.hq_role_schema.specs.Fields.{column_field, column_fields, part_fields}
-use Rattle.hq_role_schema.specs.FixedTypes.{fixed_type, fixed_types, fixed_fields}
+use Rattle.hq_role_schema.specs.FixedTypes.{fixed_values, fixed_type, fixed_types, fixed_fields}
 use Rattle.hq_role_schema.specs.Placed.{parts_of, part_count, placed, placed_from, links_from}
 use Rattle.hq_role_schema.specs.References.{fixed, plain_field}
 use Rattle.hq_role_schema.specs.RoleSchema.{part_type, table_types, role_schema}
@@ -203,7 +204,12 @@ module _ (tables : List Table) (m : MetaTree) (role : Role) where
       (each_map Stands (fixed_type ps) (fixed_stands ps) all_fixed)
       (each_flat_map Stands (λ (p : PlacedTable). IsShown p.shown) (table_types ps)
       (λ p shown. each_map Stands (part_type p (links_from ps 0 p.shown.rels)) (part_stands p (links_from ps 0 p.shown.rels) shown) (parts_of p.shown)) ps
-      (placed_shown 20 (shown_tables tables m role) (tables_shown differ)))
+      (placed_shown 21 (shown_tables tables m role) (tables_shown differ)))
+
+  -- the scalar of an opaque column is that of texts
+  opaque_scalar : (ps : List PlacedTable) → fixed_type ps (Scalar ty.Opaque) ≡ fixed_type ps (Scalar ty.Text)
+  unfolding fixed_type fixed_values introspection_fields
+  opaque_scalar ps = refl
 
   -- the types that each schema has stand at their places
   pub introspection_at : (f : Fixed) → slice_get (role_schema tables m role).types (fixed_place f) ≡ Some (fixed_type (placed (shown_tables tables m role)) f)
@@ -213,12 +219,14 @@ module _ (tables : List Table) (m : MetaTree) (role : Role) where
   introspection_at (Scalar ty.Text) = refl
   introspection_at (Scalar ty.Bigint) = refl
   introspection_at (Scalar ty.Uuid) = refl
+  introspection_at (Scalar ty.Opaque) = ap (λ (d : TypeTree). Some d) (sym (opaque_scalar (placed (shown_tables tables m role))))
   introspection_at OrderBy = refl
   introspection_at (Comparison ty.Boolean) = refl
   introspection_at (Comparison ty.Integer) = refl
   introspection_at (Comparison ty.Text) = refl
   introspection_at (Comparison ty.Bigint) = refl
   introspection_at (Comparison ty.Uuid) = refl
+  introspection_at (Comparison ty.Opaque) = refl
   introspection_at SchemaType = refl
   introspection_at TypeType = refl
   introspection_at Field = refl

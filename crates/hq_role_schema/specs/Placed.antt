@@ -26,7 +26,7 @@ placed_from first (t ∷ ts) = record { shown = t; first = first } ∷ placed_fr
 
 -- they stand behind the types that each schema has
 abbrev pub placed : List ShownTable → List PlacedTable
-placed ts = placed_from 20 ts
+placed ts = placed_from 21 ts
 
 -- a relationship, by its place, to a table, where the role may see that
 abbrev pub link_to : (rel : ℕ) → Rel → Option PlacedTable → Option Link

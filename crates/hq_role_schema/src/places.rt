@@ -7,7 +7,7 @@ use hq_base::{List, Memory};
 use std::alloc::Global;
 
 // How many types each schema has.
-const FIXED: u32 = 20;
+const FIXED: u32 = 21;
 
 /// The tables with the places of their types.
 pub fn placed(alloc: Global, tables: ShownTableList) -> Result<PlacedTableList, Memory>

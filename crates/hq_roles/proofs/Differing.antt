@@ -16,7 +16,7 @@ use Rattle.hq_schema.specs.declared.fixed.Fixed.TheVariants.{Scalar, OrderBy, Co
 use Rattle.hq_schema.specs.declared.origin.FieldOrigin.TheVariants as field
 use Rattle.hq_schema.specs.declared.part.Part.{Part}
 use Rattle.hq_schema.specs.declared.part.Part.TheVariants.{Rows, Filter, Sort, Columns, Aggregate, AggregateFields, Aggregated}
-use Rattle.hq_terms.specs.Catalog.{is_catalog, is_table, is_catalog_name, full_name, holds_no_null, is_foreign_key}
+use Rattle.hq_terms.specs.Catalog.{is_catalog, is_table, is_catalog_name, full_name, is_key_column, is_foreign_key}
 use Rattle.hq_terms.specs.Fits.{fits, fits_tracked}
 use Rattle.hq_terms.specs.Meta.{TrackedTree, MetaTree, tracked_table}
 use Rattle.hq_terms.specs.Operators.{all_operators, operator_name}
@@ -27,7 +27,7 @@ use Rattle.hq_terms.specs.declared.role.Role.{Role}
 use Rattle.hq_terms.specs.declared.table.Table.{Table}
 use Rattle.hq_role_schema.specs.Fields.{column_type, column_fields, list_args, list_field, aggregate_field, link_fields, count_args, aggregated_fields, over_rows, part_fields}
 use Rattle.hq_role_schema.specs.FixedTypes.{fixed_values, fixed_type, fixed_types}
-use Rattle.hq_role_schema.specs.Inputs.{connectives, column_input, link_input, inputs_of, part_inputs}
+use Rattle.hq_role_schema.specs.Inputs.{connectives, column_input, link_input, inputs_of, part_inputs, has_order, ordered_columns}
 use Rattle.hq_role_schema.specs.Introspection.{introspection_fields}
 use Rattle.hq_role_schema.specs.Operators.{operator_arg, is_operator_of, operator_inputs}
 use Rattle.hq_role_schema.specs.Placed.{parts_of, part_count, placed_from, placed, links_from}
@@ -45,7 +45,7 @@ use Rattle.hq_roles.proofs.KeyNames.{images_differ}
 use Rattle.hq_roles.proofs.Lists.{each_append, each_map, each_flat_map, each_filter_map}
 use Rattle.hq_roles.proofs.Permits.{each_of, all_tracked_first}
 use Rattle.hq_roles.proofs.Subs.{Sub, sub_keep, sub_same, sub_skip, sub_append, sub_front, sub_trans, sub_map, sub_filter, sub_given, any_sub, differ_sub}
-use Rattle.hq_roles.proofs.TableNames.{types_sub, key_names, root_names, roots_sub, columns_named, columns_sub, fields_sub, link_fields_sub, link_inputs_sub}
+use Rattle.hq_roles.proofs.TableNames.{types_sub, key_names, root_names, roots_sub, columns_named, columns_sub, fields_sub, inputs_sub, link_fields_sub, link_inputs_sub}
 
 abbrev differ : List (List ℕ) → Bool
 differ = all_differ bytes_eq
@@ -138,12 +138,12 @@ module _ (m : MetaTree) (ps : List PlacedTable) (seen : Each (λ (p : PlacedTabl
 
   inputs_some : (q : Part) → Sub (map input_name (inputs_of q columns_of links_of)) (admin.column_names_of k ++ rel_names)
   inputs_some q =
-      let joined : map input_name (inputs_of q columns_of links_of) ≡ map column_name columns_of ++ map input_name (filter_map (link_input q) links_of) =
-      map-append input_name (map (column_input q) columns_of) (filter_map (link_input q) links_of)
-      ∙ ap (λ xs. xs ++ map input_name (filter_map (link_input q) links_of)) (map_map input_name (column_input q) columns_of)
-      in
+      let own : List (List ℕ) = map input_name (filter_map (column_input q) columns_of) in
+      let joined : map input_name (inputs_of q columns_of links_of) ≡ own ++ map input_name (filter_map (link_input q) links_of) =
+      map-append input_name (filter_map (column_input q) columns_of) (filter_map (link_input q) links_of) in
+      let own_some : Sub own (admin.column_names_of k) = sub_trans own (map column_name columns_of) (admin.column_names_of k) (inputs_sub q columns_of) columns_some in
       let P : List (List ℕ) → Type 0 = λ xs. Sub xs (admin.column_names_of k ++ rel_names) in
-      subst P (sym joined) (sub_append (map column_name columns_of) (admin.column_names_of k) (map input_name (filter_map (link_input q) links_of)) rel_names columns_some (link_inputs_sub m ps seen q k.rels))
+      subst P (sym joined) (sub_append own (admin.column_names_of k) (map input_name (filter_map (link_input q) links_of)) rel_names own_some (link_inputs_sub m ps seen q k.rels))
 
   filters_differ : (first : ℕ) → differ (map input_name (connectives first ++ inputs_of Filter columns_of links_of)) ≡ true
   filters_differ first =
@@ -227,12 +227,17 @@ module _ (ps : List PlacedTable) (p : PlacedTable) (d : TableDiffers ps p.shown)
   unfolding count_args
   over_args = (refl, aggregated_args (p.first + 6) (aggregates_over p.shown.columns))
 
+  values_differ : differ (map column_name (ordered_columns p.shown.columns)) ≡ true
+  values_differ =
+      differ_some (map column_name (ordered_columns p.shown.columns)) (map column_name p.shown.columns)
+      (sub_map column_name (ordered_columns p.shown.columns) p.shown.columns (sub_filter has_order p.shown.columns)) d.columns
+
   part_differs : (q : Part) → TypeDiffers (part_type p these q)
   unfolding part_type part_fields part_inputs
   part_differs Rows = record { fields = d.row; args = each_append ArgsDiffer (column_fields Rows p.shown.columns) (flat_map link_fields these) (column_args Rows p.shown.columns) (links_args these); inputs = refl; values = refl }
   part_differs Filter = record { fields = columns_field_names Filter; args = column_args Filter p.shown.columns; inputs = d.filters p.first; values = refl }
   part_differs Sort = record { fields = columns_field_names Sort; args = column_args Sort p.shown.columns; inputs = d.sorts; values = refl }
-  part_differs Columns = record { fields = columns_field_names Columns; args = column_args Columns p.shown.columns; inputs = refl; values = d.columns }
+  part_differs Columns = record { fields = columns_field_names Columns; args = column_args Columns p.shown.columns; inputs = refl; values = values_differ }
   part_differs Aggregate = record { fields = refl; args = (refl, (refl, tt)); inputs = refl; values = refl }
   part_differs AggregateFields = record { fields = over_names; args = over_args; inputs = refl; values = refl }
   part_differs (Aggregated g) = record { fields = columns_field_names (Aggregated g); args = column_args (Aggregated g) p.shown.columns; inputs = refl; values = refl }
@@ -259,9 +264,9 @@ module _ (ts : List ShownTable) (each_differs : Each (λ (p : PlacedTable). Tabl
   query_names : differ (map field_name (query_fields (placed ts))) ≡ true
   query_names = by ts roots
     where
-      by : (us : List ShownTable) → differ (flat_map root_names us) ≡ true → differ (map field_name (query_fields (placed_from 20 us))) ≡ true
+      by : (us : List ShownTable) → differ (flat_map root_names us) ≡ true → differ (map field_name (query_fields (placed_from 21 us))) ≡ true
       by [] h = refl
-      by (u ∷ us) h = ap differ (roots_named 20 (u ∷ us)) ∙ h
+      by (u ∷ us) h = ap differ (roots_named 21 (u ∷ us)) ∙ h
 
   query_args : Each ArgsDiffer (query_fields (placed ts))
   query_args = by (placed ts) each_differs
@@ -318,7 +323,7 @@ key_of_table tables t h =
     && list_all (λ c. is_catalog_name c.name) t.columns && all_differ (λ c d. bytes_eq c.name d.name) t.columns && nat_lt 0 (length t.key)
     in
     let key : Bool = all_differ (λ (c d : ℕ). c == d) t.key in
-    let held : Bool = list_all (λ c. holds_no_null (slice_get t.columns c)) t.key in
+    let held : Bool = list_all (λ c. is_key_column (slice_get t.columns c)) t.key in
     let foreign : Bool = list_all (is_foreign_key tables t) t.foreign in
     (and_parts front key (and_parts (front && key) held (and_parts (front && key && held) foreign h).0).0).1
 
@@ -374,7 +379,7 @@ module _ (tables : List Table) (m : MetaTree) (role : Role) (catalog : is_catalo
       (each_both First (λ (k : TrackedTree). OwnDiffer k ≡ true) m.tracked firsts (each_of OwnDiffer m.tracked (and_parts (types_once && roots_once) (list_all OwnDiffer m.tracked) names).1))
     where
       seen : Each (λ (p : PlacedTable). admin.is_in_schema m p.shown.table ≡ true) (placed shown)
-      seen = placed_each (λ (t : ShownTable). admin.is_in_schema m t.table ≡ true) 20 shown seen_tables
+      seen = placed_each (λ (t : ShownTable). admin.is_in_schema m t.table ≡ true) 21 shown seen_tables
 
       valid : (i : ℕ) (t : Table) → slice_get tables i ≡ Some t → is_table tables t ≡ true
       valid i t e = each_get (λ (t : Table). is_table tables t ≡ true) tables i t (each_of (is_table tables) tables (and_parts (nat_le (length tables) 500 && all_differ (λ t u. bytes_eq (full_name t) (full_name u)) tables) (list_all (is_table tables) tables) catalog).1) e
@@ -412,7 +417,7 @@ module _ (tables : List Table) (m : MetaTree) (role : Role) (catalog : is_catalo
       let are : map type_name (all_types (placed shown)) ≡ admin.fixed_types ++ flat_map type_names shown =
       map-append type_name (fixed_types (placed shown)) (flat_map (table_types (placed shown)) (placed shown))
       ∙ (ap (λ xs. xs ++ map type_name (flat_map (table_types (placed shown)) (placed shown))) (fixed_named (placed shown))
-      ∙ ap (λ xs. admin.fixed_types ++ xs) (tables_named (placed shown) 20 shown))
+      ∙ ap (λ xs. admin.fixed_types ++ xs) (tables_named (placed shown) 21 shown))
       in
       let some : Sub (admin.fixed_types ++ flat_map type_names shown) (admin.fixed_types ++ flat_map (admin.types_of (schema_of tables m)) m.tracked) =
       sub_append admin.fixed_types admin.fixed_types (flat_map type_names shown) (flat_map (admin.types_of (schema_of tables m)) m.tracked) (sub_same admin.fixed_types) types_some
@@ -420,7 +425,7 @@ module _ (tables : List Table) (m : MetaTree) (role : Role) (catalog : is_catalo
       record {
         types = ap differ are ∙ differ_some (admin.fixed_types ++ flat_map type_names shown) (admin.fixed_types ++ flat_map (admin.types_of (schema_of tables m)) m.tracked) some both.0;
         members =
-            types_differ shown (placed_each (TableDiffers (placed shown)) 20 shown tables_differ)
+            types_differ shown (placed_each (TableDiffers (placed shown)) 21 shown tables_differ)
             (differ_some (flat_map root_names shown) (flat_map (admin.roots_of (schema_of tables m)) m.tracked) roots_some both.1);
       }
 

@@ -3,6 +3,7 @@ use Rattle.std.proofs.Common.{◌≡◌, ◌∙◌, refl, sym, ap, ℕ, List, []
 use Rattle.std.specs.Prelude.{flat_map, option_map, slice_get, nat_lt, codes, IfSome}
 use Rattle.std.specs.List.{filter_map}
 use Rattle.std.specs.Option.{option_map_or}
+use Rattle.hq_base.specs.Types.{is_ordered}
 use Rattle.hq_base.specs.Lists.{Each}
 use Rattle.hq_base.specs.Aggregates.{given_type}
 use Rattle.hq_schema.specs.Fixed.{fixed_place, fixed_kind, fixed_origin, int}
@@ -206,28 +207,32 @@ module _ (types : List TypeTree) (a : Access) (fixed_ones : (f : Fixed) → Stan
 
   -- ---- inputs
 
-  filter_column_fits : (t : ℕ) (c : ShownColumn) → a.column t c.col ≡ true → ArgFits types (input_target a (type.Filter t)) (column_input Filter c)
+  filter_column_fits : (t : ℕ) (c : ShownColumn) → a.column t c.col ≡ true → IfSome (column_input Filter c) (ArgFits types (input_target a (type.Filter t)))
   filter_column_fits t c allowed = record {
     reaches = where_is types (fixed (fixed_type.Comparison c.ty)) (a.column t c.col) plain allowed tt;
     input = fixed_input (fixed (fixed_type.Comparison c.ty)) (fixed_type.Comparison c.ty) refl refl;
   }
 
-  sort_column_fits : (t : ℕ) (c : ShownColumn) → a.column t c.col ≡ true → ArgFits types (input_target a (type.Sort t)) (column_input Sort c)
-  sort_column_fits t c allowed = record {
-    reaches = where_is types (fixed fixed_type.OrderBy) (a.column t c.col) (to type.Directions) allowed (reaches_it types (fixed fixed_type.OrderBy) type.Directions kind.Enum (fixed_ones fixed_type.OrderBy));
-    input = fixed_input (fixed fixed_type.OrderBy) fixed_type.OrderBy refl refl;
-  }
+  sort_column_fits : (t : ℕ) (c : ShownColumn) → a.column t c.col ≡ true → IfSome (column_input Sort c) (ArgFits types (input_target a (type.Sort t)))
+  sort_column_fits t c allowed = by (is_ordered c.ty)
+    where
+      by : (b : Bool) → IfSome (cond (false || b) (Some (arg c.name (fixed fixed_type.OrderBy) (arg_origin.Column c.col))) None) (ArgFits types (input_target a (type.Sort t)))
+      by true = record {
+        reaches = where_is types (fixed fixed_type.OrderBy) (a.column t c.col) (to type.Directions) allowed (reaches_it types (fixed fixed_type.OrderBy) type.Directions kind.Enum (fixed_ones fixed_type.OrderBy));
+        input = fixed_input (fixed fixed_type.OrderBy) fixed_type.OrderBy refl refl;
+      }
+      by false = tt
 
   pub filters_fit : (t : ℕ) (cs : List ShownColumn) (ls : List Link) → Permitted a t cs → Each (LinkFits types a t) ls → Each (ArgFits types (input_target a (type.Filter t))) (inputs_of Filter cs ls)
   filters_fit t cs ls allowed h =
-      each_append (ArgFits types (input_target a (type.Filter t))) (map (column_input Filter) cs) (filter_map (link_input Filter) ls)
-      (each_map (ArgFits types (input_target a (type.Filter t))) (λ (c : ShownColumn). a.column t c.col ≡ true) (column_input Filter) (filter_column_fits t) cs allowed)
+      each_append (ArgFits types (input_target a (type.Filter t))) (filter_map (column_input Filter) cs) (filter_map (link_input Filter) ls)
+      (each_filter_map (ArgFits types (input_target a (type.Filter t))) (λ (c : ShownColumn). a.column t c.col ≡ true) (column_input Filter) (filter_column_fits t) cs allowed)
       (each_filter_map (ArgFits types (input_target a (type.Filter t))) (LinkFits types a t) (link_input Filter) (filter_input_fits t) ls h)
 
   pub sorts_fit : (t : ℕ) (cs : List ShownColumn) (ls : List Link) → Permitted a t cs → Each (LinkFits types a t) ls → Each (ArgFits types (input_target a (type.Sort t))) (inputs_of Sort cs ls)
   sorts_fit t cs ls allowed h =
-      each_append (ArgFits types (input_target a (type.Sort t))) (map (column_input Sort) cs) (filter_map (link_input Sort) ls)
-      (each_map (ArgFits types (input_target a (type.Sort t))) (λ (c : ShownColumn). a.column t c.col ≡ true) (column_input Sort) (sort_column_fits t) cs allowed)
+      each_append (ArgFits types (input_target a (type.Sort t))) (filter_map (column_input Sort) cs) (filter_map (link_input Sort) ls)
+      (each_filter_map (ArgFits types (input_target a (type.Sort t))) (λ (c : ShownColumn). a.column t c.col ≡ true) (column_input Sort) (sort_column_fits t) cs allowed)
       (each_filter_map (ArgFits types (input_target a (type.Sort t))) (LinkFits types a t) (link_input Sort) (sort_input_fits t) ls h)
 
   pub connectives_fit : (t first : ℕ) → PartStands types first t Filter → Each (ArgFits types (input_target a (type.Filter t))) (connectives first)

@@ -21,7 +21,7 @@ use Rattle.hq_schema.specs.declared.part.Part.TheVariants.{Rows, Filter, Sort, C
 use Rattle.hq_schema.specs.declared.schema.Kind.TheVariants as kind
 use Rattle.hq_role_schema.specs.Fields.{column_field, column_fields, link_fields, count_args, aggregated_fields, part_fields}
 use Rattle.hq_role_schema.specs.FixedTypes.{fixed_type, fixed_types}
-use Rattle.hq_role_schema.specs.Inputs.{connectives, inputs_of, part_inputs}
+use Rattle.hq_role_schema.specs.Inputs.{connectives, inputs_of, part_inputs, has_order, ordered_columns}
 use Rattle.hq_role_schema.specs.Placed.{placed, links_from}
 use Rattle.hq_role_schema.specs.References.{fixed, part, items, all_items, plain_field}
 use Rattle.hq_role_schema.specs.RoleSchema.{part_type, types_with, table_types, all_types, role_schema}
@@ -35,7 +35,7 @@ use Rattle.hq_roles.specs.Leads.{count_target, input_target, is_output, is_input
 use Rattle.hq_roles.proofs.Fields.{reaches_it, is_of, fixed_output, fixed_input, columns_fit, links_fields_fit, filters_fit, sorts_fit, connectives_fit}
 use Rattle.hq_roles.proofs.FixedFit.{fixed_fits}
 use Rattle.hq_roles.proofs.Links.{Sound, each_sound, LinkFits, links_fit}
-use Rattle.hq_roles.proofs.Lists.{each_append, each_map, each_flat_map, each_filter_map}
+use Rattle.hq_roles.proofs.Lists.{each_append, each_map, each_flat_map, each_filter, each_filter_map}
 use Rattle.hq_roles.proofs.Permits.{Permits, tables_permit, placed_permit}
 use Rattle.hq_roles.proofs.Standing.{StandsAt, PartStands, has_four, has_fields_part, has_aggregated, stand_from, fixed_stands}
 
@@ -81,8 +81,9 @@ module _ (types : List TypeTree) (a : Access) (fixed_ones : (f : Fixed) → Stan
     fields = no_columns (type.Columns p.shown.table) Columns (λ c. refl);
     inputs = tt;
     columns = (
-      each_map (λ (c : ℕ). a.column p.shown.table c ≡ true) (λ (c : ShownColumn). a.column p.shown.table c.col ≡ true) (λ (c : ShownColumn). c.col) (λ c h. h) p.shown.columns s.permits.columns,
-      length-map p.shown.columns (λ (c : ShownColumn). c.col) ∙ sym (length-map p.shown.columns (λ (c : ShownColumn). c.name)),
+      each_map (λ (c : ℕ). a.column p.shown.table c ≡ true) (λ (c : ShownColumn). a.column p.shown.table c.col ≡ true) (λ (c : ShownColumn). c.col) (λ c h. h) (ordered_columns p.shown.columns)
+          (each_filter (λ (c : ShownColumn). a.column p.shown.table c.col ≡ true) has_order p.shown.columns s.permits.columns),
+      length-map (ordered_columns p.shown.columns) (λ (c : ShownColumn). c.col) ∙ sym (length-map (ordered_columns p.shown.columns) (λ (c : ShownColumn). c.name)),
     );
   }
 
@@ -193,7 +194,7 @@ over_fits : (a : Access) (ts : List ShownTable) → Each (Permits a) ts → Each
 over_fits a ts permits =
     let ps = placed ts in
     let types = all_types ps in
-    let sound : Each (Sound types a) ps = each_sound types a ps (stand_from ps (fixed_types ps) 20 ts refl) (placed_permit a 20 ts permits) in
+    let sound : Each (Sound types a) ps = each_sound types a ps (stand_from ps (fixed_types ps) 21 ts refl) (placed_permit a 21 ts permits) in
     let fixed_ones = fixed_stands ps (flat_map (table_types ps) ps) in
     each_append (TypeFits types a) (fixed_types ps) (flat_map (table_types ps) ps)
     (each_map (TypeFits types a) (λ (f : Fixed). Unit {0}) (fixed_type ps) (λ f g. fixed_fits types a fixed_ones ps sound f) all_fixed (each_all (λ (f : Fixed). Unit {0}) (λ f. tt) all_fixed))

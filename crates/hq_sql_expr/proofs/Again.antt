@@ -4,15 +4,17 @@ use Rattle.std.specs.Prelude.{codes}
 use Rattle.std.proofs.lemmas.List.{append-nil}
 use Rattle.std.specs.List.{AllByRecursion}
 use Rattle.std.specs.Fmt.{signed_decimal}
+use Rattle.hq_sql_tree.specs.declared.expr.ColumnForm.{ColumnForm}
+use Rattle.hq_sql_tree.specs.declared.expr.ColumnForm.TheVariants as form
 use Rattle.hq_sql_tree.specs.declared.word.Word.TheVariants as word
 use Rattle.hq_sql_tree.specs.Word.{word_text}
 use Rattle.hq_sql_tree.specs.Form.{is_text, is_bigint}
 use Rattle.hq_sql_tree.specs.Tree as tree
 use Rattle.hq_sql_tree.specs.Tree.{ExprTree, PairTree, PairTrees, AggTree, OrderTree, OrderTrees, OutTree, pairs_of, pair_list, orders_of, order_list}
-use Rattle.hq_sql_tree.specs.Spelling.{quoted, name_text, literal_text, uuid_text, int_text, separated, each_after, collate_text, bool_text, direction_word, expr_text, pair_text, pair_texts, order_text, order_texts, out_text}
+use Rattle.hq_sql_tree.specs.Spelling.{quoted, name_text, literal_text, uuid_text, int_text, separated, each_after, form_text, bool_text, direction_word, expr_text, pair_text, pair_texts, order_text, order_texts, out_text}
 use Rattle.hq_sql_expr.specs.declared.head.Head.{Head}
 use Rattle.hq_sql_expr.specs.declared.head.Head.TheVariants as head
-use Rattle.hq_sql_expr.specs.Reading.{◌>>=◌, Reader, nothing, after, strip, all_many, literal_at, collate_at, column_at, head_word, head_at, expr_with, pair_with, pairs_with, argument_with, direction_at, order_with, ordered_with, inside_with, expr_at, ordered_at, out_with}
+use Rattle.hq_sql_expr.specs.Reading.{◌>>=◌, Reader, nothing, after, strip, all_many, literal_at, form_at, column_at, head_word, head_at, expr_with, pair_with, pairs_with, argument_with, direction_at, order_with, ordered_with, inside_with, expr_at, ordered_at, out_with}
 use Rattle.hq_sql_expr.proofs.Sound.{after_again}
 use Rattle.hq_sql_expr.proofs.Listed.{all_many_again}
 use Rattle.hq_sql_expr.proofs.Fits.{FitsExpr, FitsPairs, FitsAgg, FitsOrders, AtLeastOne}
@@ -21,32 +23,32 @@ use Rattle.hq_sql_expr.proofs.Ints.{int_again, int_is_text}
 use Rattle.hq_sql_expr.proofs.Exprs.{GoodPair, GoodOrder, GoodOut}
 use Rattle.hq_sql_expr.proofs.Aggregates.{agg_apart, head_taken, with_taken}
 
--- what may follow an expression: no quote, which would go on with a name, and no COLLATE
+-- what may follow an expression: no quote, which would go on with a name, and nothing that tells how a column is written
 abbrev pub Ends : List ℕ → Type 0
-Ends rest = Free 34 rest × (after word.Collate rest ≡ None)
+Ends rest = Free 34 rest × (after word.Collate rest ≡ None) × (after word.AsText rest ≡ None) × (after word.AsTextCollate rest ≡ None)
 
 pub comma_ends : (rest : List ℕ) → Ends (word_text word.Comma ++ rest)
 unfolding word_text after
-comma_ends rest = (refl, refl)
+comma_ends rest = (refl, refl, refl, refl)
 
 pub close_ends : (rest : List ℕ) → Ends (word_text word.Close ++ rest)
 unfolding word_text after
-close_ends rest = (refl, refl)
+close_ends rest = (refl, refl, refl, refl)
 
 pub as_ends : (rest : List ℕ) → Ends (word_text word.As ++ rest)
 unfolding word_text after
-as_ends rest = (refl, refl)
+as_ends rest = (refl, refl, refl, refl)
 
 order_by_ends : (rest : List ℕ) → Ends (word_text word.OrderBy ++ rest)
 unfolding word_text after
-order_by_ends rest = (refl, refl)
+order_by_ends rest = (refl, refl, refl, refl)
 
 direction_ends : (desc nulls_first : Bool) (rest : List ℕ) → Ends (word_text (direction_word desc nulls_first) ++ rest)
 unfolding word_text after
-direction_ends false true rest = (refl, refl)
-direction_ends false false rest = (refl, refl)
-direction_ends true true rest = (refl, refl)
-direction_ends true false rest = (refl, refl)
+direction_ends false true rest = (refl, refl, refl, refl)
+direction_ends false false rest = (refl, refl, refl, refl)
+direction_ends true true rest = (refl, refl, refl, refl)
+direction_ends true false rest = (refl, refl, refl, refl)
 
 dot_free : (rest : List ℕ) → Free 34 (word_text word.Dot ++ rest)
 unfolding word_text
@@ -66,25 +68,42 @@ or_empty_no_comma rest = refl
 
 or_empty_ends : (rest : List ℕ) → Ends (word_text word.OrEmptyArray ++ rest)
 unfolding word_text after
-or_empty_ends rest = (refl, refl)
+or_empty_ends rest = (refl, refl, refl, refl)
 
 -- ---- columns and literals
 
-collate_again : (c : Bool) (rest : List ℕ) → after word.Collate rest ≡ None → collate_at (collate_text c ++ rest) ≡ Some (c, rest)
-collate_again true rest none = rw (after_again word.Collate rest) refl
-collate_again false rest none = rw none refl
+-- a cast alone is not one with COLLATE, where no COLLATE follows
+cast_alone : (rest : List ℕ) → after word.Collate rest ≡ None → after word.AsTextCollate (word_text word.AsText ++ rest) ≡ None
+unfolding word_text after
+cast_alone rest none = none
 
-collate_free : (c : Bool) (rest : List ℕ) → Free 34 rest → Free 34 (collate_text c ++ rest)
+collate_no_cast : (rest : List ℕ) → after word.AsText (word_text word.Collate ++ rest) ≡ None
+unfolding word_text after
+collate_no_cast rest = refl
+
+collate_no_both : (rest : List ℕ) → after word.AsTextCollate (word_text word.Collate ++ rest) ≡ None
+unfolding word_text after
+collate_no_both rest = refl
+
+form_again : (f : ColumnForm) (rest : List ℕ) → Ends rest → form_at (form_text f ++ rest) ≡ Some (f, rest)
+form_again form.Plain rest ends = rw (ends.1, ends.2, ends.3) refl
+form_again form.Collated rest ends = rw (collate_no_both rest, collate_no_cast rest, after_again word.Collate rest) refl
+form_again form.AsText rest ends = rw (cast_alone rest ends.1, after_again word.AsText rest) refl
+form_again form.AsTextCollated rest ends = rw (after_again word.AsTextCollate rest) refl
+
+form_free : (f : ColumnForm) (rest : List ℕ) → Free 34 rest → Free 34 (form_text f ++ rest)
 unfolding word_text
-collate_free true rest free = refl
-collate_free false rest free = free
+form_free form.Plain rest free = free
+form_free form.Collated rest free = refl
+form_free form.AsText rest free = refl
+form_free form.AsTextCollated rest free = refl
 
-column_again : (a n : List ℕ) (c : Bool) (rest : List ℕ) → is_text a ≡ true → is_text n ≡ true → Ends rest → column_at (expr_text (tree.column a n c) ++ rest) ≡ Some (tree.column a n c, rest)
+column_again : (a n : List ℕ) (f : ColumnForm) (rest : List ℕ) → is_text a ≡ true → is_text n ≡ true → Ends rest → column_at (expr_text (tree.column a n f) ++ rest) ≡ Some (tree.column a n f, rest)
 unfolding column_at
-column_again a n c rest is_a is_n ends =
-    let last = collate_text c ++ rest in
-    let regrouped : expr_text (tree.column a n c) ++ rest ≡ name_text a ++ (word_text word.Dot ++ (name_text n ++ last)) = simp append_assoc in
-    rw (regrouped, quoted_again 34 a (word_text word.Dot ++ (name_text n ++ last)) is_a (dot_free (name_text n ++ last)), after_again word.Dot (name_text n ++ last), quoted_again 34 n last is_n (collate_free c rest ends.0), collate_again c rest ends.1) refl
+column_again a n f rest is_a is_n ends =
+    let last = form_text f ++ rest in
+    let regrouped : expr_text (tree.column a n f) ++ rest ≡ name_text a ++ (word_text word.Dot ++ (name_text n ++ last)) = simp append_assoc in
+    rw (regrouped, quoted_again 34 a (word_text word.Dot ++ (name_text n ++ last)) is_a (dot_free (name_text n ++ last)), after_again word.Dot (name_text n ++ last), quoted_again 34 n last is_n (form_free f rest ends.0), form_again f rest ends) refl
 
 text_free : (rest : List ℕ) → Free 39 (word_text word.AsText ++ rest)
 unfolding word_text
@@ -175,7 +194,7 @@ module _ (inside : Head → Reader ExprTree) where
   with_bool true bytes = refl
   with_bool false bytes = refl
 
-  quoted_column : (a n : List ℕ) (c : Bool) (rest : List ℕ) → expr_with inside (expr_text (tree.column a n c) ++ rest) ≡ column_at (expr_text (tree.column a n c) ++ rest)
+  quoted_column : (a n : List ℕ) (c : ColumnForm) (rest : List ℕ) → expr_with inside (expr_text (tree.column a n c) ++ rest) ≡ column_at (expr_text (tree.column a n c) ++ rest)
   unfolding quoted
   quoted_column a n c rest = with_name _
 

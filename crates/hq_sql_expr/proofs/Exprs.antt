@@ -2,16 +2,18 @@
 use Rattle.std.proofs.Common.{◌≡◌, ℕ, zero, suc, ℤ, Bool, true, false, List, [], ◌∷◌, ◌++◌, map, Option, Some, None, refl, sym, ap, ◌∙◌}
 use Rattle.std.proofs.lemmas.List.{append-nil}
 use Rattle.std.specs.List.{AllByRecursion}
+use Rattle.hq_sql_tree.specs.declared.expr.ColumnForm.{ColumnForm}
+use Rattle.hq_sql_tree.specs.declared.expr.ColumnForm.TheVariants as form
 use Rattle.hq_sql_tree.specs.declared.word.Word.TheVariants as word
 use Rattle.hq_base.specs.Aggregates.{all_aggregates}
 use Rattle.hq_sql_tree.specs.Word.{word_text, aggregate_word}
 use Rattle.hq_sql_tree.specs.Form.{is_text}
 use Rattle.hq_sql_tree.specs.Tree as tree
 use Rattle.hq_sql_tree.specs.Tree.{ExprTree, PairTree, AggTree, OrderTree, OutTree, pairs_of, orders_of}
-use Rattle.hq_sql_tree.specs.Spelling.{quoted, name_text, literal_text, separated, collate_text, direction_word, expr_text, pair_text, order_text, out_text}
+use Rattle.hq_sql_tree.specs.Spelling.{quoted, name_text, literal_text, separated, form_text, direction_word, expr_text, pair_text, order_text, out_text}
 use Rattle.hq_sql_expr.specs.declared.head.Head.{Head}
 use Rattle.hq_sql_expr.specs.declared.head.Head.TheVariants as head
-use Rattle.hq_sql_expr.specs.Reading.{◌>>=◌, Reader, nothing, after, choose, all_many, name_at, quoted_at, text_at, int_from, literal_at, collate_at, column_at, first_word, head_word, head_or, head_at, expr_with, pair_with, pairs_with, argument_with, direction_or, direction_at, order_with, ordered_with, inside_with, expr_at, ordered_at, out_with}
+use Rattle.hq_sql_expr.specs.Reading.{◌>>=◌, Reader, nothing, after, choose, all_many, name_at, quoted_at, text_at, int_from, literal_at, form_at, column_at, first_word, head_word, head_or, head_at, expr_with, pair_with, pairs_with, argument_with, direction_or, direction_at, order_with, ordered_with, inside_with, expr_at, ordered_at, out_with}
 use Rattle.hq_sql_expr.proofs.Between.{pair_texts_of, order_texts_of}
 use Rattle.hq_sql_expr.proofs.Sound.{Taken, Sound, Spelled, sound_next, sound_last, sound_word, sound_choose_end, sound_end, sound_peek, sound_pure, sound_nothing}
 use Rattle.hq_sql_expr.proofs.Words.{first_word_takes}
@@ -30,16 +32,33 @@ Behind d h b e = OneExpr d (word_text (head_word h) ++ b) e
 
 -- ---- columns and literals
 
-collate_takes : Sound collate_at (Spelled collate_text (λ c. Unit {0}))
-collate_takes = sound_choose_end word.Collate true (Spelled collate_text (λ c. Unit {0})) (refl, tt) (λ bytes. Some (false, bytes)) (sound_pure false (Spelled collate_text (λ c. Unit {0})) (refl, tt))
+-- the front is the spelling of a form
+abbrev OneForm : List ℕ → ColumnForm → Type 0
+OneForm = Spelled form_text (λ f. Unit {0})
+
+-- a form without a cast, and one without a cast that is collated
+abbrev plain_at : Reader ColumnForm
+plain_at bytes = Some (form.Plain, bytes)
+
+abbrev as_it_stands : Reader ColumnForm
+as_it_stands bytes = choose (after word.Collate bytes) (λ rest. Some (form.Collated, rest)) (plain_at bytes)
+
+abbrev cast_or_not : Reader ColumnForm
+cast_or_not bytes = choose (after word.AsText bytes) (λ rest. Some (form.AsText, rest)) (as_it_stands bytes)
+
+form_takes : Sound form_at OneForm
+form_takes =
+    sound_choose_end word.AsTextCollate form.AsTextCollated OneForm (refl, tt) cast_or_not
+    (sound_choose_end word.AsText form.AsText OneForm (refl, tt) as_it_stands
+    (sound_choose_end word.Collate form.Collated OneForm (refl, tt) plain_at (sound_pure form.Plain OneForm (refl, tt))))
 
 column_takes : (d : ℕ) → Sound column_at (OneExpr d)
 unfolding column_at
 column_takes d =
-    sound_next name_at (λ a bytes. after word.Dot bytes >>= λ rest. name_at rest >>= λ n. collate_at n.1 >>= λ c. Some (tree.column a n.0 c.0, c.1)) name_text IsText (OneExpr d) (quoted_takes 34)
-    (λ a is_a. sound_word word.Dot (λ rest. name_at rest >>= λ n. collate_at n.1 >>= λ c. Some (tree.column a n.0 c.0, c.1)) (λ b e. OneExpr d (name_text a ++ b) e)
-    (sound_next name_at (λ n bytes. collate_at bytes >>= λ c. Some (tree.column a n c.0, c.1)) name_text IsText (λ b e. OneExpr d (name_text a ++ (word_text word.Dot ++ b)) e) (quoted_takes 34)
-    (λ n is_n. sound_last collate_at (λ c. tree.column a n c) collate_text (λ c. Unit {0}) (λ b e. OneExpr d (name_text a ++ (word_text word.Dot ++ (name_text n ++ b))) e) (λ c u. (refl, (is_a, is_n))) collate_takes)))
+    sound_next name_at (λ a bytes. after word.Dot bytes >>= λ rest. name_at rest >>= λ n. form_at n.1 >>= λ f. Some (tree.column a n.0 f.0, f.1)) name_text IsText (OneExpr d) (quoted_takes 34)
+    (λ a is_a. sound_word word.Dot (λ rest. name_at rest >>= λ n. form_at n.1 >>= λ f. Some (tree.column a n.0 f.0, f.1)) (λ b e. OneExpr d (name_text a ++ b) e)
+    (sound_next name_at (λ n bytes. form_at bytes >>= λ f. Some (tree.column a n f.0, f.1)) name_text IsText (λ b e. OneExpr d (name_text a ++ (word_text word.Dot ++ b)) e) (quoted_takes 34)
+    (λ n is_n. sound_last form_at (λ f. tree.column a n f) form_text (λ f. Unit {0}) (λ b e. OneExpr d (name_text a ++ (word_text word.Dot ++ (name_text n ++ b))) e) (λ f u. (refl, (is_a, is_n))) form_takes)))
 
 -- the quoted digits are those of a whole number
 int_taken : (d : ℕ) (t rest : List ℕ) (o : Option ℤ) → int_from t ≡ o → Taken (λ b e. OneExpr d (quoted 39 t ++ (word_text word.AsBigint ++ b)) e) rest (o >>= λ n. Some (tree.int n, rest))

@@ -3,6 +3,8 @@ use Rattle.std.specs.Prelude.{ℕ, zero, suc, ◌+◌, ℤ, Bool, true, false, �
 use Rattle.std.specs.Prelude.{◌≡◌}
 use Rattle.std.specs.Str.Parse.{digits_value, signed_digits_value}
 use Rattle.std.specs.Fmt.{decimal, signed_decimal}
+use Rattle.hq_sql_tree.specs.declared.expr.ColumnForm.{ColumnForm}
+use Rattle.hq_sql_tree.specs.declared.expr.ColumnForm.TheVariants as form
 use Rattle.hq_sql_tree.specs.declared.word.Word.{Word}
 use Rattle.hq_sql_tree.specs.declared.word.Word.TheVariants as word
 use Rattle.hq_base.specs.Aggregates.{all_aggregates}
@@ -144,16 +146,20 @@ number_at bytes = do
 
 -- ---- expressions
 
-abbrev pub collate_at : Reader Bool
-collate_at bytes = choose (after word.Collate bytes) (λ rest. Some (true, rest)) (Some (false, bytes))
+-- what stands behind the name of a column
+abbrev pub form_at : Reader ColumnForm
+form_at bytes =
+    choose (after word.AsTextCollate bytes) (λ rest. Some (form.AsTextCollated, rest))
+    (choose (after word.AsText bytes) (λ rest. Some (form.AsText, rest))
+    (choose (after word.Collate bytes) (λ rest. Some (form.Collated, rest)) (Some (form.Plain, bytes))))
 
 unfoldable pub column_at : Reader ExprTree
 column_at bytes = do
   a ← name_at bytes
   rest ← after word.Dot a.1
   n ← name_at rest
-  c ← collate_at n.1
-  Some (tree.column a.0 n.0 c.0, c.1)
+  f ← form_at n.1
+  Some (tree.column a.0 n.0 f.0, f.1)
 
 abbrev pub head_word : Head → Word
 head_word head.Object = word.BuildObject

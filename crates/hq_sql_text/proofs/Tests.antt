@@ -22,9 +22,9 @@ Asks rest = expressions.Ends rest × (joint_next rest ≡ false)
 
 pub test_asks : (t : Test) (rest : List ℕ) → Asks (word_text (test_word t) ++ rest)
 unfolding word_text after
-test_asks (test.Compare op.Eq) rest = ((refl, refl), refl)
-test_asks (test.Like false) rest = ((refl, refl), refl)
-test_asks _ rest = ((refl, refl), refl)
+test_asks (test.Compare op.Eq) rest = ((refl, refl, refl, refl), refl)
+test_asks (test.Like false) rest = ((refl, refl, refl, refl), refl)
+test_asks _ rest = ((refl, refl, refl, refl), refl)
 
 -- what is spelled so is read again
 pub test_again : (t : Test) (rest : List ℕ) → test_at (word_text (test_word t) ++ rest) ≡ Some (t, rest)

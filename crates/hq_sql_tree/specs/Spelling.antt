@@ -1,6 +1,8 @@
 -- The one spelling of each tree (PostgreSQL's SELECT).
 use Rattle.std.specs.Prelude.{ℕ, ℤ, Bool, true, false, List, [], ◌∷◌, ◌++◌, map, Option, Some, None, ◌==◌, if◌then◌else◌}
 use Rattle.std.specs.Fmt.{decimal, signed_decimal}
+use Rattle.hq_sql_tree.specs.declared.expr.ColumnForm.{ColumnForm}
+use Rattle.hq_sql_tree.specs.declared.expr.ColumnForm.TheVariants as form
 use Rattle.hq_sql_tree.specs.declared.word.Word.{Word}
 use Rattle.hq_sql_tree.specs.declared.word.Word.TheVariants as word
 use Rattle.hq_sql_tree.specs.Word.{word_text, aggregate_word, test_word, test_close}
@@ -54,9 +56,12 @@ abbrev pub bool_text : Bool → List ℕ
 bool_text true = word_text word.True
 bool_text false = word_text word.False
 
-abbrev pub collate_text : Bool → List ℕ
-collate_text true = word_text word.Collate
-collate_text false = []
+-- what stands behind the name of a column
+abbrev pub form_text : ColumnForm → List ℕ
+form_text form.Plain = []
+form_text form.Collated = word_text word.Collate
+form_text form.AsText = word_text word.AsText
+form_text form.AsTextCollated = word_text word.AsTextCollate
 
 -- the direction of a sort key, and where NULLs stand
 abbrev pub direction_word : (desc nulls_first : Bool) → Word
@@ -71,7 +76,7 @@ count_word false = word.Count
 
 abbrev mutual
   pub expr_text : ExprTree → List ℕ
-  expr_text (tree.column alias name collate) = name_text alias ++ (word_text word.Dot ++ (name_text name ++ collate_text collate))
+  expr_text (tree.column alias name f) = name_text alias ++ (word_text word.Dot ++ (name_text name ++ form_text f))
   expr_text (tree.int n) = int_text n
   expr_text (tree.text bytes) = literal_text bytes
   expr_text (tree.uuid bytes) = uuid_text bytes

@@ -17,7 +17,8 @@ fixed_types =
     ∷ codes "Boolean_comparison_exp" ∷ codes "Int_comparison_exp" ∷ codes "String_comparison_exp" ∷ codes "bigint_comparison_exp"
     ∷ codes "uuid_comparison_exp"
     ∷ codes "__Schema" ∷ codes "__Type" ∷ codes "__Field" ∷ codes "__InputValue" ∷ codes "__EnumValue" ∷ codes "__Directive"
-    ∷ codes "__TypeKind" ∷ codes "__DirectiveLocation" ∷ codes "query_root" ∷ []
+    ∷ codes "__TypeKind" ∷ codes "__DirectiveLocation" ∷ codes "query_root"
+    ∷ codes "opaque_comparison_exp" ∷ []
 
 -- the inputs that each boolean expression has
 abbrev pub fixed_inputs : List (List ℕ)

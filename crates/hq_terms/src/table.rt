@@ -9,6 +9,8 @@ use hq_base::{List, Txt, Ty};
 pub struct Column {
     pub name: Txt,
     pub ty: Ty,
+    /// The type of PostgreSQL that an opaque column is of; empty for the others.
+    pub of: Txt,
     /// Whether it may hold NULL.
     pub nullable: bool,
 }
