@@ -22,10 +22,17 @@ unfoldable pub type_member : (path : List ℕ) → JsonTree → Result Ty Catalo
 type_member path object =
     required (at path ColumnType) (option_and_then type_named (option_and_then str_in (value_of object ColumnType)))
 
--- the type of PostgreSQL that an opaque column is of, which must be there; empty for a column of another type
-abbrev pub of_member : (path : List ℕ) → JsonTree → Ty → Result (List ℕ) CatalogRefusal
-of_member path object Opaque = text_member path object Of
-of_member path object _ = Ok []
+-- the name of a column's type in PostgreSQL, empty where the file does not say; it must say it of an opaque column
+abbrev pub of_absent : (path : List ℕ) → Ty → Result (List ℕ) CatalogRefusal
+of_absent path Opaque = Err (Shape path)
+of_absent path _ = Ok []
+
+abbrev pub of_in : (path : List ℕ) → Ty → Option JsonTree → Result (List ℕ) CatalogRefusal
+of_in path ty None = of_absent path ty
+of_in path ty (Some j) = required path (str_in j)
+
+unfoldable pub of_member : (path : List ℕ) → JsonTree → Ty → Result (List ℕ) CatalogRefusal
+of_member path object ty = of_in (at path Of) ty (value_of object Of)
 
 -- whether a column may hold NULL: it may where the file does not say
 abbrev pub nullable_in : (path : List ℕ) → Option JsonTree → Result Bool CatalogRefusal

@@ -4,8 +4,8 @@ ghost use Rattle.hq_base.specs.Json.{json_view};
 ghost use Rattle.hq_base.specs.Look.{str_in};
 ghost use Rattle.hq_base.specs.Types.{type_named};
 ghost use Rattle.hq_catalog_read.specs.Each.{each};
-ghost use Rattle.hq_catalog_read.specs.Node.{value_of};
-ghost use Rattle.hq_catalog_read.specs.Shape.{type_member, of_member, nullable_member, column_at, columns_member, foreign_key_at, foreign_keys_member, table_at, written_tables};
+ghost use Rattle.hq_catalog_read.specs.Node.{at, value_of};
+ghost use Rattle.hq_catalog_read.specs.Shape.{type_member, of_absent, of_member, nullable_member, column_at, columns_member, foreign_key_at, foreign_keys_member, table_at, written_tables};
 
 use crate::CatalogRefusal;
 use crate::field::Field;
@@ -38,13 +38,27 @@ fn type_member(alloc: Global, path: &Txt, object: &Json) -> Result<Ty, CatalogRe
     }
 }
 
-// The type of PostgreSQL that an opaque column is of, which must be there; empty for a column of another type.
+// What is taken of a column's type in PostgreSQL where the file does not say it.
+fn of_absent(alloc: Global, path: &Txt, ty: Ty) -> Result<Txt, CatalogRefusal>
+    ensures { Gives (λ of. of) CatalogRefusal.Memory (of_absent (at path.now Field.Of) ty) result }
+{
+    match ty {
+        Ty::Opaque => Err(misshaped_member(alloc, path, Field::Of)),
+        Ty::Integer | Ty::Bigint | Ty::Text | Ty::Boolean | Ty::Uuid => Ok(Txt::new(alloc)),
+    }
+}
+
+// The name of a column's type in PostgreSQL: the file must say it of an opaque column.
+#[tactic(auto, unfolding(crate::specs::Shape::of_member))]
 fn of_member(alloc: Global, path: &Txt, object: &Json, ty: Ty) -> Result<Txt, CatalogRefusal>
     ensures { Gives (λ of. of) CatalogRefusal.Memory (of_member path.now (json_view object.now) ty) result }
 {
-    match ty {
-        Ty::Opaque => text_member(alloc, path, object, Field::Of),
-        Ty::Integer | Ty::Bigint | Ty::Text | Ty::Boolean | Ty::Uuid => Ok(Txt::new(alloc)),
+    let Some(value) = object.member(Field::Of.name()) else {
+        return of_absent(alloc, path, ty);
+    };
+    match value.as_txt() {
+        Some(of) => Ok(of.copy(alloc)?),
+        None => Err(misshaped_member(alloc, path, Field::Of)),
     }
 }
 

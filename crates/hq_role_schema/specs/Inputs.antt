@@ -1,6 +1,6 @@
 -- The inputs of a table: its filters, its sorts, and the names of its columns (Hasura, API reference: GraphQL API, where,
 -- order_by and distinct_on). `first` is the place of the first type of the table to which an input leads.
-use Rattle.std.specs.Prelude.{ℕ, List, [], ◌∷◌, ◌++◌, map, filter, Bool, true, false, not, cond, ◌||◌, codes, Option, Some, None}
+use Rattle.std.specs.Prelude.{ℕ, List, [], ◌∷◌, ◌++◌, map, Bool, true, false, not, cond, ◌||◌, codes, Option, Some, None}
 use Rattle.std.specs.List.{filter_map}
 use Rattle.hq_base.specs.Types.{is_ordered}
 use Rattle.hq_base.specs.declared.value.Ty.{Ty}
@@ -34,7 +34,6 @@ abbrev pub column_input : Part → ShownColumn → Option ArgTree
 column_input p c = cond (is_filter p || is_ordered c.ty) (Some (arg c.name (fixed (input_type p c.ty)) (origin.Column c.col))) None
 
 -- filters go through each relationship, sorts through object ones alone
-
 abbrev pub link_input : Part → Link → Option ArgTree
 link_input p l = cond (is_filter p || not l.many) (Some (arg l.name (part l.first p) (origin.Relationship l.rel))) None
 
@@ -48,18 +47,11 @@ part_inputs first cs ls Filter = connectives first ++ inputs_of Filter cs ls
 part_inputs first cs ls Sort = inputs_of Sort cs ls
 part_inputs first cs ls _ = []
 
--- the columns whose values are compared
-abbrev pub has_order : ShownColumn → Bool
-has_order c = is_ordered c.ty
-
-abbrev pub ordered_columns : List ShownColumn → List ShownColumn
-ordered_columns cs = filter has_order cs
-
--- their names, and those columns, where the type is the enum of them
+-- the names of a table's columns, and those columns, where the type is the enum of them
 abbrev pub part_values : List ShownColumn → Part → List (List ℕ)
-part_values cs Columns = map (λ c. c.name) (ordered_columns cs)
+part_values cs Columns = map (λ c. c.name) cs
 part_values cs _ = []
 
 abbrev pub part_columns : List ShownColumn → Part → List ℕ
-part_columns cs Columns = map (λ c. c.col) (ordered_columns cs)
+part_columns cs Columns = map (λ c. c.col) cs
 part_columns cs _ = []

@@ -1,7 +1,7 @@
 ghost use Rattle.std.specs.Prelude.{◌≡◌, ◌++◌, IfOk, OnOk, map, option_map};
 ghost use Rattle.std.specs.List.{filter_map};
 ghost use Rattle.hq_schema.specs.Schema.{arg_view};
-ghost use Rattle.hq_role_schema.specs.Inputs.{connectives, input_type, column_input, is_filter, link_input, inputs_of, part_inputs, has_order, ordered_columns, part_values, part_columns};
+ghost use Rattle.hq_role_schema.specs.Inputs.{connectives, input_type, column_input, is_filter, link_input, inputs_of, part_inputs, part_values, part_columns};
 
 use crate::member::arg_of;
 use crate::reference::{fixed, part};
@@ -129,26 +129,17 @@ pub fn part_inputs(
     NamedList::new(alloc, inputs)
 }
 
-// Whether a column's values are compared.
-fn has_order(column: &ShownColumn) -> bool
-    ensures { result ≡ has_order column.now }
-{
-    column.ty.is_ordered()
-}
-
 fn column_names(alloc: Global, columns: &ShownColumnList) -> Result<Vec<Txt>, Memory>
-    ensures { IfOk result (λ names. names.items ≡ map (λ c. c.name) (ordered_columns columns.now)) }
+    ensures { IfOk result (λ names. names.items ≡ map (λ c. c.name) columns.now) }
 {
     let mut names = Vec::new(alloc);
     for column in columns.as_slice() {
-        if has_order(column) {
-            names.push(column.name.copy(alloc)?)?;
-        }
+        names.push(column.name.copy(alloc)?)?;
     }
     Ok(names)
 }
 
-/// The names of a table's columns whose values are compared, where the type is the enum of them.
+/// The names of a table's columns, where the type is the enum of them.
 pub fn part_values(alloc: Global, columns: &ShownColumnList, p: Part) -> Result<TxtList, Memory>
     ensures { IfOk result (λ names. names ≡ part_values columns.now p) }
 {
@@ -159,13 +150,11 @@ pub fn part_values(alloc: Global, columns: &ShownColumnList, p: Part) -> Result<
 }
 
 fn columns_of(alloc: Global, columns: &ShownColumnList) -> Result<ColList, Memory>
-    ensures { IfOk result (λ cols. cols ≡ map (λ c. c.col) (ordered_columns columns.now)) }
+    ensures { IfOk result (λ cols. cols ≡ map (λ c. c.col) columns.now) }
 {
     let mut cols = List::new(alloc);
     for column in columns.as_slice() {
-        if has_order(column) {
-            cols.push(column.col)?;
-        }
+        cols.push(column.col)?;
     }
     Ok(cols)
 }

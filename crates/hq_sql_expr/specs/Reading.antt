@@ -148,18 +148,28 @@ number_at bytes = do
 
 -- what stands behind the name of a column
 abbrev pub form_at : Reader ColumnForm
-form_at bytes =
-    choose (after word.AsTextCollate bytes) (λ rest. Some (form.AsTextCollated, rest))
-    (choose (after word.AsText bytes) (λ rest. Some (form.AsText, rest))
-    (choose (after word.Collate bytes) (λ rest. Some (form.Collated, rest)) (Some (form.Plain, bytes))))
+form_at bytes = choose (after word.Collate bytes) (λ rest. Some (form.Collated, rest)) (Some (form.Plain, bytes))
 
-unfoldable pub column_at : Reader ExprTree
-column_at bytes = do
+-- and of one that is written by its text
+abbrev pub cast_form_at : Reader ColumnForm
+cast_form_at bytes =
+    choose (after word.CloseAsTextCollate bytes) (λ rest. Some (form.AsTextCollated, rest)) (after word.CloseAsText bytes >>= λ rest. Some (form.AsText, rest))
+
+-- an alias, a name, and in which form they are a column
+abbrev pub column_with : Reader ColumnForm → Reader ExprTree
+column_with forms bytes = do
   a ← name_at bytes
   rest ← after word.Dot a.1
   n ← name_at rest
-  f ← form_at n.1
+  f ← forms n.1
   Some (tree.column a.0 n.0 f.0, f.1)
+
+unfoldable pub column_at : Reader ExprTree
+column_at bytes = column_with form_at bytes
+
+-- a column that is written by its text, behind the parenthesis before it
+unfoldable pub cast_at : Reader ExprTree
+cast_at bytes = column_with cast_form_at bytes
 
 abbrev pub head_word : Head → Word
 head_word head.Object = word.BuildObject
@@ -184,7 +194,8 @@ expr_with inside bytes =
     (choose (after word.False bytes) (λ rest. Some (tree.bool false, rest))
     (choose (after word.TextQuote bytes) (λ rest. literal_at bytes)
     (choose (after word.NameQuote bytes) (λ rest. column_at bytes)
-    (head_at bytes >>= λ h. inside h.0 h.1))))
+    (choose (after word.Open bytes) (λ rest. cast_at rest)
+    (head_at bytes >>= λ h. inside h.0 h.1)))))
 
 unfoldable pub pair_with : Reader ExprTree → Reader PairTree
 pair_with expr bytes = do

@@ -4,7 +4,7 @@ ghost use Rattle.std.specs.Fmt.{decimal};
 ghost use Rattle.hq_sql_tree.specs.Word.{word_text};
 ghost use Rattle.hq_sql_tree.specs.View.{agg_view, expr_view, pair_view, order_view, out_view};
 ghost use Rattle.hq_sql_tree.specs.Tree.{pairs_of, orders_of};
-ghost use Rattle.hq_sql_tree.specs.Spelling.{name_text, literal_text, uuid_text, int_text, separated, form_text, direction_word, pair_texts, order_texts, expr_text, agg_text, order_text, out_text, pair_text};
+ghost use Rattle.hq_sql_tree.specs.Spelling.{name_text, literal_text, uuid_text, int_text, separated, form_start, form_text, direction_word, pair_texts, order_texts, expr_text, agg_text, order_text, out_text, pair_text};
 ghost use Rattle.hq_sql_expr.specs.Between.{before};
 
 use hq_base::{Memory, Txt};
@@ -70,20 +70,32 @@ pub fn put_number(alloc: Global, out: &mut Vec<u8>, n: u64) -> Result<(), Memory
     Ok(())
 }
 
+// What stands before a column.
+fn put_start(out: &mut Vec<u8>, form: ColumnForm) -> Result<(), Memory>
+    ensures { OnOk result (out.new.items ≡ out.old.items ++ form_start form) }
+{
+    match form {
+        ColumnForm::Plain | ColumnForm::Collated => Ok(()),
+        ColumnForm::AsText | ColumnForm::AsTextCollated => put_word(out, Word::Open),
+    }
+}
+
+// And what stands behind its name.
 fn put_form(out: &mut Vec<u8>, form: ColumnForm) -> Result<(), Memory>
     ensures { OnOk result (out.new.items ≡ out.old.items ++ form_text form) }
 {
     match form {
         ColumnForm::Plain => Ok(()),
         ColumnForm::Collated => put_word(out, Word::Collate),
-        ColumnForm::AsText => put_word(out, Word::AsText),
-        ColumnForm::AsTextCollated => put_word(out, Word::AsTextCollate),
+        ColumnForm::AsText => put_word(out, Word::CloseAsText),
+        ColumnForm::AsTextCollated => put_word(out, Word::CloseAsTextCollate),
     }
 }
 
 fn put_column(out: &mut Vec<u8>, alias: &Txt, name: &Txt, form: ColumnForm) -> Result<(), Memory>
-    ensures { OnOk result (out.new.items ≡ out.old.items ++ (name_text alias.now ++ (word_text Word.Dot ++ (name_text name.now ++ form_text form)))) }
+    ensures { OnOk result (out.new.items ≡ out.old.items ++ (form_start form ++ (name_text alias.now ++ (word_text Word.Dot ++ (name_text name.now ++ form_text form))))) }
 {
+    put_start(out, form)?;
     put_name(out, alias)?;
     put_word(out, Word::Dot)?;
     put_name(out, name)?;

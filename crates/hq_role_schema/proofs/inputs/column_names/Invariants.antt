@@ -1,7 +1,5 @@
-use Rattle.std.proofs.Common.{◌≡◌, ◌++◌, map, drop}
-use Rattle.hq_role_schema.specs.Inputs.{ordered_columns}
+use Rattle.std.proofs.Common.{◌≡◌, map, take}
 use Rattle.hq_role_schema.proofs.inputs.column_names.Given as goal
 
 abbrev pub invariant-loop-column : goal.invariant-loop-column
-invariant-loop-column l =
-    l.names.items ++ map (λ c. c.name) (ordered_columns (drop l.column-index l.column-items)) ≡ map (λ c. c.name) (ordered_columns l.column-items)
+invariant-loop-column l = l.names.items ≡ map (λ c. c.name) (take l.column-index l.column-items)
