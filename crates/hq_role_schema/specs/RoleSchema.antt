@@ -42,7 +42,7 @@ table_types scalars ps p = types_with scalars p (links_from ps 0 p.shown.rels)
 
 -- all types, where a role may see these tables
 abbrev pub all_types : (scalars : List (List ℕ)) → List PlacedTable → List TypeTree
-all_types scalars ps = fixed_types ps ++ (map scalar_type scalars ++ flat_map (table_types scalars ps) ps)
+all_types scalars ps = (fixed_types ps ++ map scalar_type scalars) ++ flat_map (table_types scalars ps) ps
 
 -- the schema where a role may see these tables
 abbrev pub schema_over : (scalars : List (List ℕ)) → List PlacedTable → SchemaTree

@@ -1,7 +1,7 @@
 -- The scalars of opaque columns: those of the names of PostgreSQL's types (Hasura, PostgreSQL types: a type that GraphQL lacks is a
 -- scalar of its name; GraphQL October 2021, 3.5). They stand behind the types that each schema has.
-use Rattle.std.specs.Prelude.{ℕ, ◌+◌, List, [], flat_map, length, position, Option, Some, None, option_and_then, bytes_eq}
-use Rattle.std.specs.List.{filter_map}
+use Rattle.std.specs.Prelude.{ℕ, ◌+◌, List, [], ◌∷◌, ◌++◌, flat_map, length, position, cond, Option, Some, None, option_and_then, bytes_eq}
+use Rattle.std.specs.List.{filter_map, list_any}
 use Rattle.hq_base.specs.Lists.{firsts}
 use Rattle.hq_base.specs.declared.value.Ty.{Ty}
 use Rattle.hq_base.specs.declared.value.Ty.TheVariants.{Opaque}
@@ -20,6 +20,10 @@ fixed_count = 21
 -- those of tables, each once, in the order in which they come first
 abbrev pub table_scalars : ShownTable → List (List ℕ)
 table_scalars t = filter_map (λ c. c.scalar) t.columns
+
+-- a name behind others, where it is not among them
+abbrev pub with_different : (names : List (List ℕ)) → (name : List ℕ) → List (List ℕ)
+with_different names name = cond (list_any (λ n. bytes_eq n name) names) names (names ++ name ∷ [])
 
 abbrev pub scalars_of : List ShownTable → List (List ℕ)
 scalars_of ts = firsts bytes_eq (flat_map table_scalars ts)

@@ -1,9 +1,10 @@
 //! The scalars of opaque columns: a type for each name of a type of PostgreSQL.
 ghost use Rattle.std.specs.Prelude.{◌≡◌, ◌++◌, IfOk, OnOk, map, flat_map, position, bytes_eq};
 ghost use Rattle.std.specs.List.{filter_map};
+ghost use Rattle.std.specs.Option.{option_to_list};
 ghost use Rattle.hq_base.specs.Lists.{firsts};
 ghost use Rattle.hq_schema.specs.Schema.{type_ref_view, type_view};
-ghost use Rattle.hq_role_schema.specs.Scalars.{table_scalars, scalars_of, behind_scalars, scalar_type, scalar_at, column_scalar};
+ghost use Rattle.hq_role_schema.specs.Scalars.{table_scalars, with_different, scalars_of, behind_scalars, scalar_type, scalar_at, column_scalar};
 
 use crate::reference::fixed;
 use crate::shown::{ShownColumn, ShownColumnList, ShownTableList};
@@ -24,7 +25,20 @@ pub fn behind_scalars(scalars: &[Txt]) -> Result<u32, Memory>
     FIXED.checked_add(count).ok_or(Memory)
 }
 
-// Adds the scalars of columns.
+// Adds the scalar of a column, where it has one.
+fn push_scalar(alloc: Global, names: &mut Vec<Txt>, column: &ShownColumn) -> Result<(), Memory>
+    ensures { OnOk result (names.new.items ≡ names.old.items ++ option_to_list column.now.scalar) }
+{
+    match &column.scalar {
+        Some(name) => {
+            names.push(name.copy(alloc)?)?;
+            Ok(())
+        }
+        None => Ok(()),
+    }
+}
+
+// Adds those of columns.
 fn push_scalars(
     alloc: Global,
     names: &mut Vec<Txt>,
@@ -33,9 +47,7 @@ fn push_scalars(
     ensures { OnOk result (names.new.items ≡ names.old.items ++ filter_map (λ c. c.scalar) columns.now) }
 {
     for column in columns.as_slice() {
-        if let Some(name) = &column.scalar {
-            names.push(name.copy(alloc)?)?;
-        }
+        push_scalar(alloc, names, column)?;
     }
     Ok(())
 }
@@ -51,15 +63,24 @@ fn all_scalars(alloc: Global, tables: &ShownTableList) -> Result<Vec<Txt>, Memor
     Ok(names)
 }
 
+// Adds a name, where it is not among these.
+fn push_different(alloc: Global, names: &mut Vec<Txt>, name: &Txt) -> Result<(), Memory>
+    ensures { OnOk result (names.new.items ≡ with_different names.old.items name.now) }
+{
+    if names.as_slice().contains(name) {
+        return Ok(());
+    }
+    names.push(name.copy(alloc)?)?;
+    Ok(())
+}
+
 // The different ones of these, in the order in which they come first.
 fn different(alloc: Global, names: &[Txt]) -> Result<Vec<Txt>, Memory>
     ensures { IfOk result (λ different. different.items ≡ firsts bytes_eq names.now) }
 {
-    let mut different: Vec<Txt> = Vec::new(alloc);
+    let mut different = Vec::new(alloc);
     for name in names {
-        if !different.as_slice().contains(name) {
-            different.push(name.copy(alloc)?)?;
-        }
+        push_different(alloc, &mut different, name)?;
     }
     Ok(different)
 }

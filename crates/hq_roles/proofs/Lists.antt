@@ -1,5 +1,5 @@
 -- Facts of each item of joined, mapped and filtered lists, and items by their places.
-use Rattle.std.proofs.Common.{◌≡◌, ◌∙◌, refl, sym, ap, ℕ, zero, suc, ◌+◌, ◌<◌, List, [], ◌∷◌, ◌++◌, length, map, filter, Bool, cond, true, false, Option, Some, None, subst, arith}
+use Rattle.std.proofs.Common.{◌≡◌, ◌∙◌, refl, sym, ap, ℕ, zero, suc, ◌+◌, ◌<◌, List, [], ◌∷◌, ◌++◌, length, map, Bool, true, false, Option, Some, None, subst, arith}
 use Rattle.std.specs.Prelude.{find, flat_map, slice_get, IfSome}
 use Rattle.std.specs.List.{filter_map, cons_option}
 use Rattle.hq_base.specs.Lists.{Each}
@@ -20,13 +20,6 @@ each_flat_map P Q f step (x ∷ xs) h = each_append P (f x) (flat_map f xs) (ste
 pub each_cons_option : {A : Type 0} (P : A → Type 0) (o : Option A) (xs : List A) → IfSome o P → Each P xs → Each P (cons_option o xs)
 each_cons_option P None xs h g = g
 each_cons_option P (Some x) xs h g = (h, g)
-
-pub each_filter : {A : Type 0} (P : A → Type 0) (p : A → Bool) → (xs : List A) → Each P xs → Each P (filter p xs)
-each_filter P p [] h = tt
-each_filter P p (x ∷ xs) h =
-    let later = each_filter P p xs h.1 in
-    let by : (b : Bool) → Each P (cond b (x ∷ filter p xs) (filter p xs)) = elim [ true ↦ (h.0, later) | false ↦ later ] in
-    by (p x)
 
 pub each_filter_map : {A B : Type 0} (P : B → Type 0) (Q : A → Type 0) (f : A → Option B) → ((x : A) → Q x → IfSome (f x) P) → (xs : List A) → Each Q xs → Each P (filter_map f xs)
 each_filter_map P Q f step [] h = tt

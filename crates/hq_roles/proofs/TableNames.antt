@@ -169,13 +169,13 @@ columns_sub tb k ms cs chosen =
     sub_trans (map (λ (c : ShownColumn). c.name) (shown_columns tb k ms cs)) (map (λ c. get_or k.column_names c []) cs) (column_names_of k) (columns_named tb k ms cs) (sub_map (λ c. get_or k.column_names c []) cs (named_columns k) chosen)
 
 -- the fields of columns are named for columns
-pub fields_sub : (q : Part) (cs : List ShownColumn) → Sub (map (λ (f : FieldTree). f.name) (column_fields q cs)) (map (λ (c : ShownColumn). c.name) cs)
-fields_sub q [] = refl
-fields_sub q (c ∷ cs) = by (column_type q c) (fields_sub q cs)
+pub fields_sub : (scalars : List (List ℕ)) (q : Part) (cs : List ShownColumn) → Sub (map (λ (f : FieldTree). f.name) (column_fields scalars q cs)) (map (λ (c : ShownColumn). c.name) cs)
+fields_sub scalars q [] = refl
+fields_sub scalars q (c ∷ cs) = by (column_type scalars q c) (fields_sub scalars q cs)
   where
-    by : (o : Option TypeRefTree) → Sub (map (λ (f : FieldTree). f.name) (column_fields q cs)) (map (λ (c : ShownColumn). c.name) cs) → Sub (map (λ (f : FieldTree). f.name) (cons_option (option_map (λ r. plain_field c.name r (field.Column c.col)) o) (column_fields q cs))) (c.name ∷ map (λ (c : ShownColumn). c.name) cs)
+    by : (o : Option TypeRefTree) → Sub (map (λ (f : FieldTree). f.name) (column_fields scalars q cs)) (map (λ (c : ShownColumn). c.name) cs) → Sub (map (λ (f : FieldTree). f.name) (cons_option (option_map (λ r. plain_field c.name r (field.Column c.col)) o) (column_fields scalars q cs))) (c.name ∷ map (λ (c : ShownColumn). c.name) cs)
     by None later = inl later
-    by (Some r) later = inr (map (λ (f : FieldTree). f.name) (column_fields q cs), refl, later)
+    by (Some r) later = inr (map (λ (f : FieldTree). f.name) (column_fields scalars q cs), refl, later)
 
 -- the inputs of columns are named for columns
 pub inputs_sub : (q : Part) (cs : List ShownColumn) → Sub (map (λ (x : ArgTree). x.name) (filter_map (column_input q) cs)) (map (λ (c : ShownColumn). c.name) cs)
