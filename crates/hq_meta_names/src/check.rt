@@ -106,10 +106,29 @@ fn check_scalars(
     Ok(())
 }
 
+// The names of all tables, and then the scalars beside them.
+#[tactic(auto, unfolding(crate::specs::Repeats::names_due))]
+fn names_of(
+    alloc: Global,
+    catalog: &Catalog,
+    meta: &Meta,
+    path: &Txt,
+) -> Result<(), NameRefusal>
+    ensures { Gives (λ done. done) NameRefusal.Memory (names_due (schema_of catalog.now.tables (meta_view meta.now)) (meta_view meta.now) path.now) result }
+{
+    let scope = Scope { catalog, meta };
+    let known = Shared {
+        types: fixed_types(alloc)?,
+        roots: List::new(alloc),
+    };
+    let tracked = meta.tracked.as_slice();
+    let all = with_tables(alloc, &scope, path, known, tracked)?;
+    check_scalars(alloc, &scope, all.types.as_slice(), path, tracked)
+}
+
 /// Refuses the first name that stands twice in the schema of `admin`, in the order of the tracked tables: of each its types,
 /// its root fields, its columns and its relationships; and then the scalar of an opaque column that is named as another type. The list
 /// of tables stands at `path` in the file.
-#[tactic(auto, unfolding(crate::specs::Repeats::names_due))]
 pub fn check_names(
     alloc: Global,
     catalog: &Catalog,
@@ -121,12 +140,5 @@ pub fn check_names(
     // No two types, no two root fields, and no two fields or inputs of one type have one name.
     ensures differ { OnOk result (names_differ (schema_of catalog.now.tables (meta_view meta.now)) (meta_view meta.now) ≡ true) }
 {
-    let scope = Scope { catalog, meta };
-    let known = Shared {
-        types: fixed_types(alloc)?,
-        roots: List::new(alloc),
-    };
-    let tracked = meta.tracked.as_slice();
-    let all = with_tables(alloc, &scope, path, known, tracked)?;
-    check_scalars(alloc, &scope, all.types.as_slice(), path, tracked)
+    names_of(alloc, catalog, meta, path)
 }

@@ -1,4 +1,4 @@
-use Rattle.std.proofs.Common.{◌≡◌, Result, Ok, Err}
+use Rattle.std.proofs.Common.{◌≡◌, true, Result, Ok, Err}
 use Rattle.std.specs.Prelude.{IfOk, OnOk}
 use Rattle.std.proofs.lemmas.Result.{IfOk-at_ok}
 use Rattle.hq_base.specs.Due.{Gives}
@@ -15,3 +15,9 @@ use Rattle.hq_meta_names.proofs.check.check_names.Goals as goal
 answered : (P : Type 0) (due r : Result (Unit {0}) NameRefusal) → Gives (λ (done : Unit {0}). done) Memory due r → IfOk due (λ done. P) → OnOk r P
 answered P due (Ok done) g h = IfOk-at_ok (λ (done : Unit {0}). P) g h
 answered P due (Err e) g h = tt
+
+pub returns-clause-differ : goal.returns-clause-differ
+returns-clause-differ c =
+    let m = meta_view c.args.meta.now in
+    let s = schema_of c.args.catalog.now.tables m in
+    answered (names_differ s m ≡ true) (names_due s m c.args.path.now) c.names_of.result c.names_of.ensures (names_due-differ s m c.args.path.now)
