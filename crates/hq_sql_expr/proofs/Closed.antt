@@ -51,11 +51,11 @@ Closes close = (rest : List ℕ) → Ends (word_text close ++ rest) × (after wo
 
 pub close_in_closes : Closes word.CloseIn
 unfolding word_text after
-close_in_closes rest = ((refl, refl, refl, refl), refl)
+close_in_closes rest = ((refl, refl), refl)
 
 pub close_distinct_closes : Closes word.CloseDistinct
 unfolding word_text after
-close_distinct_closes rest = ((refl, refl, refl, refl), refl)
+close_distinct_closes rest = ((refl, refl), refl)
 
 closed_again : (closing : Word) (d : ℕ) (es : List ExprTree) (rest : List ℕ) → Closes closing → AllGood (λ e. FitsExpr e d) es → closed_exprs closing d (closed_list_text closing es ++ rest) ≡ Some (es, rest)
 unfolding closed_exprs
