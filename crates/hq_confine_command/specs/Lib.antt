@@ -1,3 +1,4 @@
 pub mod Confining
 pub mod Said
 pub mod Laws
+pub mod Shown

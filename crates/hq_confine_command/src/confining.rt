@@ -1,10 +1,11 @@
 //! Saying whether a statement is confined.
-ghost use Rattle.std.specs.Prelude.{◌≡◌, ◌≢◌, ◌≤◌, ◌⊎◌, IsErrOf, IfSome, IfErr, Err, Ok};
+ghost use Rattle.std.specs.Prelude.{◌≡◌, ◌≢◌, ◌≤◌, ◌⊎◌, IsErrOf, IfSome, IfOk, IfErr, Err, Ok};
 ghost use Rattle.hq_outside.specs.Causes.{Rose};
 ghost use Rattle.hq_terms.specs.Meta.{meta_view};
 ghost use Rattle.hq_commands.specs.Ending.{Ends, NotDatabase, Silent};
-ghost use Rattle.hq_confine_command.specs.Confining.{Confines, EndsBy, IsDueFor};
+ghost use Rattle.hq_confine_command.specs.Confining.{Confines, EndsBy, IsDueFor, without_line_end};
 ghost use Rattle.hq_confine_command.specs.Said.{said_view};
+ghost use Rattle.hq_confine_command.specs.Shown.{InputShows, TextShows};
 
 use crate::judging::{Said, judge, without_line_end};
 use hq_base::Txt;
@@ -38,6 +39,8 @@ fn confine_to<S: Source, K: Sink>(
 ) -> Result<Done, Refusal>
     ensures told { IfSome (S.left input.old) (λ left.
         EndsBy (IsDueFor description.now.catalog.tables (meta_view description.now.meta) session.now left) (K.written out.old) (K.written out.new) result) }
+    ensures shows { IfSome (S.left input.old) (λ left.
+        IfOk result (TextShows description.now.catalog.tables (meta_view description.now.meta) session.now (without_line_end left))) }
     ensures silent { Silent (K.written out.old) (K.written out.new) result }
     ensures read { IsErrOf result Refusal.ReadFailed → Rose (S.faults input.old) (S.faults input.new) }
     ensures write { IsErrOf result Refusal.WriteFailed → Rose (K.faults out.old) (K.faults out.new) }
@@ -69,6 +72,7 @@ pub fn confine<F: Files, S: Source, K: Sink>(
 ) -> Result<Done, Refusal>
     ensures told { IfSome (F.folder files.old) (λ folder. IfSome (S.left input.old) (λ left.
         Confines dir.now headers.now folder left (K.written out.old) (K.written out.new) result)) }
+    ensures shows { IfSome (F.folder files.old) (λ folder. IfSome (S.left input.old) (λ left. IfOk result (InputShows dir.now headers.now folder left))) }
     ensures silent { Silent (K.written out.old) (K.written out.new) result }
     ensures words { IsErrOf result Refusal.BadWords → ⊥ }
     ensures read { IsErrOf result Refusal.ReadFailed →

@@ -6,6 +6,7 @@ ghost use Rattle.hq_sql_tree.specs.View.{select_view};
 ghost use Rattle.hq_terms.specs.Meta.{meta_view};
 ghost use Rattle.hq_confine_command.specs.Confining.{IsSaid, no_line, says, tree_output, verdict_output, without_line_end};
 ghost use Rattle.hq_confine_command.specs.Said.{said_view};
+ghost use Rattle.hq_confine_command.specs.Shown.{TextShows, TreeShows};
 ghost use Rattle.hq_confine.specs.Verdicts.{told};
 
 use hq_base::{Bytes, Memory, Txt};
@@ -70,7 +71,8 @@ fn judged(
     meta: &Meta,
     session: &Session,
 ) -> Result<Said, Memory>
-    ensures { IfOk result (λ said. said_view said ≡ tree_output catalog.now.tables (meta_view meta.now) session.now (select_view statement.now)) }
+    ensures told { IfOk result (λ said. said_view said ≡ tree_output catalog.now.tables (meta_view meta.now) session.now (select_view statement.now)) }
+    ensures shows { IfOk result (λ said. TreeShows catalog.now.tables (meta_view meta.now) session.now (select_view statement.now) said.done) }
 {
     if !well_formed(alloc, statement, catalog)? {
         return fixed_line(alloc, Done::Faulty, b"not typed\n");
@@ -104,6 +106,7 @@ pub fn without_line_end(text: &[u8]) -> &[u8]
 }
 
 /// What is said of a text for a session.
+#[tactic(auto, using(crate::proofs::Shown::tree_shows, crate::proofs::Shown::nothing_shows))]
 pub fn judge(
     alloc: Global,
     text: &[u8],
@@ -111,7 +114,8 @@ pub fn judge(
     meta: &Meta,
     session: &Session,
 ) -> Result<Said, Memory>
-    ensures { IfOk result (λ said. IsSaid catalog.now.tables (meta_view meta.now) session.now text.now (said_view said)) }
+    ensures told { IfOk result (λ said. IsSaid catalog.now.tables (meta_view meta.now) session.now text.now (said_view said)) }
+    ensures shows { IfOk result (λ said. TextShows catalog.now.tables (meta_view meta.now) session.now text.now said.done) }
 {
     match statement_in(alloc, text)? {
         Some(statement) => judged(alloc, &statement, catalog, meta, session),

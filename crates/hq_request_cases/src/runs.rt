@@ -38,20 +38,14 @@ fn outputs(alloc: Global, case: &Case) -> Result<(MemSink, MemSink), Stop> {
     Ok((out, output(alloc, case, "errors")?))
 }
 
-// The input and the two outputs.
-fn streams(alloc: Global, case: &Case) -> Result<(MemSource, MemSink, MemSink), Stop> {
-    let input = input(alloc, case)?;
-    let (out, err) = outputs(alloc, case)?;
-    Ok((input, out, err))
-}
-
-fn world(rt: &HostRuntime, case: &Case) -> Result<Inside, Stop> {
+// What is around a run over this input.
+fn world(rt: &HostRuntime, case: &Case, input: MemSource) -> Result<Inside, Stop> {
     let files = folder(rt, case)?;
     let door = door(rt.alloc(), case)?;
     let calls = failing(rt.alloc(), case, "disk")?;
     let disk = MemDisk::new(rt.alloc(), &[], DISK_ROOM, calls)?;
     let hall = hall(rt.alloc(), case)?;
-    let (input, out, err) = streams(rt.alloc(), case)?;
+    let (out, err) = outputs(rt.alloc(), case)?;
     Ok(World {
         files,
         door,
@@ -77,11 +71,21 @@ fn push_run(alloc: Global, case: &Case, words: &[Txt], world: Inside, out: &mut 
     push_left(alloc, case, &left, out);
 }
 
+// What comes of a run by these words over an input.
+fn outcome_over(
+    rt: &HostRuntime,
+    case: &Case,
+    words: &[Txt],
+    input: MemSource,
+) -> Result<String, Stop> {
+    let mut told = Words::new(rt.alloc());
+    push_run(rt.alloc(), case, words, world(rt, case, input)?, &mut told);
+    told.told()
+}
+
 // What comes of a run by these words.
 fn outcome(rt: &HostRuntime, case: &Case, words: &[Txt]) -> Result<String, Stop> {
-    let mut told = Words::new(rt.alloc());
-    push_run(rt.alloc(), case, words, world(rt, case)?, &mut told);
-    told.told()
+    outcome_over(rt, case, words, input(rt.alloc(), case)?)
 }
 
 // The words of the same run with its tables in pages, where its command has one.
@@ -119,17 +123,28 @@ fn of_query(alloc: Global, words: &[Txt], command: &[u8]) -> Result<Option<Vec<T
     Ok(Some(others))
 }
 
-// The text of the statement that a query asks, where it asks one.
-fn statement(rt: &HostRuntime, case: &Case, words: &[Txt]) -> Result<Option<Bytes>, Stop> {
-    let Some(words) = of_query(rt.alloc(), words, b"sql")? else {
-        return Ok(None);
-    };
-    let left = run(rt.alloc(), words.as_slice(), world(rt, case)?);
+// The statement that a run wrote, where it wrote one.
+fn written_statement(alloc: Global, left: &Left) -> Result<Option<Bytes>, Stop> {
     let text = left.world.out.bytes();
     if left.status != 0 || text == b"none\n".as_slice() {
         return Ok(None);
     }
-    Ok(Some(Bytes::from_slice(rt.alloc(), text)?))
+    Ok(Some(Bytes::from_slice(alloc, text)?))
+}
+
+// The statement that a run by these words writes, where it writes one.
+fn statement_by(rt: &HostRuntime, case: &Case, words: &[Txt]) -> Result<Option<Bytes>, Stop> {
+    let input = input(rt.alloc(), case)?;
+    let left = run(rt.alloc(), words, world(rt, case, input)?);
+    written_statement(rt.alloc(), &left)
+}
+
+// The text of the statement that a query asks, where it asks one.
+fn statement(rt: &HostRuntime, case: &Case, words: &[Txt]) -> Result<Option<Bytes>, Stop> {
+    match of_query(rt.alloc(), words, b"sql")? {
+        Some(words) => statement_by(rt, case, words.as_slice()),
+        None => Ok(None),
+    }
 }
 
 // What the checker of statements says of a query's statement for its own caller.
@@ -140,11 +155,8 @@ fn checked(rt: &HostRuntime, case: &Case, words: &[Txt]) -> Result<Option<String
     let Some(words) = of_query(rt.alloc(), words, b"confine")? else {
         return Ok(None);
     };
-    let mut world = world(rt, case)?;
-    world.input = MemSource::new(text, List::new(rt.alloc()));
-    let mut told = Words::new(rt.alloc());
-    push_run(rt.alloc(), case, words.as_slice(), world, &mut told);
-    Ok(Some(told.told()?))
+    let input = MemSource::new(text, List::new(rt.alloc()));
+    Ok(Some(outcome_over(rt, case, words.as_slice(), input)?))
 }
 
 // Adds what the checker of statements says of a query's statement, where that is no yes.
