@@ -10,7 +10,7 @@ from graphql import build_schema
 
 from resolvers import combined, entries_of, is_free_name, sets_of
 
-SCALARS = {"integer": "Int", "bigint": "bigint", "text": "String", "boolean": "Boolean", "uuid": "uuid", "opaque": "String"}
+SCALARS = {"integer": "Int", "bigint": "bigint", "text": "String", "boolean": "Boolean", "uuid": "uuid"}
 ANY_OPERATORS = ["_eq", "_gt", "_gte", "_in", "_is_null", "_lt", "_lte", "_neq", "_nin"]
 TEXT_OPERATORS = ["_ilike", "_like", "_nilike", "_nlike"]
 DIRECTIONS = ["asc", "asc_nulls_first", "asc_nulls_last", "desc", "desc_nulls_first", "desc_nulls_last"]
@@ -74,10 +74,12 @@ class Table:
         return next(c for c in self.catalog["columns"] if c["name"] == name)
 
     def scalar(self, name):
-        return SCALARS[self.column(name)["type"]]
+        """The scalar of a column; that of an opaque one has the name of its type, where that is one of GraphQL."""
+        column = self.column(name)
+        return SCALARS.get(column["type"]) or (column["of"] if is_free_name(column["of"]) else "String")
 
     def compared(self, name):
-        """The scalar by whose comparisons a column is tested; an opaque one has its own."""
+        """The scalar by whose comparisons a column is tested; all opaque ones have the same."""
         return "opaque" if self.column(name)["type"] == "opaque" else self.scalar(name)
 
     def ordered(self):
@@ -131,7 +133,7 @@ def table_types(table, seen):
     yield block("input", f"{n}_order_by",
                 [f"{named[c]}: order_by" for c in table.ordered()]
                 + [f"{name}: {remote.name}_order_by" for name, remote, many in related if not many])
-    yield block("enum", f"{n}_select_column", [named[c] for c in table.ordered()])
+    yield block("enum", f"{n}_select_column", [named[c] for c in table.columns])
     if table.aggregates:
         yield from aggregate_types(table)
 
@@ -139,7 +141,7 @@ def table_types(table, seen):
 def aggregate_types(table):
     n, named = table.name, table.column_names
     ordered = [f"{named[c]}: {table.scalar(c)}" for c in table.ordered() if table.scalar(c) not in ("Boolean", "uuid")]
-    summed = [f"{named[c]}: bigint" for c in table.columns if table.scalar(c) in ("Int", "bigint")]
+    summed = [f"{named[c]}: bigint" for c in table.ordered() if table.scalar(c) in ("Int", "bigint")]
     yield block("type", f"{n}_aggregate", [f"aggregate: {n}_aggregate_fields", f"nodes: [{n}!]!"])
     fields = [f"count(columns: [{n}_select_column!], distinct: Boolean): Int!"]
     taken = [("max", ordered), ("min", ordered), ("sum", summed)]
@@ -169,7 +171,9 @@ def due_schema(directory, role):
     tables = [Table(e, by_key, role, sets_of(metadata)) for e in entries]
     seen = {t.key: t for t in tables if t.seen}
     roots = [f for t in seen.values() for f in root_fields(t)] or ["no_queries_available: String!"]
+    scalars = dict.fromkeys(t.scalar(c) for t in seen.values() for c in t.columns if t.column(c)["type"] == "opaque")
     parts = ["schema { query: query_root }", "scalar bigint", "scalar uuid", block("enum", "order_by", DIRECTIONS)]
+    parts += [f"scalar {name}" for name in scalars if name != "String"]
     parts += [comparison(s) for s in ("Boolean", "Int", "String", "bigint", "uuid")]
     parts += [comparison("opaque"), block("type", "query_root", roots)] + [p for t in seen.values() for p in table_types(t, seen)]
     return build_schema("\n".join(parts), assume_valid=True)
