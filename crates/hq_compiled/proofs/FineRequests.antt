@@ -38,7 +38,6 @@ use Rattle.hq_compiled.specs.Fine.{Has, TestFits, FineRel, FineChain, FineArgume
 use Rattle.hq_compiled.specs.Lists.{list_sorts}
 use Rattle.hq_compiled.proofs.Relationships.{less, column_is, column_there, fitting_rel, rel_fine}
 use Rattle.hq_compiled.proofs.FineConditions.{of_column, value_fine, condition_fine}
-use Rattle.hq_compiled.proofs.TypedConditions.{two}
 use Rattle.hq_compiled.proofs.Once.{each_once}
 use Rattle.hq_compiled.proofs.Distinct.{entries_begin}
 

@@ -7,7 +7,6 @@ use Rattle.hq_terms.specs.Schema.{Schema, table, no_column}
 use Rattle.hq_terms.specs.Selected.{SortKey, ListArguments, ascending, sorts_or, entries, smaller}
 use Rattle.hq_terms.specs.declared.table.Column.{Column}
 use Rattle.hq_terms.specs.declared.table.Table.{Table}
-use Rattle.hq_sql_tree.specs.declared.expr.ColumnForm.TheVariants.{Plain}
 use Rattle.hq_sql_tree.specs.Tree as tree
 use Rattle.hq_sql_tree.specs.Tree.{ExprTree, PairTree, OrderTree, OutTree, SelectTree, JoinTree, PredTree, joins_of, pairs_of, orders_of}
 use Rattle.hq_sql_tree.specs.WellFormed as well

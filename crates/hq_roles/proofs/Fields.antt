@@ -32,7 +32,7 @@ use Rattle.hq_role_schema.specs.declared.shown.Link.{Link}
 use Rattle.hq_roles.specs.Access.{Access}
 use Rattle.hq_roles.specs.Leads.{Target, plain, to, where_holds, behind_one, behind_many, aggregates_behind, behind, list_target, remote_of, field_target, input_target, Reaches, IsOf, is_output, is_input, ArgFits, FieldFits}
 use Rattle.hq_roles.proofs.Links.{LinkFits}
-use Rattle.hq_roles.proofs.Lists.{each_append, each_map, each_flat_map, each_filter_map}
+use Rattle.hq_roles.proofs.Lists.{each_append, each_flat_map, each_filter_map}
 use Rattle.hq_roles.proofs.Permits.{Permitted}
 use Rattle.hq_roles.proofs.Standing.{what, StandsAt, PartStands, ScalarsStand}
 
