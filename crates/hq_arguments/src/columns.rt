@@ -286,12 +286,7 @@ pub fn counted(
 }
 
 /// Whether values of a column of a table are counted, or different ones alone: of the latter there is an order. Rows are always counted.
-pub fn is_counted(
-    context: &Context<'_>,
-    t: TableId,
-    column: Option<ColId>,
-    distinct: bool,
-) -> bool
+pub fn is_counted(context: &Context<'_>, t: TableId, column: Option<ColId>, distinct: bool) -> bool
     ensures { result ≡ is_counted (context_view context.now) t column distinct }
 {
     match column {

@@ -1,6 +1,6 @@
 -- The definitions at work on two tables: authors, and articles by them.
 use Rattle.std.specs.Prelude.{◌≡◌, ℕ, List, [], ◌∷◌, ◌++◌, map, flat_map, true, false, Option, Some, None, option_map, codes, refl}
-use Rattle.hq_base.specs.declared.value.Ty.TheVariants.{Integer, Bigint, Text, Boolean}
+use Rattle.hq_base.specs.declared.value.Ty.TheVariants.{Integer, Bigint, Text, Boolean, Opaque}
 use Rattle.hq_terms.specs.Bexp.{always}
 use Rattle.hq_terms.specs.Fits.{fits}
 use Rattle.hq_terms.specs.Meta.{MetaTree}
@@ -17,6 +17,7 @@ use Rattle.hq_role_schema.specs.Fields.{part_fields}
 use Rattle.hq_role_schema.specs.FixedTypes.{fixed_type}
 use Rattle.hq_role_schema.specs.Placed.{part_count}
 use Rattle.hq_role_schema.specs.RoleSchema.{part_type, role_schema}
+use Rattle.hq_role_schema.specs.Scalars.{scalar_type}
 
 -- the authors and the articles
 abbrev tables : List Table
@@ -177,3 +178,63 @@ title_of_mix = refl
 look_up_of_mix : types (codes "mix") 19 (codes "article_by_pk") ≡ Some (named 21, non_null (named 1) ∷ [])
 unfolding role_schema part_count part_type part_fields fixed_type
 look_up_of_mix = refl
+
+-- ---- opaque columns
+
+-- two columns of one type of PostgreSQL, and one whose type has no name of GraphQL
+abbrev priced : List Table
+priced =
+    record {
+      schema = codes "public";
+      name = codes "product";
+      columns =
+          record { name = codes "id"; ty = Integer; of = []; nullable = false }
+          ∷ record { name = codes "price"; ty = Opaque; of = codes "numeric"; nullable = true }
+          ∷ record { name = codes "made"; ty = Opaque; of = codes "timestamp with time zone"; nullable = true }
+          ∷ record { name = codes "cost"; ty = Opaque; of = codes "numeric"; nullable = true } ∷ [];
+      key = 0 ∷ [];
+      foreign = [];
+    }
+    ∷ []
+
+abbrev products : MetaTree
+products = record {
+  tracked =
+      record {
+        table = 0;
+        name = codes "product";
+        column_names = codes "id" ∷ codes "price" ∷ codes "made" ∷ codes "cost" ∷ [];
+        roots = roots_with (codes "product") (codes "product_aggregate") (codes "product_by_pk");
+        rels = [];
+        perms = record { role = codes "maker"; cols = 0 ∷ 2 ∷ []; filter = always; limit = None; aggregations = false } ∷ [];
+      }
+      ∷ [];
+  inherited = [];
+}
+
+products_fit : fits priced products ≡ true
+products_fit = refl
+
+-- the scalar of the two stands once, before the types of the table
+scalars_of_admin : names (role_schema priced products Admin) ≡ fixed_types ++ codes "numeric" ∷ flat_map (types_of (schema_of priced products)) products.tracked
+unfolding role_schema part_count part_type fixed_type scalar_type
+scalars_of_admin = refl
+
+-- and not where a role sees neither
+scalars_of_maker :
+    names (role_schema priced products (Named (codes "maker")))
+    ≡ fixed_types ++ codes "product" ∷ codes "product_bool_exp" ∷ codes "product_order_by" ∷ codes "product_select_column" ∷ []
+unfolding role_schema part_count part_type fixed_type scalar_type
+scalars_of_maker = refl
+
+price : leads (role_schema priced products Admin) 22 (codes "price") ≡ Some (origin.Column 1, 21)
+unfolding role_schema part_count part_type part_fields fixed_type scalar_type
+price = refl
+
+cost : leads (role_schema priced products Admin) 22 (codes "cost") ≡ Some (origin.Column 3, 21)
+unfolding role_schema part_count part_type part_fields fixed_type scalar_type
+cost = refl
+
+made : leads (role_schema priced products Admin) 22 (codes "made") ≡ Some (origin.Column 2, 2)
+unfolding role_schema part_count part_type part_fields fixed_type scalar_type
+made = refl
