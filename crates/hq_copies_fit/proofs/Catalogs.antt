@@ -238,7 +238,7 @@ module _ (tables : List Table) (m : MetaTree) (role : Role) (whole : is_catalog 
             → (not ((column s o.entry.table c).nullable || has_mask o.permission c) && is_ordered (column s o.entry.table c).ty) ≡ true
         still_key o c plain old =
             let go : (w : Option Column) → slice_get (table s o.entry.table).columns c ≡ w → is_key_column w ≡ true
-                → (not ((column s o.entry.table c).nullable || has_mask o.permission c) && is_ordered (column s o.entry.table c).ty) ≡ true =
+            → (not ((column s o.entry.table c).nullable || has_mask o.permission c) && is_ordered (column s o.entry.table c).ty) ≡ true =
             elim [
               | None ↦ λ e g. absurd (false≢true g)
               | Some x ↦ λ e g.

@@ -108,12 +108,7 @@ fn check_scalars(
 
 // The names of all tables, and then the scalars beside them.
 #[tactic(auto, unfolding(crate::specs::Repeats::names_due))]
-fn names_of(
-    alloc: Global,
-    catalog: &Catalog,
-    meta: &Meta,
-    path: &Txt,
-) -> Result<(), NameRefusal>
+fn names_of(alloc: Global, catalog: &Catalog, meta: &Meta, path: &Txt) -> Result<(), NameRefusal>
     ensures { Gives (λ done. done) NameRefusal.Memory (names_due (schema_of catalog.now.tables (meta_view meta.now)) (meta_view meta.now) path.now) result }
 {
     let scope = Scope { catalog, meta };

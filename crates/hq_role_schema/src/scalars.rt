@@ -109,11 +109,7 @@ fn scalar_type(alloc: Global, name: &Txt) -> Result<TypeDef, Memory>
 }
 
 /// Adds these as types.
-pub fn push_types(
-    alloc: Global,
-    types: &mut Vec<TypeDef>,
-    scalars: &[Txt],
-) -> Result<(), Memory>
+pub fn push_types(alloc: Global, types: &mut Vec<TypeDef>, scalars: &[Txt]) -> Result<(), Memory>
     ensures { OnOk result (map type_view types.new.items ≡ map type_view types.old.items ++ map scalar_type scalars.now) }
 {
     for name in scalars {

@@ -108,6 +108,10 @@ module _ (types : List TypeTree) (a : Access) (fixed_ones : (f : Fixed) → Stan
 
   -- ---- columns
 
+  -- the place of a scalar is one among them
+  abbrev scalar_place : (scalars : List (List ℕ)) → Option (List ℕ) → Option ℕ
+  scalar_place scalars o = option_and_then (λ name. position (λ s. bytes_eq s name) scalars) o
+
   -- a column's field in a part
   column_fits : (scalars : List (List ℕ)) → ScalarsStand types scalars → (owner : TypeOrigin) (t : ℕ) (p : Part) → ((c : ℕ) → field_target a owner (field.Column c) ≡ where_holds (a.column t c) plain) → (c : ShownColumn) → a.column t c.col ≡ true → IfSome (column_field scalars p c) (FieldFits types a owner)
   column_fits scalars scalar_ones owner t p target c allowed = by p
@@ -123,16 +127,12 @@ module _ (types : List TypeTree) (a : Access) (fixed_ones : (f : Fixed) → Stan
       held true r out = fits r out
       held false r out = tt
 
-      -- the place of a scalar is one among them
-      abbrev place : Option (List ℕ) → Option ℕ
-      place o = option_and_then (λ name. position (λ s. bytes_eq s name) scalars) o
-
-      within : (o : Option (List ℕ)) (i : ℕ) → place o ≡ Some i → i < length scalars
-      within None i e = cc
+      within : (o : Option (List ℕ)) (i : ℕ) → scalar_place scalars o ≡ Some i → i < length scalars
+      within None i e = absurd cc
       within (Some name) i e = (position-Some (λ s. bytes_eq s name) scalars i [] e).0
 
       -- so a column's values have a type that is an output
-      valued : (o : Option ℕ) → place c.scalar ≡ o → (r : TypeRefTree) → base r ≡ base (scalar_at c.ty o) → IsOf is_output types r
+      valued : (o : Option ℕ) → scalar_place scalars c.scalar ≡ o → (r : TypeRefTree) → base r ≡ base (scalar_at c.ty o) → IsOf is_output types r
       valued None e r same = fixed_output r (fixed_type.Scalar c.ty) same refl
       valued (Some i) e r same = is_of types is_output r (type.Scalar Opaque) kind.Scalar (rw same (scalar_ones i (within c.scalar i e))) refl
 
@@ -141,7 +141,7 @@ module _ (types : List TypeTree) (a : Access) (fixed_ones : (f : Fixed) → Stan
       row_base false r = refl
 
       by : (q : Part) → IfSome (column_field scalars q c) (FieldFits types a owner)
-      by Rows = fits (row_type scalars c) (valued (place c.scalar) refl (row_type scalars c) (row_base c.nullable (column_scalar scalars c)))
+      by Rows = fits (row_type scalars c) (valued (scalar_place scalars c.scalar) refl (row_type scalars c) (row_base c.nullable (column_scalar scalars c)))
       by (Aggregated g) = held (has_aggregate g c) (fixed (fixed_type.Scalar (given_type g c.ty))) (fixed_output (fixed (fixed_type.Scalar (given_type g c.ty))) (fixed_type.Scalar (given_type g c.ty)) refl refl)
       by Filter = tt
       by Sort = tt

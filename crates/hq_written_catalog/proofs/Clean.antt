@@ -81,18 +81,19 @@ pub names_clean : (columns : List Column) (ks : List ℕ) → CleanColumns colum
 names_clean columns [] h = refl
 names_clean columns (k ∷ ks) h = and_from _ _ (name_clean columns k h) (names_clean columns ks h)
 
+-- the members of a column, with its type of PostgreSQL or without
+abbrev members_of : Column → Bool → List (List ℕ × JsonTree)
+members_of c b = (field_name field.Name, str c.name) ∷ (field_name field.ColumnType, str (catalog_name c.ty)) ∷ (cond b ((field_name field.Of, str c.of) ∷ []) [] ++ (field_name field.Nullable, bool c.nullable) ∷ [])
+
 column_readable : (c : Column) → is_clean_column c ≡ true → Readable 1 (column_json c)
 column_readable c h = by (has_of c)
   where
     p : (is_clean c.name ≡ true) × (is_clean c.of ≡ true)
     p = and_parts (is_clean c.name) (is_clean c.of) h
 
-    abbrev members : Bool → List (List ℕ × JsonTree)
-    members b = (field_name field.Name, str c.name) ∷ (field_name field.ColumnType, str (catalog_name c.ty)) ∷ (cond b ((field_name field.Of, str c.of) ∷ []) [] ++ (field_name field.Nullable, bool c.nullable) ∷ [])
-
-    by : (b : Bool) → Readable 1 (object (members b))
-    by true = object_readable 0 (members true) opaque_names (text_readable 0 c.name p.0, (text_readable 0 (catalog_name c.ty) (clean_type c.ty), (text_readable 0 c.of p.1, (bool_readable 0 c.nullable, tt))))
-    by false = object_readable 0 (members false) column_names (text_readable 0 c.name p.0, (text_readable 0 (catalog_name c.ty) (clean_type c.ty), (bool_readable 0 c.nullable, tt)))
+    by : (b : Bool) → Readable 1 (object (members_of c b))
+    by true = object_readable 0 (members_of c true) opaque_names (text_readable 0 c.name p.0, (text_readable 0 (catalog_name c.ty) (clean_type c.ty), (text_readable 0 c.of p.1, (bool_readable 0 c.nullable, tt))))
+    by false = object_readable 0 (members_of c false) column_names (text_readable 0 c.name p.0, (text_readable 0 (catalog_name c.ty) (clean_type c.ty), (bool_readable 0 c.nullable, tt)))
 
 columns_readable : (columns : List Column) → CleanColumns columns → Each (λ c. Readable 1 (column_json c)) columns
 columns_readable [] h = tt
