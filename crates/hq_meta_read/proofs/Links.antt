@@ -31,7 +31,7 @@ use Rattle.hq_meta_read.specs.Related.{rel_name_at, rel_at, objects_at, rels_at}
 use Rattle.hq_meta_read.proofs.Heads.{free_name_at-free}
 use Rattle.hq_meta_read.proofs.Keys.{joins, Pairs, Key, own_pairs, remote_pairs, own_key-Key, remote_key-Key}
 use Rattle.hq_meta_read.proofs.Lists.{positive, push_all, list_all-push, list_all-from, beside_all, objects-only, objects-push}
-use Rattle.hq_meta_read.proofs.Steps.{ok_weaker, ok_and_then, ok_next, ok_tested, each_after-keeps, each_member-beside}
+use Rattle.hq_meta_read.proofs.Steps.{ok_weaker, ok_and_then, ok_next, ok_checked, ok_tested, each_after-keeps, each_member-beside}
 
 -- to a tracked table, by pairs that can be compared
 record Joined (tables : List Table) (m : MetaTree) (t : ℕ) (l : Link) : Type 0 where

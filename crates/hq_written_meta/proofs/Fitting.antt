@@ -1,5 +1,5 @@
 -- What a metadata that fits a catalog has, part by part.
-use Rattle.std.proofs.Common.{◌≡◌, ◌∙◌, ℕ, suc, nat_lt, List, [], ◌∷◌, length, true, not, Option, Some, None, slice_get, is_some, option_map, bytes_eq, codes, refl, sym, ap, ap₂}
+use Rattle.std.proofs.Common.{◌≡◌, ◌∙◌, ℕ, suc, nat_lt, ◌&&◌, List, [], ◌∷◌, length, true, not, Option, Some, None, slice_get, is_some, option_map, bytes_eq, codes, refl, sym, ap, ap₂}
 use Rattle.std.specs.List.{list_all}
 use Rattle.std.proofs.lemmas.Bool.{and_parts}
 use Rattle.std.proofs.lemmas.Bool.Decides.{Decides-eqb}
