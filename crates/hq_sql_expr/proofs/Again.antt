@@ -79,12 +79,15 @@ or_empty_ends rest = (refl, refl)
 
 -- ---- columns and literals
 
-form_again : (f : ColumnForm) (rest : List ℕ) → form_start f ≡ [] → Ends rest → form_at (form_text f ++ rest) ≡ Some (f, rest)
+open_stands : word_text word.Open ≡ [] → ⊥
 unfolding word_text
+open_stands e = absurd cc
+
+form_again : (f : ColumnForm) (rest : List ℕ) → form_start f ≡ [] → Ends rest → form_at (form_text f ++ rest) ≡ Some (f, rest)
 form_again form.Plain rest starts ends = rw ends.1 refl
 form_again form.Collated rest starts ends = rw (after_again word.Collate rest) refl
-form_again form.AsText rest starts ends = absurd cc
-form_again form.AsTextCollated rest starts ends = absurd cc
+form_again form.AsText rest starts ends = absurd (open_stands starts)
+form_again form.AsTextCollated rest starts ends = absurd (open_stands starts)
 
 -- the text of a column is not collated where no COLLATE follows
 cast_alone : (rest : List ℕ) → after word.Collate rest ≡ None → after word.CloseAsTextCollate (word_text word.CloseAsText ++ rest) ≡ None

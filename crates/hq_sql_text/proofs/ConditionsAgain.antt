@@ -141,9 +141,12 @@ pred_free (tree.all_of ps) rest = refl
 pred_free (tree.any_of ps) rest = refl
 pred_free (tree.exists s) rest = refl
 
-members_free : (w : Word) (ps : PredTrees) (rest : List ℕ) → Free 34 ((separated w (pred_texts ps) ++ word_text word.Close) ++ rest)
+close_free : (rest : List ℕ) → Free 34 (word_text word.Close ++ rest)
 unfolding word_text
-members_free w tree.no_pred rest = refl
+close_free rest = refl
+
+members_free : (w : Word) (ps : PredTrees) (rest : List ℕ) → Free 34 ((separated w (pred_texts ps) ++ word_text word.Close) ++ rest)
+members_free w tree.no_pred rest = close_free rest
 members_free w (tree.pred p ps) rest =
     let later = each_after w (pred_texts ps) ++ (word_text word.Close ++ rest) in
     let regrouped : (separated w (pred_texts (tree.pred p ps)) ++ word_text word.Close) ++ rest ≡ pred_text p ++ later = simp append_assoc in
@@ -169,8 +172,8 @@ unfolding word_text after
 existing_no_open inner rest = refl
 
 no_cast : (p : PredTree) (d : ℕ) (rest : List ℕ) → FitsPred p d → cast_next (pred_text p ++ rest) ≡ None
-no_cast tree.always d rest fits = unopened _ (bool_no_open rest).0
-no_cast tree.never d rest fits = unopened _ (bool_no_open rest).1
+no_cast tree.always d rest fits = unopened (after word.Open (word_text word.True ++ rest)) (bool_no_open rest).0
+no_cast tree.never d rest fits = unopened (after word.Open (word_text word.False ++ rest)) (bool_no_open rest).1
 no_cast (tree.test e t es) zero rest fits = absurd fits
 no_cast (tree.test e t es) (suc d) rest fits =
     let later = closed_list_text (test_close t) es in
@@ -186,7 +189,9 @@ no_cast (tree.all_of ps) d rest fits =
 no_cast (tree.any_of ps) d rest fits =
     let inner = separated word.Or (pred_texts ps) ++ word_text word.Close in
     opened_alone inner rest (unnamed (inner ++ rest) (members_free word.Or ps rest))
-no_cast (tree.exists s) d rest fits = unopened _ (existing_no_open (select_text s ++ word_text word.Close) rest)
+no_cast (tree.exists s) d rest fits =
+    let inner = select_text s ++ word_text word.Close in
+    unopened (after word.Open ((word_text word.Exists ++ inner) ++ rest)) (existing_no_open inner rest)
 
 -- what follows a word that is not there, a value that is not read, and a test
 not_chosen : {A : Type 0} (o : Option (List ℕ)) (f : List ℕ → Option A) (other : Option A) → o ≡ None → choose o f other ≡ other
