@@ -30,7 +30,7 @@ pub enum About {
 
 impl About {
     /// Each subject, in the order of its line.
-    pub const ALL: [About; 21] = [
+    pub const ALL: [About; 22] = [
         About::Worked,
         About::Blog,
         About::Shop,
