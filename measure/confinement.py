@@ -3,8 +3,10 @@
 `Rules(model, role, variables)` are those of a session over the tables of resolvers.py; `faults(select)` lists what a statement violates in
 text order, each as a rule and an alias, and `verdict(select)` is the first of the least rule, or None where it is confined.
 """
+import uuid
+
 import resolvers
-from sql_subset import Fold, Rows
+from sql_subset import FORMS, Fold, Rows
 
 MADE = None
 UNKNOWN = []
@@ -40,7 +42,7 @@ def same_expression(renaming, e, f):
         return False
     if e[0] == "column":
         return stands_for(renaming, e[1], f[1]) and e[2:] == f[2:]
-    return e[0] in ("int", "text", "bool") and e[1] == f[1]
+    return e[0] in ("int", "text", "uuid", "bool") and e[1] == f[1]
 
 
 def same_condition(renaming, p, q):
@@ -107,7 +109,7 @@ class Rules:
         return joined("and", found)
 
     def column(self, t, name, alias):
-        return ["column", alias, name, t.kinds[name] == "text"]
+        return ["column", alias, name, {"text": FORMS[1], "opaque": FORMS[3]}.get(t.kinds[name], FORMS[0])]
 
     def exists(self, far, links, inner, alias, numbers):
         inside = f"t{next(numbers)}"
@@ -121,12 +123,14 @@ class Rules:
             value = self.variables[value.lower()]
         if kind == "boolean":
             return ["bool", value in ("t", "true", True)]
+        if kind == "uuid":
+            return ["uuid", str(uuid.UUID(value))]
         return ["text", value] if kind == "text" else ["int", int(value)]
 
     def test(self, t, name, op, operand, alias):
         kind, value = t.kinds[name], self.column(t, name, alias)
         if op == "_is_null":
-            test = ["test", ["column", alias, name, False], " IS NULL", []]
+            test = ["test", ["column", alias, name, FORMS[2] if kind == "opaque" else FORMS[0]], " IS NULL", []]
             return test if operand in (True, "t", "true") else ["not", test]
         if op in resolvers.COLUMN_OPERATORS:
             return self.compared(value, resolvers.COLUMN_OPERATORS[op], self.column(t, operand, alias))

@@ -29,6 +29,11 @@ def shown(t, role):
     return list(t.kinds) if role == "admin" else t.perms[role]["columns"]
 
 
+def ordered(t, role):
+    """Those of them whose values are compared."""
+    return [c for c in shown(t, role) if t.kinds[c] != "opaque"]
+
+
 def aggregates(t, role):
     return role == "admin" or t.perms[role].get("allow_aggregations", False)
 
@@ -115,7 +120,7 @@ def read_model(directory):
 
 def read_rows(directory, model):
     """The rows of the table files, by tracked table."""
-    taken = {"integer": int, "bigint": int, "text": str, "boolean": lambda text: text in ("t", "true"), "uuid": str}
+    taken = {"integer": int, "bigint": int, "text": str, "boolean": lambda text: text in ("t", "true"), "uuid": str, "opaque": str}
     found = []
     for t in model:
         with open(f"{directory}/{'.'.join(table_key(t.catalog))}.csv", encoding="utf-8", newline="") as file:

@@ -74,7 +74,17 @@ class Table:
         return next(c for c in self.catalog["columns"] if c["name"] == name)
 
     def scalar(self, name):
-        return SCALARS[self.column(name)["type"]]
+        """The scalar of a column; that of an opaque one has the name of its type, where that is one of GraphQL."""
+        column = self.column(name)
+        return SCALARS.get(column["type"]) or (column["of"] if is_free_name(column["of"]) else "String")
+
+    def compared(self, name):
+        """The scalar by whose comparisons a column is tested; all opaque ones have the same."""
+        return "opaque" if self.column(name)["type"] == "opaque" else self.scalar(name)
+
+    def ordered(self):
+        """The columns whose values are compared."""
+        return [c for c in self.columns if self.column(c)["type"] != "opaque"]
 
     def is_nullable(self, name):
         return name in self.masked or self.column(name).get("nullable", True) and name not in self.catalog["primary_key"]
@@ -100,7 +110,8 @@ def block(kind, name, lines):
 
 
 def comparison(scalar):
-    operators = sorted(ANY_OPERATORS + (TEXT_OPERATORS if scalar == "String" else []))
+    """The comparisons of a scalar; of an opaque column there is the test for null alone."""
+    operators = ["_is_null"] if scalar == "opaque" else sorted(ANY_OPERATORS + (TEXT_OPERATORS if scalar == "String" else []))
     types = {"_in": f"[{scalar}!]", "_nin": f"[{scalar}!]", "_is_null": "Boolean"}
     return block("input", f"{scalar}_comparison_exp", [f"{o}: {types.get(o, scalar)}" for o in operators])
 
@@ -117,10 +128,10 @@ def table_types(table, seen):
     yield block("type", n, fields)
     yield block("input", f"{n}_bool_exp",
                 [f"_and: [{n}_bool_exp!]", f"_not: {n}_bool_exp", f"_or: [{n}_bool_exp!]"]
-                + [f"{named[c]}: {table.scalar(c)}_comparison_exp" for c in table.columns]
+                + [f"{named[c]}: {table.compared(c)}_comparison_exp" for c in table.columns]
                 + [f"{name}: {remote.name}_bool_exp" for name, remote, _ in related])
     yield block("input", f"{n}_order_by",
-                [f"{named[c]}: order_by" for c in table.columns]
+                [f"{named[c]}: order_by" for c in table.ordered()]
                 + [f"{name}: {remote.name}_order_by" for name, remote, many in related if not many])
     yield block("enum", f"{n}_select_column", [named[c] for c in table.columns])
     if table.aggregates:
@@ -129,8 +140,8 @@ def table_types(table, seen):
 
 def aggregate_types(table):
     n, named = table.name, table.column_names
-    ordered = [f"{named[c]}: {table.scalar(c)}" for c in table.columns if table.scalar(c) not in ("Boolean", "uuid")]
-    summed = [f"{named[c]}: bigint" for c in table.columns if table.scalar(c) in ("Int", "bigint")]
+    ordered = [f"{named[c]}: {table.scalar(c)}" for c in table.ordered() if table.scalar(c) not in ("Boolean", "uuid")]
+    summed = [f"{named[c]}: bigint" for c in table.ordered() if table.scalar(c) in ("Int", "bigint")]
     yield block("type", f"{n}_aggregate", [f"aggregate: {n}_aggregate_fields", f"nodes: [{n}!]!"])
     fields = [f"count(columns: [{n}_select_column!], distinct: Boolean): Int!"]
     taken = [("max", ordered), ("min", ordered), ("sum", summed)]
@@ -160,7 +171,9 @@ def due_schema(directory, role):
     tables = [Table(e, by_key, role, sets_of(metadata)) for e in entries]
     seen = {t.key: t for t in tables if t.seen}
     roots = [f for t in seen.values() for f in root_fields(t)] or ["no_queries_available: String!"]
+    scalars = dict.fromkeys(t.scalar(c) for t in seen.values() for c in t.columns if t.column(c)["type"] == "opaque")
     parts = ["schema { query: query_root }", "scalar bigint", "scalar uuid", block("enum", "order_by", DIRECTIONS)]
+    parts += [f"scalar {name}" for name in scalars if name != "String"]
     parts += [comparison(s) for s in ("Boolean", "Int", "String", "bigint", "uuid")]
-    parts += [block("type", "query_root", roots)] + [p for t in seen.values() for p in table_types(t, seen)]
+    parts += [comparison("opaque"), block("type", "query_root", roots)] + [p for t in seen.values() for p in table_types(t, seen)]
     return build_schema("\n".join(parts), assume_valid=True)

@@ -23,6 +23,8 @@ insert into author (id, name, motto, alive, books, born) values
     (3, '', '', null, null, null),
     (-4, 'Zürich ☃', E'\t \\. ', true, 0, null),
     (5, 'null', 'NULL', false, 1, null);
+update author set weight = 70.50, tags = '{a,"b, c",NULL}', notes = '{"k": [1, null]}', code = 'ab', seen = '2026-02-03 04:05:06.7+02' where id = 1;
+update author set weight = -0.10, tags = '{}', notes = 'null' where id = 2;
 
 -- a key of two columns of two types, a part of which is a foreign key, and a foreign key to the table itself
 create table book (
@@ -67,8 +69,17 @@ create table member (since integer, primary key (id)) inherits (person);
 insert into person values (1, 'a person');
 insert into member values (2, 'a member', 2026);
 
+-- views with a key that is named: by an option, and by a comment
+create view authors as select id, name, seen::date as day from author;
+create view room as select s.id, s.room, count(b.title) as books from shelf s left join book b on b.shelf = s.id group by s.id;
+comment on view room is e'The rooms of the library.\nhq key: id';
+create materialized view heavy as select author_id, title, lent from book where pages > 4;
+comment on materialized view heavy is 'hq key: title , author_id';
+
 -- what is left out whole
-create view authors as select id, name from author;
+create view nameless as select name from author;
+create view missing as select id from author;
+comment on view missing is 'hq key: id, number';
 create materialized view counted as select count(*) from author;
 create table log (line text);
 create table moment (at timestamptz primary key, what text);
@@ -81,7 +92,7 @@ create schema "dotted.x";
 create table dotted."x.y" (id integer primary key);
 create table "dotted.x".y (id integer primary key);
 
--- columns and foreign keys that are left out
+-- columns that are opaque, and a foreign key that is left out
 create type mood as enum ('sad', 'happy');
 create domain age as integer check (value >= 0);
 create collation any_case (provider = icu, locale = 'und-u-ks-level2', deterministic = false);

@@ -1,15 +1,17 @@
 -- Columns of a table by the names of its enum (Hasura, Queries: distinct_on; aggregates: count).
-use Rattle.std.specs.Prelude.{ℕ, List, [], ◌∷◌, ◌++◌, ◌==◌, if◌then◌else◌, Option, Some, None, option_and_then, slice_get, ok_or, Ok, Err}
+use Rattle.std.specs.Prelude.{ℕ, List, [], ◌∷◌, ◌++◌, Bool, true, not, ◌||◌, ◌==◌, if◌then◌else◌, Option, Some, None, option_and_then, slice_get, ok_or, Ok, Err}
 use Rattle.std.specs.List.{list_all, list_any}
 use Rattle.hq_ask_tree.specs.Conditions.{fits_distinct}
 use Rattle.hq_base.specs.Due.{and_then}
 use Rattle.hq_base.specs.Json.{JsonTree}
 use Rattle.hq_base.specs.Look.{str_in}
-use Rattle.hq_gql_tree.specs.declared.rule.RuleId.TheVariants.{CountColumns, DistinctOrder, ValuesOfCorrectType}
+use Rattle.hq_base.specs.Types.{is_ordered}
+use Rattle.hq_gql_tree.specs.declared.rule.RuleId.TheVariants.{CountColumns, DistinctOrder, UnorderedColumn, ValuesOfCorrectType}
 use Rattle.hq_schema.specs.Look.{enum_column_of}
 use Rattle.hq_schema.specs.Schema.{base}
 use Rattle.hq_schema.specs.declared.origin.ArgOrigin.{ArgOrigin}
 use Rattle.hq_schema.specs.declared.origin.ArgOrigin.TheVariants as stands
+use Rattle.hq_terms.specs.Schema.{column}
 use Rattle.hq_terms.specs.Selected.{SortKey}
 use Rattle.hq_arguments.specs.Context.{Context}
 use Rattle.hq_arguments.specs.Reading.{Read, each, items_in, Given}
@@ -26,7 +28,15 @@ columns_due c p j = each (column_due c p) (items_in j)
 abbrev pub with_different : List ℕ → (column : ℕ) → List ℕ
 with_different cs c = if list_any (λ d. d == c) cs then cs else cs ++ c ∷ []
 
+-- the values of a column of table t are compared
+abbrev pub has_order : Context → (t column : ℕ) → Bool
+has_order c t k = is_ordered (column c.tables t k).ty
+
 -- ---- distinct_on
+
+-- the distinct columns, where the values of each are compared
+abbrev pub ordered : Context → (t : ℕ) → List ℕ → Read (List ℕ)
+ordered c t cs = if list_all (has_order c t) cs then Ok cs else Err (Rule UnorderedColumn)
 
 -- the entries of order_by begin with the distinct columns, where there are entries
 abbrev pub matched : List SortKey → List ℕ → Read (List ℕ)
@@ -40,9 +50,9 @@ abbrev pub distinct_columns : Context → Option Given → Read (List ℕ)
 distinct_columns c None = Ok []
 distinct_columns c (Some g) = by_distinct c g.value (base g.arg.ty) g.arg.origin
 
--- the argument `distinct_on` beside these sorts, none where it is absent
-abbrev pub distinct_due : Context → (sorts : List SortKey) → Option Given → Read (List ℕ)
-distinct_due c sorts g = and_then (matched sorts) (distinct_columns c g)
+-- the argument `distinct_on` of a list of rows of table t beside these sorts, none where it is absent
+abbrev pub distinct_due : Context → (t : ℕ) → (sorts : List SortKey) → Option Given → Read (List ℕ)
+distinct_due c t sorts g = and_then (matched sorts) (and_then (ordered c t) (distinct_columns c g))
 
 -- ---- columns and distinct of count
 
@@ -62,3 +72,8 @@ by_columns c j p o = Ok None
 abbrev pub counted_due : Context → Option Given → Read (Option ℕ)
 counted_due c None = Ok None
 counted_due c (Some g) = by_columns c g.value (base g.arg.ty) g.arg.origin
+
+-- different values alone are counted only of a column of table t whose values are compared
+abbrev pub is_counted : Context → (t : ℕ) → Option ℕ → (distinct : Bool) → Bool
+is_counted c t None distinct = true
+is_counted c t (Some k) distinct = not distinct || has_order c t k

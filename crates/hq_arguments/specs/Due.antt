@@ -1,17 +1,18 @@
 -- The coerced arguments of one field, or its first fault (GraphQL October 2021, 6.4.1; Hasura, Queries).
-use Rattle.std.specs.Prelude.{ℕ, List, [], ◌∷◌, Some, codes, Result, Ok, Err}
+use Rattle.std.specs.Prelude.{ℕ, List, [], ◌∷◌, Bool, Option, Some, codes, if◌then◌else◌, Result, Ok, Err}
 use Rattle.hq_base.specs.Due.{mapped, ◌>>=◌}
 use Rattle.hq_coerce.specs.Faults.{fault_of}
 use Rattle.hq_coerce.specs.declared.refusal.CoerceRefusal.{CoerceRefusal}
 use Rattle.hq_coerce.specs.declared.refusal.CoerceRefusal.TheVariants as refusal
 use Rattle.hq_gql_tree.specs.Selections.{FieldHead}
 use Rattle.hq_gql_tree.specs.Values.{ArgumentTree}
+use Rattle.hq_gql_tree.specs.declared.rule.RuleId.TheVariants.{UnorderedColumn}
 use Rattle.hq_schema.specs.Schema.{ArgTree, FieldTree}
 use Rattle.hq_schema.specs.declared.origin.FieldOrigin.{FieldOrigin}
 use Rattle.hq_schema.specs.declared.origin.FieldOrigin.TheVariants as origin
 use Rattle.hq_terms.specs.Schema.{rel}
 use Rattle.hq_terms.specs.Selected.{ListArguments}
-use Rattle.hq_arguments.specs.Columns.{distinct_due, counted_due}
+use Rattle.hq_arguments.specs.Columns.{distinct_due, counted_due, is_counted}
 use Rattle.hq_arguments.specs.Context.{Context}
 use Rattle.hq_arguments.specs.FieldArguments.{FieldArguments, rows, key, count, type_name, deprecated, nothing}
 use Rattle.hq_arguments.specs.Keys.{key_due}
@@ -30,15 +31,18 @@ list_due c args xs t = do
   sorts ← order_by_due c t (given_named c args xs (codes "order_by"))
   limit ← rows_due (given_named c args xs (codes "limit"))
   offset ← rows_due (given_named c args xs (codes "offset"))
-  distinct ← distinct_due c sorts (given_named c args xs (codes "distinct_on"))
+  distinct ← distinct_due c t sorts (given_named c args xs (codes "distinct_on"))
   Ok (record { wanted = wanted; sorts = sorts; distinct = distinct; limit = limit; offset = offset })
 
--- those of `count`
-abbrev pub count_due : Context → List ArgTree → List ArgumentTree → Read FieldArguments
-count_due c args xs = do
+-- those of `count` over rows of table t
+abbrev pub counting : Context → (t : ℕ) → Option ℕ → (distinct : Bool) → Read FieldArguments
+counting c t column distinct = if is_counted c t column distinct then Ok (count column distinct) else Err (Rule UnorderedColumn)
+
+abbrev pub count_due : Context → List ArgTree → List ArgumentTree → (t : ℕ) → Read FieldArguments
+count_due c args xs t = do
   column ← counted_due c (given_named c args xs (codes "columns"))
   distinct ← flag_due (given_named c args xs (codes "distinct"))
-  Ok (count column distinct)
+  counting c t column distinct
 
 -- those of a field of introspection: the only argument is `includeDeprecated`, and a field without it has none
 abbrev pub introspection_due : Context → List ArgTree → List ArgumentTree → Read FieldArguments
@@ -52,7 +56,7 @@ by_origin c t args xs (origin.RowsAggregate u) = mapped rows (list_due c args xs
 by_origin c t args xs (origin.«List» r) = mapped rows (list_due c args xs (rel c.tables t r).remote)
 by_origin c t args xs (origin.ListAggregate r) = mapped rows (list_due c args xs (rel c.tables t r).remote)
 by_origin c t args xs (origin.RowByKey u) = mapped key (key_due c args xs u)
-by_origin c t args xs origin.Count = count_due c args xs
+by_origin c t args xs origin.Count = count_due c args xs t
 by_origin c t args xs origin.«Type» = mapped type_name (text_due (given_named c args xs (codes "name")))
 by_origin c t args xs origin.Introspection = introspection_due c args xs
 by_origin c t args xs o = Ok nothing

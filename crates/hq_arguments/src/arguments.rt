@@ -7,7 +7,7 @@ ghost use Rattle.hq_gql_tree.specs.Selections.{field_view};
 ghost use Rattle.hq_gql_tree.specs.Values.{argument_view};
 ghost use Rattle.hq_schema.specs.Schema.{arg_view, field_view as definition_view};
 ghost use Rattle.hq_arguments.specs.Context.{context_view};
-ghost use Rattle.hq_arguments.specs.Due.{list_due, count_due, introspection_due, by_origin, placed_refusal, arguments_due};
+ghost use Rattle.hq_arguments.specs.Due.{list_due, counting, count_due, introspection_due, by_origin, placed_refusal, arguments_due};
 ghost use Rattle.hq_arguments.specs.Columns.{distinct_due, counted_due};
 ghost use Rattle.hq_arguments.specs.FieldArguments.{rows, type_name, field_args_view};
 ghost use Rattle.hq_arguments.specs.Page.{rows_due};
@@ -18,7 +18,7 @@ ghost use Rattle.hq_arguments.specs.Where.{where_due};
 ghost use Rattle.hq_terms.specs.Bexp.{bexp_view};
 ghost use Rattle.hq_arguments.specs.declared.refusal.ArgRefusal.TheVariants as refusal;
 
-use crate::columns::{counted, distinct_on};
+use crate::columns::{counted, distinct_on, is_counted};
 use crate::filter::where_filter;
 use crate::keys::key;
 use crate::page::rows;
@@ -28,7 +28,7 @@ use crate::sorts::order_by;
 use crate::{ArgRefusal, Context, FieldArgs};
 use hq_ask_tree::{Args, Sort, SortList};
 use hq_coerce::{CoerceRefusal, fault_of};
-use hq_gql_tree::{Argument, Field};
+use hq_gql_tree::{Argument, Field, RuleId};
 use hq_schema::{ArgDefList, FieldDef, FieldOrigin};
 use hq_terms::{Bexp, ColId, ColList, TableId};
 use std::alloc::Global;
@@ -75,18 +75,19 @@ fn rows_of(
     rows(given_named(alloc, context, args, arguments, name)?)
 }
 
-// The argument `distinct_on` beside these sorts.
+// The argument `distinct_on` of a list of rows of a table beside these sorts.
 fn distinct_on_of(
     alloc: Global,
     context: &Context<'_>,
     args: &ArgDefList,
     arguments: &[Argument],
+    t: TableId,
     sorts: &[Sort],
 ) -> Result<ColList, ArgRefusal>
-    ensures { let c = context_view context.now in Gives (λ cs. cs) refusal.Memory (distinct_due c (map sort_view sorts.now) (given_named c (map arg_view args.now) (map argument_view arguments.now) (codes "distinct_on"))) result }
+    ensures { let c = context_view context.now in Gives (λ cs. cs) refusal.Memory (distinct_due c t (map sort_view sorts.now) (given_named c (map arg_view args.now) (map argument_view arguments.now) (codes "distinct_on"))) result }
 {
     let given = given_named(alloc, context, args, arguments, "distinct_on")?;
-    distinct_on(alloc, context, sorts, given)
+    distinct_on(alloc, context, t, sorts, given)
 }
 
 // The arguments of a list of rows of a table, in a box.
@@ -103,7 +104,7 @@ fn list(
     let sorts = order_by_of(alloc, context, args, arguments, t)?;
     let limit = rows_of(alloc, context, args, arguments, "limit")?;
     let offset = rows_of(alloc, context, args, arguments, "offset")?;
-    let distinct = distinct_on_of(alloc, context, args, arguments, sorts.as_slice())?;
+    let distinct = distinct_on_of(alloc, context, args, arguments, t, sorts.as_slice())?;
     let args = Args {
         filter: Box::into_inner(filter),
         sorts,
@@ -140,18 +141,35 @@ fn flag_of(
     flag(given_named(alloc, context, args, arguments, name)?)
 }
 
-// The arguments of `count`.
+// What is counted of a table, where it can be.
+fn counting(
+    context: &Context<'_>,
+    t: TableId,
+    col: Option<ColId>,
+    distinct: bool,
+) -> Result<FieldArgs, ArgRefusal>
+    ensures { Gives field_args_view refusal.Memory (counting (context_view context.now) t col distinct) result }
+{
+    if is_counted(context, t, col, distinct) {
+        Ok(FieldArgs::Count { col, distinct })
+    } else {
+        Err(ArgRefusal::Rule(RuleId::UnorderedColumn))
+    }
+}
+
+// The arguments of `count` over rows of a table.
 fn count(
     alloc: Global,
     context: &Context<'_>,
     args: &ArgDefList,
     arguments: &[Argument],
+    t: TableId,
 ) -> Result<FieldArgs, ArgRefusal>
-    ensures { Gives field_args_view refusal.Memory (count_due (context_view context.now) (map arg_view args.now) (map argument_view arguments.now)) result }
+    ensures { Gives field_args_view refusal.Memory (count_due (context_view context.now) (map arg_view args.now) (map argument_view arguments.now) t) result }
 {
     let col = columns_of(alloc, context, args, arguments)?;
     let distinct = flag_of(alloc, context, args, arguments, "distinct")?;
-    Ok(FieldArgs::Count { col, distinct })
+    counting(context, t, col, distinct)
 }
 
 // The argument `name` of `__type`.
@@ -224,7 +242,7 @@ fn arguments_by(
             let key = key(alloc, context, args.as_slice(), arguments, table)?;
             Ok(FieldArgs::Key(key))
         }
-        FieldOrigin::Count => count(alloc, context, args, arguments),
+        FieldOrigin::Count => count(alloc, context, args, arguments, t),
         FieldOrigin::Type => type_name(alloc, context, args, arguments),
         FieldOrigin::Introspection => introspection(alloc, context, args, arguments),
         _ => Ok(FieldArgs::Nothing),
@@ -241,7 +259,7 @@ fn placed_refusal(at: u64, refusal: ArgRefusal) -> CoerceRefusal
     }
 }
 
-/// The coerced arguments of a field with this definition that stands at a row of a table (GraphQL October 2021, 6.4.1): F36 to F41
+/// The coerced arguments of a field with this definition that stands at a row of a table (GraphQL October 2021, 6.4.1): F36 to F42
 /// at the field, in their order. At the root the field stands at no table's row.
 pub fn coerce_args(
     alloc: Global,

@@ -3,10 +3,10 @@ ghost use Rattle.std.specs.Prelude.{◌≡◌, ◌≤◌, ◌==◌, ◌&&◌, If
 ghost use Rattle.std.specs.List.{list_all, list_any};
 ghost use Rattle.hq_ask_tree.specs.Conditions.{are_sorts_of, fits_distinct, is_plain_sort};
 ghost use Rattle.hq_ask_tree.specs.Arguments.{sort_view};
-ghost use Rattle.hq_base.specs.Due.{Gives};
+ghost use Rattle.hq_base.specs.Due.{Gives, and_then};
 ghost use Rattle.hq_base.specs.Json.{json_view};
 ghost use Rattle.hq_base.specs.Lists.{firsts};
-ghost use Rattle.hq_arguments.specs.Columns.{column_due, with_different, matched, by_distinct, distinct_columns, distinct_due, one_column, by_columns, counted_due};
+ghost use Rattle.hq_arguments.specs.Columns.{column_due, with_different, has_order, ordered, is_counted, matched, by_distinct, distinct_columns, distinct_due, one_column, by_columns, counted_due};
 ghost use Rattle.hq_arguments.specs.Context.{context_view};
 ghost use Rattle.hq_arguments.specs.Given.{given_view};
 ghost use Rattle.hq_arguments.specs.Reading.{each};
@@ -18,7 +18,7 @@ use hq_ask_tree::Sort;
 use hq_base::{Json, List, Memory};
 use hq_gql_tree::RuleId;
 use hq_schema::{ArgOrigin, TypeId};
-use hq_terms::{ColId, ColList, has_column};
+use hq_terms::{ColId, ColList, TableId, has_column};
 use std::alloc::Global;
 
 // The column that a name of the enum `p` stands for.
@@ -171,16 +171,53 @@ fn begins_with(columns: &[ColId], different: usize, sorts: &[Sort]) -> bool
     are_sorts_of(columns, first_sorts(sorts, different))
 }
 
-/// The columns of the argument `distinct_on` beside these sorts, none where it is not given.
+// Whether the values of a column of a table are compared.
+fn has_order(context: &Context<'_>, t: TableId, column: ColId) -> bool
+    ensures { result ≡ has_order (context_view context.now) t column }
+{
+    context.scope.column_type(t, column).is_ordered()
+}
+
+// Whether those of all of these are.
+fn have_order(context: &Context<'_>, t: TableId, columns: &[ColId]) -> bool
+    ensures { result ≡ list_all (has_order (context_view context.now) t) columns.now }
+{
+    for column in columns {
+        if !has_order(context, t, *column) {
+            return false;
+        }
+    }
+    true
+}
+
+// The distinct columns, where the values of each are compared.
+fn ordered_columns(
+    alloc: Global,
+    context: &Context<'_>,
+    t: TableId,
+    given: Option<Given<'_>>,
+) -> Result<ColList, ArgRefusal>
+    ensures { let c = context_view context.now in Gives (λ cs. cs) refusal.Memory (and_then (ordered c t) (distinct_columns c (option_map given_view given.entry))) result }
+{
+    let columns = distinct_columns(alloc, context, given)?;
+    if have_order(context, t, columns.as_slice()) {
+        Ok(columns)
+    } else {
+        Err(ArgRefusal::Rule(RuleId::UnorderedColumn))
+    }
+}
+
+/// The columns of the argument `distinct_on` of a list of rows of a table beside these sorts, none where it is not given.
 pub fn distinct_on(
     alloc: Global,
     context: &Context<'_>,
+    t: TableId,
     sorts: &[Sort],
     given: Option<Given<'_>>,
 ) -> Result<ColList, ArgRefusal>
-    ensures { Gives (λ cs. cs) refusal.Memory (distinct_due (context_view context.now) (map sort_view sorts.now) (option_map given_view given.entry)) result }
+    ensures { Gives (λ cs. cs) refusal.Memory (distinct_due (context_view context.now) t (map sort_view sorts.now) (option_map given_view given.entry)) result }
 {
-    let columns = distinct_columns(alloc, context, given)?;
+    let columns = ordered_columns(alloc, context, t, given)?;
     let count = different(alloc, columns.as_slice())?.len();
     if begins_with(columns.as_slice(), count, sorts) {
         Ok(columns)
@@ -245,5 +282,15 @@ pub fn counted(
             argument_column(alloc, context, arg.ty.base(), arg.origin, &given.value)
         }
         None => Ok(None),
+    }
+}
+
+/// Whether values of a column of a table are counted, or different ones alone: of the latter there is an order. Rows are always counted.
+pub fn is_counted(context: &Context<'_>, t: TableId, column: Option<ColId>, distinct: bool) -> bool
+    ensures { result ≡ is_counted (context_view context.now) t column distinct }
+{
+    match column {
+        Some(column) => !distinct || has_order(context, t, column),
+        None => true,
     }
 }

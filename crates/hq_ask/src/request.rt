@@ -164,7 +164,7 @@ fn fields_of<'a>(
 }
 
 /// The typed request of an operation for a session, or its first fault: the limits on its size (F32), then at each field in
-/// collected order its arguments (F36 to F41), then the session variables of the touched tables (F33, F34).
+/// collected order its arguments (F36 to F42), then the session variables of the touched tables (F33, F34).
 pub fn build<'a>(
     alloc: Global,
     document: &'a Document,

@@ -219,7 +219,7 @@ abbrev words : Schema
 words = record {
   schema = codes "public";
   name = codes "word";
-  columns = record { name = codes "article"; ty = Integer; nullable = false } ∷ record { name = codes "text"; ty = Text; nullable = false } ∷ [];
+  columns = record { name = codes "article"; ty = Integer; of = []; nullable = false } ∷ record { name = codes "text"; ty = Text; of = []; nullable = false } ∷ [];
   key = 0 ∷ 1 ∷ [];
   rels = [];
 } ∷ []

@@ -1,23 +1,43 @@
 //! The table of column types: each type's names, and what its values are.
 ghost use Rattle.std.specs.Prelude.{◌≡◌, false, find, bytes_eq};
 ghost use Rattle.hq_base.specs.Text.{has_zero};
-ghost use Rattle.hq_base.specs.Types.{all_types, type_place, catalog_name, scalar_name, comparison_name, type_named, comparable, is_whole};
+ghost use Rattle.hq_base.specs.Types.{all_types, column_types, is_ordered, type_place, catalog_name, scalar_name, comparison_name, type_named, comparable, is_whole};
 
 use crate::Ty;
 
 impl Ty {
-    /// All types, in ascending order of the bytes of their scalars' names.
+    /// All types with a scalar of their own, in ascending order of the bytes of the scalars' names.
     pub fn all() -> [Ty; 5]
         ensures { result ≡ all_types }
     {
         [Ty::Boolean, Ty::Integer, Ty::Text, Ty::Bigint, Ty::Uuid]
     }
 
-    /// Its place among them.
+    /// All types that a column may have.
+    pub fn of_columns() -> [Ty; 6]
+        ensures { result ≡ column_types }
+    {
+        [
+            Ty::Boolean,
+            Ty::Integer,
+            Ty::Text,
+            Ty::Bigint,
+            Ty::Uuid,
+            Ty::Opaque,
+        ]
+    }
+
+    /// The place of its scalar among them; that of an opaque column is the scalar of texts.
     pub fn place(self) -> usize
         ensures { result ≡ type_place self }
     {
-        self as usize
+        match self {
+            Ty::Boolean => 0,
+            Ty::Integer => 1,
+            Ty::Text | Ty::Opaque => 2,
+            Ty::Bigint => 3,
+            Ty::Uuid => 4,
+        }
     }
 
     /// Its name in a catalog, which is PostgreSQL's.
@@ -30,6 +50,7 @@ impl Ty {
             Ty::Text => "text",
             Ty::Boolean => "boolean",
             Ty::Uuid => "uuid",
+            Ty::Opaque => "opaque",
         }
     }
 
@@ -37,7 +58,7 @@ impl Ty {
     pub fn named(name: &str) -> Option<Ty>
         ensures { result ≡ type_named name.now }
     {
-        type_named(&Ty::all(), name)
+        type_named(&Ty::of_columns(), name)
     }
 
     /// The name of its scalar in a GraphQL schema.
@@ -48,7 +69,7 @@ impl Ty {
         match self {
             Ty::Integer => "Int",
             Ty::Bigint => "bigint",
-            Ty::Text => "String",
+            Ty::Text | Ty::Opaque => "String",
             Ty::Boolean => "Boolean",
             Ty::Uuid => "uuid",
         }
@@ -65,6 +86,7 @@ impl Ty {
             Ty::Text => "String_comparison_exp",
             Ty::Boolean => "Boolean_comparison_exp",
             Ty::Uuid => "uuid_comparison_exp",
+            Ty::Opaque => "opaque_comparison_exp",
         }
     }
 
@@ -73,6 +95,13 @@ impl Ty {
         ensures { result ≡ is_whole self }
     {
         matches!(self, Ty::Integer | Ty::Bigint)
+    }
+
+    /// Whether its values are compared, sorted, grouped and counted by difference.
+    pub fn is_ordered(self) -> bool
+        ensures { result ≡ is_ordered self }
+    {
+        !matches!(self, Ty::Opaque)
     }
 
     /// Whether its values can be compared with those of another type: both whole numbers, or both of one type.

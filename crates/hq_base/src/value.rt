@@ -37,6 +37,8 @@ pub enum Ty {
     Bigint,
     /// 128 bits, each value a text in its one form.
     Uuid,
+    /// Another type of PostgreSQL, each value the text that it gives for it.
+    Opaque,
 }
 
 /// A cell of a statement's rows.

@@ -270,7 +270,7 @@ pub fn list_want(ty: Ty) -> Want
     match ty {
         Ty::Integer => Want::IntegerList,
         Ty::Bigint => Want::BigintList,
-        Ty::Text => Want::TextList,
+        Ty::Text | Ty::Opaque => Want::TextList,
         Ty::Boolean => Want::BooleanList,
         Ty::Uuid => Want::UuidList,
     }

@@ -43,7 +43,7 @@ use Rattle.hq_rules_fields.specs.NodeRules.{is_given, lacks, lacks_any}
 use Rattle.hq_coerce.specs.Coercion as coercion
 use Rattle.hq_coerce.specs.Sources.{source_of}
 use Rattle.hq_coerce.specs.Variables.{VarTree, var_value}
-use Rattle.hq_arguments.specs.Columns.{one_column, columns_due, by_columns, by_distinct, distinct_columns, distinct_due, matched, counted_due}
+use Rattle.hq_arguments.specs.Columns.{one_column, columns_due, by_columns, by_distinct, distinct_columns, distinct_due, ordered, matched, counted_due}
 use Rattle.hq_arguments.specs.Context.{Context}
 use Rattle.hq_arguments.specs.Due.{list_due, count_due, introspection_due}
 use Rattle.hq_arguments.specs.FieldArguments.{deprecated}
@@ -60,7 +60,7 @@ use Rattle.hq_build_laws.proofs.Filters.{scalar_at, filter_lawful}
 use Rattle.hq_build_laws.proofs.Items.{found_each}
 use Rattle.hq_build_laws.proofs.Lawful.{Lawful, then_lawful, mapped_lawful, each_lawful}
 use Rattle.hq_build_laws.proofs.Literals.{Good, each_split, literal_is, some_of}
-use Rattle.hq_build_laws.proofs.Orders.{columns_lawful, matched_lawful, one_lawful, sorts_lawful}
+use Rattle.hq_build_laws.proofs.Orders.{columns_lawful, ordered_lawful, counting_lawful, matched_lawful, one_lawful, sorts_lawful}
 use Rattle.hq_build_laws.proofs.Places.{Schemed}
 use Rattle.hq_build_laws.proofs.Scalars.{scalar_is, flag_is, text_is, rows_lawful, key_lawful}
 use Rattle.hq_build_laws.proofs.Shapes.{KeyArg, Shaped}
@@ -312,10 +312,11 @@ module _ (tables : List Table) (m : MetaTree) (metadata_fits : fits tables m ≡
           by None is = tt
           by (Some g) is = let g_is = given_here (codes "order_by") (arg (codes "order_by") (items (part first Sort)) stands.OrderBy) refl g is in of_arg g.arg g.value g_is.1 g_is.0.of
 
-      distinct_lawful : (sorts : List SortKey) → Lawful (distinct_due c sorts (given_named c (list_args first) xs (codes "distinct_on")))
+      distinct_lawful : (sorts : List SortKey) → Lawful (distinct_due c u sorts (given_named c (list_args first) xs (codes "distinct_on")))
       unfolding list_args
-      distinct_lawful sorts = then_lawful (matched sorts) (distinct_columns c (given_named c (list_args first) xs (codes "distinct_on")))
-          (by (given_named c (list_args first) xs (codes "distinct_on")) refl) (λ cs e. matched_lawful tables m metadata_fits role schemed shaped vars sorts cs)
+      distinct_lawful sorts = then_lawful (matched sorts) (and_then (ordered c u) (distinct_columns c (given_named c (list_args first) xs (codes "distinct_on"))))
+          (then_lawful (ordered c u) (distinct_columns c (given_named c (list_args first) xs (codes "distinct_on")))
+          (by (given_named c (list_args first) xs (codes "distinct_on")) refl) (λ cs e. ordered_lawful tables m metadata_fits role schemed shaped vars u cs)) (λ cs e. matched_lawful tables m metadata_fits role schemed shaped vars sorts cs)
         where
           of_arg : (x : ArgTree) (j : JsonTree) → x ≡ arg (codes "distinct_on") (items (part first Columns)) stands.DistinctOn → coercion.is_null j ≡ false → IsOf R x.ty j
               → Lawful (by_distinct c j (base x.ty) x.origin)
@@ -346,7 +347,7 @@ module _ (tables : List Table) (m : MetaTree) (metadata_fits : fits tables m ≡
           then_lawful _ (order_by_due c u (given_named c (list_args first) xs (codes "order_by"))) order_lawful (λ sorts _.
           then_lawful _ (rows_due (given_named c (list_args first) xs (codes "limit"))) limit_lawful (λ limit _.
           then_lawful _ (rows_due (given_named c (list_args first) xs (codes "offset"))) offset_lawful (λ offset _.
-          then_lawful _ (distinct_due c sorts (given_named c (list_args first) xs (codes "distinct_on"))) (distinct_lawful sorts) (λ distinct _. tt)))))
+          then_lawful _ (distinct_due c u sorts (given_named c (list_args first) xs (codes "distinct_on"))) (distinct_lawful sorts) (λ distinct _. tt)))))
 
     -- the same of arguments that are those of a list
     pub list_lawful : (u : ℕ) (args : List ArgTree) → ((first : ℕ) × (args ≡ list_args first)) → Each (ArgFits types (list_target (Some u))) args
@@ -357,14 +358,14 @@ module _ (tables : List Table) (m : MetaTree) (metadata_fits : fits tables m ≡
 
     -- ---- count
 
-    count_here : (u first : ℕ) → Each (ArgFits types (count_target u)) (count_args first) → Each FineHere (arguments_nodes R (Some (count_args first)) xs) → Lawful (count_due c (count_args first) xs)
+    count_here : (u first : ℕ) → Each (ArgFits types (count_target u)) (count_args first) → Each FineHere (arguments_nodes R (Some (count_args first)) xs) → Lawful (count_due c (count_args first) xs u)
     unfolding count_args
     count_here u first fit nodes =
         then_lawful _ (counted_due c (given_named c (count_args first) xs (codes "columns"))) (by (given_named c (count_args first) xs (codes "columns")) refl) (λ column _.
         then_lawful _ (flag_due (given_named c (count_args first) xs (codes "distinct")))
         (flag_lawful (count_args first) nodes (codes "distinct")
         (λ x e. let both : Some (arg (codes "distinct") (fixed boolean) stands.Distinct) ≡ Some x = e in let same : arg (codes "distinct") (fixed boolean) stands.Distinct ≡ x = cc in
-        ap (λ (y : ArgTree). y.ty) (sym same))) (λ distinct _. tt))
+        ap (λ (y : ArgTree). y.ty) (sym same))) (λ distinct _. counting_lawful tables m metadata_fits role schemed shaped vars u column distinct))
       where
         of_arg : (x : ArgTree) (j : JsonTree) → x ≡ arg (codes "columns") (items (part first Columns)) stands.Columns → coercion.is_null j ≡ false → IsOf R x.ty j
             → Lawful (by_columns c j (base x.ty) x.origin)
@@ -383,9 +384,9 @@ module _ (tables : List Table) (m : MetaTree) (metadata_fits : fits tables m ≡
             of_arg g.arg g.value same g_is.0.not_null g_is.0.of
 
     pub count_lawful : (u : ℕ) (args : List ArgTree) → ((first : ℕ) × (args ≡ count_args first)) → Each (ArgFits types (count_target u)) args
-        → Each FineHere (arguments_nodes R (Some args) xs) → Lawful (count_due c args xs)
+        → Each FineHere (arguments_nodes R (Some args) xs) → Lawful (count_due c args xs u)
     count_lawful u args is fit nodes =
-        subst (λ (l : List ArgTree). Lawful (count_due c l xs)) (sym is.1)
+        subst (λ (l : List ArgTree). Lawful (count_due c l xs u)) (sym is.1)
         (count_here u is.0 (subst (Each (ArgFits types (count_target u))) is.1 fit) (subst (λ (l : List ArgTree). Each FineHere (arguments_nodes R (Some l) xs)) is.1 nodes))
 
     -- ---- introspection

@@ -46,6 +46,7 @@ wide ty.Bigint n h = h
 wide ty.Text n h = absurd cc
 wide ty.Boolean n h = absurd cc
 wide ty.Uuid n h = absurd cc
+wide ty.Opaque n h = absurd cc
 
 int_wide : (n : ℤ) (t : Ty) (text : List ℕ) → whole_number t text ≡ Some n → whole_number ty.Bigint text ≡ Some n
 int_wide n t text e = by (is_whole_number text) (int_fits t (signed_digits_value 10 text)) refl refl e
@@ -79,6 +80,7 @@ module _ (s : SchemaTree) (t : ℕ) where
       by : (o : Option ℤ) → is_some o ≡ true → is_some (option_map (λ v. json_of (cell_of v)) (option_map val.Int o)) ≡ true
       by None h = absurd cc
       by (Some n) h = refl
+  str_by text (origin.Scalar ty.Opaque) h = absurd cc
   str_by text (origin.Scalar ty.Uuid) h = let spelled : spells_uuid text ≡ true = h in rw spelled refl
   str_by text o h = absurd cc
 
@@ -88,6 +90,7 @@ module _ (s : SchemaTree) (t : ℕ) where
   bool_by b (origin.Scalar ty.Text) h = absurd cc
   bool_by b (origin.Scalar ty.Bigint) h = absurd cc
   bool_by b (origin.Scalar ty.Uuid) h = absurd cc
+  bool_by b (origin.Scalar ty.Opaque) h = absurd cc
   bool_by b o h = absurd cc
 
   enum_by : (name : List ℕ) (o : TypeOrigin) → literal.leaf_by s t o (enum name) ≡ true → is_some (coercion.leaf_by s t o (json.str name)) ≡ true
@@ -96,6 +99,7 @@ module _ (s : SchemaTree) (t : ℕ) where
   enum_by name (origin.Scalar ty.Text) h = absurd cc
   enum_by name (origin.Scalar ty.Bigint) h = absurd cc
   enum_by name (origin.Scalar ty.Uuid) h = absurd cc
+  enum_by name (origin.Scalar ty.Opaque) h = absurd cc
   enum_by name o h = by (enum_value_of s t name) h
     where
       by : (o : Option ℕ) → is_some o ≡ true → is_some (option_map (λ (place : ℕ). json.str name) o) ≡ true

@@ -31,12 +31,14 @@ use Rattle.hq_ask_tree.specs.Conditions.{fits_distinct}
 use Rattle.hq_coerce.specs.Coercion.{enum_value, leaf_by, leaf_value}
 use Rattle.hq_coerce.specs.Coercion as coercion
 use Rattle.hq_coerce.specs.Variables.{VarTree}
-use Rattle.hq_arguments.specs.Columns.{column_due, columns_due, matched, same_as, one_column}
+use Rattle.hq_arguments.specs.Columns.{column_due, columns_due, has_order, ordered, is_counted, matched, same_as, one_column}
 use Rattle.hq_arguments.specs.Context.{Context}
+use Rattle.hq_arguments.specs.Due.{counting}
+use Rattle.hq_arguments.specs.FieldArguments.{count}
 use Rattle.hq_arguments.specs.Reading.{items_in, fitting}
 use Rattle.hq_arguments.specs.Sorts.{direction_named, direction_in, sort_by, column_sort, by_origin, member_due, entry_due, members_due, entries_due, within_limit}
 use Rattle.hq_arguments.specs.declared.sorts.Direction.{Direction}
-use Rattle.hq_gql_tree.specs.declared.rule.RuleId.TheVariants.{ValuesOfCorrectType, SortEntries, DistinctOrder, CountColumns}
+use Rattle.hq_gql_tree.specs.declared.rule.RuleId.TheVariants.{ValuesOfCorrectType, SortEntries, DistinctOrder, CountColumns, UnorderedColumn}
 use Rattle.hq_arguments.specs.declared.refusal.ArgRefusal.TheVariants.{Rule}
 use Rattle.hq_build_laws.proofs.Filters.{input_same, shaped_at, input_shaped, no_leaf}
 use Rattle.hq_build_laws.proofs.Items.{each_at}
@@ -159,6 +161,21 @@ module _ (tables : List Table) (m : MetaTree) (metadata_fits : fits tables m ≡
   matched_lawful sorts cs = by (fits_distinct cs sorts)
     where
       by : (b : Bool) → Lawful (cond b (Ok cs) (Err (Rule DistinctOrder)))
+      by true = tt
+      by false = refl
+
+  -- columns whose values have no order
+  pub ordered_lawful : (t : ℕ) (cs : List ℕ) → Lawful (ordered c t cs)
+  ordered_lawful t cs = by (list_all (has_order c t) cs)
+    where
+      by : (b : Bool) → Lawful (cond b (Ok cs) (Err (Rule UnorderedColumn)))
+      by true = tt
+      by false = refl
+
+  pub counting_lawful : (t : ℕ) (k : Option ℕ) (distinct : Bool) → Lawful (counting c t k distinct)
+  counting_lawful t k distinct = by (is_counted c t k distinct)
+    where
+      by : (b : Bool) → Lawful (cond b (Ok (count k distinct)) (Err (Rule UnorderedColumn)))
       by true = tt
       by false = refl
 

@@ -15,7 +15,7 @@ use Rattle.hq_terms.specs.Tests.{applies}
 use Rattle.hq_terms.specs.declared.bexp.Operand.TheVariants.{Const}
 use Rattle.hq_terms.specs.declared.test.Test.{Test}
 use Rattle.hq_terms.specs.declared.test.Test.TheVariants.{Like}
-use Rattle.hq_schema.specs.Fixed.{fixed_place}
+use Rattle.hq_schema.specs.Fixed.{scalar_type, fixed_place}
 use Rattle.hq_schema.specs.Look.{type_at}
 use Rattle.hq_schema.specs.Schema.{TypeRefTree, named, list_of, non_null, base, TypeTree, SchemaTree}
 use Rattle.hq_schema.specs.declared.fixed.Fixed.TheVariants.{Scalar}
@@ -32,11 +32,25 @@ use Rattle.hq_arguments.specs.declared.refusal.ArgRefusal.TheVariants.{Rule}
 use Rattle.hq_build_laws.proofs.Lawful.{Lawful}
 use Rattle.hq_build_laws.proofs.Values.{IsOf, AreOf}
 
+-- a type has the constants of its scalar
+same_constant : (t : Ty) (j : JsonTree) → constant_in (scalar_type t) j ≡ constant_in t j
+same_constant ty.Boolean j = refl
+same_constant ty.Integer j = refl
+same_constant ty.Text j = refl
+same_constant ty.Bigint j = refl
+same_constant ty.Uuid j = refl
+same_constant ty.Opaque null = refl
+same_constant ty.Opaque (bool b) = refl
+same_constant ty.Opaque (int n) = refl
+same_constant ty.Opaque (str s) = refl
+same_constant ty.Opaque (arr js) = refl
+same_constant ty.Opaque (obj ms) = refl
+
 -- the scalar of a type stands at its place
 pub record IsScalar (s : SchemaTree) (t : Ty) : Type 0 where
   pub own : TypeTree
   pub here : type_at s (fixed_place (Scalar t)) ≡ Some own
-  pub means : own.origin ≡ type.Scalar t
+  pub means : own.origin ≡ type.Scalar (scalar_type t)
   pub leaf : is_input own.kind ≡ false
 
 -- a constant of the type, or null
@@ -49,8 +63,8 @@ module _ (s : SchemaTree) (t : Ty) (is : IsScalar s t) where
   leaf_constant j h =
       let first : is_some (leaf_by s (fixed_place (Scalar t)) is.own.origin j) ≡ true =
       ap (λ o. is_some (option_and_then (λ (d : TypeTree). leaf_by s (fixed_place (Scalar t)) d.origin j) o)) (sym is.here) ∙ h in
-      let second : is_some (option_map (λ v. json_of (cell_of v)) (constant_in t j)) ≡ true = ap (λ o. is_some (leaf_by s (fixed_place (Scalar t)) o j)) (sym is.means) ∙ first in
-      by (constant_in t j) second
+      let second : is_some (option_map (λ v. json_of (cell_of v)) (constant_in (scalar_type t) j)) ≡ true = ap (λ o. is_some (leaf_by s (fixed_place (Scalar t)) o j)) (sym is.means) ∙ first in
+      ap is_some (sym (same_constant t j)) ∙ by (constant_in (scalar_type t) j) second
     where
       by : (o : Option Val) → is_some (option_map (λ v. json_of (cell_of v)) o) ≡ true → is_some o ≡ true
       by None h = absurd cc
@@ -105,6 +119,7 @@ pattern_lawful ty.Boolean fold of j h = absurd cc
 pattern_lawful ty.Integer fold of j h = absurd cc
 pattern_lawful ty.Bigint fold of j h = absurd cc
 pattern_lawful ty.Uuid fold of j h = absurd cc
+pattern_lawful ty.Opaque fold of j h = absurd cc
 pattern_lawful ty.Text fold of null h = refl
 pattern_lawful ty.Text fold of (bool b) h = let no : false ≡ true = h refl in absurd cc
 pattern_lawful ty.Text fold of (int n) h = let no : false ≡ true = h refl in absurd cc

@@ -4,6 +4,7 @@ use Rattle.std.specs.List.{filter_map, list_all, list_any, cons_option}
 use Rattle.std.specs.Option.{option_map_or}
 use Rattle.std.proofs.lemmas.Bool.{eqb-true, or_left, or_right}
 use Rattle.std.proofs.lemmas.Option.{slice_get_within, slice_get-get_or, get_or_from_slice_get}
+use Rattle.hq_base.specs.Types.{is_ordered}
 use Rattle.hq_base.specs.Lists.{Each, all_differ}
 use Rattle.hq_base.proofs.Lists.{each_all, each_weaken, each_passes}
 use Rattle.hq_base.specs.declared.aggregate.Aggregate.{Aggregate as OneAggregate}
@@ -14,6 +15,7 @@ use Rattle.hq_terms.specs.Meta.{MetaTree, TrackedTree, tracked_table}
 use Rattle.hq_terms.specs.Operators.{all_operators}
 use Rattle.hq_terms.specs.Permission.{Permission, permission}
 use Rattle.hq_terms.specs.Schema.{Schema, schema_of, table, column, no_column}
+use Rattle.hq_terms.specs.SchemaNames.{scalar_of}
 use Rattle.hq_terms.specs.Tests.{arity, applies}
 use Rattle.hq_terms.specs.declared.role.Role.{Role}
 use Rattle.hq_terms.specs.declared.table.Column.{Column}
@@ -36,13 +38,14 @@ use Rattle.hq_schema.specs.declared.schema.Kind.{Kind}
 use Rattle.hq_role_schema.specs.Shown.{aggregates_over}
 use Rattle.hq_role_schema.specs.Fields.{list_field, aggregate_field, list_args, count_args, column_type, column_field, column_fields, link_fields, aggregated_fields, part_fields}
 use Rattle.hq_role_schema.specs.FixedTypes.{fixed_values, fixed_type, fixed_types}
-use Rattle.hq_role_schema.specs.Inputs.{connectives, column_input, is_filter, link_input, inputs_of, part_inputs}
+use Rattle.hq_role_schema.specs.Inputs.{connectives, input_type, column_input, is_filter, link_input, inputs_of, part_inputs}
 use Rattle.hq_role_schema.specs.Introspection.{introspection_fields}
 use Rattle.hq_role_schema.specs.Operators.{value_type, operator_arg, is_operator_of, operator_inputs}
 use Rattle.hq_role_schema.specs.Placed.{parts_of, placed, placed_from, part_count, links_from}
 use Rattle.hq_role_schema.specs.References.{fixed, part, arg, plain_field}
 use Rattle.hq_role_schema.specs.RoleSchema.{part_type, table_types, role_schema}
 use Rattle.hq_role_schema.specs.Root.{key_arg, key_fields, aggregate_root, root_fields, query_fields}
+use Rattle.hq_role_schema.specs.Scalars.{scalars_of, behind_scalars, scalar_type}
 use Rattle.hq_role_schema.specs.Shown.{under_name, shown_columns, shown_table, shown_entry, shown_tables}
 use Rattle.hq_role_schema.specs.declared.shown.Link.{Link}
 use Rattle.hq_role_schema.specs.declared.shown.PlacedTable.{PlacedTable}
@@ -161,8 +164,8 @@ module _ (tables : List Table) (m : MetaTree) (role : Role) where
 
   -- ---- types of tables
 
-  columns_shaped : (p : Part) (cs : List ShownColumn) → Each FieldShape (column_fields p cs)
-  columns_shaped p cs = each_filter_map FieldShape (λ (c : ShownColumn). Unit {0}) (column_field p) (λ c u. by c (column_type p c)) cs (each_all (λ (c : ShownColumn). Unit {0}) (λ c. tt) cs)
+  columns_shaped : (scalars : List (List ℕ)) (p : Part) (cs : List ShownColumn) → Each FieldShape (column_fields scalars p cs)
+  columns_shaped scalars p cs = each_filter_map FieldShape (λ (c : ShownColumn). Unit {0}) (column_field scalars p) (λ c u. by c (column_type scalars p c)) cs (each_all (λ (c : ShownColumn). Unit {0}) (λ c. tt) cs)
     where
       by : (c : ShownColumn) (o : Option TypeRefTree) → IfSome (option_map (λ r. plain_field c.name r (field.Column c.col)) o) FieldShape
       by c None = tt
@@ -182,16 +185,16 @@ module _ (tables : List Table) (m : MetaTree) (role : Role) where
   aggregated_shaped place [] = tt
   aggregated_shaped place (g ∷ gs) = (tt, aggregated_shaped (place + 1) gs)
 
-  fields_shaped : (first : ℕ) (cs : List ShownColumn) (ls : List Link) (p : Part) → Each FieldShape (part_fields first cs ls p)
+  fields_shaped : (scalars : List (List ℕ)) (first : ℕ) (cs : List ShownColumn) (ls : List Link) (p : Part) → Each FieldShape (part_fields scalars first cs ls p)
   unfolding part_fields
-  fields_shaped first cs ls Rows = each_append FieldShape (column_fields Rows cs) (flat_map link_fields ls) (columns_shaped Rows cs)
+  fields_shaped scalars first cs ls Rows = each_append FieldShape (column_fields scalars Rows cs) (flat_map link_fields ls) (columns_shaped scalars Rows cs)
       (each_flat_map FieldShape (λ (l : Link). Unit {0}) link_fields (λ l u. link_shaped l) ls (each_all (λ (l : Link). Unit {0}) (λ l. tt) ls))
-  fields_shaped first cs ls Filter = columns_shaped Filter cs
-  fields_shaped first cs ls Sort = columns_shaped Sort cs
-  fields_shaped first cs ls Columns = columns_shaped Columns cs
-  fields_shaped first cs ls Aggregate = (tt, (tt, tt))
-  fields_shaped first cs ls AggregateFields = ((first, refl), aggregated_shaped (first + 6) (aggregates_over cs))
-  fields_shaped first cs ls (Aggregated g) = columns_shaped (Aggregated g) cs
+  fields_shaped scalars first cs ls Filter = columns_shaped scalars Filter cs
+  fields_shaped scalars first cs ls Sort = columns_shaped scalars Sort cs
+  fields_shaped scalars first cs ls Columns = columns_shaped scalars Columns cs
+  fields_shaped scalars first cs ls Aggregate = (tt, (tt, tt))
+  fields_shaped scalars first cs ls AggregateFields = ((first, refl), aggregated_shaped (first + 6) (aggregates_over cs))
+  fields_shaped scalars first cs ls (Aggregated g) = columns_shaped scalars (Aggregated g) cs
 
   links_shaped : (o : TypeOrigin) (p : Part) → ((l : Link) → InputIs o (arg l.name (part l.first p) (stands.Relationship l.rel))) → (ls : List Link) → Each (InputIs o) (filter_map (link_input p) ls)
   links_shaped o p step ls = each_filter_map (InputIs o) (λ (l : Link). Unit {0}) (link_input p) (λ l u. by l (is_filter p || not l.many)) ls (each_all (λ (l : Link). Unit {0}) (λ l. tt) ls)
@@ -209,8 +212,12 @@ module _ (tables : List Table) (m : MetaTree) (role : Role) where
       by l false = tt
 
   plain_inputs : (p : Part) (cs : List ShownColumn) (ls : List Link) → Each (λ (a : ArgTree). a.default_false ≡ false) (inputs_of p cs ls)
-  plain_inputs p cs ls = each_append (λ (a : ArgTree). a.default_false ≡ false) (map (column_input p) cs) (filter_map (link_input p) ls)
-      (each_map (λ (a : ArgTree). a.default_false ≡ false) (column_input p) (λ c. refl) cs) (plain_links p ls)
+  plain_inputs p cs ls = each_append (λ (a : ArgTree). a.default_false ≡ false) (filter_map (column_input p) cs) (filter_map (link_input p) ls)
+      (each_filter_map (λ (a : ArgTree). a.default_false ≡ false) (λ (c : ShownColumn). Unit {0}) (column_input p) (λ c u. by c (is_filter p || is_ordered c.ty)) cs (each_all (λ (c : ShownColumn). Unit {0}) (λ c. tt) cs)) (plain_links p ls)
+    where
+      by : (c : ShownColumn) (b : Bool) → IfSome (cond b (Some (arg c.name (fixed (input_type p c.ty)) (stands.Column c.col))) None) (λ (a : ArgTree). a.default_false ≡ false)
+      by c true = refl
+      by c false = tt
 
   -- a column of the type that the catalog has
   typed_column : (t : ℕ) (c : ShownColumn) → column_ty s t c.col ≡ Some c.ty → c.ty ≡ (column s t c.col).ty
@@ -222,30 +229,34 @@ module _ (tables : List Table) (m : MetaTree) (role : Role) where
       → Each (InputIs (type.Filter t)) (connectives first ++ inputs_of Filter cs ls)
   filter_shaped t first cs ls typed =
       each_append (InputIs (type.Filter t)) (connectives first) (inputs_of Filter cs ls) ((non_null (part first Filter), refl, refl), (refl, ((non_null (part first Filter), refl, refl), tt)))
-      (each_append (InputIs (type.Filter t)) (map (column_input Filter) cs) (filter_map (link_input Filter) ls)
-      (each_mapped (InputIs (type.Filter t)) (λ (c : ShownColumn). column_ty s t c.col ≡ Some c.ty) (column_input Filter) (λ c h. ap (λ q. fixed (Comparison q)) (typed_column t c h)) cs typed)
+      (each_append (InputIs (type.Filter t)) (filter_map (column_input Filter) cs) (filter_map (link_input Filter) ls)
+      (each_filter_map (InputIs (type.Filter t)) (λ (c : ShownColumn). column_ty s t c.col ≡ Some c.ty) (column_input Filter) (λ c h. ap (λ q. fixed (Comparison q)) (typed_column t c h)) cs typed)
       (links_shaped (type.Filter t) Filter (λ l. refl) ls))
 
   sort_shaped : (t : ℕ) (cs : List ShownColumn) (ls : List Link) → Each (InputIs (type.Sort t)) (inputs_of Sort cs ls)
-  sort_shaped t cs ls = each_append (InputIs (type.Sort t)) (map (column_input Sort) cs) (filter_map (link_input Sort) ls)
-      (each_map (InputIs (type.Sort t)) (column_input Sort) (λ c. refl) cs) (links_shaped (type.Sort t) Sort (λ l. refl) ls)
+  sort_shaped t cs ls = each_append (InputIs (type.Sort t)) (filter_map (column_input Sort) cs) (filter_map (link_input Sort) ls)
+      (each_filter_map (InputIs (type.Sort t)) (λ (c : ShownColumn). Unit {0}) (column_input Sort) (λ c u. by c (is_ordered c.ty)) cs (each_all (λ (c : ShownColumn). Unit {0}) (λ c. tt) cs)) (links_shaped (type.Sort t) Sort (λ l. refl) ls)
+    where
+      by : (c : ShownColumn) (b : Bool) → IfSome (cond (false || b) (Some (arg c.name (fixed OrderBy) (stands.Column c.col))) None) (InputIs (type.Sort t))
+      by c true = refl
+      by c false = tt
 
-  part_shaped : (p : PlacedTable) (ls : List Link) → IsShown tables m role p.shown → (q : Part) → Shaped (part_type p ls q)
+  part_shaped : (scalars : List (List ℕ)) (p : PlacedTable) (ls : List Link) → IsShown tables m role p.shown → (q : Part) → Shaped (part_type scalars p ls q)
   unfolding part_type part_inputs
-  part_shaped p ls shown Rows = record { inputs = tt; plain = tt; fields = fields_shaped p.first p.shown.columns ls Rows; values = tt; kind = tt }
-  part_shaped p ls shown Filter = record {
+  part_shaped scalars p ls shown Rows = record { inputs = tt; plain = tt; fields = fields_shaped scalars p.first p.shown.columns ls Rows; values = tt; kind = tt }
+  part_shaped scalars p ls shown Filter = record {
     inputs = filter_shaped p.shown.table p.first p.shown.columns ls shown.columns;
     plain = each_append (λ (a : ArgTree). a.default_false ≡ false) (connectives p.first) (inputs_of Filter p.shown.columns ls) (refl, (refl, (refl, tt))) (plain_inputs Filter p.shown.columns ls);
-    fields = fields_shaped p.first p.shown.columns ls Filter;
+    fields = fields_shaped scalars p.first p.shown.columns ls Filter;
     values = refl;
     kind = tt;
   }
-  part_shaped p ls shown Sort = record
-      { inputs = sort_shaped p.shown.table p.shown.columns ls; plain = plain_inputs Sort p.shown.columns ls; fields = fields_shaped p.first p.shown.columns ls Sort; values = refl; kind = tt }
-  part_shaped p ls shown Columns = record { inputs = tt; plain = tt; fields = fields_shaped p.first p.shown.columns ls Columns; values = tt; kind = refl }
-  part_shaped p ls shown Aggregate = record { inputs = tt; plain = tt; fields = fields_shaped p.first p.shown.columns ls Aggregate; values = tt; kind = tt }
-  part_shaped p ls shown AggregateFields = record { inputs = tt; plain = tt; fields = fields_shaped p.first p.shown.columns ls AggregateFields; values = tt; kind = tt }
-  part_shaped p ls shown (Aggregated g) = record { inputs = tt; plain = tt; fields = fields_shaped p.first p.shown.columns ls (Aggregated g); values = tt; kind = tt }
+  part_shaped scalars p ls shown Sort = record
+      { inputs = sort_shaped p.shown.table p.shown.columns ls; plain = plain_inputs Sort p.shown.columns ls; fields = fields_shaped scalars p.first p.shown.columns ls Sort; values = refl; kind = tt }
+  part_shaped scalars p ls shown Columns = record { inputs = tt; plain = tt; fields = fields_shaped scalars p.first p.shown.columns ls Columns; values = tt; kind = refl }
+  part_shaped scalars p ls shown Aggregate = record { inputs = tt; plain = tt; fields = fields_shaped scalars p.first p.shown.columns ls Aggregate; values = tt; kind = tt }
+  part_shaped scalars p ls shown AggregateFields = record { inputs = tt; plain = tt; fields = fields_shaped scalars p.first p.shown.columns ls AggregateFields; values = tt; kind = tt }
+  part_shaped scalars p ls shown (Aggregated g) = record { inputs = tt; plain = tt; fields = fields_shaped scalars p.first p.shown.columns ls (Aggregated g); values = tt; kind = tt }
 
   -- ---- keys
 
@@ -299,7 +310,7 @@ module _ (tables : List Table) (m : MetaTree) (role : Role) where
         let less : c < length (table s k.table).columns = slice_get_within (table s k.table).columns c d found.1 in
         let name : slice_get k.column_names c ≡ Some (get_or k.column_names c []) = slice_get-get_or k.column_names c [] (omega (arith, less, names)) in
         record {
-          own = record { name = get_or k.column_names c []; ty = d.ty; nullable = d.nullable; col = c };
+          own = record { name = get_or k.column_names c []; ty = d.ty; scalar = scalar_of d; nullable = d.nullable; col = c };
           is = ap (λ o. under_name [] c o (slice_get k.column_names c)) at ∙ ap (under_name [] c (Some d)) name;
           place = refl;
           typed = found.2;
@@ -436,13 +447,21 @@ module _ (tables : List Table) (m : MetaTree) (role : Role) where
     fixed_shaped ps h DirectiveLocation = record { inputs = tt; plain = tt; fields = tt; values = tt; kind = tt }
     fixed_shaped ps h QueryRoot = record { inputs = tt; plain = tt; fields = query_shaped ps h; values = tt; kind = tt }
 
+    scalar_shaped : (name : List ℕ) → Shaped (scalar_type name)
+    unfolding scalar_type
+    scalar_shaped name = record { inputs = tt; plain = tt; fields = tt; values = tt; kind = tt }
+
     -- all types of the schema
     pub types_shaped : all_differ (λ (j k : TrackedTree). j.table == k.table) m.tracked ≡ true → Each Shaped (role_schema tables m role).types
     unfolding role_schema
     types_shaped differ =
-        let ps : List PlacedTable = placed (shown_tables tables m role) in
-        each_append Shaped (fixed_types ps) (flat_map (table_types ps) ps)
-        (each_map Shaped (fixed_type ps) (fixed_shaped ps (placed_keys 20 (shown_tables tables m role) (keys_shown differ))) all_fixed)
-        (each_flat_map Shaped (λ (p : PlacedTable). IsShown tables m role p.shown) (table_types ps)
-        (λ p shown. each_map Shaped (part_type p (links_from ps 0 p.shown.rels)) (part_shaped p (links_from ps 0 p.shown.rels) shown) (parts_of p.shown)) ps
-        (placed_shown tables m role 20 (shown_tables tables m role) (tables_shown tables m role differ)))
+        let ts : List ShownTable = shown_tables tables m role in
+        let scalars : List (List ℕ) = scalars_of ts in
+        let ps : List PlacedTable = placed ts in
+        each_append Shaped (fixed_types ps ++ map scalar_type scalars) (flat_map (table_types scalars ps) ps)
+        (each_append Shaped (fixed_types ps) (map scalar_type scalars)
+        (each_map Shaped (fixed_type ps) (fixed_shaped ps (placed_keys (behind_scalars scalars) ts (keys_shown differ))) all_fixed)
+        (each_map Shaped scalar_type scalar_shaped scalars))
+        (each_flat_map Shaped (λ (p : PlacedTable). IsShown tables m role p.shown) (table_types scalars ps)
+        (λ p shown. each_map Shaped (part_type scalars p (links_from ps 0 p.shown.rels)) (part_shaped scalars p (links_from ps 0 p.shown.rels) shown) (parts_of p.shown)) ps
+        (placed_shown tables m role (behind_scalars scalars) ts (tables_shown tables m role differ)))

@@ -1,5 +1,5 @@
 -- The tables that a role's schema shows, and the places of the types that each schema has.
-use Rattle.std.proofs.Common.{◌≡◌, ◌∙◌, refl, ap, subst, ℕ, ◌+◌, List, [], ◌∷◌, ◌++◌, Bool, true, false, not, ◌==◌, Option, Some, None, option_map, option_and_then, slice_get, find, append_assoc, eq-eqb, IfSome}
+use Rattle.std.proofs.Common.{◌≡◌, ◌∙◌, refl, sym, ap, subst, ℕ, ◌+◌, List, [], ◌∷◌, ◌++◌, Bool, true, false, not, ◌==◌, Option, Some, None, option_map, option_and_then, slice_get, find, append_assoc, eq-eqb, IfSome}
 use Rattle.std.specs.List.{list_any}
 use Rattle.std.proofs.lemmas.Bool.{and_parts, not-true, or_parts}
 use Rattle.std.proofs.lemmas.List.Folds.{list_any-append}
@@ -17,7 +17,9 @@ use Rattle.hq_terms.proofs.Places.{table_present}
 use Rattle.hq_schema.specs.Fixed.{fixed_place}
 use Rattle.hq_schema.specs.declared.fixed.Fixed.{Fixed}
 use Rattle.hq_schema.specs.declared.fixed.Fixed.TheVariants.{Scalar, OrderBy, Comparison, Schema as SchemaType, «Type» as TypeType, Field, InputValue, EnumValue, Directive, TypeKind, DirectiveLocation, QueryRoot}
-use Rattle.hq_role_schema.specs.FixedTypes.{fixed_type}
+use Rattle.hq_schema.specs.Schema.{TypeTree}
+use Rattle.hq_role_schema.specs.Introspection.{introspection_fields}
+use Rattle.hq_role_schema.specs.FixedTypes.{fixed_values, fixed_type}
 use Rattle.hq_role_schema.specs.Placed.{part_count, placed, placed_from}
 use Rattle.hq_role_schema.specs.RoleSchema.{role_schema}
 use Rattle.hq_role_schema.specs.Shown.{under_name, shown_table, shown_entry, shown_tables}
@@ -100,6 +102,11 @@ module _ (tables : List Table) (m : MetaTree) (role : Role) where
   placed_shown first [] h = tt
   placed_shown first (t ∷ ts) h = (h.0, placed_shown (first + part_count t) ts h.1)
 
+  -- the scalar of an opaque column is that of texts
+  opaque_scalar : (ps : List PlacedTable) → fixed_type ps (Scalar ty.Opaque) ≡ fixed_type ps (Scalar ty.Text)
+  unfolding fixed_type fixed_values introspection_fields
+  opaque_scalar ps = refl
+
   -- the types that each schema has stand at their places
   pub introspection_at : (f : Fixed) → slice_get (role_schema tables m role).types (fixed_place f) ≡ Some (fixed_type (placed (shown_tables tables m role)) f)
   unfolding role_schema
@@ -108,12 +115,14 @@ module _ (tables : List Table) (m : MetaTree) (role : Role) where
   introspection_at (Scalar ty.Text) = refl
   introspection_at (Scalar ty.Bigint) = refl
   introspection_at (Scalar ty.Uuid) = refl
+  introspection_at (Scalar ty.Opaque) = ap (λ (d : TypeTree). Some d) (sym (opaque_scalar (placed (shown_tables tables m role))))
   introspection_at OrderBy = refl
   introspection_at (Comparison ty.Boolean) = refl
   introspection_at (Comparison ty.Integer) = refl
   introspection_at (Comparison ty.Text) = refl
   introspection_at (Comparison ty.Bigint) = refl
   introspection_at (Comparison ty.Uuid) = refl
+  introspection_at (Comparison ty.Opaque) = refl
   introspection_at SchemaType = refl
   introspection_at TypeType = refl
   introspection_at Field = refl

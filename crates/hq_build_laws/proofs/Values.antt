@@ -78,6 +78,7 @@ bool_kept s t b y (origin.Scalar ty.Integer) e = absurd cc
 bool_kept s t b y (origin.Scalar ty.Text) e = absurd cc
 bool_kept s t b y (origin.Scalar ty.Bigint) e = absurd cc
 bool_kept s t b y (origin.Scalar ty.Uuid) e = absurd cc
+bool_kept s t b y (origin.Scalar ty.Opaque) e = absurd cc
 bool_kept s t b y o e = absurd cc
 
 int_kept : (s : SchemaTree) (t : ℕ) (n : ℤ) (y : JsonTree) (o : TypeOrigin) → leaf_by s t o (int n) ≡ Some y → y ≡ int n
@@ -110,6 +111,7 @@ text_by s t x y (origin.Scalar ty.Bigint) e = by (whole_number ty.Bigint x) refl
     by : (o : Option ℤ) → whole_number ty.Bigint x ≡ o → option_map (λ v. json_of (cell_of v)) (option_map val.Int o) ≡ Some y → Kept s t (str x) y (origin.Scalar ty.Bigint)
     by None is e = absurd cc
     by (Some n) is e = let same : int n ≡ y = cc in inr (inl (n, sym same, fitting n (whole_fits n ty.Bigint x is)))
+text_by s t x y (origin.Scalar ty.Opaque) e = let same : str x ≡ y = cc in inl (sym same)
 text_by s t x y (origin.Scalar ty.Uuid) e = by (uuid_form x) refl e
   where
     again : (u : List ℕ) → spells_uuid u ≡ true → is_some (leaf_by s t (origin.Scalar ty.Uuid) (str u)) ≡ true

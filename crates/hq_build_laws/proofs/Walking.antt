@@ -46,9 +46,9 @@ use Rattle.hq_coerce.specs.Variables.{VarTree}
 use Rattle.hq_coerce.specs.declared.refusal.CoerceRefusal.TheVariants as coerce
 use Rattle.hq_collect.specs.Tree.{CollectedTrees, no_collected, collected, is_empty}
 use Rattle.hq_arguments.specs.Context.{Context}
-use Rattle.hq_arguments.specs.Due.{list_due, count_due, by_origin, at_field}
+use Rattle.hq_arguments.specs.Due.{list_due, counting, count_due, by_origin, at_field}
 use Rattle.hq_arguments.specs.FieldArguments.{FieldArguments, rows, key, count, type_name}
-use Rattle.hq_arguments.specs.Columns.{counted_due}
+use Rattle.hq_arguments.specs.Columns.{counted_due, is_counted}
 use Rattle.hq_arguments.specs.Keys.{key_due}
 use Rattle.hq_arguments.specs.Plain.{flag_due, text_due}
 use Rattle.hq_arguments.specs.Reading.{Read, given_named}
@@ -187,13 +187,20 @@ module _ (tables : List Table) (m : MetaTree) (metadata_fits : fits tables m ≡
   -- ---- aggregate
 
   -- what is counted
-  count_is : (args : List ArgTree) (h : FieldHead) (x : FieldArguments) → count_due c args h.args ≡ Ok x → IsBuilding (count_of h x)
-  count_is args h x e =
-      let one = then_ok (λ column. flag_due (given_named c args h.args (codes "distinct")) >>= λ distinct. Ok (count column distinct))
+  -- what is counted is what is read
+  counting_is : (t : ℕ) (k : Option ℕ) (distinct : Bool) (x : FieldArguments) → counting c t k distinct ≡ Ok x → count k distinct ≡ x
+  counting_is t k distinct x e = by (is_counted c t k distinct) e
+    where
+      by : (b : Bool) → cond b (Ok (count k distinct)) (Err (Rule rule.UnorderedColumn)) ≡ Ok x → count k distinct ≡ x
+      by true e = cc
+      by false e = cc
+
+  count_is : (t : ℕ) (args : List ArgTree) (h : FieldHead) (x : FieldArguments) → count_due c args h.args t ≡ Ok x → IsBuilding (count_of h x)
+  count_is t args h x e =
+      let one = then_ok (λ column. flag_due (given_named c args h.args (codes "distinct")) >>= λ distinct. counting c t column distinct)
       (counted_due c (given_named c args h.args (codes "columns"))) x e in
-      let two = then_ok (λ distinct. Ok (count one.0 distinct)) (flag_due (given_named c args h.args (codes "distinct"))) x one.2 in
-      let same : count one.0 two.0 ≡ x = (let both : Ok (count one.0 two.0) ≡ Ok x = two.2 in cc) in
-      subst (λ y. IsBuilding (count_of h y)) same tt
+      let two = then_ok (λ distinct. counting c t one.0 distinct) (flag_due (given_named c args h.args (codes "distinct"))) x one.2 in
+      subst (λ y. IsBuilding (count_of h y)) (counting_is t one.0 two.0 x two.2) tt
 
   module _ (u place : ℕ) (at : At types place (type.AggregateFields u)) (h : FieldHead) (under : CollectedTrees) (f : IsKnown place h (is_empty under)) (below : IsSound (base f.def.ty) under) where
     summary_own : Like f.def → Reaches types f.def.ty (over_target u f.def.origin) → Each (ArgFits types (over_args u f.def.origin)) f.def.args
@@ -205,7 +212,7 @@ module _ (tables : List Table) (m : MetaTree) (metadata_fits : fits tables m ≡
         let args : Each (ArgFits types (over_args u origin.Count)) f.def.args = subst (λ o. Each (ArgFits types (over_args u o)) f.def.args) is fit in (
           count_lawful tables m metadata_fits role schemed shaped vars d reach h.args u f.def.args shape args f.arguments,
           λ x e. mapped_building (λ (y : Option ℕ × Bool). take.Count y.0 y.1)
-              (count_of h x) (count_is f.def.args h x e),
+              (count_of h x) (count_is u f.def.args h x e),
         )
     summary_own like reach_is fit (origin.Aggregated g) is =
         let there : At types (base f.def.ty) (type.Aggregated g u) = subst (λ o. Reaches types f.def.ty (over_target u o)) is reach_is in

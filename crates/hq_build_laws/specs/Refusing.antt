@@ -1,5 +1,5 @@
 -- The rules that building a typed request may refuse by: the limits on its size (F32), the session variables of the filters (F33, F34),
--- and what the arguments of a field ask for (F36 to F41).
+-- and what the arguments of a field ask for (F36 to F42).
 use Rattle.std.specs.Prelude.{◌≡◌, Bool, true, false, Result, Ok, Err}
 use Rattle.hq_gql_tree.specs.declared.rule.RuleId.{RuleId}
 use Rattle.hq_gql_tree.specs.declared.rule.RuleId.TheVariants as rule
@@ -16,6 +16,7 @@ is_of_building rule.PatternEscape = true
 is_of_building rule.NullOperand = true
 is_of_building rule.CountColumns = true
 is_of_building rule.SortEntries = true
+is_of_building rule.UnorderedColumn = true
 is_of_building _ = false
 
 -- a value, or a fault of one of these rules; what is due never lacks memory

@@ -10,7 +10,7 @@ use hq_roles::{leads_where_permitted, names_differ};
 
 /// Over a catalog and a metadata that fits it: where a document violates no rule for the schema of the session's role, and its variables
 /// are coerced, building the request gives it, or breaks a limit (F32), lacks a session variable (F33, F34), or asks for what arguments
-/// may not (F36 to F41).
+/// may not (F36 to F42).
 pub fn valid_builds()
     ensures { (tables : Items CatalogTable) (m : MetaTree) (session : Caller) → ValidBuilds tables m session }
 {

@@ -8,7 +8,8 @@ use Rattle.std.proofs.lemmas.List.Folds.{list_any-append}
 use Rattle.std.proofs.lemmas.Option.{slice_get-map}
 use Rattle.std.proofs.lemmas.Slice.Eq.{bytes_eq-Decides}
 use Rattle.hq_base.specs.Lists.{all_differ}
-use Rattle.hq_terms.specs.Catalog.{holds_no_null}
+use Rattle.hq_base.specs.Types.{is_ordered}
+use Rattle.hq_terms.specs.Catalog.{is_key_column}
 use Rattle.hq_terms.specs.declared.table.Column.{Column}
 use Rattle.hq_catalog_read.specs.Repeats.{known, first_repeat}
 use Rattle.hq_catalog_read.specs.Resolved.{settled}
@@ -48,6 +49,10 @@ first_repeat-None earlier (name ∷ names) none =
 abbrev pub Names : List Column → List ℕ → ℕ → Type 0
 Names columns name place = (c : Column) × (slice_get columns place ≡ Some c) × (bytes_eq c.name name ≡ true)
 
+-- and its values are compared
+abbrev pub KeyNames : List Column → List ℕ → ℕ → Type 0
+KeyNames columns name place = (c : Column) × (slice_get columns place ≡ Some c) × (bytes_eq c.name name ≡ true) × (is_ordered c.ty ≡ true)
+
 -- two names at one place are one
 one_place : (columns : List Column) (m n : List ℕ) (i j : ℕ) → Names columns m i → Names columns n j → i ≡ j → m ≡ n
 one_place columns m n i j (c, at_i, named_m) (d, at_j, named_n) same =
@@ -84,19 +89,20 @@ each_among earlier (n ∷ ns) = (
   subst (λ all. AllByRecursion (λ m. list_any (λ e. bytes_eq e m) all ≡ true) ns) (append_assoc earlier (n ∷ []) ns) (each_among (earlier ++ n ∷ []) ns),
 )
 
--- the columns that a key names hold no NULL
-no_null : (key : List (List ℕ)) (columns : List Column) (names : List (List ℕ)) (places : List ℕ) → AllZip (Names columns) names places → AllByRecursion (λ n. list_any (λ e. bytes_eq e n) key ≡ true) names → list_all (λ p. holds_no_null (slice_get (map (settled key) columns) p)) places ≡ true
+-- the columns that a key names hold no NULL and are compared
+no_null : (key : List (List ℕ)) (columns : List Column) (names : List (List ℕ)) (places : List ℕ) → AllZip (KeyNames columns) names places → AllByRecursion (λ n. list_any (λ e. bytes_eq e n) key ≡ true) names → list_all (λ p. is_key_column (slice_get (map (settled key) columns) p)) places ≡ true
 no_null key columns [] [] beside among = refl
 no_null key columns [] (p ∷ ps) beside among = absurd beside
 no_null key columns (n ∷ ns) [] beside among = absurd beside
 no_null key columns (n ∷ ns) (p ∷ ps) beside among =
-    let (c, at, named) = beside.0 in
+    let (c, at, named, ordered) = beside.0 in
     let in_key = ap (λ m. list_any (λ e. bytes_eq e m) key) ((bytes_eq-Decides c.name n).0 named) ∙ among.0 in
     both_true
-    (ap holds_no_null (slice_get-map (settled key) columns p ∙ ap (option_map (settled key)) at)
-    ∙ ap (λ b. not (c.nullable && not b)) in_key
-    ∙ ap not (and-false c.nullable))
+    (ap is_key_column (slice_get-map (settled key) columns p ∙ ap (option_map (settled key)) at)
+    ∙ ap (λ b. not (c.nullable && not b) && is_ordered c.ty) in_key
+    ∙ ap (λ b. not b && is_ordered c.ty) (and-false c.nullable)
+    ∙ ordered)
     (no_null key columns ns ps beside.1 among.1)
 
-pub key_holds_no_null : (key : List (List ℕ)) (columns : List Column) (places : List ℕ) → AllZip (Names columns) key places → list_all (λ p. holds_no_null (slice_get (map (settled key) columns) p)) places ≡ true
+pub key_holds_no_null : (key : List (List ℕ)) (columns : List Column) (places : List ℕ) → AllZip (KeyNames columns) key places → list_all (λ p. is_key_column (slice_get (map (settled key) columns) p)) places ≡ true
 key_holds_no_null key columns places beside = no_null key columns key places beside (each_among [] key)

@@ -1,9 +1,12 @@
 -- What the tables of the catalog have of the tables that the file writes.
 use Rattle.std.proofs.Common.{◌≡◌, ◌∙◌, ◌&&◌, ℕ, List, [], ◌∷◌, map, Bool, true, false, cond, Option, Some, None, Result, Ok, Err, slice_get, bytes_eq, refl, sym, ap, subst}
+use Rattle.std.specs.Prelude.{option_and_then}
 use Rattle.std.specs.List.{AllZip, position}
 use Rattle.std.specs.Option.{ok_or}
 use Rattle.hq_base.specs.Due.{◌>>=◌}
 use Rattle.hq_base.specs.Path.{top_path}
+use Rattle.hq_base.specs.Types.{is_ordered}
+use Rattle.hq_terms.specs.Catalog.{type_of}
 use Rattle.hq_terms.specs.declared.table.Column.{Column}
 use Rattle.hq_terms.specs.declared.table.ForeignKey.{ForeignKey}
 use Rattle.hq_terms.specs.declared.table.Table.{Table}
@@ -13,9 +16,9 @@ use Rattle.hq_catalog_read.specs.declared.written.WrittenForeignKey.{WrittenFore
 use Rattle.hq_catalog_read.specs.declared.written.WrittenTable.{WrittenTable}
 use Rattle.hq_catalog_read.specs.Each.{each}
 use Rattle.hq_catalog_read.specs.Node.{at}
-use Rattle.hq_catalog_read.specs.Resolved.{column_named, table_named, columns_in, columns_at, can_refer, foreign_key_of, settled, table_of, resolved}
+use Rattle.hq_catalog_read.specs.Resolved.{column_named, ordered_at, key_column_place, key_column_named, table_named, columns_in, columns_at, can_refer, foreign_key_of, settled, table_of, resolved}
 use Rattle.hq_catalog_read.proofs.EachLemmas.{Gave, and_then-Ok, each_from-Ok}
-use Rattle.hq_catalog_read.proofs.KeyLemmas.{Names}
+use Rattle.hq_catalog_read.proofs.KeyLemmas.{Names, KeyNames}
 use Rattle.hq_catalog_read.proofs.ListLemmas.{position-item}
 
 -- a value that was required is there
@@ -61,6 +64,31 @@ columns_named-Names : (columns : List Column) (path : List ℕ) (names : List (L
 columns_named-Names columns path names places given =
     beside (Gave (column_named columns)) (Names columns) (column_named-Names columns) names places (each_from-Ok (column_named columns) path 0 names places given)
 
+-- so is one of a key, whose values are compared
+key_column_named-Names : (columns : List Column) (name : List ℕ) (place : ℕ) → Gave (key_column_named columns) name place → KeyNames columns name place
+unfolding key_column_named
+key_column_named-Names columns name place (path, given) =
+    let named = λ (c : Column). bytes_eq c.name name in
+    by (position named columns) refl (ok_or-Ok (key_column_place columns name) (Shape path) place given)
+  where
+    at_place : (p : ℕ) (c : Column) → slice_get columns p ≡ Some c → bytes_eq c.name name ≡ true → (b : Bool) → is_ordered c.ty ≡ b → cond b (Some p) None ≡ Some place → KeyNames columns name place
+    at_place p c at is true ordered e = let same : p ≡ place = cc in subst (KeyNames columns name) same (c, at, is, ordered)
+    at_place p c at is false ordered e = cc
+
+    by : (o : Option ℕ) → position (λ (c : Column). bytes_eq c.name name) columns ≡ o → option_and_then (λ c. ordered_at c (type_of (slice_get columns c))) o ≡ Some place → KeyNames columns name place
+    by None e f = cc
+    by (Some p) e f =
+        let (c, at, is) = position-item (λ (c : Column). bytes_eq c.name name) columns p e in
+        at_place p c at is (is_ordered c.ty) refl (sym (ap (λ o. ordered_at p (type_of o)) at) ∙ f)
+
+key_columns_named-Names : (columns : List Column) (path : List ℕ) (names : List (List ℕ)) (places : List ℕ) → each (key_column_named columns) path names ≡ Ok places → AllZip (KeyNames columns) names places
+key_columns_named-Names columns path names places given =
+    beside (Gave (key_column_named columns)) (KeyNames columns) (key_column_named-Names columns) names places (each_from-Ok (key_column_named columns) path 0 names places given)
+
+-- the columns of a key are of their names
+pub key_names : (columns : List Column) (names : List (List ℕ)) (places : List ℕ) → AllZip (KeyNames columns) names places → AllZip (Names columns) names places
+key_names columns names places = beside (KeyNames columns) (Names columns) (λ name place h. (h.0, h.1, h.2)) names places
+
 -- a foreign key refers to a table, and its columns fit with those of the table
 abbrev pub Refers : (tables : List WrittenTable) (own : List Column) → WrittenForeignKey → ForeignKey → Type 0
 Refers tables own key f =
@@ -80,19 +108,19 @@ pub record Resolves (tables : List WrittenTable) (w : WrittenTable) (t : Table) 
   pub schema : t.schema ≡ w.schema
   pub name : t.name ≡ w.name
   pub columns : t.columns ≡ map (settled w.key) w.columns
-  pub key : AllZip (Names w.columns) w.key t.key
+  pub key : AllZip (KeyNames w.columns) w.key t.key
   pub foreign : AllZip (Refers tables w.columns) w.foreign t.foreign
 
 table_of-Resolves : (tables : List WrittenTable) (w : WrittenTable) (t : Table) → Gave (table_of tables) w t → Resolves tables w t
 unfolding table_of
 table_of-Resolves tables w t (path, given) =
     let make = λ (key : List ℕ) (foreign : List ForeignKey). let made : Table = record { schema = w.schema; name = w.name; columns = map (settled w.key) w.columns; key = key; foreign = foreign } in made in
-    let (key, foreign, key_is, foreign_is, made) = two_steps (each (column_named w.columns) (at path field.PrimaryKey) w.key) (each (foreign_key_of tables w.columns) (at path field.ForeignKeys) w.foreign) make t given in
+    let (key, foreign, key_is, foreign_is, made) = two_steps (each (key_column_named w.columns) (at path field.PrimaryKey) w.key) (each (foreign_key_of tables w.columns) (at path field.ForeignKeys) w.foreign) make t given in
     subst (Resolves tables w) made record {
       schema = refl;
       name = refl;
       columns = refl;
-      key = columns_named-Names w.columns (at path field.PrimaryKey) w.key key key_is;
+      key = key_columns_named-Names w.columns (at path field.PrimaryKey) w.key key key_is;
       foreign = beside (Gave (foreign_key_of tables w.columns)) (Refers tables w.columns) (foreign_key_of-Refers tables w.columns) w.foreign foreign (each_from-Ok (foreign_key_of tables w.columns) (at path field.ForeignKeys) 0 w.foreign foreign foreign_is);
     }
 

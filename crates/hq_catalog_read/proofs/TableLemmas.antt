@@ -7,7 +7,7 @@ use Rattle.std.proofs.lemmas.Bool.Decides.{nat_tests, Decides-eqb}
 use Rattle.std.proofs.lemmas.List.{length-map}
 use Rattle.std.proofs.lemmas.Slice.Zip.{AllZip-long}
 use Rattle.hq_base.specs.Lists.{all_differ}
-use Rattle.hq_terms.specs.Catalog.{type_of, is_catalog_name, holds_no_null, pairs_fit_with, can_pair, is_foreign_key, is_table}
+use Rattle.hq_terms.specs.Catalog.{type_of, is_catalog_name, is_key_column, pairs_fit_with, can_pair, is_foreign_key, is_table}
 use Rattle.hq_terms.specs.declared.table.Column.{Column}
 use Rattle.hq_terms.specs.declared.table.ForeignKey.{ForeignKey}
 use Rattle.hq_terms.specs.declared.table.Table.{Table}
@@ -19,7 +19,7 @@ use Rattle.hq_catalog_read.specs.Resolved.{can_refer, settled}
 use Rattle.hq_catalog_read.proofs.KeyLemmas.{Names, and-true, first_repeat-None, places_differ, key_holds_no_null}
 use Rattle.hq_catalog_read.proofs.ListLemmas.{option_or-None, cond-None, AllZip-item, all_differ-map}
 use Rattle.hq_catalog_read.proofs.PairLemmas.{type-settled, pairs_fit-zip}
-use Rattle.hq_catalog_read.proofs.ResolveLemmas.{Refers, Resolves}
+use Rattle.hq_catalog_read.proofs.ResolveLemmas.{key_names, Refers, Resolves}
 
 -- a written table that no test refused
 pub record Passes (w : WrittenTable) : Type 0 where
@@ -91,7 +91,8 @@ table_holds ws ts w t all passes of_written =
     let (name_length, after_name) = next_length w.name (map (λ c. c.name) w.columns) after_schema in
     let (columns_once, key_once) = option_or-None (first_repeat [] (map (λ c. c.name) w.columns)) (first_repeat [] w.key) passes.no_repeat in
     let how_many : length t.columns ≡ length w.columns = ap length of_written.columns ∙ length-map w.columns (settled w.key) in
-    let how_long : length t.key ≡ length w.key = AllZip-long (Names w.columns) w.key t.key of_written.key in
+    let named : AllZip (Names w.columns) w.key t.key = key_names w.columns w.key t.key of_written.key in
+    let how_long : length t.key ≡ length w.key = AllZip-long (Names w.columns) w.key t.key named in
     let schema : is_catalog_name t.schema ≡ true = ap is_catalog_name of_written.schema ∙ schema_length in
     let name : is_catalog_name t.name ≡ true = ap is_catalog_name of_written.name ∙ name_length in
     let some : nat_lt 0 (length t.columns) ≡ true = ap (nat_lt 0) how_many ∙ some_from-not_none (length w.columns) passes.has_column in
@@ -99,8 +100,8 @@ table_holds ws ts w t all passes of_written =
     let lengths : list_all (λ c. is_catalog_name c.name) t.columns ≡ true = ap (list_all (λ (c : Column). is_catalog_name c.name)) of_written.columns ∙ column_lengths w.key w.columns after_name in
     let differ : all_differ (λ c d. bytes_eq c.name d.name) t.columns ≡ true = ap (all_differ (λ (c d : Column). bytes_eq c.name d.name)) of_written.columns ∙ columns_differ w.key w.columns columns_once in
     let keyed : nat_lt 0 (length t.key) ≡ true = ap (nat_lt 0) how_long ∙ some_from-not_none (length w.key) passes.has_key in
-    let key_differs : all_differ (λ c d. c == d) t.key ≡ true = places_differ w.columns w.key t.key of_written.key (first_repeat-None [] w.key key_once).1 in
-    let no_null : list_all (λ c. holds_no_null (slice_get t.columns c)) t.key ≡ true = ap (λ cs. list_all (λ c. holds_no_null (slice_get cs c)) t.key) of_written.columns ∙ key_holds_no_null w.key w.columns t.key of_written.key in
+    let key_differs : all_differ (λ c d. c == d) t.key ≡ true = places_differ w.columns w.key t.key named (first_repeat-None [] w.key key_once).1 in
+    let no_null : list_all (λ c. is_key_column (slice_get t.columns c)) t.key ≡ true = ap (λ cs. list_all (λ c. is_key_column (slice_get cs c)) t.key) of_written.columns ∙ key_holds_no_null w.key w.columns t.key of_written.key in
     let foreign : list_all (is_foreign_key ts t) t.foreign ≡ true = foreign_keys_hold ws ts w t w.foreign t.foreign all of_written.columns of_written.foreign in
     both_true (both_true (both_true (both_true (both_true (both_true (both_true (both_true (both_true schema name) some) few) lengths) differ) keyed) key_differs) no_null) foreign
 

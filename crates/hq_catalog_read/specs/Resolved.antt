@@ -1,9 +1,11 @@
 -- The tables of a catalog, where names stood: each name of a key or a foreign key becomes the place of what it names.
 -- The members of a foreign key come first, in their order, then the key as a whole.
-use Rattle.std.specs.Prelude.{ℕ, List, [], length, map, Bool, ◌&&◌, ◌==◌, nat_lt, not, Option, Some, None, slice_get, Result, Ok, Err, if◌then◌else◌, bytes_eq}
+use Rattle.std.specs.Prelude.{ℕ, List, [], length, map, Bool, ◌&&◌, ◌==◌, nat_lt, not, Option, Some, None, option_and_then, slice_get, Result, Ok, Err, if◌then◌else◌, bytes_eq}
 use Rattle.std.specs.List.{list_all, list_any, position, zip}
 use Rattle.hq_base.specs.Due.{◌>>=◌}
 use Rattle.hq_base.specs.Path.{top_path}
+use Rattle.hq_base.specs.Types.{is_ordered}
+use Rattle.hq_base.specs.declared.value.Ty.{Ty}
 use Rattle.hq_terms.specs.Catalog.{type_of, can_pair}
 use Rattle.hq_terms.specs.declared.table.Column.{Column}
 use Rattle.hq_terms.specs.declared.table.ForeignKey.{ForeignKey}
@@ -19,6 +21,19 @@ use Rattle.hq_catalog_read.specs.Node.{required, at}
 -- the place of the column of this name, which stands at a path
 unfoldable pub column_named : (columns : List Column) → (path name : List ℕ) → Result ℕ CatalogRefusal
 column_named columns path name = required path (position (λ c. bytes_eq c.name name) columns)
+
+-- the place of a column whose values are compared
+abbrev pub ordered_at : ℕ → Option Ty → Option ℕ
+ordered_at c None = None
+ordered_at c (Some ty) = if is_ordered ty then Some c else None
+
+-- the place of the column of a key, whose values are compared
+abbrev pub key_column_place : (columns : List Column) → (name : List ℕ) → Option ℕ
+key_column_place columns name = option_and_then (λ c. ordered_at c (type_of (slice_get columns c))) (position (λ c. bytes_eq c.name name) columns)
+
+-- the place of the column of this name of a key, which stands at a path
+unfoldable pub key_column_named : (columns : List Column) → (path name : List ℕ) → Result ℕ CatalogRefusal
+key_column_named columns path name = required path (key_column_place columns name)
 
 -- the place of the table that a foreign key names
 unfoldable pub table_named : (tables : List WrittenTable) → (path : List ℕ) → WrittenForeignKey → Result ℕ CatalogRefusal
@@ -55,7 +70,7 @@ settled key c = record c { nullable = c.nullable && not (list_any (λ name. byte
 -- the table that is written at a path
 unfoldable pub table_of : (tables : List WrittenTable) → (path : List ℕ) → WrittenTable → Result Table CatalogRefusal
 table_of tables path t = do
-  key ← each (column_named t.columns) (at path field.PrimaryKey) t.key
+  key ← each (key_column_named t.columns) (at path field.PrimaryKey) t.key
   foreign ← each (foreign_key_of tables t.columns) (at path field.ForeignKeys) t.foreign
   Ok (record { schema = t.schema; name = t.name; columns = map (settled t.key) t.columns; key = key; foreign = foreign })
 

@@ -7,8 +7,9 @@ use Rattle.hq_base.specs.Look.{bool_in, str_in, array_in}
 use Rattle.hq_base.specs.Path.{top_path}
 use Rattle.hq_base.specs.Types.{type_named}
 use Rattle.hq_base.specs.declared.value.Ty.{Ty}
+use Rattle.hq_base.specs.declared.value.Ty.TheVariants.{Opaque}
 use Rattle.hq_terms.specs.declared.table.Column.{Column}
-use Rattle.hq_catalog_read.specs.declared.field.Field.TheVariants.{Tables, Schema, Name, Columns, PrimaryKey, ForeignKeys, ColumnType, Nullable, Table, References}
+use Rattle.hq_catalog_read.specs.declared.field.Field.TheVariants.{Tables, Schema, Name, Columns, PrimaryKey, ForeignKeys, ColumnType, Of, Nullable, Table, References}
 use Rattle.hq_catalog_read.specs.declared.refusal.CatalogRefusal.{CatalogRefusal}
 use Rattle.hq_catalog_read.specs.declared.refusal.CatalogRefusal.TheVariants.{Shape}
 use Rattle.hq_catalog_read.specs.declared.written.WrittenForeignKey.{WrittenForeignKey}
@@ -20,6 +21,18 @@ use Rattle.hq_catalog_read.specs.Node.{required, at, value_of, object_at, text_m
 unfoldable pub type_member : (path : List ℕ) → JsonTree → Result Ty CatalogRefusal
 type_member path object =
     required (at path ColumnType) (option_and_then type_named (option_and_then str_in (value_of object ColumnType)))
+
+-- the name of a column's type in PostgreSQL, empty where the file does not say; it must say it of an opaque column
+abbrev pub of_absent : (path : List ℕ) → Ty → Result (List ℕ) CatalogRefusal
+of_absent path Opaque = Err (Shape path)
+of_absent path _ = Ok []
+
+abbrev pub of_in : (path : List ℕ) → Ty → Option JsonTree → Result (List ℕ) CatalogRefusal
+of_in path ty None = of_absent path ty
+of_in path ty (Some j) = required path (str_in j)
+
+unfoldable pub of_member : (path : List ℕ) → JsonTree → Ty → Result (List ℕ) CatalogRefusal
+of_member path object ty = of_in (at path Of) ty (value_of object Of)
 
 -- whether a column may hold NULL: it may where the file does not say
 abbrev pub nullable_in : (path : List ℕ) → Option JsonTree → Result Bool CatalogRefusal
@@ -35,8 +48,9 @@ column_at path j = do
   object ← object_at path j
   name ← text_member path object Name
   ty ← type_member path object
+  of ← of_member path object ty
   nullable ← nullable_member path object
-  Ok (record { name = name; ty = ty; nullable = nullable })
+  Ok (record { name = name; ty = ty; of = of; nullable = nullable })
 
 -- the columns of a table, of which there is at least one
 unfoldable pub columns_member : (path : List ℕ) → JsonTree → Result (List Column) CatalogRefusal

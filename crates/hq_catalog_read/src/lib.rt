@@ -3,11 +3,12 @@
 //!
 //! `{"tables": [TABLE]}`, where
 //! TABLE is `{"schema": text, "name": text, "columns": [COLUMN], "primary_key": [text], "foreign_keys": [KEY]}`,
-//! COLUMN is `{"name": text, "type": text, "nullable": bool}`, and
+//! COLUMN is `{"name": text, "type": text, "of": text, "nullable": bool}`, and
 //! KEY is `{"columns": [text], "table": {"schema": text, "name": text}, "references": [text]}`.
 //!
-//! A type is `integer`, `bigint`, `text`, `boolean` or `uuid`. `nullable` may be absent, which says true, and so may
-//! `foreign_keys`, which says none. Other members are passed over.
+//! A type is `integer`, `bigint`, `text`, `boolean`, `uuid` or `opaque`. An opaque column is of another type of PostgreSQL,
+//! which `of` names, and stands in no key. `nullable` may be absent, which says true, and so may `foreign_keys`, which says
+//! none. Other members are passed over.
 #![tactic(auto)]
 
 mod field;

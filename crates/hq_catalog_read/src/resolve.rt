@@ -4,7 +4,7 @@ ghost use Rattle.hq_base.specs.Due.{Gives};
 ghost use Rattle.hq_terms.specs.Catalog.{can_pair, type_of};
 ghost use Rattle.hq_catalog_read.specs.Each.{each};
 ghost use Rattle.hq_catalog_read.specs.Node.{at};
-ghost use Rattle.hq_catalog_read.specs.Resolved.{column_named, table_named, columns_at, can_refer, foreign_key_of, settled, table_of, resolved};
+ghost use Rattle.hq_catalog_read.specs.Resolved.{column_named, key_column_place, key_column_named, table_named, columns_at, can_refer, foreign_key_of, settled, table_of, resolved};
 
 use crate::CatalogRefusal;
 use crate::field::Field;
@@ -38,6 +38,63 @@ fn column_named(
         Some(place) => Ok(ColId::new(place)),
         None => Err(misshaped(alloc, path)),
     }
+}
+
+// The column of a key of the name that stands at a path, whose values are compared.
+#[tactic(auto, unfolding(crate::specs::Resolved::key_column_named))]
+fn key_column_named(
+    alloc: Global,
+    columns: &[Column],
+    path: &Txt,
+    name: &Txt,
+) -> Result<ColId, CatalogRefusal>
+    ensures { Gives (λ column. column) CatalogRefusal.Memory (key_column_named columns.now path.now name.now) result }
+{
+    match key_column_place(columns, name) {
+        Some(place) => Ok(ColId::new(place)),
+        None => Err(misshaped(alloc, path)),
+    }
+}
+
+// The place of the first column of this name, where its values are compared.
+fn key_column_place(columns: &[Column], name: &Txt) -> Option<usize>
+    ensures { result ≡ key_column_place columns.now name.now }
+{
+    let place = column_place(columns, name)?;
+    match columns.get(place) {
+        Some(column) if column.ty.is_ordered() => Some(place),
+        _ => None,
+    }
+}
+
+// The columns of the names of a key, in the list at a path.
+fn key_columns_named(
+    alloc: Global,
+    columns: &[Column],
+    path: &Txt,
+    names: &[Txt],
+) -> Result<ColList, CatalogRefusal>
+    ensures { Gives (λ found. found) CatalogRefusal.Memory (each (key_column_named columns.now) path.now names.now) result }
+{
+    let mut found = List::new(alloc);
+    for (place, name) in names.iter().enumerate() {
+        let column = key_column_named(alloc, columns, &item_path(alloc, path, place)?, name)?;
+        found.push(column)?;
+    }
+    Ok(found)
+}
+
+// The columns of the primary key of the table at a path.
+fn key_columns(
+    alloc: Global,
+    columns: &[Column],
+    path: &Txt,
+    names: &[Txt],
+) -> Result<ColList, CatalogRefusal>
+    ensures { Gives (λ found. found) CatalogRefusal.Memory (each (key_column_named columns.now) (at path.now Field.PrimaryKey) names.now) result }
+{
+    let path = member_path(alloc, path, Field::PrimaryKey.name())?;
+    key_columns_named(alloc, columns, &path, names)
 }
 
 // The columns of the names in the list at a path.
@@ -208,6 +265,7 @@ fn settled_column(alloc: Global, key: &[Txt], column: &Column) -> Result<Column,
     Ok(Column {
         name: column.name.copy(alloc)?,
         ty: column.ty,
+        of: column.of.copy(alloc)?,
         nullable: column.nullable && !key.contains(&column.name),
     })
 }
@@ -234,13 +292,7 @@ fn table_of(
     ensures { Gives (λ resolved. resolved) CatalogRefusal.Memory (table_of tables.now path.now table.now) result }
 {
     let columns = table.columns.as_slice();
-    let key = member_columns(
-        alloc,
-        columns,
-        path,
-        Field::PrimaryKey,
-        table.key.as_slice(),
-    )?;
+    let key = key_columns(alloc, columns, path, table.key.as_slice())?;
     let foreign = member_foreign_keys(alloc, tables, path, table)?;
     Ok(Table {
         schema: table.schema.copy(alloc)?,

@@ -4,8 +4,8 @@ ghost use Rattle.hq_base.specs.Json.{json_view};
 ghost use Rattle.hq_base.specs.Look.{str_in};
 ghost use Rattle.hq_base.specs.Types.{type_named};
 ghost use Rattle.hq_catalog_read.specs.Each.{each};
-ghost use Rattle.hq_catalog_read.specs.Node.{value_of};
-ghost use Rattle.hq_catalog_read.specs.Shape.{type_member, nullable_member, column_at, columns_member, foreign_key_at, foreign_keys_member, table_at, written_tables};
+ghost use Rattle.hq_catalog_read.specs.Node.{at, value_of};
+ghost use Rattle.hq_catalog_read.specs.Shape.{type_member, of_absent, of_member, nullable_member, column_at, columns_member, foreign_key_at, foreign_keys_member, table_at, written_tables};
 
 use crate::CatalogRefusal;
 use crate::field::Field;
@@ -38,6 +38,30 @@ fn type_member(alloc: Global, path: &Txt, object: &Json) -> Result<Ty, CatalogRe
     }
 }
 
+// What is taken of a column's type in PostgreSQL where the file does not say it.
+fn of_absent(alloc: Global, path: &Txt, ty: Ty) -> Result<Txt, CatalogRefusal>
+    ensures { Gives (λ of. of) CatalogRefusal.Memory (of_absent (at path.now Field.Of) ty) result }
+{
+    match ty {
+        Ty::Opaque => Err(misshaped_member(alloc, path, Field::Of)),
+        Ty::Integer | Ty::Bigint | Ty::Text | Ty::Boolean | Ty::Uuid => Ok(Txt::new(alloc)),
+    }
+}
+
+// The name of a column's type in PostgreSQL: the file must say it of an opaque column.
+#[tactic(auto, unfolding(crate::specs::Shape::of_member))]
+fn of_member(alloc: Global, path: &Txt, object: &Json, ty: Ty) -> Result<Txt, CatalogRefusal>
+    ensures { Gives (λ of. of) CatalogRefusal.Memory (of_member path.now (json_view object.now) ty) result }
+{
+    let Some(value) = object.member(Field::Of.name()) else {
+        return of_absent(alloc, path, ty);
+    };
+    match value.as_txt() {
+        Some(of) => Ok(of.copy(alloc)?),
+        None => Err(misshaped_member(alloc, path, Field::Of)),
+    }
+}
+
 // Whether a column may hold NULL: it may where the file does not say.
 #[tactic(auto, unfolding(crate::specs::Shape::nullable_member))]
 fn nullable_member(alloc: Global, path: &Txt, object: &Json) -> Result<bool, CatalogRefusal>
@@ -60,8 +84,14 @@ fn column_at(alloc: Global, path: &Txt, json: &Json) -> Result<Column, CatalogRe
     let object = object_at(alloc, path, json)?;
     let name = text_member(alloc, path, object, Field::Name)?;
     let ty = type_member(alloc, path, object)?;
+    let of = of_member(alloc, path, object, ty)?;
     let nullable = nullable_member(alloc, path, object)?;
-    Ok(Column { name, ty, nullable })
+    Ok(Column {
+        name,
+        ty,
+        of,
+        nullable,
+    })
 }
 
 // The columns of the list at a path.

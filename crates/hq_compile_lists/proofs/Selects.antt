@@ -3,6 +3,7 @@ use Rattle.std.proofs.Common.{◌≡◌, ◌∙◌, ℕ, ◌+◌, List, [], ◌+
 use Rattle.hq_terms.specs.Schema.{Schema, table}
 use Rattle.hq_terms.specs.Selected.{ListArguments, smaller}
 use Rattle.hq_terms.specs.declared.table.Column.{Column}
+use Rattle.hq_sql_tree.specs.declared.expr.ColumnForm.TheVariants.{Plain}
 use Rattle.hq_sql_tree.specs.Tree.{ExprTree, column, aggregate, json_agg, orders_of, PairTree, OrderTree, OutTree, SelectTree, rows, fold, table as from_table, JoinTree, joins_of, PredTree}
 use Rattle.hq_compiled.specs.Conditions.{with_member, where_of}
 use Rattle.hq_compiled.specs.Lists.{once, list_sorts, where_numbers, sorts_from, distinct_columns, list_rows, list_outputs, list_select}
@@ -51,7 +52,7 @@ module _ (s : Schema) (g : Rights) (t : ℕ) (cs : List ℕ) (a : ListArguments)
   -- a list
   pub list_of : (pairs : List PairTree) (children : List JoinTree) (f given : SelectTree) (out : OutTree) (alias : List ℕ)
       → f ≡ fold out given alias → alias ≡ fold_alias n
-      → out ≡ record { value = aggregate (json_agg (column (fold_alias n) value_name false) (orders_of (output_orders (list_sorts s t a) s t n 0))); name = value_name }
+      → out ≡ record { value = aggregate (json_agg (column (fold_alias n) value_name Plain) (orders_of (output_orders (list_sorts s t a) s t n 0))); name = value_name }
       → given ≡ list_rows s g t cs a n tie (smaller a.limit (g.limit t)) (list_outputs s g t cs a n pairs) children
       → f ≡ list_select s g t cs a n tie pairs children
   list_of pairs children f given out alias is l o r = rw (is, l, o, r) refl

@@ -1,5 +1,5 @@
 //! The select of a list: the array of its rows' objects in order.
-ghost use Rattle.std.specs.Prelude.{◌≡◌, ◌+◌, ◌∷◌, [], ℕ, List, IfOk, OnOk, map, false};
+ghost use Rattle.std.specs.Prelude.{◌≡◌, ◌+◌, ◌∷◌, [], ℕ, List, IfOk, OnOk, map};
 ghost use Rattle.hq_terms.specs.Bexp.{bexp_view};
 ghost use Rattle.hq_terms.specs.Schema.{table};
 ghost use Rattle.hq_terms.specs.Selected.{smaller};
@@ -30,7 +30,9 @@ use hq_compile_tables::{
     MaskPlace, Shown, both_joins, compared_shown, each_once, from_table, table_shown, value_output,
     where_of, with_member,
 };
-use hq_sql_tree::{Agg, Expr, ExprList, JoinList, OrderList, Out, OutList, PredList, Select};
+use hq_sql_tree::{
+    Agg, ColumnForm, Expr, ExprList, JoinList, OrderList, Out, OutList, PredList, Select,
+};
 use hq_terms::{ColId, TableId};
 use std::alloc::Global;
 
@@ -186,14 +188,14 @@ pub fn list_rows(
 
 // The value of a row of the fold of number n.
 fn row_value(alloc: Global, n: u64) -> Result<Box<Expr>, Memory>
-    ensures { IfOk result (λ value. expr_view value.value ≡ tree.column (fold_alias n) value_name false) }
+    ensures { IfOk result (λ value. expr_view value.value ≡ tree.column (fold_alias n) value_name ColumnForm.Plain) }
 {
     let alias = fold_alias(alloc, n)?;
     let name = value_name(alloc)?;
     let value = Expr::Column {
         alias,
         name,
-        collate: false,
+        form: ColumnForm::Plain,
     };
     Ok(Box::new(alloc, value)?)
 }
@@ -201,7 +203,7 @@ fn row_value(alloc: Global, n: u64) -> Result<Box<Expr>, Memory>
 // The array of the values of the fold of number n, in this order.
 fn array_output(alloc: Global, n: u64, order: OrderList) -> Result<Out, Memory>
     ensures { IfOk result (λ out. out_view out ≡
-        record { value = tree.aggregate (tree.json_agg (tree.column (fold_alias n) value_name false) (tree.orders_of (map order_view order.items))); name = value_name }) }
+        record { value = tree.aggregate (tree.json_agg (tree.column (fold_alias n) value_name ColumnForm.Plain) (tree.orders_of (map order_view order.items))); name = value_name }) }
 {
     let name = value_name(alloc)?;
     let value = row_value(alloc, n)?;
@@ -251,7 +253,7 @@ fn list_output(
     args: &Args,
 ) -> Result<Out, Memory>
     ensures { let s = context_schema context.now in let order = tree.orders_of (output_orders (list_sorts s t (arguments_view args.now)) s t n 0) in
-        IfOk result (λ out. out_view out ≡ record { value = tree.aggregate (tree.json_agg (tree.column (fold_alias n) value_name false) order); name = value_name }) }
+        IfOk result (λ out. out_view out ≡ record { value = tree.aggregate (tree.json_agg (tree.column (fold_alias n) value_name ColumnForm.Plain) order); name = value_name }) }
 {
     let order = list_orders(alloc, context, t, n, args)?;
     array_output(alloc, n, order)

@@ -4,10 +4,10 @@ ghost use Rattle.hq_terms.specs.Schema.{table};
 ghost use Rattle.hq_sql_tree.specs.Tree as tree;
 ghost use Rattle.hq_sql_tree.specs.View.{expr_view, order_view, out_view, join_view, pred_view};
 ghost use Rattle.hq_compiled.specs.Conditions.{where_of};
-ghost use Rattle.hq_compiled.specs.Looks.{is_text_column, cell_at};
+ghost use Rattle.hq_compiled.specs.Looks.{type_in, compared_form, cell_at};
 ghost use Rattle.hq_compiled.specs.Masks.{value_output};
 ghost use Rattle.hq_compiled.specs.Names.{fold_alias, join_alias, key_name};
-ghost use Rattle.hq_compiled.specs.Sorts.{end_of, is_text_sort, sort_place, sort_numbers, sort_joins, sorts_numbers, sorts_joins, orders, key_outputs, output_orders};
+ghost use Rattle.hq_compiled.specs.Sorts.{end_of, sort_form, sort_place, sort_numbers, sort_joins, sorts_numbers, sorts_joins, orders, key_outputs, output_orders};
 ghost use Rattle.hq_compile_context.specs.Contexts.{context_schema, context_rights};
 ghost use Rattle.hq_compile_tables.specs.Selects.{first_row};
 ghost use Rattle.hq_compile_tables.specs.Shown.{look_in};
@@ -19,10 +19,10 @@ use hq_base::Memory;
 use hq_compile_context::{Context, fold_alias, key_name};
 use hq_compile_masks::{FirstRow, remote_row};
 use hq_compile_tables::{
-    MaskPlace, both_joins, column_at, first_row, is_text, one_join, table_column, value_at,
-    value_output,
+    MaskPlace, both_joins, column_at, compared_form, first_row, one_join, table_column, type_in,
+    value_at, value_output,
 };
-use hq_sql_tree::{Expr, JoinList, Order, OrderList, Out, OutList};
+use hq_sql_tree::{ColumnForm, Expr, JoinList, Order, OrderList, Out, OutList};
 use hq_terms::{ColId, RelId, TableId};
 use std::alloc::Global;
 
@@ -48,17 +48,17 @@ fn sort_column(
     through: &[RelId],
     n: u64,
     column: ColId,
-    collate: bool,
+    form: ColumnForm,
 ) -> Result<Expr, Memory>
     ensures { let s = context_schema context.now in let place = sort_place own through.now s (look_in places.now (table s t).columns p) t p n column in
-        IfOk result (λ e. expr_view e ≡ tree.column place.alias place.name collate) }
+        IfOk result (λ e. expr_view e ≡ tree.column place.alias place.name form) }
 {
     if own {
-        return column_at(alloc, context.columns(t), p, column, collate);
+        return column_at(alloc, context.columns(t), p, column, form);
     }
     match through {
-        [] => table_column(alloc, context, t, p, places, column, collate),
-        [_, ..] => value_at(alloc, n, collate),
+        [] => table_column(alloc, context, t, p, places, column, form),
+        [_, ..] => value_at(alloc, n, form),
     }
 }
 
@@ -86,7 +86,7 @@ fn step_output(
         rest,
         n,
         column,
-        false,
+        ColumnForm::Plain,
     )?;
     value_output(alloc, value)
 }
@@ -175,7 +175,7 @@ fn row_order(
         IfOk result (λ order. order_view order ∷ [] ≡ orders (row_sort_view sort.now ∷ []) s (context_rights context.now) (look_in places.now (table s t).columns p) t p n) }
 {
     let end = end_of(context, t, sort.through.as_slice());
-    let collate = is_text(context.columns(end), sort.column);
+    let form = compared_form(type_in(context.columns(end), sort.column));
     let value = sort_column(
         alloc,
         context,
@@ -186,7 +186,7 @@ fn row_order(
         sort.through.as_slice(),
         n,
         sort.column,
-        collate,
+        form,
     )?;
     Ok(Order {
         value,
@@ -219,7 +219,7 @@ fn row_output(
         sort.through.as_slice(),
         n,
         sort.column,
-        false,
+        ColumnForm::Plain,
     )?;
     let name = key_name(alloc, i)?;
     Ok(Out { value, name })
@@ -307,15 +307,11 @@ fn output_order(
     ensures { IfOk result (λ order. order_view order ∷ [] ≡ output_orders (row_sort_view sort.now ∷ []) (context_schema context.now) t n i) }
 {
     let end = end_of(context, t, sort.through.as_slice());
-    let collate = is_text(context.columns(end), sort.column);
+    let form = compared_form(type_in(context.columns(end), sort.column));
     let alias = fold_alias(alloc, n)?;
     let name = key_name(alloc, i)?;
     Ok(Order {
-        value: Expr::Column {
-            alias,
-            name,
-            collate,
-        },
+        value: Expr::Column { alias, name, form },
         desc: sort.desc,
         nulls_first: sort.nulls_first,
     })

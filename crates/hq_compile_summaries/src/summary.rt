@@ -5,7 +5,7 @@ ghost use Rattle.hq_ask_tree.specs.Arguments.{arguments_view};
 ghost use Rattle.hq_sql_tree.specs.Tree as tree;
 ghost use Rattle.hq_sql_tree.specs.View.{expr_view, pair_view, out_view, select_view};
 ghost use Rattle.hq_compiled.specs.Names.{fold_alias, value_name, needed_name, unit_name};
-ghost use Rattle.hq_compiled.specs.Aggregates.{needed, needed_cell, taken_value, taken_pairs, count_value, summary_value, summary_pairs, needed_columns, needed_outputs, summary_used, summary_numbers, folded_select, plain_select, summary_select};
+ghost use Rattle.hq_compiled.specs.Aggregates.{needed, needed_cell, counted_form, taken_value, taken_pairs, count_value, summary_value, summary_pairs, needed_columns, needed_outputs, summary_used, summary_numbers, folded_select, plain_select, summary_select};
 ghost use Rattle.hq_compiled.specs.Lists.{list_used, list_rows, children_from};
 ghost use Rattle.hq_compiled.specs.Masks.{shown_look};
 ghost use Rattle.hq_compile_context.specs.Contexts.{context_schema, context_rights};
@@ -14,13 +14,13 @@ ghost use Rattle.hq_compile_lists.specs.Starts.{start_tie};
 
 use crate::needs::{needed, place_of, some_aggregate};
 use hq_ask_tree::{AggCol, AggField, KeyedAggCol, KeyedAggField};
-use hq_base::{Aggregate, Memory};
+use hq_base::{Aggregate, Memory, Ty};
 use hq_compile_context::{
     Context, RowUse, fold_alias, needed_name, row_limit, unit_name, value_name,
 };
 use hq_compile_lists::{ListStart, fold, list_body, list_rows, list_used, object, one_row};
-use hq_compile_tables::{MaskPlace, Shown, is_text, shown_column, table_shown};
-use hq_sql_tree::{Agg, Expr, ExprPair, ExprPairList, Out, OutList, Select};
+use hq_compile_tables::{MaskPlace, Shown, compared_form, shown_column, table_shown, type_in};
+use hq_sql_tree::{Agg, ColumnForm, Expr, ExprPair, ExprPairList, Out, OutList, Select};
 use hq_terms::{ColId, Column, TableId};
 use std::alloc::Global;
 
@@ -30,17 +30,13 @@ fn needed_cell(
     n: u64,
     needed: &[ColId],
     column: ColId,
-    collate: bool,
+    form: ColumnForm,
 ) -> Result<Expr, Memory>
-    ensures { IfOk result (λ e. expr_view e ≡ needed_cell n needed.now column collate) }
+    ensures { IfOk result (λ e. expr_view e ≡ needed_cell n needed.now column form) }
 {
     let alias = fold_alias(alloc, n)?;
     let name = needed_name(alloc, place_of(column, needed))?;
-    Ok(Expr::Column {
-        alias,
-        name,
-        collate,
-    })
+    Ok(Expr::Column { alias, name, form })
 }
 
 fn taken(alloc: Global, aggregate: Aggregate, value: Expr) -> Result<Expr, Memory>
@@ -63,7 +59,8 @@ fn taken_value(
 {
     match field {
         AggCol::Column { col } => {
-            let value = needed_cell(alloc, n, needed, *col, is_text(columns, *col))?;
+            let form = compared_form(type_in(columns, *col));
+            let value = needed_cell(alloc, n, needed, *col, form)?;
             taken(alloc, aggregate, value)
         }
         AggCol::Typename { name } => Ok(Expr::Text(name.copy(alloc)?)),
@@ -125,6 +122,17 @@ fn counted(alloc: Global, value: Expr, distinct: bool) -> Result<Expr, Memory>
     Ok(Expr::Agg(Agg::Count { value, distinct }))
 }
 
+// How a column of this type is counted: different values are compared.
+fn counted_form(distinct: bool, ty: Ty) -> ColumnForm
+    ensures { result ≡ counted_form distinct ty }
+{
+    if distinct {
+        compared_form(ty)
+    } else {
+        ColumnForm::Plain
+    }
+}
+
 // A number of rows, or of values.
 fn count_value(
     alloc: Global,
@@ -139,8 +147,8 @@ fn count_value(
     match column {
         None => Ok(Expr::Agg(Agg::CountAll)),
         Some(column) => {
-            let collate = distinct && is_text(columns, column);
-            let value = needed_cell(alloc, n, needed, column, collate)?;
+            let form = counted_form(distinct, type_in(columns, column));
+            let value = needed_cell(alloc, n, needed, column, form)?;
             counted(alloc, value, distinct)
         }
     }

@@ -1,13 +1,13 @@
 //! Columns at an alias.
-ghost use Rattle.std.specs.Prelude.{◌≡◌, [], IfOk, OnOk, false};
+ghost use Rattle.std.specs.Prelude.{◌≡◌, [], IfOk, OnOk};
 ghost use Rattle.hq_sql_tree.specs.Tree as tree;
 ghost use Rattle.hq_sql_tree.specs.View.{expr_view};
-ghost use Rattle.hq_compiled.specs.Looks.{name_of, is_text_column, own_look, cell_at, compared_at, compares, is_used, add_new, add_all, type_in};
+ghost use Rattle.hq_compiled.specs.Looks.{name_of, shown_form, compared_form, tested_form, own_look, cell_at, compared_at, is_used, add_new, add_all, type_in};
 ghost use Rattle.hq_compiled.specs.Masks.{value_place};
 
 use hq_base::{List, Memory, Txt, Ty};
 use hq_compile_context::{join_alias, table_alias, value_name};
-use hq_sql_tree::Expr;
+use hq_sql_tree::{ColumnForm, Expr};
 use hq_terms::{ColId, ColList, Column, Test};
 use std::alloc::Global;
 
@@ -31,30 +31,50 @@ pub fn type_in(columns: &[Column], column: ColId) -> Ty
     }
 }
 
-/// Whether a column is of texts, which are compared by COLLATE "C".
-pub fn is_text(columns: &[Column], column: ColId) -> bool
-    ensures { result ≡ is_text_column columns.now column }
+/// How a column of this type is shown: one of another type of PostgreSQL by its text.
+pub fn shown_form(ty: Ty) -> ColumnForm
+    ensures { result ≡ shown_form ty }
 {
-    type_in(columns, column) == Ty::Text
+    match ty {
+        Ty::Opaque => ColumnForm::AsText,
+        Ty::Integer | Ty::Bigint | Ty::Text | Ty::Boolean | Ty::Uuid => ColumnForm::Plain,
+    }
 }
 
-/// A column of a table's rows at the alias of this number, with COLLATE "C" or without.
+/// How a column of this type is compared: texts by COLLATE "C".
+pub fn compared_form(ty: Ty) -> ColumnForm
+    ensures { result ≡ compared_form ty }
+{
+    match ty {
+        Ty::Text => ColumnForm::Collated,
+        Ty::Opaque => ColumnForm::AsTextCollated,
+        Ty::Integer | Ty::Bigint | Ty::Boolean | Ty::Uuid => ColumnForm::Plain,
+    }
+}
+
+/// How a test looks at a column of this type.
+pub(crate) fn tested_form(test: Test, ty: Ty) -> ColumnForm
+    ensures { result ≡ tested_form test ty }
+{
+    match test {
+        Test::IsNull => shown_form(ty),
+        _ => compared_form(ty),
+    }
+}
+
+/// A column of a table's rows at the alias of this number, in this form.
 pub fn column_at(
     alloc: Global,
     columns: &[Column],
     number: u64,
     column: ColId,
-    collate: bool,
+    form: ColumnForm,
 ) -> Result<Expr, Memory>
-    ensures { IfOk result (λ e. expr_view e ≡ tree.column (own_look columns.now number column).alias (own_look columns.now number column).name collate) }
+    ensures { IfOk result (λ e. expr_view e ≡ tree.column (own_look columns.now number column).alias (own_look columns.now number column).name form) }
 {
     let alias = table_alias(alloc, number)?;
     let name = name_of(alloc, columns, column)?;
-    Ok(Expr::Column {
-        alias,
-        name,
-        collate,
-    })
+    Ok(Expr::Column { alias, name, form })
 }
 
 /// A column of a table's rows at the alias of this number.
@@ -66,7 +86,7 @@ pub fn own_column(
 ) -> Result<Expr, Memory>
     ensures { IfOk result (λ e. expr_view e ≡ cell_at (own_look columns.now number column)) }
 {
-    column_at(alloc, columns, number, column, false)
+    column_at(alloc, columns, number, column, ColumnForm::Plain)
 }
 
 /// The same column, as it is compared.
@@ -78,35 +98,24 @@ pub fn compared_column(
 ) -> Result<Expr, Memory>
     ensures { IfOk result (λ e. expr_view e ≡ compared_at columns.now (own_look columns.now number column) column) }
 {
-    let collate = is_text(columns, column);
-    column_at(alloc, columns, number, column, collate)
+    let form = compared_form(type_in(columns, column));
+    column_at(alloc, columns, number, column, form)
 }
 
-/// Whether a test compares the value that it looks at.
-pub(crate) fn compares(test: Test) -> bool
-    ensures { result ≡ compares test }
-{
-    !matches!(test, Test::IsNull)
-}
-
-/// The value that the join of this number gives, with COLLATE "C" or without.
-pub fn value_at(alloc: Global, number: u64, collate: bool) -> Result<Expr, Memory>
-    ensures { IfOk result (λ e. expr_view e ≡ tree.column (value_place number).alias (value_place number).name collate) }
+/// The value that the join of this number gives, in this form.
+pub fn value_at(alloc: Global, number: u64, form: ColumnForm) -> Result<Expr, Memory>
+    ensures { IfOk result (λ e. expr_view e ≡ tree.column (value_place number).alias (value_place number).name form) }
 {
     let alias = join_alias(alloc, number)?;
     let name = value_name(alloc)?;
-    Ok(Expr::Column {
-        alias,
-        name,
-        collate,
-    })
+    Ok(Expr::Column { alias, name, form })
 }
 
 /// The value that the join of this number gives.
 pub fn value_column(alloc: Global, number: u64) -> Result<Expr, Memory>
     ensures { IfOk result (λ e. expr_view e ≡ cell_at (value_place number)) }
 {
-    value_at(alloc, number, false)
+    value_at(alloc, number, ColumnForm::Plain)
 }
 
 /// Whether a column is among these.

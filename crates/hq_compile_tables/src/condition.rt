@@ -23,7 +23,7 @@ fn text_literal(alloc: Global, ty: Ty, text: &Txt) -> Result<Expr, Memory>
     let text = text.copy(alloc)?;
     match ty {
         Ty::Uuid => Ok(Expr::Uuid(text)),
-        Ty::Integer | Ty::Bigint | Ty::Text | Ty::Boolean => Ok(Expr::Text(text)),
+        Ty::Integer | Ty::Bigint | Ty::Text | Ty::Boolean | Ty::Opaque => Ok(Expr::Text(text)),
     }
 }
 

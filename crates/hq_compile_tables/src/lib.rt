@@ -7,15 +7,16 @@ mod shown;
 mod table;
 
 pub use columns::{
-    add_new, column_at, each_once, is_text, is_used, own_column, type_in, value_at, value_column,
+    add_new, column_at, compared_form, each_once, is_used, own_column, shown_form, type_in,
+    value_at, value_column,
 };
 pub use condition::{
     column_test, columns_test, comparison, first_member, joined_by_and, joined_by_or, literal,
     negation, where_of, with_member,
 };
 pub use shown::{
-    MaskPlace, MaskPlaceList, Shown, compared_shown, shown_at, shown_column, table_column,
-    table_shown,
+    MaskPlace, MaskPlaceList, Shown, compared_shown, shown_column, shown_in, table_column,
+    table_shown, table_shown_column,
 };
 pub use table::{
     both_joins, exists_where, first_row, first_select, from_table, key_orders, link, one_join,

@@ -3,14 +3,14 @@ ghost use Rattle.std.specs.Prelude.{◌≡◌, IfOk, find, option_copied, ◌==�
 ghost use Rattle.hq_terms.specs.Schema.{table};
 ghost use Rattle.hq_sql_tree.specs.Tree as tree;
 ghost use Rattle.hq_sql_tree.specs.View.{expr_view};
-ghost use Rattle.hq_compiled.specs.Looks.{cell_at, compared_at, tested_at};
+ghost use Rattle.hq_compiled.specs.Looks.{cell_at, compared_at, tested_at, shown_at};
 ghost use Rattle.hq_compile_context.specs.Contexts.{context_schema};
 ghost use Rattle.hq_compile_tables.specs.Shown.{look_in, look_of};
 
-use crate::columns::{column_at, compares, is_text, value_at};
+use crate::columns::{column_at, compared_form, shown_form, tested_form, type_in, value_at};
 use hq_base::{List, Memory};
 use hq_compile_context::Context;
-use hq_sql_tree::Expr;
+use hq_sql_tree::{ColumnForm, Expr};
 use hq_terms::{ColId, Column, TableId, Test};
 use std::alloc::Global;
 
@@ -56,17 +56,22 @@ fn place_of(places: &[MaskPlace], column: ColId) -> Option<&MaskPlace>
     places.iter().find(|place| place.col.at() == column.at())
 }
 
-/// A column as it is shown, with COLLATE "C" or without.
-pub fn shown_at(alloc: Global, shown: &Shown, column: ColId, collate: bool) -> Result<Expr, Memory>
-    ensures { IfOk result (λ e. expr_view e ≡ tree.column (look_of shown.now column).alias (look_of shown.now column).name collate) }
+/// A column where it is shown, in this form.
+pub fn shown_in(
+    alloc: Global,
+    shown: &Shown,
+    column: ColId,
+    form: ColumnForm,
+) -> Result<Expr, Memory>
+    ensures { IfOk result (λ e. expr_view e ≡ tree.column (look_of shown.now column).alias (look_of shown.now column).name form) }
 {
     match place_of(shown.places, column) {
-        Some(place) => value_at(alloc, place.number, collate),
-        None => column_at(alloc, shown.columns, shown.number, column, collate),
+        Some(place) => value_at(alloc, place.number, form),
+        None => column_at(alloc, shown.columns, shown.number, column, form),
     }
 }
 
-/// A column of table t at the alias of this number, some of whose columns joins show, with COLLATE "C" or without.
+/// A column of table t at the alias of this number, some of whose columns joins show, in this form.
 pub fn table_column(
     alloc: Global,
     context: &Context,
@@ -74,28 +79,44 @@ pub fn table_column(
     number: u64,
     places: &[MaskPlace],
     column: ColId,
-    collate: bool,
+    form: ColumnForm,
 ) -> Result<Expr, Memory>
     ensures { let place = look_in places.now (table (context_schema context.now) t).columns number column in
-        IfOk result (λ e. expr_view e ≡ tree.column place.alias place.name collate) }
+        IfOk result (λ e. expr_view e ≡ tree.column place.alias place.name form) }
 {
     let shown = table_shown(context, t, number, places);
-    shown_at(alloc, &shown, column, collate)
+    shown_in(alloc, &shown, column, form)
 }
 
-/// A column as it is shown.
+/// The cell of a column where it is shown, as it is passed on.
 pub fn shown_column(alloc: Global, shown: &Shown, column: ColId) -> Result<Expr, Memory>
     ensures { IfOk result (λ e. expr_view e ≡ cell_at (look_of shown.now column)) }
 {
-    shown_at(alloc, shown, column, false)
+    shown_in(alloc, shown, column, ColumnForm::Plain)
+}
+
+/// A column of table t at the alias of this number, some of whose columns joins show, as it is shown.
+pub fn table_shown_column(
+    alloc: Global,
+    context: &Context,
+    t: TableId,
+    number: u64,
+    places: &[MaskPlace],
+    column: ColId,
+) -> Result<Expr, Memory>
+    ensures { let columns = (table (context_schema context.now) t).columns in
+        IfOk result (λ e. expr_view e ≡ shown_at columns (look_in places.now columns number column) column) }
+{
+    let form = shown_form(type_in(context.columns(t), column));
+    table_column(alloc, context, t, number, places, column, form)
 }
 
 /// The same column, as it is compared.
 pub fn compared_shown(alloc: Global, shown: &Shown, column: ColId) -> Result<Expr, Memory>
     ensures { IfOk result (λ e. expr_view e ≡ compared_at shown.now.columns.now (look_of shown.now column) column) }
 {
-    let collate = is_text(shown.columns, column);
-    shown_at(alloc, shown, column, collate)
+    let form = compared_form(type_in(shown.columns, column));
+    shown_in(alloc, shown, column, form)
 }
 
 /// The same column, as a test looks at it.
@@ -107,6 +128,6 @@ pub(crate) fn tested_shown(
 ) -> Result<Expr, Memory>
     ensures { IfOk result (λ e. expr_view e ≡ tested_at shown.now.columns.now (look_of shown.now column) column test) }
 {
-    let collate = compares(test) && is_text(shown.columns, column);
-    shown_at(alloc, shown, column, collate)
+    let form = tested_form(test, type_in(shown.columns, column));
+    shown_in(alloc, shown, column, form)
 }

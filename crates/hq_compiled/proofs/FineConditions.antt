@@ -6,33 +6,33 @@ use Rattle.std.proofs.lemmas.Bool.{and_parts, leb-true, false≢true}
 use borrow.Author.Tests.{ltb-true}
 use Rattle.hq_base.specs.Uuids.{is_uuid_form}
 use Rattle.hq_base.specs.declared.value.Ty.{Ty}
-use Rattle.hq_base.specs.declared.value.Ty.TheVariants.{Integer, Bigint, Text, Boolean, Uuid}
+use Rattle.hq_base.specs.declared.value.Ty.TheVariants.{Integer, Bigint, Text, Boolean, Uuid, Opaque}
 use Rattle.hq_base.specs.declared.value.Val.{Val}
 use Rattle.hq_base.specs.declared.value.Val.TheVariants as val
 use Rattle.hq_terms.specs.Bexp.{BexpTree, always, and_of, or_of, not_of, test, through, exists_in, two_columns, BexpTrees, no_bexp, bexp, operands_of, depth}
 use Rattle.hq_terms.specs.Catalog.{can_pair, comparable}
 use Rattle.hq_terms.specs.Filters.{column_ty, constant_fits, is_pattern, test_fits, operand_fits, is_test, of_type, is_filter, are_filters}
-use Rattle.hq_terms.specs.Database.{is_text}
 use Rattle.hq_terms.specs.Schema.{Schema, table, rel}
 use Rattle.hq_terms.specs.Tests.{arity, has_arity, takes, applies}
 use Rattle.hq_terms.specs.declared.bexp.Operand.{Operand}
 use Rattle.hq_terms.specs.declared.bexp.Operand.TheVariants.{Const, Session}
 use Rattle.hq_terms.specs.declared.bexp.Operands.{Operands}
 use Rattle.hq_terms.specs.declared.bexp.Operands.TheVariants as operands
+use Rattle.hq_terms.specs.declared.op.Op.TheVariants.{Eq}
 use Rattle.hq_terms.specs.declared.test.Arity.{Arity}
 use Rattle.hq_terms.specs.declared.test.Arity.TheVariants.{Nothing, One, Many}
 use Rattle.hq_terms.specs.declared.test.Test.{Test}
-use Rattle.hq_terms.specs.declared.test.Test.TheVariants.{IsNull, Like}
+use Rattle.hq_terms.specs.declared.test.Test.TheVariants.{Compare, IsNull, Like}
 use Rattle.hq_ask_tree.specs.Conditions.{is_constant, is_bound, are_bound, is_condition}
 use Rattle.hq_sql_tree.specs.Tree as tree
 use Rattle.hq_sql_tree.specs.Tree.{ExprTree}
 use Rattle.hq_sql_tree.specs.WellFormed as well
-use Rattle.hq_sql_tree.specs.WellFormed.{Aliases, kind_of_type, kind, compare_kinds, is_item, is_tested, is_operand}
-use Rattle.hq_compiled.specs.Looks.{compares}
+use Rattle.hq_sql_tree.specs.WellFormed.{Aliases, kind, compare_kinds, is_item, is_tested, is_operand}
+use Rattle.hq_compiled.specs.Looks.{compared_form, tested_form}
 use Rattle.hq_compiled.specs.Conditions.{literal, operand_literal, literals_for}
-use Rattle.hq_compiled.specs.Fine.{Has, kind_of, column_alone, TestFits, FineRel, FineBexp, FineBexps}
+use Rattle.hq_compiled.specs.Fine.{Has, compared_kind, compared_kind_of, column_alone, TestFits, FineRel, FineBexp, FineBexps}
 use Rattle.hq_compiled.proofs.Relationships.{column_is}
-use Rattle.hq_compiled.proofs.Scopes.{compared_of}
+use Rattle.hq_compiled.proofs.Scopes.{compared_of, shown_of, kind_compared, kind_tested}
 use Rattle.hq_compiled.proofs.TypedConditions.{two}
 
 -- a number that is tested to be at most another is
@@ -42,23 +42,26 @@ at_most n k h = leb-true n k h
 -- ---- tests of columns
 
 -- a constant is compared with a value of its type's kind
-constant_item : (scope : Aliases) (e : ExprTree) (ty : Ty) (v : Val) → kind scope e ≡ Some (kind_of_type ty) → constant_fits ty v ≡ true → is_item scope e (literal ty v) ≡ true
+constant_item : (scope : Aliases) (e : ExprTree) (ty : Ty) (v : Val) → kind scope e ≡ Some (compared_kind ty) → constant_fits ty v ≡ true → is_item scope e (literal ty v) ≡ true
 constant_item scope e ty val.Null h f = cc
 constant_item scope e Integer (val.Int n) h f = rw h refl
 constant_item scope e Bigint (val.Int n) h f = rw h refl
 constant_item scope e Text (val.Int n) h f = cc
 constant_item scope e Boolean (val.Int n) h f = cc
 constant_item scope e Uuid (val.Int n) h f = cc
+constant_item scope e Opaque (val.Int n) h f = cc
 constant_item scope e Integer (val.Text s) h f = cc
 constant_item scope e Bigint (val.Text s) h f = cc
 constant_item scope e Text (val.Text s) h f = rw h refl
 constant_item scope e Boolean (val.Text s) h f = cc
 constant_item scope e Uuid (val.Text s) h f = let form : is_uuid_form s ≡ true = f in rw (h, form) refl
+constant_item scope e Opaque (val.Text s) h f = rw h refl
 constant_item scope e Integer (val.Bool b) h f = cc
 constant_item scope e Bigint (val.Bool b) h f = cc
 constant_item scope e Text (val.Bool b) h f = cc
 constant_item scope e Boolean (val.Bool b) h f = rw h refl
 constant_item scope e Uuid (val.Bool b) h f = cc
+constant_item scope e Opaque (val.Bool b) h f = cc
 
 -- a pattern of a column of texts is one
 pattern_item : (ty : Ty) (v : Val) → applies (Like true) ty ≡ true → is_pattern v ≡ true → well.is_pattern (literal ty v) ≡ true
@@ -69,10 +72,11 @@ pattern_item Integer (val.Text s) a f = cc
 pattern_item Bigint (val.Text s) a f = cc
 pattern_item Boolean (val.Text s) a f = cc
 pattern_item Uuid (val.Text s) a f = cc
+pattern_item Opaque (val.Text s) a f = cc
 pattern_item ty (val.Bool b) a f = cc
 
 -- an operand that fits a test of a column is one of the test of a value of the column's kind
-module _ (scope : Aliases) (e : ExprTree) (ty : Ty) (t : Test) (of : applies t ty ≡ true) (h : kind scope e ≡ Some (kind_of_type ty)) where
+module _ (scope : Aliases) (e : ExprTree) (ty : Ty) (t : Test) (of : applies t ty ≡ true) (h : kind scope e ≡ Some (compared_kind ty)) where
   operand_const : (t : Test) (v : Val) → applies t ty ≡ true → test_fits t ty v ≡ true → is_operand scope t e (literal ty v) ≡ true
   operand_const (Like fold) v a f = pattern_item ty v a f
   operand_const _ v a f = constant_item scope e ty v h f
@@ -97,23 +101,32 @@ module _ (scope : Aliases) (e : ExprTree) (ty : Ty) (t : Test) (of : applies t t
   literals_typed Many vs n f g = operands_typed vs f g
 
 -- a column of a type that a test applies to
-value_alone : (ty : Ty) (t : Test) → applies t ty ≡ true → is_tested (column_alone ty) t (tree.column (codes "t") (codes "c") (compares t && is_text ty)) ≡ true
+value_alone : (ty : Ty) (t : Test) → applies t ty ≡ true → is_tested (column_alone ty) t (tree.column (codes "t") (codes "c") (tested_form t ty)) ≡ true
 value_alone Integer (Like fold) f = cc
 value_alone Bigint (Like fold) f = cc
 value_alone Text (Like fold) f = refl
 value_alone Boolean (Like fold) f = cc
 value_alone Uuid (Like fold) f = cc
-value_alone ty IsNull f = refl
+value_alone Opaque (Like fold) f = cc
+value_alone ty IsNull f = shown_of (column_alone ty) (codes "t") (codes "c") ty refl
 value_alone ty _ f = compared_of (column_alone ty) (codes "t") (codes "c") ty refl
 
 -- a test of a column of a type, of constants
 pub test_fine : (ty : Ty) (t : Test) (vs : Operands) → is_test t vs ty ≡ true → list_all is_constant (operands_of vs) ≡ true → TestFits t ty (operands_of vs)
 test_fine ty t (operands.List vs) f g =
-    let e : ExprTree = tree.column (codes "t") (codes "c") (compares t && is_text ty) in
+    let e : ExprTree = tree.column (codes "t") (codes "c") (tested_form t ty) in
     let parts = and_parts (takes t (length vs) && applies t ty) (list_all (operand_fits t ty) vs) f in
     let of = and_parts (takes t (length vs)) (applies t ty) parts.0 in
-    two (is_tested (column_alone ty) t e) (list_all (is_operand (column_alone ty) t e) (literals_for ty (arity t) vs)) (value_alone ty t of.1) (literals_typed (column_alone ty) e ty t of.1 refl (arity t) vs of.0 parts.1 g)
+    two (is_tested (column_alone ty) t e) (list_all (is_operand (column_alone ty) t e) (literals_for ty (arity t) vs)) (value_alone ty t of.1) (literals_typed (column_alone ty) e ty t of.1 (kind_tested (column_alone ty) (codes "t") (codes "c") ty t refl) (arity t) vs of.0 parts.1 g)
 test_fine ty t (operands.Session name) f g = cc
+
+-- a column equals a constant of its type, also where no test of it applies
+pub value_fine : (ty : Ty) (v : Val) → constant_fits ty v ≡ true → TestFits (Compare Eq) ty (Const v ∷ [])
+value_fine ty v f =
+    let e : ExprTree = tree.column (codes "t") (codes "c") (compared_form ty) in
+    let known : kind (column_alone ty) e ≡ Some (compared_kind ty) = kind_compared (column_alone ty) (codes "t") (codes "c") ty refl in
+    two (is_tested (column_alone ty) (Compare Eq) e) (list_all (is_operand (column_alone ty) (Compare Eq) e) (literal ty v ∷ [])) (compared_of (column_alone ty) (codes "t") (codes "c") ty refl)
+    (two (is_operand (column_alone ty) (Compare Eq) e (literal ty v)) true (constant_item (column_alone ty) e ty v known f) refl)
 
 -- ---- columns whose type passes a test
 
@@ -125,7 +138,7 @@ of_column P passes s t c step h =
 
 -- ---- two columns of a row
 
-kinds_compare : (a b : Ty) → comparable a b ≡ true → compare_kinds (Some (kind_of_type a)) (Some (kind_of_type b)) ≡ true
+kinds_compare : (a b : Ty) → comparable a b ≡ true → compare_kinds (Some (compared_kind a)) (Some (compared_kind b)) ≡ true
 kinds_compare Integer Integer h = refl
 kinds_compare Integer Bigint h = refl
 kinds_compare Integer Text h = absurd (false≢true h)
@@ -151,12 +164,23 @@ kinds_compare Uuid Bigint h = absurd (false≢true h)
 kinds_compare Uuid Text h = absurd (false≢true h)
 kinds_compare Uuid Boolean h = absurd (false≢true h)
 kinds_compare Uuid Uuid h = refl
+kinds_compare Integer Opaque h = absurd (false≢true h)
+kinds_compare Bigint Opaque h = absurd (false≢true h)
+kinds_compare Text Opaque h = absurd (false≢true h)
+kinds_compare Boolean Opaque h = absurd (false≢true h)
+kinds_compare Uuid Opaque h = absurd (false≢true h)
+kinds_compare Opaque Integer h = absurd (false≢true h)
+kinds_compare Opaque Bigint h = absurd (false≢true h)
+kinds_compare Opaque Text h = absurd (false≢true h)
+kinds_compare Opaque Boolean h = absurd (false≢true h)
+kinds_compare Opaque Uuid h = absurd (false≢true h)
+kinds_compare Opaque Opaque h = absurd (false≢true h)
 
 -- columns whose values can be compared
-columns_fine : (s : Schema) (t i j : ℕ) → can_pair (column_ty s t i) (column_ty s t j) ≡ true → Has s t i × Has s t j × (compare_kinds (Some (kind_of s t i)) (Some (kind_of s t j)) ≡ true)
+columns_fine : (s : Schema) (t i j : ℕ) → can_pair (column_ty s t i) (column_ty s t j) ≡ true → Has s t i × Has s t j × (compare_kinds (Some (compared_kind_of s t i)) (Some (compared_kind_of s t j)) ≡ true)
 columns_fine s t i j h = by (column_ty s t i) (column_ty s t j) refl refl h
   where
-    by : (a b : Option Ty) → column_ty s t i ≡ a → column_ty s t j ≡ b → can_pair a b ≡ true → Has s t i × Has s t j × (compare_kinds (Some (kind_of s t i)) (Some (kind_of s t j)) ≡ true)
+    by : (a b : Option Ty) → column_ty s t i ≡ a → column_ty s t j ≡ b → can_pair a b ≡ true → Has s t i × Has s t j × (compare_kinds (Some (compared_kind_of s t i)) (Some (compared_kind_of s t j)) ≡ true)
     by None b e f g = absurd (false≢true g)
     by (Some a) None e f g = absurd (false≢true g)
     by (Some a) (Some b) e f g =

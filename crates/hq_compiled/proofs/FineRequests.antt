@@ -37,8 +37,7 @@ use Rattle.hq_compiled.specs.Correct.{AreFew, IsFew, AreFewParts, IsFewPart}
 use Rattle.hq_compiled.specs.Fine.{Has, TestFits, FineRel, FineChain, FineArguments, FineOrigin, FineKey, FineTaken, FineSummary, FineFields, FineField, FineParts, FinePart}
 use Rattle.hq_compiled.specs.Lists.{list_sorts}
 use Rattle.hq_compiled.proofs.Relationships.{less, column_is, column_there, fitting_rel, rel_fine}
-use Rattle.hq_compiled.proofs.FineConditions.{of_column, test_fine, condition_fine}
-use Rattle.hq_compiled.proofs.TypedConditions.{two}
+use Rattle.hq_compiled.proofs.FineConditions.{of_column, value_fine, condition_fine}
 use Rattle.hq_compiled.proofs.Once.{each_once}
 use Rattle.hq_compiled.proofs.Distinct.{entries_begin}
 
@@ -92,7 +91,7 @@ module _ (tables : List Table) (m : MetaTree) (fitting : fits tables m ≡ true)
   key_fine t (c ∷ cs) [] h = tt
   key_fine t (c ∷ cs) (v ∷ vs) h =
       let parts = and_parts _ _ h in
-      let at = of_column (λ ty. TestFits (Compare Eq) ty (Const v ∷ [])) (λ ty. constant_fits ty v) s t c (λ ty f. test_fine ty (Compare Eq) (operands.List (Const v ∷ [])) (two (constant_fits ty v) true f refl) refl) parts.0 in
+      let at = of_column (λ ty. TestFits (Compare Eq) ty (Const v ∷ [])) (λ ty. constant_fits ty v) s t c (λ ty f. value_fine ty v f) parts.0 in
       let is = column_is s t c at.0 at.1 in
       (subst (λ (ty : Ty). TestFits (Compare Eq) ty (Const v ∷ [])) (sym is.1) at.2, key_fine t cs vs parts.1)
 

@@ -29,6 +29,8 @@ use Rattle.hq_ask_tree.specs.declared.aggregate.AggField.{AggField}
 use Rattle.hq_ask_tree.specs.declared.aggregate.AggField.TheVariants as take
 use Rattle.hq_ask_tree.specs.declared.aggregate.KeyedAggCol.{KeyedAggCol}
 use Rattle.hq_ask_tree.specs.declared.aggregate.KeyedAggField.{KeyedAggField}
+use Rattle.hq_sql_tree.specs.declared.expr.ColumnForm.{ColumnForm}
+use Rattle.hq_sql_tree.specs.declared.expr.ColumnForm.TheVariants.{Plain}
 use Rattle.hq_sql_tree.specs.Tree as tree
 use Rattle.hq_sql_tree.specs.Tree.{ExprTree, AggTree, PairTree, OrderTree, OutTree, SelectTree, JoinTree, JoinTrees, FilterTree, PredTree, pred_list, preds_of, joins_of, pairs_of, orders_of}
 use Rattle.hq_sql_tree.specs.Form.{is_expr, are_pairs, is_agg, are_orders, holds_agg, hold_agg, is_lone_agg, is_select, are_joins, is_filter, is_pred, are_preds}
@@ -138,9 +140,9 @@ nothing_form : (b : Bool) → is_pred (cond b tree.always tree.never) ≡ true
 nothing_form true = refl
 nothing_form false = refl
 
-test_form : (ty : Ty) (alias name : List ℕ) (collate : Bool) (t : Test) (os : List Operand) (negated : Bool) → is_pred (test_of ty (tree.column alias name collate) t os negated) ≡ true
-test_form ty alias name collate t os negated =
-    let p : PredTree = tree.test (tree.column alias name collate) t (literals_for ty (arity t) os) in
+test_form : (ty : Ty) (alias name : List ℕ) (form : ColumnForm) (t : Test) (os : List Operand) (negated : Bool) → is_pred (test_of ty (tree.column alias name form) t os negated) ≡ true
+test_form ty alias name form t os negated =
+    let p : PredTree = tree.test (tree.column alias name form) t (literals_for ty (arity t) os) in
     let go : (b : Bool) → is_of_nothing t os ≡ b → is_pred (cond b (cond negated tree.always tree.never) (negation_if negated p)) ≡ true = elim [
       | true ↦ λ h. nothing_form negated
       | false ↦ λ h. negation_form negated p (rw (literals_taken ty (arity t) os, nothing_left ty t os, h, literals_form ty (arity t) os) refl)
@@ -259,7 +261,7 @@ output_orders_form : (ks : List Sort) (s : Schema) (t n i : ℕ) → are_orders 
 output_orders_form [] s t n i = refl
 output_orders_form (k ∷ ks) s t n i = output_orders_form ks s t n (i + 1)
 
-array_form : (ks : List Sort) (s : Schema) (t n : ℕ) (alias name : List ℕ) → 0 < length ks → is_agg (tree.json_agg (tree.column alias name false) (orders_of (output_orders ks s t n 0))) ≡ true
+array_form : (ks : List Sort) (s : Schema) (t n : ℕ) (alias name : List ℕ) → 0 < length ks → is_agg (tree.json_agg (tree.column alias name Plain) (orders_of (output_orders ks s t n 0))) ≡ true
 array_form [] s t n alias name lt = absurd (omega arith)
 array_form (k ∷ ks) s t n alias name lt = output_orders_form ks s t n 1
 
@@ -271,19 +273,19 @@ sorts_count : (es : List SortKey) (cs : List ℕ) → 0 < length cs → 0 < leng
 sorts_count [] cs lt = let e = own_count cs in omega arith
 sorts_count (k ∷ es) cs lt = omega arith
 
-field_form : (f : FieldTree) (look : Look) (n : ℕ) → is_expr (field_value f look n) ≡ true
-field_form (column c) look n = refl
-field_form (typename name) look n = refl
-field_form no_queries look n = refl
-field_form (object r fs) look n = refl
-field_form (list o a fs) look n = refl
-field_form (by_key u key fs) look n = refl
-field_form (aggregate o a ps) look n = refl
-field_form (introspect f) look n = refl
+field_form : (f : FieldTree) (columns : List Column) (look : Look) (n : ℕ) → is_expr (field_value f columns look n) ≡ true
+field_form (column c) columns look n = refl
+field_form (typename name) columns look n = refl
+field_form no_queries columns look n = refl
+field_form (object r fs) columns look n = refl
+field_form (list o a fs) columns look n = refl
+field_form (by_key u key fs) columns look n = refl
+field_form (aggregate o a ps) columns look n = refl
+field_form (introspect f) columns look n = refl
 
 fields_form : (fs : FieldTrees) (s : Schema) (g : Rights) (look : Look) (t n : ℕ) → are_pairs (pairs_of (fields_values fs s g look t n)) ≡ true
 fields_form no_field s g look t n = refl
-fields_form (field key f fs) s g look t n = rw (field_form f look n) (fields_form fs s g look t (n + field_numbers f s g t))
+fields_form (field key f fs) s g look t n = rw (field_form f (table s t).columns look n) (fields_form fs s g look t (n + field_numbers f s g t))
 
 part_form : (p : PartTree) (n : ℕ) → is_expr (part_value p n) ≡ true
 part_form (summary fs) n = refl

@@ -180,7 +180,7 @@ module _ (s : Schema) (tables : List Table) (d : List (List Row)) (g : Grants) w
 
   value_one : (f : FieldTree) (fs : FieldTrees) (look : Look) (t n : ℕ) (scope : Scope) (row : Row) → n + field_numbers f s (rights_of g) t + fields_numbers fs s (rights_of g) t ≤ 2 ^ 64
       → Looks look (field_used f) (with_fields fs t (n + field_numbers f s (rights_of g) t) row (with_field f t n row scope)) (shown s g d t row)
-      → json_of (value (field_value f look n) [] (with_fields fs t (n + field_numbers f s (rights_of g) t) row (with_field f t n row scope))) ≡ given f t row
+      → json_of (value (field_value f (table s t).columns look n) [] (with_fields fs t (n + field_numbers f s (rights_of g) t) row (with_field f t n row scope))) ≡ given f t row
   value_one (column c) fs look t n scope row bound l = ap json_of (l c (used_one c))
   value_one (typename name) fs look t n scope row bound l = refl
   value_one no_queries fs look t n scope row bound l = still fs t n (n + field_numbers no_queries s (rights_of g) t) row scope [] (omega arith) bound

@@ -6,7 +6,7 @@ use Rattle.std.proofs.lemmas.Bool.{and_parts, eqb-true, ltb-true, false≢true}
 use Rattle.std.proofs.lemmas.Option.{get_or_from_slice_get}
 use Rattle.hq_base.specs.Lists.{Each}
 use Rattle.hq_base.specs.declared.value.Ty.{Ty}
-use Rattle.hq_base.specs.declared.value.Ty.TheVariants.{Integer, Bigint, Text, Boolean, Uuid}
+use Rattle.hq_base.specs.declared.value.Ty.TheVariants.{Integer, Bigint, Text, Boolean, Uuid, Opaque}
 use Rattle.hq_terms.specs.Catalog.{comparable, can_pair}
 use Rattle.hq_terms.specs.Filters.{column_ty}
 use Rattle.hq_terms.specs.Fits.{fits, fits_rel, fits_tracked}
@@ -17,8 +17,8 @@ use Rattle.hq_terms.specs.declared.meta.Rel.{Rel}
 use Rattle.hq_terms.specs.declared.table.Column.{Column}
 use Rattle.hq_terms.specs.declared.table.Table.{Table}
 use Rattle.hq_terms.proofs.Places.{table_present, table_absent}
-use Rattle.hq_sql_tree.specs.WellFormed.{kind_of_type, compare_kinds}
-use Rattle.hq_compiled.specs.Fine.{Known, Has, type_of, FinePair, FineRel}
+use Rattle.hq_sql_tree.specs.WellFormed.{compare_kinds}
+use Rattle.hq_compiled.specs.Fine.{Known, Has, type_of, compared_kind, FinePair, FineRel}
 
 -- a number that is tested to be less is
 pub less : (n k : ℕ) → nat_lt n k ≡ true → n < k
@@ -60,7 +60,7 @@ column_there s t c h =
 
 -- ---- pairs
 
-comparable_kinds : (a b : Ty) → comparable a b ≡ true → compare_kinds (Some (kind_of_type b)) (Some (kind_of_type a)) ≡ true
+comparable_kinds : (a b : Ty) → comparable a b ≡ true → compare_kinds (Some (compared_kind b)) (Some (compared_kind a)) ≡ true
 comparable_kinds Integer Integer h = refl
 comparable_kinds Integer Bigint h = refl
 comparable_kinds Integer Text h = absurd (false≢true h)
@@ -86,6 +86,17 @@ comparable_kinds Uuid Bigint h = absurd (false≢true h)
 comparable_kinds Uuid Text h = absurd (false≢true h)
 comparable_kinds Uuid Boolean h = absurd (false≢true h)
 comparable_kinds Uuid Uuid h = refl
+comparable_kinds Integer Opaque h = absurd (false≢true h)
+comparable_kinds Bigint Opaque h = absurd (false≢true h)
+comparable_kinds Text Opaque h = absurd (false≢true h)
+comparable_kinds Boolean Opaque h = absurd (false≢true h)
+comparable_kinds Uuid Opaque h = absurd (false≢true h)
+comparable_kinds Opaque Integer h = absurd (false≢true h)
+comparable_kinds Opaque Bigint h = absurd (false≢true h)
+comparable_kinds Opaque Text h = absurd (false≢true h)
+comparable_kinds Opaque Boolean h = absurd (false≢true h)
+comparable_kinds Opaque Uuid h = absurd (false≢true h)
+comparable_kinds Opaque Opaque h = absurd (false≢true h)
 
 pair_fine : (s : Schema) (t u : ℕ) (p : Pair) → can_pair (column_ty s t p.own) (column_ty s u p.remote) ≡ true → FinePair s t u p
 pair_fine s t u p h =

@@ -2,16 +2,18 @@
 use Rattle.std.proofs.Common.{◌≡◌, ℕ, zero, suc, ◌<◌, ◌≤◌, ◌^◌, List, [], ◌∷◌, ◌++◌, length, true, false, bytes_eq, ◌+◌, refl, ◌∙◌, arith, Some}
 use Rattle.std.specs.Prelude.{slice_index_or}
 use Rattle.hq_base.specs.declared.value.Ty.{Ty}
-use Rattle.hq_base.specs.declared.value.Ty.TheVariants.{Integer, Bigint, Text, Boolean, Uuid}
-use Rattle.hq_terms.specs.Database.{is_text}
+use Rattle.hq_base.specs.declared.value.Ty.TheVariants.{Integer, Bigint, Text, Boolean, Uuid, Opaque}
 use Rattle.hq_terms.specs.Schema.{Schema, table, no_column}
 use Rattle.hq_terms.specs.declared.table.Column.{Column}
 use Rattle.hq_terms.specs.declared.table.Table.{Table}
+use Rattle.hq_terms.specs.declared.test.Test.{Test}
+use Rattle.hq_terms.specs.declared.test.Test.TheVariants.{IsNull}
+use Rattle.hq_sql_tree.specs.declared.expr.ColumnForm.TheVariants.{Plain}
 use Rattle.hq_sql_tree.specs.Tree as tree
-use Rattle.hq_sql_tree.specs.WellFormed.{Aliases, Names, Kind, kind_of_type, kind_named, kind_at, is_value, is_compared, table_names}
-use Rattle.hq_compiled.specs.Fine.{Has, kind_of, kinds_of}
+use Rattle.hq_sql_tree.specs.WellFormed.{Aliases, Names, Kind, kind_of_type, kind, kind_named, kind_at, is_known, is_value, is_member, is_compared, table_names}
+use Rattle.hq_compiled.specs.Fine.{Has, kind_of, kinds_of, compared_kind}
 use Rattle.hq_compiled.proofs.CatalogTables.{FineTable}
-use Rattle.hq_compiled.specs.Looks.{Look, name_of, own_look, is_used}
+use Rattle.hq_compiled.specs.Looks.{Look, name_of, shown_form, compared_form, tested_form, own_look, is_used}
 use Rattle.hq_compiled.specs.Names.{table_alias, fold_alias, join_alias}
 use Rattle.hq_compiled.specs.Rights.{Rights}
 use Rattle.hq_compiled.proofs.Names.{same_text, later_differs, Differ, used_left, used_right}
@@ -86,12 +88,48 @@ grows_table n names scope bound a name under = rw ((under n (omega arith) bound)
 
 -- ---- columns in scope
 
-pub value_of : (scope : Aliases) (alias name : List ℕ) (k : Kind) → kind_at scope alias name ≡ Some k → is_value scope (tree.column alias name false) ≡ true
+pub value_of : (scope : Aliases) (alias name : List ℕ) (k : Kind) → kind_at scope alias name ≡ Some k → is_value scope (tree.column alias name Plain) ≡ true
 value_of scope alias name k e = rw e refl
 
-pub compared_of : (scope : Aliases) (alias name : List ℕ) (ty : Ty) → kind_at scope alias name ≡ Some (kind_of_type ty) → is_compared scope (tree.column alias name (is_text ty)) ≡ true
+pub compared_of : (scope : Aliases) (alias name : List ℕ) (ty : Ty) → kind_at scope alias name ≡ Some (kind_of_type ty) → is_compared scope (tree.column alias name (compared_form ty)) ≡ true
 compared_of scope alias name Integer e = rw e refl
 compared_of scope alias name Bigint e = rw e refl
 compared_of scope alias name Text e = rw e refl
 compared_of scope alias name Boolean e = rw e refl
 compared_of scope alias name Uuid e = rw e refl
+compared_of scope alias name Opaque e = rw e refl
+
+-- as a member of an object
+pub member_of : (scope : Aliases) (alias name : List ℕ) (k : Kind) → kind_at scope alias name ≡ Some k → is_known (Some k) ≡ true → is_member scope (tree.column alias name Plain) ≡ true
+member_of scope alias name k e f = rw e f
+
+-- as it is shown
+pub shown_of : (scope : Aliases) (alias name : List ℕ) (ty : Ty) → kind_at scope alias name ≡ Some (kind_of_type ty) → is_member scope (tree.column alias name (shown_form ty)) ≡ true
+shown_of scope alias name Integer e = rw e refl
+shown_of scope alias name Bigint e = rw e refl
+shown_of scope alias name Text e = rw e refl
+shown_of scope alias name Boolean e = rw e refl
+shown_of scope alias name Uuid e = rw e refl
+shown_of scope alias name Opaque e = rw e refl
+
+-- ---- their kinds
+
+kind_shown : (scope : Aliases) (alias name : List ℕ) (ty : Ty) → kind_at scope alias name ≡ Some (kind_of_type ty) → kind scope (tree.column alias name (shown_form ty)) ≡ Some (compared_kind ty)
+kind_shown scope alias name Integer e = e
+kind_shown scope alias name Bigint e = e
+kind_shown scope alias name Text e = e
+kind_shown scope alias name Boolean e = e
+kind_shown scope alias name Uuid e = e
+kind_shown scope alias name Opaque e = refl
+
+pub kind_compared : (scope : Aliases) (alias name : List ℕ) (ty : Ty) → kind_at scope alias name ≡ Some (kind_of_type ty) → kind scope (tree.column alias name (compared_form ty)) ≡ Some (compared_kind ty)
+kind_compared scope alias name Integer e = e
+kind_compared scope alias name Bigint e = e
+kind_compared scope alias name Text e = e
+kind_compared scope alias name Boolean e = e
+kind_compared scope alias name Uuid e = e
+kind_compared scope alias name Opaque e = refl
+
+pub kind_tested : (scope : Aliases) (alias name : List ℕ) (ty : Ty) (t : Test) → kind_at scope alias name ≡ Some (kind_of_type ty) → kind scope (tree.column alias name (tested_form t ty)) ≡ Some (compared_kind ty)
+kind_tested scope alias name ty IsNull e = kind_shown scope alias name ty e
+kind_tested scope alias name ty _ e = kind_compared scope alias name ty e

@@ -28,11 +28,12 @@ use Rattle.hq_ask_tree.specs.declared.aggregate.AggField.{AggField}
 use Rattle.hq_ask_tree.specs.declared.aggregate.AggField.TheVariants as take
 use Rattle.hq_ask_tree.specs.declared.aggregate.KeyedAggCol.{KeyedAggCol}
 use Rattle.hq_ask_tree.specs.declared.aggregate.KeyedAggField.{KeyedAggField}
+use Rattle.hq_sql_tree.specs.declared.expr.ColumnForm.{ColumnForm}
 use Rattle.hq_sql_tree.specs.Tree as tree
 use Rattle.hq_sql_tree.specs.Tree.{ExprTree, AggTree, PairTree, OrderTree, OutTree, SelectTree, FromTree, JoinTree, JoinTrees, FilterTree, PredTree, preds_of, joins_of, pairs_of, orders_of}
 use Rattle.hq_sql_tree.specs.Form.{greatest, arity_parens, expr_depth, pairs_depth, orders_depth, distinct_depth, select_depth, from_depth, joins_depth, filter_depth, pred_depth, preds_depth}
 use Rattle.hq_compiled.specs.Names.{table_alias, value_name, unit_name}
-use Rattle.hq_compiled.specs.Looks.{Look, is_text_column, type_in, compares, is_used, own_look, cell_at}
+use Rattle.hq_compiled.specs.Looks.{Look, tested_form, type_in, is_used, own_look, cell_at}
 use Rattle.hq_compiled.specs.Rights.{Rights}
 use Rattle.hq_compiled.proofs.TextLiterals.{of_either}
 use Rattle.hq_compiled.specs.Conditions.{literal, operand_literal, joined_by_and, joined_by_or, with_member, where_of, negation_if, first_literal, literals_for, test_of}
@@ -128,9 +129,9 @@ nothing_low : (b : Bool) → pred_depth (cond b tree.always tree.never) ≤ 4
 nothing_low true = omega arith
 nothing_low false = omega arith
 
-test_low : (ty : Ty) (alias name : List ℕ) (collate : Bool) (t : Test) (os : List Operand) (negated : Bool) → pred_depth (test_of ty (tree.column alias name collate) t os negated) ≤ 4
-test_low ty alias name collate t os negated =
-    let p : PredTree = tree.test (tree.column alias name collate) t (literals_for ty (arity t) os) in
+test_low : (ty : Ty) (alias name : List ℕ) (form : ColumnForm) (t : Test) (os : List Operand) (negated : Bool) → pred_depth (test_of ty (tree.column alias name form) t os negated) ≤ 4
+test_low ty alias name form t os negated =
+    let p : PredTree = tree.test (tree.column alias name form) t (literals_for ty (arity t) os) in
     let z : 0 ≤ 2 = omega arith in
     let both : max 0 (arity_parens (arity t) + greatest (map expr_depth (literals_for ty (arity t) os))) ≤ 2 = max-le z (literals_low ty (arity t) os) in
     let go : (b : Bool) → pred_depth (cond b (cond negated tree.always tree.never) (negation_if negated p)) ≤ 4 =
@@ -187,7 +188,7 @@ module _ (s : Schema) (m : Mode) (G : ℕ) (h : LowMode m G) where
         omega (arith, all)
     predicate_low (not_of b) look t p n = let one = predicate_low b look t p n in omega (arith, one)
     predicate_low (test c tested vs negated) look t p n =
-        let w = test_low (type_in (table s t).columns c) (look c).alias (look c).name (compares tested && is_text_column (table s t).columns c) tested (operands_of vs) negated in omega (arith, w)
+        let w = test_low (type_in (table s t).columns c) (look c).alias (look c).name (tested_form tested (type_in (table s t).columns c)) tested (operands_of vs) negated in omega (arith, w)
     predicate_low (through r b) look t p n =
         let u : ℕ = (rel s t r).remote in
         let k : ℕ = 2 * depth b + G + 2 in
@@ -268,19 +269,19 @@ output_orders_flat : (ks : List Sort) (s : Schema) (t n i : ℕ) → orders_dept
 output_orders_flat [] s t n i = refl
 output_orders_flat (k ∷ ks) s t n i = rw (output_orders_flat ks s t n (i + 1)) refl
 
-field_flat : (f : FieldTree) (look : Look) (n : ℕ) → expr_depth (field_value f look n) ≡ 0
-field_flat (column c) look n = refl
-field_flat (typename name) look n = refl
-field_flat no_queries look n = refl
-field_flat (object r fs) look n = refl
-field_flat (list o a fs) look n = refl
-field_flat (by_key u key fs) look n = refl
-field_flat (aggregate o a ps) look n = refl
-field_flat (introspect f) look n = refl
+field_flat : (f : FieldTree) (columns : List Column) (look : Look) (n : ℕ) → expr_depth (field_value f columns look n) ≡ 0
+field_flat (column c) columns look n = refl
+field_flat (typename name) columns look n = refl
+field_flat no_queries columns look n = refl
+field_flat (object r fs) columns look n = refl
+field_flat (list o a fs) columns look n = refl
+field_flat (by_key u key fs) columns look n = refl
+field_flat (aggregate o a ps) columns look n = refl
+field_flat (introspect f) columns look n = refl
 
 fields_flat : (fs : FieldTrees) (s : Schema) (g : Rights) (look : Look) (t n : ℕ) → pairs_depth (pairs_of (fields_values fs s g look t n)) ≡ 0
 fields_flat no_field s g look t n = refl
-fields_flat (field key f fs) s g look t n = rw (field_flat f look n, fields_flat fs s g look t (n + field_numbers f s g t)) refl
+fields_flat (field key f fs) s g look t n = rw (field_flat f (table s t).columns look n, fields_flat fs s g look t (n + field_numbers f s g t)) refl
 
 part_flat : (p : PartTree) (n : ℕ) → expr_depth (part_value p n) ≡ 0
 part_flat (summary fs) n = refl

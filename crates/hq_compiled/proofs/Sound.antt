@@ -3,7 +3,7 @@ use Rattle.std.proofs.Common.{◌≡◌, ℕ, zero, suc, ◌<◌, ◌≤◌, Lis
 use Rattle.std.specs.Prelude.{slice_get, slice_index_or, nat_lt, nat_le, codes}
 use Rattle.std.specs.List.{list_all, list_any}
 use Rattle.std.proofs.lemmas.Bool.{ltb-true}
-use Rattle.hq_terms.specs.Catalog.{is_catalog, is_table, is_catalog_name, full_name, holds_no_null}
+use Rattle.hq_terms.specs.Catalog.{is_catalog, is_table, is_catalog_name, full_name, is_key_column}
 use Rattle.hq_terms.specs.Database.{Row, row_fits, value_fits, are_rows, is_database}
 use Rattle.hq_terms.specs.Meta.{MetaTree}
 use Rattle.hq_terms.specs.Schema.{Schema, SchemaTable, schema_of, schema_table, numbered, table, no_table, no_column}
@@ -75,17 +75,17 @@ catalog_table meta k [] t x lt e = absurd (omega arith)
 catalog_table meta k (y ∷ tables) zero x lt e = record { schema = ap (λ z. z.schema) (sym e); name = ap (λ z. z.name) (sym e); columns = ap (λ z. z.columns) (sym e); key = ap (λ z. z.key) (sym e) }
 catalog_table meta k (y ∷ tables) (suc t) x lt e = catalog_table meta (suc k) tables t x (omega arith) e
 
--- a column that holds no NULL is one of the table
-column_within : (columns : List Column) (c : ℕ) → holds_no_null (slice_get columns c) ≡ true → c < length columns
+-- a column that may stand in a key is one of the table
+column_within : (columns : List Column) (c : ℕ) → is_key_column (slice_get columns c) ≡ true → c < length columns
 column_within [] c h = cc
 column_within (x ∷ xs) zero h = omega arith
 column_within (x ∷ xs) (suc c) h = let rest = column_within xs c h in omega arith
 
 -- the columns of a key are those of its table
-key_within : (columns : List Column) (key : List ℕ) → list_all (λ c. holds_no_null (slice_get columns c)) key ≡ true → Each (λ c. c < length columns) key
+key_within : (columns : List Column) (key : List ℕ) → list_all (λ c. is_key_column (slice_get columns c)) key ≡ true → Each (λ c. c < length columns) key
 key_within columns [] h = tt
 key_within columns (c ∷ cs) h =
-    let parts = both (holds_no_null (slice_get columns c)) (list_all (λ d. holds_no_null (slice_get columns d)) cs) h in
+    let parts = both (is_key_column (slice_get columns c)) (list_all (λ d. is_key_column (slice_get columns d)) cs) h in
     (column_within columns c parts.0, key_within columns cs parts.1)
 
 -- the parts of what a catalog says of a table

@@ -17,9 +17,9 @@ use Rattle.hq_ask_tree.specs.declared.aggregate.KeyedAggField.{KeyedAggField}
 use Rattle.hq_sql_tree.specs.Tree as tree
 use Rattle.hq_sql_tree.specs.Tree.{ExprTree, PairTree, SelectTree, JoinTree, PredTree, joins_of, pairs_of}
 use Rattle.hq_sql_tree.specs.WellFormed as well
-use Rattle.hq_sql_tree.specs.WellFormed.{Aliases, Kind, kind, kind_at, kind_named, pair_names, is_value, are_values, is_compared, is_item, is_typed, select_names, is_typed_pred}
+use Rattle.hq_sql_tree.specs.WellFormed.{Aliases, Kind, kind, kind_at, kind_named, pair_names, is_value, is_member, are_values, is_compared, is_item, is_typed, select_names, is_typed_pred}
 use Rattle.hq_compiled.specs.Names.{table_alias, join_alias, value_name}
-use Rattle.hq_compiled.specs.Looks.{Look, own_look, cell_at, compared_at}
+use Rattle.hq_compiled.specs.Looks.{Look, own_look, cell_at, shown_at, compared_at}
 use Rattle.hq_compiled.specs.Rights.{Rights}
 use Rattle.hq_compiled.specs.Conditions.{joined_by_and}
 use Rattle.hq_compiled.specs.Predicates.{columns_in, link}
@@ -29,10 +29,10 @@ use Rattle.hq_compiled.specs.Sorts.{used_sorts}
 use Rattle.hq_compiled.specs.Lists.{once, list_sorts, list_used, list_numbers, children_from, list_select}
 use Rattle.hq_compiled.specs.Aggregates.{some_aggregate, summary_select, summary_used, summary_numbers}
 use Rattle.hq_compiled.specs.Fields.{field_used, fields_used, key_used, origin_tie, key_members, field_numbers, fields_numbers, part_numbers, parts_numbers, field_value, fields_values, part_value, parts_values, empty_select, parts_select, field_joins, fields_joins, part_joins, parts_joins}
-use Rattle.hq_compiled.specs.Fine.{Has, type_of, kind_of, Known, FineArguments, FineOrigin, FineKey, Apart, FineFields, FineField, FineParts, FinePart, IsTyped}
+use Rattle.hq_compiled.specs.Fine.{Has, type_of, Known, FineArguments, FineOrigin, FineKey, Apart, FineFields, FineField, FineParts, FinePart, IsTyped}
 use Rattle.hq_compiled.proofs.CatalogTables.{FineTables, fine_tables}
 use Rattle.hq_compiled.proofs.Names.{same_text, used_one, used_left, used_right}
-use Rattle.hq_compiled.proofs.Scopes.{under_later, LooksUnder, looks_under_later, own_under, Knows, KnowsAll, knows_behind, all_behind, knows_left, knows_right, grows_table, value_of}
+use Rattle.hq_compiled.proofs.Scopes.{under_later, LooksUnder, looks_under_later, own_under, Knows, KnowsAll, knows_behind, all_behind, knows_left, knows_right, grows_table, member_of, shown_of}
 use Rattle.hq_compiled.proofs.TypedConditions.{two, Preds, and_typed, test_typed, Joined, joined_none, joined_then, joined_one, joined_as, typed_last, joined_last}
 use Rattle.hq_compiled.proofs.TypedJoins.{First, shown_under, Behind, first_typed, tie_typed}
 use Rattle.hq_compiled.proofs.TypedLists.{object_typed, list_typed}
@@ -75,10 +75,10 @@ module _ (s : Schema) (g : Rights) (tables : List Table) (ok : FineTables s g ta
 
   -- a join that gives JSON, as the value of a field
   json_join : (scope : Aliases) (n top : ℕ) (select : SelectTree) → First tables scope select (Some well.json) → n < top → top ≤ 2 ^ 64
-      → Joined tables scope n top (record { select = select; alias = join_alias n } ∷ []) (λ final. is_value final (cell_at (value_place n)) ≡ true)
+      → Joined tables scope n top (record { select = select; alias = join_alias n } ∷ []) (λ final. is_member final (cell_at (value_place n)) ≡ true)
   json_join scope n top select first lt bound =
-      joined_as tables scope n top top (record { select = select; alias = join_alias n } ∷ []) (λ final. kind_at final (join_alias n) value_name ≡ Some well.json) (λ final. is_value final (cell_at (value_place n)) ≡ true) (omega arith)
-      (λ final h. value_of final (join_alias n) value_name well.json h) (joined_one tables scope n top select (Some well.json) lt (omega (arith, lt, bound)) first.is first.shows)
+      joined_as tables scope n top top (record { select = select; alias = join_alias n } ∷ []) (λ final. kind_at final (join_alias n) value_name ≡ Some well.json) (λ final. is_member final (cell_at (value_place n)) ≡ true) (omega arith)
+      (λ final h. member_of final (join_alias n) value_name well.json h refl) (joined_one tables scope n top select (Some well.json) lt (omega (arith, lt, bound)) first.is first.shows)
 
   empty_typed : (scope : Aliases) (n : ℕ) → First tables scope (empty_select n) (Some well.json)
   empty_typed scope n = record { is = refl; shows = rw (same_text value_name) refl }
@@ -127,19 +127,19 @@ module _ (s : Schema) (g : Rights) (tables : List Table) (ok : FineTables s g ta
         let own_behind = all_behind s scope one.after t n own_at one.grows (looks_under_later (p + 1) n own_at (omega arith) (own_under (table s t).columns p)) own in
         let k_behind = knows_behind s scope one.after t n look (fields_used fs) one.grows u (knows_right s scope t look (field_used x) (fields_used fs) k) in
         let rest = fields_typed fs one.after t p mid look f.1 own_behind (omega arith) k_behind (looks_under_later n mid look (omega arith) u) (omega arith) in
-        let V : Aliases → Type 0 = λ final. is_value final (field_value x look n) ≡ true in
+        let V : Aliases → Type 0 = λ final. is_member final (field_value x (table s t).columns look n) ≡ true in
         let W : Aliases → Type 0 = λ final. are_values final (pairs_of (fields_values fs s g look t mid)) ≡ true in
         let wide = joined_as tables one.after mid (mid + fields_numbers fs s g t) top (fields_joins fs s g t p mid) W W (omega arith) (λ final h. h) rest in
         let both = joined_then tables scope n mid top (field_joins x s g t p n) (fields_joins fs s g t p mid) V W (omega arith) (omega arith) one wide in
         joined_as tables scope n top top (fields_joins (field key x fs) s g t p n) (λ final. V final × W final) (λ final. are_values final (pairs_of (fields_values (field key x fs) s g look t n)) ≡ true) (omega arith)
-        (λ final h. two (is_value final (field_value x look n)) (are_values final (pairs_of (fields_values fs s g look t mid))) h.0 h.1) both
+        (λ final h. two (is_member final (field_value x (table s t).columns look n)) (are_values final (pairs_of (fields_values fs s g look t mid))) h.0 h.1) both
 
     field_typed : (x : FieldTree) (scope : Aliases) (t p n : ℕ) (look : Look) → FineField x s t → KnowsAll s scope t (own_look (table s t).columns p) → p < n → Knows s scope t look (field_used x) → LooksUnder n look → n + field_numbers x s g t ≤ 2 ^ 64
-        → Joined tables scope n (n + field_numbers x s g t) (field_joins x s g t p n) (λ final. is_value final (field_value x look n) ≡ true)
+        → Joined tables scope n (n + field_numbers x s g t) (field_joins x s g t p n) (λ final. is_member final (field_value x (table s t).columns look n) ≡ true)
     field_typed (column c) scope t p n look f own lt k u bound =
-        joined_none tables scope n (n + 0) (λ final. is_value final (cell_at (look c)) ≡ true)
-        (λ final grown. value_of final (look c).alias (look c).name (kind_of s t c) (grown (look c).alias (look c).name (under_later n (n + 0) (look c).alias (omega arith) (u c)) ∙ k c f (used_one c)))
-    field_typed (typename name) scope t p n look f own lt k u bound = joined_none tables scope n (n + 0) (λ final. is_value final (tree.text name) ≡ true) (λ final grown. refl)
+        joined_none tables scope n (n + 0) (λ final. is_member final (shown_at (table s t).columns (look c) c) ≡ true)
+        (λ final grown. shown_of final (look c).alias (look c).name (type_of s t c) (grown (look c).alias (look c).name (under_later n (n + 0) (look c).alias (omega arith) (u c)) ∙ k c f (used_one c)))
+    field_typed (typename name) scope t p n look f own lt k u bound = joined_none tables scope n (n + 0) (λ final. is_member final (tree.text name) ≡ true) (λ final grown. refl)
     field_typed no_queries scope t p n look f own lt k u bound = json_join scope n (n + 1) (empty_select n) (empty_typed scope n) (omega arith) bound
     field_typed (object r fs) scope t p n look f own lt k u bound =
         let far : ℕ = (rel s t r).remote in
@@ -208,15 +208,15 @@ module _ (s : Schema) (g : Rights) (tables : List Table) (ok : FineTables s g ta
         let one = part_typed x o scope t p a n fo fa f.0 own lt (omega arith) in
         let own_behind = all_behind s scope one.after t n own_at one.grows (looks_under_later (p + 1) n own_at (omega arith) (own_under (table s t).columns p)) own in
         let rest = parts_typed ps o one.after t p a mid fo fa f.1 own_behind (omega arith) (omega arith) in
-        let V : Aliases → Type 0 = λ final. is_value final (part_value x n) ≡ true in
+        let V : Aliases → Type 0 = λ final. is_member final (part_value x n) ≡ true in
         let W : Aliases → Type 0 = λ final. are_values final (pairs_of (parts_values ps s g v a mid)) ≡ true in
         let wide = joined_as tables one.after mid (mid + parts_numbers ps s g v a) top (parts_joins ps s g o t p a mid) W W (omega arith) (λ final h. h) rest in
         let both = joined_then tables scope n mid top (part_joins x s g o t p a n) (parts_joins ps s g o t p a mid) V W (omega arith) (omega arith) one wide in
         joined_as tables scope n top top (parts_joins (part key x ps) s g o t p a n) (λ final. V final × W final) (λ final. are_values final (pairs_of (parts_values (part key x ps) s g v a n)) ≡ true) (omega arith)
-        (λ final h. two (is_value final (part_value x n)) (are_values final (pairs_of (parts_values ps s g v a mid))) h.0 h.1) both
+        (λ final h. two (is_member final (part_value x n)) (are_values final (pairs_of (parts_values ps s g v a mid))) h.0 h.1) both
 
     part_typed : (x : PartTree) (o : Origin) (scope : Aliases) (t p : ℕ) (a : ListArguments) (n : ℕ) → FineOrigin o s t → FineArguments s (origin_table o s t) a → FinePart x s (origin_table o s t) → KnowsAll s scope t (own_look (table s t).columns p) → p < n
-        → n + part_numbers x s g (origin_table o s t) a ≤ 2 ^ 64 → Joined tables scope n (n + part_numbers x s g (origin_table o s t) a) (part_joins x s g o t p a n) (λ final. is_value final (part_value x n) ≡ true)
+        → n + part_numbers x s g (origin_table o s t) a ≤ 2 ^ 64 → Joined tables scope n (n + part_numbers x s g (origin_table o s t) a) (part_joins x s g o t p a n) (λ final. is_member final (part_value x n) ≡ true)
     part_typed (summary fs) o scope t p a n fo fa f own lt bound =
         let v : ℕ = origin_table o s t in
         let first = summary_typed s g tables ok scope v n fs a (origin_tie o s t p n) (known_of o t fo) fa f bound (origin_typed o scope t p n (summary_used s v a fs) fo own lt) in
@@ -224,7 +224,7 @@ module _ (s : Schema) (g : Rights) (tables : List Table) (ok : FineTables s g ta
     part_typed (nodes fs) o scope t p a n fo fa f own lt bound =
         json_join scope n (n + part_numbers (nodes fs) s g (origin_table o s t) a) (list_at o a fs t p n)
         (list_of o a fs scope t p n fo fa f.0 own lt bound (λ here m inner own_here later shown under small. fields_typed fs here (origin_table o s t) n m inner f.1 own_here later shown under small)) (omega arith) bound
-    part_typed (part_typename name) o scope t p a n fo fa f own lt bound = joined_none tables scope n (n + 0) (λ final. is_value final (tree.text name) ≡ true) (λ final grown. refl)
+    part_typed (part_typename name) o scope t p a n fo fa f own lt bound = joined_none tables scope n (n + 0) (λ final. is_member final (tree.text name) ≡ true) (λ final grown. refl)
 
 -- at the root no column is known
 beyond : (s : List SchemaTable) → slice_index_or s (length s) no_table ≡ no_table

@@ -5,10 +5,9 @@ use Rattle.std.proofs.lemmas.Bool.{and_parts}
 use Rattle.hq_base.specs.Lists.{all_differ, Each}
 use Rattle.hq_base.specs.Types.{is_uuid}
 use Rattle.hq_base.specs.declared.value.Ty.{Ty}
-use Rattle.hq_base.specs.declared.value.Ty.TheVariants.{Text}
+use Rattle.hq_base.specs.declared.value.Ty.TheVariants.{Text, Opaque}
 use Rattle.hq_base.specs.declared.value.Val.TheVariants as val
 use Rattle.hq_terms.specs.Bexp.{BexpTree, always, and_of, or_of, not_of, test, through, exists_in, two_columns, BexpTrees, no_bexp, bexp, operands_of}
-use Rattle.hq_terms.specs.Database.{is_text}
 use Rattle.hq_terms.specs.Schema.{Schema, table, rel, no_column}
 use Rattle.hq_terms.specs.Tests.{arity, is_of_nothing}
 use Rattle.hq_terms.specs.declared.test.Test.{Test}
@@ -25,14 +24,14 @@ use Rattle.hq_sql_tree.specs.Tree as tree
 use Rattle.hq_sql_tree.specs.Tree.{ExprTree, OrderTree, OutTree, SelectTree, JoinTree, JoinTrees, FilterTree, PredTree, preds_of, joins_of}
 use Rattle.hq_sql_tree.specs.WellFormed.{Aliases, Kind, kind_of_type, kind, kind_at, kind_named, compare_kinds, is_value, is_compared, is_item, is_tested, is_operand, is_typed_test, begin_with, are_parts, is_typed, are_typed_joins, joined_scope, select_names, is_typed_filter, is_typed_pred, are_typed_preds}
 use Rattle.hq_compiled.specs.Names.{table_alias, join_alias, value_name, unit_name}
-use Rattle.hq_compiled.specs.Looks.{Look, Place, own_look, compared_at, compares, tested_at}
+use Rattle.hq_compiled.specs.Looks.{Look, Place, own_look, compared_at, tested_form, tested_at}
 use Rattle.hq_compiled.specs.Rights.{Rights}
 use Rattle.hq_compiled.specs.Conditions.{operand_literal, joined_by_and, joined_by_or, with_member, where_of, negation_if, literals_for, test_of}
 use Rattle.hq_compiled.specs.Predicates.{link_members, link, Mode, columns_in, columns_in_all, guard_from, inner_from, numbers, numbers_all, predicate, predicates, filter_mode, own_numbers, own_predicate}
-use Rattle.hq_compiled.specs.Fine.{type_of, kind_of, Known, column_alone, TestFits, FinePair, FineBexp, FineBexps}
+use Rattle.hq_compiled.specs.Fine.{type_of, kind_of, compared_kind, compared_kind_of, Known, column_alone, TestFits, FinePair, FineBexp, FineBexps}
 use Rattle.hq_compiled.proofs.CatalogTables.{FineTables}
 use Rattle.hq_compiled.proofs.Names.{same_text, used_else}
-use Rattle.hq_compiled.proofs.Scopes.{under_table, under_join, under_later, LooksUnder, looks_under_later, own_under, Grows, Knows, KnowsAll, all_behind, knows_left, knows_right, with_table, knows_here, grows_table, value_of, compared_of}
+use Rattle.hq_compiled.proofs.Scopes.{under_table, under_join, under_later, LooksUnder, looks_under_later, own_under, Grows, Knows, KnowsAll, all_behind, knows_left, knows_right, with_table, knows_here, grows_table, shown_of, compared_of, kind_compared, kind_tested}
 
 pub three : (a b c : Bool) → a ≡ true → b ≡ true → c ≡ true → (a && (b && c)) ≡ true
 three a b c e f g = rw (e, f, g) refl
@@ -87,7 +86,7 @@ three_typed tables scope a b c e f g =
 -- ---- tests
 
 -- the literal of an operand has its type beside one value of a kind as beside another of that kind
-module _ (scope around : Aliases) (e f : ExprTree) (ty : Ty) (h : kind scope e ≡ Some (kind_of_type ty)) (g : kind around f ≡ Some (kind_of_type ty)) where
+module _ (scope around : Aliases) (e f : ExprTree) (ty : Ty) (h : kind scope e ≡ Some (compared_kind ty)) (g : kind around f ≡ Some (compared_kind ty)) where
   text_same : (x : List ℕ) (b : Bool) → is_item scope e (cond b (tree.uuid x) (tree.text x)) ≡ is_item around f (cond b (tree.uuid x) (tree.text x))
   text_same x true = rw (h, g) refl
   text_same x false = rw (h, g) refl
@@ -115,21 +114,22 @@ module _ (scope around : Aliases) (e f : ExprTree) (ty : Ty) (h : kind scope e �
 
 -- a column of a type that a test takes where it stands alone, as the test looks at it
 value_typed : (scope : Aliases) (alias name : List ℕ) (ty : Ty) (t : Test) → kind_at scope alias name ≡ Some (kind_of_type ty)
-    → is_tested (column_alone ty) t (tree.column (codes "t") (codes "c") (compares t && is_text ty)) ≡ true → is_tested scope t (tree.column alias name (compares t && is_text ty)) ≡ true
-value_typed scope alias name ty IsNull h f = value_of scope alias name (kind_of_type ty) h
+    → is_tested (column_alone ty) t (tree.column (codes "t") (codes "c") (tested_form t ty)) ≡ true → is_tested scope t (tree.column alias name (tested_form t ty)) ≡ true
+value_typed scope alias name ty IsNull h f = shown_of scope alias name ty h
 value_typed scope alias name Text (Like fold) h f = rw h refl
+value_typed scope alias name Opaque (Like fold) h f = rw h refl
 value_typed scope alias name _ (Like fold) h f = cc
 value_typed scope alias name ty _ h f = compared_of scope alias name ty h
 
 -- a test that has its types where its column stands alone has them in each scope
 pub test_typed : (scope : Aliases) (alias name : List ℕ) (ty : Ty) (t : Test) (vs : List Operand) → kind_at scope alias name ≡ Some (kind_of_type ty) → TestFits t ty vs
-    → is_typed_test scope (tree.column alias name (compares t && is_text ty)) t (literals_for ty (arity t) vs) ≡ true
+    → is_typed_test scope (tree.column alias name (tested_form t ty)) t (literals_for ty (arity t) vs) ≡ true
 test_typed scope alias name ty t vs h f =
-    let e : ExprTree = tree.column alias name (compares t && is_text ty) in
-    let own : ExprTree = tree.column (codes "t") (codes "c") (compares t && is_text ty) in
+    let e : ExprTree = tree.column alias name (tested_form t ty) in
+    let own : ExprTree = tree.column (codes "t") (codes "c") (tested_form t ty) in
     let parts = and_parts (is_tested (column_alone ty) t own) (list_all (is_operand (column_alone ty) t own) (literals_for ty (arity t) vs)) f in
     two (is_tested scope t e) (list_all (is_operand scope t e) (literals_for ty (arity t) vs)) (value_typed scope alias name ty t h parts.0)
-    (literals_same scope (column_alone ty) e own ty h refl t (arity t) vs ∙ parts.1)
+    (literals_same scope (column_alone ty) e own ty (kind_tested scope alias name ty t h) (kind_tested (column_alone ty) (codes "t") (codes "c") ty t refl) t (arity t) vs ∙ parts.1)
 
 negation_typed : (tables : List Table) (scope : Aliases) (b : Bool) (p : PredTree) → is_typed_pred p tables scope ≡ true → is_typed_pred (negation_if b p) tables scope ≡ true
 negation_typed tables scope true p e = e
@@ -227,13 +227,17 @@ module _ (s : Schema) (g : Rights) (tables : List Table) (ok : FineTables s g ta
   pub compared_typed : (scope : Aliases) (t : ℕ) (place : Place) (c : ℕ) → kind_at scope place.alias place.name ≡ Some (kind_of s t c) → is_compared scope (compared_at (table s t).columns place c) ≡ true
   compared_typed scope t place c k = compared_of scope place.alias place.name (slice_index_or (table s t).columns c no_column).ty k
 
+  column_compared : (scope : Aliases) (t : ℕ) (place : Place) (c : ℕ) → kind_at scope place.alias place.name ≡ Some (kind_of s t c) → kind scope (compared_at (table s t).columns place c) ≡ Some (compared_kind_of s t c)
+  column_compared scope t place c k = kind_compared scope place.alias place.name (type_of s t c) k
+
   links_typed : (scope : Aliases) (t u p q : ℕ) (xs : List Pair) → Each (FinePair s t u) xs → KnowsAll s scope t (own_look (table s t).columns p) → KnowsAll s scope u (own_look (table s u).columns q)
       → Preds tables scope (link_members (table s t).columns (table s u).columns p q xs)
   links_typed scope t u p q [] f k l = tt
   links_typed scope t u p q (x ∷ xs) f k l =
       let far : ExprTree = compared_at (table s u).columns (own_look (table s u).columns q x.remote) x.remote in
       let own : ExprTree = compared_at (table s t).columns (own_look (table s t).columns p x.own) x.own in
-      let kinds : compare_kinds (kind scope far) (kind scope own) ≡ true = rw (l x.remote f.0.1, k x.own f.0.0) f.0.2 in (
+      let kinds : compare_kinds (kind scope far) (kind scope own) ≡ true =
+      ap₂ compare_kinds (column_compared scope u (own_look (table s u).columns q x.remote) x.remote (l x.remote f.0.1)) (column_compared scope t (own_look (table s t).columns p x.own) x.own (k x.own f.0.0)) ∙ f.0.2 in (
         two (is_compared scope far) (is_item scope far own && true) (compared_typed scope u (own_look (table s u).columns q x.remote) x.remote (l x.remote f.0.1))
             (two (is_item scope far own) true (two (is_compared scope own) (compare_kinds (kind scope far) (kind scope own)) (compared_typed scope t (own_look (table s t).columns p x.own) x.own (k x.own f.0.0)) kinds) refl),
         links_typed scope t u p q xs f.1 k l,
@@ -307,7 +311,7 @@ module _ (s : Schema) (g : Rights) (tables : List Table) (ok : FineTables s g ta
           let right : ExprTree = compared_at (table s t).columns (look j) j in
           let one = knows_left s scope t look (i ∷ []) (j ∷ []) k i f.0 (used_else i false refl) in
           let other = knows_right s scope t look (i ∷ []) (j ∷ []) k j f.1 (used_else j false refl) in
-          let kinds : compare_kinds (kind scope left) (kind scope right) ≡ true = rw (one, other) f.2 in
+          let kinds : compare_kinds (kind scope left) (kind scope right) ≡ true = ap₂ compare_kinds (column_compared scope t (look i) i one) (column_compared scope t (look j) j other) ∙ f.2 in
           two (is_compared scope left) (is_item scope left right && true) (compared_typed scope t (look i) i one)
           (two (is_item scope left right) true (two (is_compared scope right) (compare_kinds (kind scope left) (kind scope right)) (compared_typed scope t (look j) j other) kinds) refl)
 

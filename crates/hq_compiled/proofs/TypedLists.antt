@@ -1,7 +1,6 @@
 -- The selects of lists and aggregates have their types.
 use Rattle.std.proofs.Common.{◌≡◌, ℕ, ◌+◌, ◌<◌, ◌≤◌, ◌^◌, List, [], ◌∷◌, ◌++◌, length, map, Bool, true, false, ◌&&◌, ◌||◌, ◌==◌, Option, Some, bytes_eq, refl, ap, sym, ◌∙◌, arith, eqb-true}
 use Rattle.std.specs.Prelude.{slice_index_or}
-use Rattle.std.specs.Ordering.{bool_cmp, is_eq}
 use Rattle.std.specs.List.{list_all, list_any}
 use Rattle.hq_base.specs.Lists.{all_differ, Each}
 use Rattle.hq_terms.specs.Schema.{Schema, table, no_column}
@@ -12,14 +11,15 @@ use Rattle.hq_sql_tree.specs.Tree as tree
 use Rattle.hq_sql_tree.specs.Tree.{ExprTree, PairTree, OrderTree, OutTree, SelectTree, JoinTree, PredTree, joins_of, pairs_of, orders_of}
 use Rattle.hq_sql_tree.specs.WellFormed as well
 use Rattle.hq_sql_tree.specs.WellFormed.{Aliases, Names, Kind, kind_of_type, kind, kind_at, kind_named, pair_names, is_value, are_values, is_compared, are_keys, is_typed, select_names, out_names, joined_scope, are_typed_joins, is_typed_pred, same_expr, is_among, begin_with}
+use Rattle.hq_sql_tree.proofs.Columns.{form_same}
 use Rattle.hq_compiled.specs.Names.{fold_alias, value_name, key_name}
-use Rattle.hq_compiled.specs.Looks.{Look, Place, is_text_column, is_used, own_look, cell_at, compared_at}
+use Rattle.hq_compiled.specs.Looks.{Look, Place, type_in, compared_form, is_used, own_look, cell_at, compared_at}
 use Rattle.hq_compiled.specs.Rights.{Rights}
 use Rattle.hq_compiled.specs.Conditions.{with_member, where_of}
 use Rattle.hq_compiled.specs.Predicates.{columns_in, predicate}
 use Rattle.hq_compiled.specs.Masks.{extra, masks, shown_look, filter_predicate, where_mode}
 use Rattle.hq_compiled.specs.Selects.{filter_from, behind_filter}
-use Rattle.hq_compiled.specs.Sorts.{Sort, shown_sorts, own_sorts, used_by, used_sorts, end_of, is_text_sort, sort_place, sort_numbers, sorts_numbers, sorts_joins, orders, key_outputs, output_orders}
+use Rattle.hq_compiled.specs.Sorts.{Sort, shown_sorts, own_sorts, used_by, used_sorts, end_of, sort_form, sort_place, sort_numbers, sorts_numbers, sorts_joins, orders, key_outputs, output_orders}
 use Rattle.hq_compiled.specs.Lists.{once, list_sorts, list_used, sorts_from, children_from, distinct_columns, list_rows, list_outputs, list_select}
 use Rattle.hq_compiled.specs.Fine.{Has, kind_of, Known, FineChain, FineArguments, begin_columns}
 use Rattle.hq_compiled.proofs.CatalogTables.{FineTables}
@@ -48,16 +48,12 @@ keys_differ (k ∷ ks) s g look t p n i few =
 
 -- ---- DISTINCT ON
 
-bool_same : (b : Bool) → is_eq (bool_cmp b b) ≡ true
-bool_same true = refl
-bool_same false = refl
-
 module _ (columns : List Column) (look : Look) where
   abbrev at_place : ℕ → ExprTree
   at_place c = compared_at columns (look c) c
 
   same_place : (c : ℕ) → same_expr (at_place c) (at_place c) ≡ true
-  same_place c = rw (same_text (look c).alias, same_text (look c).name, bool_same (is_text_column columns c)) refl
+  same_place c = rw (same_text (look c).alias, same_text (look c).name, form_same (compared_form (type_in columns c))) refl
 
   among_columns : (c : ℕ) (cs : List ℕ) → is_used c cs ≡ true → is_among (distinct_columns columns look cs) (at_place c) ≡ true
   among_columns c [] h = cc
@@ -92,7 +88,7 @@ module _ (s : Schema) (g : Rights) (look : Look) (t p : ℕ) where
       let D : List ExprTree = distinct_columns (table s t).columns look distinct in
       let E : List ExprTree = distinct_columns (table s t).columns look front in
       let next : ℕ = n + sort_numbers k.through s g t k.column in
-      let value : List ℕ → ExprTree = λ rs. tree.column (sort_place false rs s look t p n k.column).alias (sort_place false rs s look t p n k.column).name (is_text_column (table s (end_of rs s t)).columns k.column) in
+      let value : List ℕ → ExprTree = λ rs. tree.column (sort_place false rs s look t p n k.column).alias (sort_place false rs s look t p n k.column).name (compared_form (type_in (table s (end_of rs s t)).columns k.column)) in
       let go : (b : Bool) → list_all (λ c. is_used c front) distinct ≡ b → (b || ((length k.through == 0) && is_used k.column distinct && begin_columns distinct (k.column ∷ front) ks)) ≡ true
       → (list_all (is_among E) D || (is_among D (value k.through) && begin_with D (value k.through ∷ E) (orders (shown_sorts ks rest) s g look t p next))) ≡ true =
       elim [
@@ -183,7 +179,7 @@ module _ (s : Schema) (g : Rights) (tables : List Table) (ok : FineTables s g ta
   orders_typed (k ∷ ks) look t p n final h =
       let place : Place = sort_place k.own k.key.through s look t p n k.key.column in
       let next : ℕ = n + sort_numbers k.key.through s g t k.key.column in
-      two (is_compared final (tree.column place.alias place.name (is_text_sort s t k.key))) (list_all (λ k. is_compared final k.value) (orders ks s g look t p next))
+      two (is_compared final (tree.column place.alias place.name (sort_form s t k.key))) (list_all (λ k. is_compared final k.value) (orders ks s g look t p next))
       (compared_of final place.alias place.name (slice_index_or (table s (end_of k.key.through s t)).columns k.key.column no_column).ty h.0) (orders_typed ks look t p next final h.1)
 
   -- the outputs of the sort keys are compared behind the fold's alias
@@ -199,7 +195,7 @@ module _ (s : Schema) (g : Rights) (tables : List Table) (ok : FineTables s g ta
       let known : kind_at outer (fold_alias m) (key_name i) ≡ Some kd = names (key_name i) ∙ (left i (omega arith) (omega arith) ∙ (here ∙ h.0)) in
       let later : (k : ℕ) → i + 1 ≤ k → k < 2 ^ 64 → kind_named all (key_name k) ≡ kind_named (out_names final (key_outputs ks s g look t p next (i + 1))) (key_name k) =
       λ k le lt. left k (omega arith) lt ∙ rw (key_names_differ i k (omega arith) lt) refl in
-      two (is_compared outer (tree.column (fold_alias m) (key_name i) (is_text_sort s t x.key))) (are_keys outer (orders_of (output_orders ks s t m (i + 1))))
+      two (is_compared outer (tree.column (fold_alias m) (key_name i) (sort_form s t x.key))) (are_keys outer (orders_of (output_orders ks s t m (i + 1))))
       (compared_of outer (fold_alias m) (key_name i) (slice_index_or (table s (end_of x.key.through s t)).columns x.key.column no_column).ty known)
       (keys_behind ks look t p next m (i + 1) final outer all names h.1 (omega arith) later)
 
@@ -314,6 +310,6 @@ module _ (s : Schema) (g : Rights) (tables : List Table) (ok : FineTables s g ta
       let past : (k : ℕ) → kind_named (out_names final outs) (key_name k) ≡ kind_named (out_names final (key_outputs ks s g look u n first 0)) (key_name k) = λ k. rw (value_is_no_key k) refl in
       let keys = keys_behind ks look u n first n 0 final behind (out_names final outs) shows r.keys (let few = fine.few in omega (arith, few)) (λ k a b. past k) in
       record {
-        is = rw (inner_is, value_of behind (fold_alias n) value_name well.json value) keys;
+        is = rw (inner_is, value) keys;
         shows = rw (same_text value_name) refl;
       }

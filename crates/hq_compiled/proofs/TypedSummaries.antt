@@ -8,7 +8,7 @@ use Rattle.hq_base.specs.Types.{is_whole, is_text}
 use Rattle.hq_base.specs.declared.aggregate.Aggregate.{Aggregate}
 use Rattle.hq_base.specs.declared.aggregate.Aggregate.TheVariants.{Sum}
 use Rattle.hq_base.specs.declared.value.Ty.{Ty}
-use Rattle.hq_base.specs.declared.value.Ty.TheVariants.{Integer, Bigint, Text, Boolean, Uuid}
+use Rattle.hq_base.specs.declared.value.Ty.TheVariants.{Integer, Bigint, Text, Boolean, Uuid, Opaque}
 use Rattle.hq_terms.specs.Schema.{Schema, table}
 use Rattle.hq_terms.specs.Selected.{ListArguments}
 use Rattle.hq_terms.specs.declared.table.Column.{Column}
@@ -22,10 +22,10 @@ use Rattle.hq_ask_tree.specs.declared.aggregate.KeyedAggField.{KeyedAggField}
 use Rattle.hq_sql_tree.specs.Tree as tree
 use Rattle.hq_sql_tree.specs.Tree.{OutTree, SelectTree, JoinTree, PredTree, pairs_of}
 use Rattle.hq_sql_tree.specs.WellFormed as well
-use Rattle.hq_sql_tree.specs.WellFormed.{Aliases, Names, Kind, kind_of_type, kind, kind_at, kind_named, pair_names, is_value, are_values, has_extremes, is_collated, is_folded, are_folded, is_typed, select_names, out_names, is_typed_pred}
+use Rattle.hq_sql_tree.specs.WellFormed.{Aliases, Names, Kind, kind_of_type, kind, kind_at, kind_named, pair_names, is_value, is_member, are_values, has_extremes, is_collated, is_folded, are_folded, is_typed, select_names, out_names, is_typed_pred}
 use Rattle.hq_sql_tree.specs.WellFormed.{is_taken}
 use Rattle.hq_compiled.specs.Names.{table_alias, fold_alias, value_name, needed_name}
-use Rattle.hq_compiled.specs.Looks.{Look, is_used, cell_at}
+use Rattle.hq_compiled.specs.Looks.{Look, is_used, compared_form, cell_at}
 use Rattle.hq_compiled.specs.Rights.{Rights}
 use Rattle.hq_compiled.specs.Masks.{shown_look}
 use Rattle.hq_compiled.specs.Sorts.{used_sorts}
@@ -107,21 +107,23 @@ outputs_differ look (c ∷ cs) few = needed_differ look (c ∷ cs) 0 (omega arit
 
 -- an aggregate takes the kinds of the types over whose values it is taken
 extreme_of : (scope : Aliases) (alias name : List ℕ) (ty : Ty) → kind_at scope alias name ≡ Some (kind_of_type ty) → (is_whole ty || is_text ty) ≡ true
-    → (is_value scope (tree.column alias name (is_text ty)) && has_extremes (kind_at scope alias name) && is_collated scope (tree.column alias name (is_text ty))) ≡ true
+    → (is_value scope (tree.column alias name (compared_form ty)) && has_extremes (kind scope (tree.column alias name (compared_form ty))) && is_collated scope (tree.column alias name (compared_form ty))) ≡ true
 extreme_of scope alias name Integer e h = rw e refl
 extreme_of scope alias name Bigint e h = rw e refl
 extreme_of scope alias name Text e h = rw e refl
 extreme_of scope alias name Boolean e h = cc
 extreme_of scope alias name Uuid e h = cc
+extreme_of scope alias name Opaque e h = cc
 
-sum_of : (scope : Aliases) (alias name : List ℕ) (ty : Ty) → kind_at scope alias name ≡ Some (kind_of_type ty) → is_whole ty ≡ true → is_taken scope (tree.take Sum (tree.column alias name (is_text ty))) ≡ true
+sum_of : (scope : Aliases) (alias name : List ℕ) (ty : Ty) → kind_at scope alias name ≡ Some (kind_of_type ty) → is_whole ty ≡ true → is_taken scope (tree.take Sum (tree.column alias name (compared_form ty))) ≡ true
 sum_of scope alias name Integer e h = rw e refl
 sum_of scope alias name Bigint e h = rw e refl
 sum_of scope alias name Text e h = cc
 sum_of scope alias name Boolean e h = cc
 sum_of scope alias name Uuid e h = cc
+sum_of scope alias name Opaque e h = cc
 
-taken_of : (scope : Aliases) (f : Aggregate) (alias name : List ℕ) (ty : Ty) → kind_at scope alias name ≡ Some (kind_of_type ty) → is_aggregate_of f ty ≡ true → is_taken scope (tree.take f (tree.column alias name (is_text ty))) ≡ true
+taken_of : (scope : Aliases) (f : Aggregate) (alias name : List ℕ) (ty : Ty) → kind_at scope alias name ≡ Some (kind_of_type ty) → is_aggregate_of f ty ≡ true → is_taken scope (tree.take f (tree.column alias name (compared_form ty))) ≡ true
 taken_of scope Sum alias name ty e h = sum_of scope alias name ty e h
 taken_of scope _ alias name ty e h = extreme_of scope alias name ty e h
 
@@ -137,7 +139,7 @@ summary_names columns n cs (f ∷ fs) = ap (λ l. f.key ∷ l) (summary_names co
 text_taken : (scope : Aliases) (f : Aggregate) (columns : List Column) (n : ℕ) (cs : List ℕ) (ks : List KeyedAggCol) → some_taken ks ≡ false → are_values scope (pairs_of (taken_pairs f columns n cs ks)) ≡ true
 text_taken scope f columns n cs [] h = refl
 text_taken scope f columns n cs (k ∷ ks) h =
-    let go : (a : AggCol) → (sums.is_taken a || some_taken ks) ≡ false → (is_value scope (taken_value f columns n cs a) && are_values scope (pairs_of (taken_pairs f columns n cs ks))) ≡ true =
+    let go : (a : AggCol) → (sums.is_taken a || some_taken ks) ≡ false → (is_member scope (taken_value f columns n cs a) && are_values scope (pairs_of (taken_pairs f columns n cs ks))) ≡ true =
     elim [ of.Column c ↦ λ e. cc | of.Typename name ↦ λ e. text_taken scope f columns n cs ks e ] in
     go k.field h
 
@@ -146,9 +148,9 @@ text_object : (scope : Aliases) (f : Aggregate) (columns : List Column) (n : ℕ
 text_object scope f columns n cs ks d h =
     two (all_differ bytes_eq (pair_names (pairs_of (taken_pairs f columns n cs ks)))) (are_values scope (pairs_of (taken_pairs f columns n cs ks))) (ap (all_differ bytes_eq) (taken_names f columns n cs ks) ∙ d) (text_taken scope f columns n cs ks h)
 
-text_summary : (s : Schema) (u : ℕ) (scope : Aliases) (columns : List Column) (n : ℕ) (cs : List ℕ) (a : AggField) → FineSummary s u a → is_aggregate a ≡ false → is_value scope (summary_value columns n cs a) ≡ true
+text_summary : (s : Schema) (u : ℕ) (scope : Aliases) (columns : List Column) (n : ℕ) (cs : List ℕ) (a : AggField) → FineSummary s u a → is_aggregate a ≡ false → is_member scope (summary_value columns n cs a) ≡ true
 text_summary s u scope columns n cs (take.Count c distinct) f h = cc
-text_summary s u scope columns n cs (take.Columns a ks) f h = text_object scope a columns n cs ks f.1 h
+text_summary s u scope columns n cs (take.Columns a ks) f h = two (is_value scope (tree.object (pairs_of (taken_pairs a columns n cs ks)))) true (text_object scope a columns n cs ks f.1 h) refl
 text_summary s u scope columns n cs (take.Typename name) f h = refl
 
 text_summaries : (s : Schema) (u : ℕ) (scope : Aliases) (columns : List Column) (n : ℕ) (cs : List ℕ) (fs : List KeyedAggField) → Each (λ f. FineSummary s u f.field) fs → some_aggregate fs ≡ false → are_values scope (pairs_of (summary_pairs columns n cs fs)) ≡ true
@@ -157,7 +159,7 @@ text_summaries s u scope columns n cs (x ∷ fs) f h =
     let go : (b : Bool) → is_aggregate x.field ≡ b → (b || some_aggregate fs) ≡ false → are_values scope (pairs_of (summary_pairs columns n cs (x ∷ fs))) ≡ true =
     elim [
       | true ↦ λ e i. cc
-      | false ↦ λ e i. two (is_value scope (summary_value columns n cs x.field)) (are_values scope (pairs_of (summary_pairs columns n cs fs))) (text_summary s u scope columns n cs x.field f.0 e) (text_summaries s u scope columns n cs fs f.1 i)
+      | false ↦ λ e i. two (is_member scope (summary_value columns n cs x.field)) (are_values scope (pairs_of (summary_pairs columns n cs fs))) (text_summary s u scope columns n cs x.field f.0 e) (text_summaries s u scope columns n cs fs f.1 i)
     ] in
     go (is_aggregate x.field) refl h
 

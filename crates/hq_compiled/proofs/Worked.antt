@@ -24,7 +24,7 @@ schema =
     record {
       schema = codes "public";
       name = codes "author";
-      columns = record { name = codes "id"; ty = Integer; nullable = false } ∷ record { name = codes "name"; ty = Text; nullable = false } ∷ record { name = codes "email"; ty = Text; nullable = true } ∷ [];
+      columns = record { name = codes "id"; ty = Integer; of = []; nullable = false } ∷ record { name = codes "name"; ty = Text; of = []; nullable = false } ∷ record { name = codes "email"; ty = Text; of = []; nullable = true } ∷ [];
       key = 0 ∷ [];
       rels = record { name = codes "articles"; remote = 1; pairs = record { own = 0; remote = 1 } ∷ []; many = true } ∷ [];
     }
@@ -32,8 +32,8 @@ schema =
       schema = codes "public";
       name = codes "article";
       columns =
-          record { name = codes "id"; ty = Integer; nullable = false } ∷ record { name = codes "author_id"; ty = Integer; nullable = true } ∷ record { name = codes "title"; ty = Text; nullable = false }
-          ∷ record { name = codes "published"; ty = Boolean; nullable = false } ∷ record { name = codes "rating"; ty = Bigint; nullable = true } ∷ [];
+          record { name = codes "id"; ty = Integer; of = []; nullable = false } ∷ record { name = codes "author_id"; ty = Integer; of = []; nullable = true } ∷ record { name = codes "title"; ty = Text; of = []; nullable = false }
+          ∷ record { name = codes "published"; ty = Boolean; of = []; nullable = false } ∷ record { name = codes "rating"; ty = Bigint; of = []; nullable = true } ∷ [];
       key = 0 ∷ [];
       rels = record { name = codes "author"; remote = 0; pairs = record { own = 1; remote = 0 } ∷ []; many = false } ∷ [];
     }

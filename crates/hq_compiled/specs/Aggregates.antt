@@ -1,6 +1,7 @@
 -- The select of an aggregate: over the selected rows, whose outputs are the columns that its fields need.
 use Rattle.std.specs.Prelude.{ℕ, ◌+◌, List, [], ◌∷◌, Bool, true, false, cond, ◌&&◌, ◌||◌, ◌==◌, Option, Some, None}
 use Rattle.hq_base.specs.declared.aggregate.Aggregate.{Aggregate}
+use Rattle.hq_base.specs.declared.value.Ty.{Ty}
 use Rattle.hq_compiled.specs.Rights.{Rights}
 use Rattle.hq_terms.specs.Schema.{Schema, table}
 use Rattle.hq_terms.specs.Selected.{ListArguments}
@@ -11,10 +12,12 @@ use Rattle.hq_ask_tree.specs.declared.aggregate.AggField.{AggField}
 use Rattle.hq_ask_tree.specs.declared.aggregate.AggField.TheVariants as take
 use Rattle.hq_ask_tree.specs.declared.aggregate.KeyedAggCol.{KeyedAggCol}
 use Rattle.hq_ask_tree.specs.declared.aggregate.KeyedAggField.{KeyedAggField}
+use Rattle.hq_sql_tree.specs.declared.expr.ColumnForm.{ColumnForm}
+use Rattle.hq_sql_tree.specs.declared.expr.ColumnForm.TheVariants.{Plain}
 use Rattle.hq_sql_tree.specs.Tree as tree
 use Rattle.hq_sql_tree.specs.Tree.{ExprTree, PairTree, pairs_of, OutTree, SelectTree, PredTree}
 use Rattle.hq_compiled.specs.Names.{table_alias, fold_alias, value_name, needed_name, unit_name}
-use Rattle.hq_compiled.specs.Looks.{Look, add_new, is_text_column, cell_at}
+use Rattle.hq_compiled.specs.Looks.{Look, add_new, type_in, compared_form, cell_at}
 use Rattle.hq_compiled.specs.Masks.{value_output, shown_look}
 use Rattle.hq_compiled.specs.Lists.{list_used, list_numbers, list_rows}
 
@@ -68,12 +71,17 @@ some_aggregate (f ∷ fs) = is_aggregate f.field || some_aggregate fs
 
 -- ---- the expressions; n is the number of the fold, cs are the needed columns
 
-abbrev pub needed_cell : (n : ℕ) → (cs : List ℕ) → ℕ → (collate : Bool) → ExprTree
-needed_cell n cs c collate = tree.column (fold_alias n) (needed_name (place_of c cs 0)) collate
+abbrev pub needed_cell : (n : ℕ) → (cs : List ℕ) → ℕ → ColumnForm → ExprTree
+needed_cell n cs c form = tree.column (fold_alias n) (needed_name (place_of c cs 0)) form
+
+-- a column as it is counted: different values are compared
+abbrev pub counted_form : (distinct : Bool) → Ty → ColumnForm
+counted_form true ty = compared_form ty
+counted_form false ty = Plain
 
 -- a column of an aggregate; texts are compared
 abbrev pub taken_value : Aggregate → List Column → (n : ℕ) → (cs : List ℕ) → AggCol → ExprTree
-taken_value a columns n cs (of.Column c) = tree.aggregate (tree.take a (needed_cell n cs c (is_text_column columns c)))
+taken_value a columns n cs (of.Column c) = tree.aggregate (tree.take a (needed_cell n cs c (compared_form (type_in columns c))))
 taken_value a columns n cs (of.Typename name) = tree.text name
 
 abbrev pub taken_pairs : Aggregate → List Column → (n : ℕ) → (cs : List ℕ) → List KeyedAggCol → List PairTree
@@ -83,7 +91,7 @@ taken_pairs a columns n cs (k ∷ ks) = record { name = k.key; value = taken_val
 -- a number of rows, or of values; different ones are compared
 abbrev pub count_value : List Column → (n : ℕ) → (cs : List ℕ) → Option ℕ → (distinct : Bool) → ExprTree
 count_value columns n cs None distinct = tree.aggregate tree.count_all
-count_value columns n cs (Some c) distinct = tree.aggregate (tree.count (needed_cell n cs c (distinct && is_text_column columns c)) distinct)
+count_value columns n cs (Some c) distinct = tree.aggregate (tree.count (needed_cell n cs c (counted_form distinct (type_in columns c))) distinct)
 
 abbrev pub summary_value : List Column → (n : ℕ) → (cs : List ℕ) → AggField → ExprTree
 summary_value columns n cs (take.Count c distinct) = count_value columns n cs c distinct

@@ -12,7 +12,7 @@ use Rattle.hq_ask_tree.specs.Resolve.{origin_table}
 use Rattle.hq_sql_tree.specs.Tree as tree
 use Rattle.hq_sql_tree.specs.Tree.{ExprTree, PairTree, pairs_of, SelectTree, JoinTree, joins_of, PredTree}
 use Rattle.hq_compiled.specs.Names.{table_alias, join_alias}
-use Rattle.hq_compiled.specs.Looks.{Look, cell_at, compared_at, type_in}
+use Rattle.hq_compiled.specs.Looks.{Look, cell_at, shown_at, compared_at, type_in}
 use Rattle.hq_compiled.specs.Conditions.{literal, joined_by_and}
 use Rattle.hq_compiled.specs.Predicates.{link}
 use Rattle.hq_compiled.specs.Masks.{value_output, value_place, extra, masks, shown_look, filter_numbers, filter_predicate}
@@ -72,14 +72,14 @@ abbrev mutual
   part_numbers (part_typename name) s g u a = 0
 
 -- the values of fields at a row whose columns are looked at so, their numbers from n on
-abbrev pub field_value : FieldTree → Look → (n : ℕ) → ExprTree
-field_value (column c) look n = cell_at (look c)
-field_value (typename name) look n = tree.text name
-field_value _ look n = cell_at (value_place n)
+abbrev pub field_value : FieldTree → List Column → Look → (n : ℕ) → ExprTree
+field_value (column c) columns look n = shown_at columns (look c) c
+field_value (typename name) columns look n = tree.text name
+field_value _ columns look n = cell_at (value_place n)
 
 abbrev pub fields_values : FieldTrees → Schema → Rights → Look → (t n : ℕ) → List PairTree
 fields_values no_field s g look t n = []
-fields_values (field key f fs) s g look t n = record { name = key; value = field_value f look n } ∷ fields_values fs s g look t (n + field_numbers f s g t)
+fields_values (field key f fs) s g look t n = record { name = key; value = field_value f (table s t).columns look n } ∷ fields_values fs s g look t (n + field_numbers f s g t)
 
 abbrev pub part_value : PartTree → (n : ℕ) → ExprTree
 part_value (part_typename name) n = tree.text name

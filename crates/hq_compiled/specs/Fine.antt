@@ -5,10 +5,10 @@ use Rattle.hq_base.specs.Aggregates.{is_aggregate_of}
 use Rattle.hq_base.specs.Lists.{all_differ, Each}
 use Rattle.hq_base.specs.declared.aggregate.Aggregate.{Aggregate}
 use Rattle.hq_base.specs.declared.value.Ty.{Ty}
+use Rattle.hq_base.specs.declared.value.Ty.TheVariants.{Opaque}
 use Rattle.hq_base.specs.declared.value.Val.{Val}
 use Rattle.hq_terms.specs.Bexp.{BexpTree, always, and_of, or_of, not_of, test, through, exists_in, two_columns, BexpTrees, no_bexp, bexp, operands_of}
 use Rattle.hq_terms.specs.Catalog.{is_catalog}
-use Rattle.hq_terms.specs.Database.{is_text}
 use Rattle.hq_terms.specs.Meta.{MetaTree}
 use Rattle.hq_terms.specs.Permission.{Mask}
 use Rattle.hq_terms.specs.Schema.{Schema, schema_of, table, rel, no_column}
@@ -32,8 +32,8 @@ use Rattle.hq_ask_tree.specs.declared.aggregate.AggField.TheVariants as take
 use Rattle.hq_ask_tree.specs.declared.aggregate.KeyedAggCol.{KeyedAggCol}
 use Rattle.hq_ask_tree.specs.declared.aggregate.KeyedAggField.{KeyedAggField}
 use Rattle.hq_sql_tree.specs.Tree as sql
-use Rattle.hq_sql_tree.specs.WellFormed.{Aliases, Kind, Names, kind_of_type, compare_kinds, is_typed_test, is_typed}
-use Rattle.hq_compiled.specs.Looks.{compares, is_used}
+use Rattle.hq_sql_tree.specs.WellFormed.{text, Aliases, Kind, Names, kind_of_type, compare_kinds, is_typed_test, is_typed}
+use Rattle.hq_compiled.specs.Looks.{tested_form, is_used}
 use Rattle.hq_compiled.specs.Conditions.{literals_for}
 use Rattle.hq_compiled.specs.Rights.{Rights}
 use Rattle.hq_compiled.specs.Lists.{once, list_sorts}
@@ -59,6 +59,14 @@ type_of s t c = (slice_index_or (table s t).columns c no_column).ty
 abbrev pub kind_of : Schema → (t c : ℕ) → Kind
 kind_of s t c = kind_of_type (type_of s t c)
 
+-- the kind of a column as it is compared: of one that is written by its text, a text
+abbrev pub compared_kind : Ty → Kind
+compared_kind Opaque = text
+compared_kind ty = kind_of_type ty
+
+abbrev pub compared_kind_of : Schema → (t c : ℕ) → Kind
+compared_kind_of s t c = compared_kind (type_of s t c)
+
 -- ---- conditions
 
 -- one alias alone, with one column of a type
@@ -67,11 +75,11 @@ column_alone ty = (codes "t", (codes "c", Some (kind_of_type ty)) ∷ []) ∷ []
 
 -- a test of a column of a type has its types with these operands
 abbrev pub TestFits : Test → Ty → List Operand → Type 0
-TestFits t ty vs = is_typed_test (column_alone ty) (sql.column (codes "t") (codes "c") (compares t && is_text ty)) t (literals_for ty (arity t) vs) ≡ true
+TestFits t ty vs = is_typed_test (column_alone ty) (sql.column (codes "t") (codes "c") (tested_form t ty)) t (literals_for ty (arity t) vs) ≡ true
 
 -- the columns of a pair are the tables' and can be compared
 abbrev pub FinePair : Schema → (t u : ℕ) → Pair → Type 0
-FinePair s t u p = Has s t p.own × Has s u p.remote × (compare_kinds (Some (kind_of s u p.remote)) (Some (kind_of s t p.own)) ≡ true)
+FinePair s t u p = Has s t p.own × Has s u p.remote × (compare_kinds (Some (compared_kind_of s u p.remote)) (Some (compared_kind_of s t p.own)) ≡ true)
 
 abbrev pub FineRel : Schema → (t r : ℕ) → Type 0
 FineRel s t r = Known s (rel s t r).remote × Each (FinePair s t (rel s t r).remote) (rel s t r).pairs
@@ -85,7 +93,7 @@ abbrev mutual
   FineBexp (test c tested vs negated) s t = Has s t c × TestFits tested (type_of s t c) (operands_of vs)
   FineBexp (through r b) s t = FineRel s t r × FineBexp b s (rel s t r).remote
   FineBexp (exists_in u b) s t = Known s u × FineBexp b s u
-  FineBexp (two_columns l op r) s t = Has s t l × Has s t r × (compare_kinds (Some (kind_of s t l)) (Some (kind_of s t r)) ≡ true)
+  FineBexp (two_columns l op r) s t = Has s t l × Has s t r × (compare_kinds (Some (compared_kind_of s t l)) (Some (compared_kind_of s t r)) ≡ true)
 
   pub FineBexps : BexpTrees → Schema → (t : ℕ) → Type 0
   FineBexps no_bexp s t = Unit {0}

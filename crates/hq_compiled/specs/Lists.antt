@@ -5,6 +5,7 @@ use Rattle.hq_compiled.specs.Rights.{Rights}
 use Rattle.hq_terms.specs.Schema.{Schema, table}
 use Rattle.hq_terms.specs.Selected.{ListArguments, entries, smaller}
 use Rattle.hq_terms.specs.declared.table.Column.{Column}
+use Rattle.hq_sql_tree.specs.declared.expr.ColumnForm.TheVariants.{Plain}
 use Rattle.hq_sql_tree.specs.Tree.{ExprTree, column, object, aggregate, json_agg, orders_of, PairTree, pairs_of, OutTree, SelectTree, rows, fold, table as from_table, JoinTree, joins_of, PredTree}
 use Rattle.hq_compiled.specs.Names.{table_alias, fold_alias, value_name}
 use Rattle.hq_compiled.specs.Looks.{Look, compared_at, add_all}
@@ -68,7 +69,7 @@ list_outputs s g t cs a n values =
 abbrev pub list_select : Schema → Rights → (t : ℕ) → (used : List ℕ) → ListArguments → (n : ℕ) → (tie : PredTree) → List PairTree → (children : List JoinTree) → SelectTree
 list_select s g t cs a n tie values children =
     fold (record {
-      value = aggregate (json_agg (column (fold_alias n) value_name false) (orders_of (output_orders (list_sorts s t a) s t n 0)));
+      value = aggregate (json_agg (column (fold_alias n) value_name Plain) (orders_of (output_orders (list_sorts s t a) s t n 0)));
       name = value_name;
     })
     (list_rows s g t cs a n tie (smaller a.limit (g.limit t)) (list_outputs s g t cs a n values) children) (fold_alias n)

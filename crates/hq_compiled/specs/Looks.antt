@@ -1,12 +1,14 @@
 -- How the columns of a row are looked at in SQL: each by an alias and a name there.
-use Rattle.std.specs.Prelude.{ℕ, List, [], ◌∷◌, ◌++◌, Bool, true, false, cond, ◌&&◌, ◌==◌, slice_index_or}
+use Rattle.std.specs.Prelude.{ℕ, List, [], ◌∷◌, ◌++◌, Bool, cond, ◌==◌, slice_index_or}
 use Rattle.std.specs.List.{list_any}
 use Rattle.hq_base.specs.declared.value.Ty.{Ty}
-use Rattle.hq_terms.specs.Database.{is_text}
+use Rattle.hq_base.specs.declared.value.Ty.TheVariants.{Text, Opaque}
 use Rattle.hq_terms.specs.Schema.{no_column}
 use Rattle.hq_terms.specs.declared.test.Test.{Test}
 use Rattle.hq_terms.specs.declared.test.Test.TheVariants.{IsNull}
 use Rattle.hq_terms.specs.declared.table.Column.{Column}
+use Rattle.hq_sql_tree.specs.declared.expr.ColumnForm.{ColumnForm}
+use Rattle.hq_sql_tree.specs.declared.expr.ColumnForm.TheVariants.{Plain, Collated, AsText, AsTextCollated}
 use Rattle.hq_sql_tree.specs.Tree.{ExprTree, column}
 use Rattle.hq_compiled.specs.Names.{table_alias}
 
@@ -27,29 +29,38 @@ name_of columns c = (slice_index_or columns c no_column).name
 abbrev pub type_in : List Column → ℕ → Ty
 type_in columns c = (slice_index_or columns c no_column).ty
 
--- whether a column is of texts, which are compared by COLLATE "C"
-abbrev pub is_text_column : List Column → ℕ → Bool
-is_text_column columns c = is_text (type_in columns c)
+-- a column of a type as it is shown: one of another type of PostgreSQL by its text
+abbrev pub shown_form : Ty → ColumnForm
+shown_form Opaque = AsText
+shown_form _ = Plain
+
+-- and as it is compared: texts by COLLATE "C"
+abbrev pub compared_form : Ty → ColumnForm
+compared_form Text = Collated
+compared_form Opaque = AsTextCollated
+compared_form _ = Plain
+
+-- and as a test looks at it
+abbrev pub tested_form : Test → Ty → ColumnForm
+tested_form IsNull ty = shown_form ty
+tested_form _ ty = compared_form ty
 
 -- the table's own column at the alias of number p
 abbrev pub own_look : List Column → (p : ℕ) → Look
 own_look columns p c = record { alias = table_alias p; name = name_of columns c }
 
--- the cell at a place, and as it is compared
+-- the cell at a place, as it is shown, as it is compared, and as a test looks at it
 abbrev pub cell_at : Place → ExprTree
-cell_at p = column p.alias p.name false
+cell_at p = column p.alias p.name Plain
+
+abbrev pub shown_at : List Column → Place → ℕ → ExprTree
+shown_at columns p c = column p.alias p.name (shown_form (type_in columns c))
 
 abbrev pub compared_at : List Column → Place → ℕ → ExprTree
-compared_at columns p c = column p.alias p.name (is_text_column columns c)
+compared_at columns p c = column p.alias p.name (compared_form (type_in columns c))
 
--- whether a test compares the value that it looks at
-abbrev pub compares : Test → Bool
-compares IsNull = false
-compares _ = true
-
--- the cell as a test looks at it
 abbrev pub tested_at : List Column → Place → ℕ → Test → ExprTree
-tested_at columns p c t = column p.alias p.name (compares t && is_text_column columns c)
+tested_at columns p c t = column p.alias p.name (tested_form t (type_in columns c))
 
 -- whether a column is among those that are used
 abbrev pub is_used : ℕ → List ℕ → Bool

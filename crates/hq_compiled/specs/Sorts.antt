@@ -4,9 +4,10 @@ use Rattle.std.specs.Prelude.{ℕ, ◌+◌, List, [], ◌∷◌, ◌++◌, Bool,
 use Rattle.hq_compiled.specs.Rights.{Rights}
 use Rattle.hq_terms.specs.Schema.{Schema, table, rel}
 use Rattle.hq_terms.specs.Selected.{SortKey}
+use Rattle.hq_sql_tree.specs.declared.expr.ColumnForm.{ColumnForm}
 use Rattle.hq_sql_tree.specs.Tree.{column, OrderTree, OutTree, JoinTree}
 use Rattle.hq_compiled.specs.Names.{fold_alias, join_alias, key_name}
-use Rattle.hq_compiled.specs.Looks.{Look, Place, is_text_column, own_look, cell_at}
+use Rattle.hq_compiled.specs.Looks.{Look, Place, type_in, compared_form, own_look, cell_at}
 use Rattle.hq_compiled.specs.Predicates.{link}
 use Rattle.hq_compiled.specs.Masks.{value_place, extra, masks, shown_look, filter_numbers, filter_predicate}
 use Rattle.hq_compiled.specs.Selects.{filter_from, behind_filter, first_select}
@@ -44,9 +45,9 @@ abbrev pub end_of : (through : List ℕ) → Schema → (t : ℕ) → ℕ
 end_of [] s t = t
 end_of (r ∷ rs) s t = end_of rs s (rel s t r).remote
 
--- whether a sort key is of texts
-abbrev pub is_text_sort : Schema → (t : ℕ) → SortKey → Bool
-is_text_sort s t k = is_text_column (table s (end_of k.through s t)).columns k.column
+-- the column of a sort key as it is compared
+abbrev pub sort_form : Schema → (t : ℕ) → SortKey → ColumnForm
+sort_form s t k = compared_form (type_in (table s (end_of k.through s t)).columns k.column)
 
 -- where the cell of a sort key stands, for a row at the alias of number p; n is the number of its join
 abbrev pub sort_place : (own : Bool) → (through : List ℕ) → Schema → Look → (t p n c : ℕ) → Place
@@ -89,7 +90,7 @@ abbrev pub orders : List Sort → Schema → Rights → Look → (t p n : ℕ) �
 orders [] s g look t p n = []
 orders (k ∷ ks) s g look t p n =
     record {
-      value = column (sort_place k.own k.key.through s look t p n k.key.column).alias (sort_place k.own k.key.through s look t p n k.key.column).name (is_text_sort s t k.key);
+      value = column (sort_place k.own k.key.through s look t p n k.key.column).alias (sort_place k.own k.key.through s look t p n k.key.column).name (sort_form s t k.key);
       desc = k.key.desc;
       nulls_first = k.key.nulls_first;
     }
@@ -106,5 +107,5 @@ key_outputs (k ∷ ks) s g look t p n i =
 abbrev pub output_orders : List Sort → Schema → (t n i : ℕ) → List OrderTree
 output_orders [] s t n i = []
 output_orders (k ∷ ks) s t n i =
-    record { value = column (fold_alias n) (key_name i) (is_text_sort s t k.key); desc = k.key.desc; nulls_first = k.key.nulls_first }
+    record { value = column (fold_alias n) (key_name i) (sort_form s t k.key); desc = k.key.desc; nulls_first = k.key.nulls_first }
     ∷ output_orders ks s t n (i + 1)

@@ -86,19 +86,15 @@ fn is_alike_expr(one: &Expr, other: &Expr, renaming: &Renaming<'_>) -> bool
     ensures { result ≡ is_alike_expr (renaming_view renaming.now) (expr_view one.now) (expr_view other.now) }
 {
     match one {
-        Expr::Column {
-            alias,
-            name,
-            collate,
-        } => match other {
+        Expr::Column { alias, name, form } => match other {
             Expr::Column {
                 alias: other_alias,
                 name: other_name,
-                collate: other_collate,
+                form: other_form,
             } => {
                 stands_for(renaming, alias.as_str(), other_alias.as_str())
                     && *name == *other_name
-                    && *collate == *other_collate
+                    && form.is_same(*other_form)
             }
             _ => false,
         },

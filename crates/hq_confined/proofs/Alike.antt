@@ -12,6 +12,7 @@ use Rattle.hq_terms.specs.declared.op.Op.{Op}
 use Rattle.hq_terms.specs.declared.op.Op.TheVariants.{Eq, Ne, Lt, Le, Gt, Ge}
 use Rattle.hq_terms.specs.declared.test.Test.{Test}
 use Rattle.hq_terms.specs.declared.test.Test.TheVariants.{Compare, Among, IsNull, Like}
+use Rattle.hq_sql_tree.specs.Columns.{same_form}
 use Rattle.hq_sql_tree.specs.Tree as tree
 use Rattle.hq_sql_tree.specs.Tree.{ExprTree, OrderTree, OutTree, SelectTree, FromTree, JoinTrees, FilterTree, PredTree, PredTrees}
 use Rattle.hq_sql_tree.specs.Form.{is_no_join}
@@ -44,8 +45,8 @@ order_is _ h = cc
 
 module _ (r : Renaming) (e f : Scope) (h : Related r e f) where
   expr_value : (x y : ExprTree) → is_alike_expr r x y ≡ true → value x [] e ≡ value y [] f
-  expr_value (tree.column alias name collate) (tree.column other_alias other_name other_collate) k =
-      let parts = and_parts (stands_for r alias other_alias && bytes_eq name other_name) (is_eq (bool_cmp collate other_collate)) k in
+  expr_value (tree.column alias name form) (tree.column other_alias other_name other_form) k =
+      let parts = and_parts (stands_for r alias other_alias && bytes_eq name other_name) (same_form form other_form) k in
       let both = and_parts (stands_for r alias other_alias) (bytes_eq name other_name) parts.0 in
       ap₂ cell_named (h alias other_alias both.0) ((bytes_eq-Decides name other_name).0 both.1)
   expr_value (tree.int n) (tree.int m) k = ap (λ i. value (tree.int i) [] e) (exact_signed n m (order_is (int_cmp n m) k))

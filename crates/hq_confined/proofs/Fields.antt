@@ -13,6 +13,7 @@ use Rattle.hq_terms.specs.declared.table.Column.{Column}
 use Rattle.hq_terms.specs.declared.test.Test.TheVariants.{Compare}
 use Rattle.hq_ask_tree.specs.Fields.{Origin as From, from_table, along, FieldTrees, no_field, field, FieldTree, column, typename, no_queries, object, list, by_key, aggregate, introspect, PartTrees, no_part, part, PartTree, summary, nodes, part_typename}
 use Rattle.hq_ask_tree.specs.Resolve.{origin_table}
+use Rattle.hq_sql_tree.specs.declared.expr.ColumnForm.TheVariants.{Plain}
 use Rattle.hq_sql_tree.specs.Tree as tree
 use Rattle.hq_sql_tree.specs.Tree.{ExprTree, PairTrees, PairTree, SelectTree, JoinTree, PredTree, joins_of, pairs_of}
 use Rattle.hq_compiled.specs.Aggregates.{needed, some_aggregate, summary_used, folded_select, plain_select}
@@ -20,7 +21,7 @@ use Rattle.hq_compiled.proofs.TextLiterals.{of_either}
 use Rattle.hq_compiled.specs.Conditions.{literal, joined_by_and}
 use Rattle.hq_compiled.specs.Fields.{field_used, fields_used, key_used, origin_tie, key_members, fields_numbers, field_numbers, parts_numbers, part_numbers, field_value, fields_values, part_value, parts_values, empty_select, parts_select, kids_from, list_join, fields_joins, field_joins, parts_joins, part_joins}
 use Rattle.hq_compiled.specs.Lists.{list_used, list_numbers, children_from, list_select}
-use Rattle.hq_compiled.specs.Looks.{Look, own_look, type_in, cell_at, compared_at, is_text_column, is_used}
+use Rattle.hq_compiled.specs.Looks.{Look, own_look, type_in, cell_at, shown_at, compared_at, compared_form, shown_form, is_used}
 use Rattle.hq_compiled.specs.Masks.{value_place, extra, masks, shown_look, filter_numbers, filter_predicate}
 use Rattle.hq_compiled.specs.Names.{table_alias, join_alias, value_name}
 use Rattle.hq_compiled.specs.Predicates.{link}
@@ -56,7 +57,7 @@ module _ (s : Schema) (g : Grants) where
   value_joined : (scope : Shapes) (n m : ℕ) (q : SelectTree) → n < m → n < 2 ^ 64 → First s g scope q → Joined s g scope n m (record { select = q; alias = join_alias n } ∷ []) (λ final. expr_faults s g final (cell_at (value_place n)) ≡ [])
   value_joined scope n m q lt bound first =
       joined_as s g scope n m m (record { select = q; alias = join_alias n } ∷ []) (λ final. is_plain g (origin_at s final (join_alias n) value_name) ≡ true) (λ final. expr_faults s g final (cell_at (value_place n)) ≡ []) (omega arith)
-      (λ final h. column_clean s g final (join_alias n) value_name false h) (joined_one s g scope n m q lt bound first)
+      (λ final h. column_clean s g final (join_alias n) value_name Plain h) (joined_one s g scope n m q lt bound first)
 
   -- what is used of an alias stays plain behind more joins
   shown_later : (at final : Shapes) (u n behind : ℕ) (cs more : List ℕ) → n + 1 + extra s R u cs ≤ behind → behind ≤ 2 ^ 64 → Grows behind at final → Shows s g at (shown_look s R u cs n) more → Shows s g final (shown_look s R u cs n) more
@@ -84,7 +85,7 @@ module _ (s : Schema) (g : Grants) where
   members_clean final columns look [] vs k = tt
   members_clean final columns look (c ∷ cs) [] k = tt
   members_clean final columns look (c ∷ cs) (v ∷ vs) k = (
-    none _ _ (column_clean s g final (look c).alias (look c).name (is_text_column columns c) (k c (used_left c (c ∷ []) cs (used_one c)))) (literal_clean final (type_in columns c) v),
+    none _ _ (column_clean s g final (look c).alias (look c).name (compared_form (type_in columns c)) (k c (used_left c (c ∷ []) cs (used_one c)))) (literal_clean final (type_in columns c) v),
     members_clean final columns look cs vs (λ d used. k d (used_right d (c ∷ []) cs used)),
   )
 
@@ -136,14 +137,14 @@ module _ (s : Schema) (g : Grants) where
         let rest = fields_joined fs first.after t p mid look f.1 (row_behind scope first.after p n t lt first.grows own) (omega arith) (omega arith)
         (λ final grown. shows_right s g final look (field_used x) (fields_used fs) (shown final (λ a u. grown a (under_later n mid a (omega arith) u) ∙ first.grows a u))) in
         let wide = joined_as s g first.after mid (mid + fields_numbers fs s R t) top (fields_joins fs s R t p mid) (ValuesClean fs look t mid) (ValuesClean fs look t mid) (omega arith) (λ final h. h) rest in
-        let both = joined_then s g scope n mid top (field_joins x s R t p n) (fields_joins fs s R t p mid) (λ final. expr_faults s g final (field_value x look n) ≡ []) (ValuesClean fs look t mid) (omega arith) (omega arith) first wide in
-        joined_as s g scope n top top (fields_joins (field key x fs) s R t p n) (λ final. (expr_faults s g final (field_value x look n) ≡ []) × ValuesClean fs look t mid final) (ValuesClean (field key x fs) look t n) (omega arith) (λ final h. none _ _ h.0 h.1) both
+        let both = joined_then s g scope n mid top (field_joins x s R t p n) (fields_joins fs s R t p mid) (λ final. expr_faults s g final (field_value x (table s t).columns look n) ≡ []) (ValuesClean fs look t mid) (omega arith) (omega arith) first wide in
+        joined_as s g scope n top top (fields_joins (field key x fs) s R t p n) (λ final. (expr_faults s g final (field_value x (table s t).columns look n) ≡ []) × ValuesClean fs look t mid final) (ValuesClean (field key x fs) look t n) (omega arith) (λ final h. none _ _ h.0 h.1) both
 
     field_joined : (x : FieldTree) (scope : Shapes) (t p n : ℕ) (look : Look) → AllowedField x s g t → RowAt scope p t → p < n → n + field_numbers x s R t ≤ 2 ^ 64 → ((final : Shapes) → Grows n scope final → Shows s g final look (field_used x))
-        → Joined s g scope n (n + field_numbers x s R t) (field_joins x s R t p n) (λ final. expr_faults s g final (field_value x look n) ≡ [])
+        → Joined s g scope n (n + field_numbers x s R t) (field_joins x s R t p n) (λ final. expr_faults s g final (field_value x (table s t).columns look n) ≡ [])
     field_joined (column c) scope t p n look f own lt bound shown =
-        joined_none s g scope n (n + 0) (λ final. expr_faults s g final (cell_at (look c)) ≡ [])
-        (λ final grown. column_clean s g final (look c).alias (look c).name false (shown final (λ a u. grown a (under_later n (n + 0) a (omega arith) u)) c (used_one c)))
+        joined_none s g scope n (n + 0) (λ final. expr_faults s g final (shown_at (table s t).columns (look c) c) ≡ [])
+        (λ final grown. column_clean s g final (look c).alias (look c).name (shown_form (type_in (table s t).columns c)) (shown final (λ a u. grown a (under_later n (n + 0) a (omega arith) u)) c (used_one c)))
     field_joined (typename name) scope t p n look f own lt bound shown = joined_none s g scope n (n + 0) (λ final. expr_faults s g final (tree.text name) ≡ []) (λ final grown. refl)
     field_joined no_queries scope t p n look f own lt bound shown = value_joined scope n (n + 1) (empty_select n) (omega arith) (omega arith) (empty_first scope n)
     field_joined (introspect q) scope t p n look f own lt bound shown = value_joined scope n (n + 1) (empty_select n) (omega arith) (omega arith) (empty_first scope n)

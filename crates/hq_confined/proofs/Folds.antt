@@ -12,7 +12,7 @@ use Rattle.hq_compiled.specs.Fine.{Has}
 use Rattle.hq_compiled.specs.Looks.{Look, name_of, own_look, cell_at}
 use Rattle.hq_compiled.specs.Names.{table_alias, fold_alias, value_name, key_name}
 use Rattle.hq_compiled.specs.Rights.{rights_of}
-use Rattle.hq_compiled.specs.Sorts.{Sort, shown_sorts, own_sorts, is_text_sort, sort_numbers, key_outputs, output_orders}
+use Rattle.hq_compiled.specs.Sorts.{Sort, shown_sorts, own_sorts, sort_form, sort_numbers, key_outputs, output_orders}
 use Rattle.hq_compiled.proofs.Names.{same_text, key_names_differ, value_is_no_key}
 use Rattle.hq_confined.specs.Origins.{Origin, made, of, Shapes, outputs, shape_at, origin_in, origin_at, origin, behind, output_named, output_origins}
 use Rattle.hq_confined.specs.Uses.{is_key, is_plain, is_run, may_pass, expr_faults, outs_faults, orders_faults}
@@ -75,7 +75,7 @@ module _ (s : Schema) (g : Grants) (t p : ℕ) (look : Look) (final : Shapes) wh
     -- the sort keys of the fold
     abbrev fold_entries : List SortKey → ℕ → List OrderTree
     fold_entries [] i = []
-    fold_entries (k ∷ ks) i = record { value = tree.column (fold_alias n) (key_name i) (is_text_sort s t k); desc = k.desc; nulls_first = k.nulls_first } ∷ fold_entries ks (i + 1)
+    fold_entries (k ∷ ks) i = record { value = tree.column (fold_alias n) (key_name i) (sort_form s t k); desc = k.desc; nulls_first = k.nulls_first } ∷ fold_entries ks (i + 1)
 
     abbrev behind_keys : List SortKey → ℕ → ℕ
     behind_keys [] i = i
@@ -83,7 +83,7 @@ module _ (s : Schema) (g : Grants) (t p : ℕ) (look : Look) (final : Shapes) wh
 
     fold_split : (es : List SortKey) (cs : List ℕ) (i : ℕ) → orders_of (output_orders (shown_sorts es (own_sorts cs)) s t n i) ≡ in_front (fold_entries es i) (orders_of (output_orders (own_sorts cs) s t n (behind_keys es i)))
     fold_split [] cs i = refl
-    fold_split (k ∷ es) cs i = ap (tree.order (tree.column (fold_alias n) (key_name i) (is_text_sort s t k)) k.desc k.nulls_first) (fold_split es cs (i + 1))
+    fold_split (k ∷ es) cs i = ap (tree.order (tree.column (fold_alias n) (key_name i) (sort_form s t k)) k.desc k.nulls_first) (fold_split es cs (i + 1))
 
     behind_length : (es : List SortKey) (i : ℕ) → behind_keys es i ≡ i + length es
     behind_length [] i = omega arith
@@ -99,7 +99,7 @@ module _ (s : Schema) (g : Grants) (t p : ℕ) (look : Look) (final : Shapes) wh
         let here : output_named all (key_name i) ≡ origin_at s final (place_at s g t p look k m).alias (place_at s g t p look k m).name = r i (omega arith) (omega (arith, le)) ∙ rw (same_text (key_name i)) refl in
         let plain : is_plain g (origin_at s inner (fold_alias n) (key_name i)) ≡ true =
         ap (is_plain g) (fold_cell (key_name i)) ∙ behind_plain s g (fold_alias n) (output_named all (key_name i)) (ap (is_plain g) here ∙ e.0) in
-        ((column_clean s g inner (fold_alias n) (key_name i) (is_text_sort s t k) plain, later.0), later.1)
+        ((column_clean s g inner (fold_alias n) (key_name i) (sort_form s t k) plain, later.0), later.1)
 
     abbrev passed : List (List ℕ)
     passed = fold_alias n ∷ (table_alias p ∷ [])

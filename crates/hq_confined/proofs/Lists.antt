@@ -8,7 +8,7 @@ use Rattle.hq_terms.specs.declared.table.Column.{Column}
 use Rattle.hq_sql_tree.specs.Tree.{OrderTree, OrderTrees, OutTree, JoinTree, FilterTree, PredTree, joins_of, orders_of}
 use Rattle.hq_compiled.specs.Conditions.{with_member, where_of}
 use Rattle.hq_compiled.specs.Lists.{once, list_sorts, list_used, where_numbers, sorts_from, children_from, distinct_columns, list_rows}
-use Rattle.hq_compiled.specs.Looks.{Look, is_text_column, is_used}
+use Rattle.hq_compiled.specs.Looks.{Look, type_in, compared_form, is_used}
 use Rattle.hq_compiled.specs.Masks.{extra, masks, shown_look, filter_numbers, filter_predicate, where_mode}
 use Rattle.hq_compiled.specs.Names.{table_alias}
 use Rattle.hq_compiled.specs.Predicates.{columns_in, predicate}
@@ -35,7 +35,7 @@ module _ (s : Schema) (g : Grants) where
   distinct_clean : (final : Shapes) (columns : List Column) (look : Look) (cs : List ℕ) → Shows s g final look cs → exprs_faults s g final (distinct_columns columns look cs) ≡ []
   distinct_clean final columns look [] k = refl
   distinct_clean final columns look (c ∷ cs) k =
-      none _ _ (column_clean s g final (look c).alias (look c).name (is_text_column columns c) (k c (used_left c (c ∷ []) cs (used_one c)))) (distinct_clean final columns look cs (λ d used. k d (used_right d (c ∷ []) cs used)))
+      none _ _ (column_clean s g final (look c).alias (look c).name (compared_form (type_in columns c)) (k c (used_left c (c ∷ []) cs (used_one c)))) (distinct_clean final columns look cs (λ d used. k d (used_right d (c ∷ []) cs used)))
 
   -- what stands behind the joins of a list: the masks of its rows, its sort keys and its children
   abbrev pub ListSeen : (scope : Shapes) → (u n : ℕ) → ListArguments → (more : List ℕ) → (V : Shapes → Type 0) → Shapes → Type 0

@@ -12,11 +12,13 @@ use Rattle.hq_ask_tree.specs.declared.aggregate.AggField.{AggField}
 use Rattle.hq_ask_tree.specs.declared.aggregate.AggField.TheVariants as take
 use Rattle.hq_ask_tree.specs.declared.aggregate.KeyedAggCol.{KeyedAggCol}
 use Rattle.hq_ask_tree.specs.declared.aggregate.KeyedAggField.{KeyedAggField}
+use Rattle.hq_sql_tree.specs.declared.expr.ColumnForm.{ColumnForm}
+use Rattle.hq_sql_tree.specs.declared.expr.ColumnForm.TheVariants.{Plain}
 use Rattle.hq_sql_tree.specs.Tree as tree
 use Rattle.hq_sql_tree.specs.Tree.{ExprTree, PairTrees, PairTree, OutTree, SelectTree, JoinTree, FilterTree, PredTree, joins_of, pairs_of, orders_of}
-use Rattle.hq_compiled.specs.Aggregates.{needed, is_taken, some_taken, is_aggregate, some_aggregate, needed_cell, taken_value, taken_pairs, count_value, summary_value, summary_pairs, needed_columns, needed_outputs, summary_used, folded_select, plain_select, place_of}
+use Rattle.hq_compiled.specs.Aggregates.{needed, counted_form, is_taken, some_taken, is_aggregate, some_aggregate, needed_cell, taken_value, taken_pairs, count_value, summary_value, summary_pairs, needed_columns, needed_outputs, summary_used, folded_select, plain_select, place_of}
 use Rattle.hq_compiled.specs.Lists.{once, list_sorts, list_used, sorts_from, children_from, list_rows, list_outputs, list_select}
-use Rattle.hq_compiled.specs.Looks.{Look, cell_at, is_used, is_text_column}
+use Rattle.hq_compiled.specs.Looks.{Look, cell_at, is_used, type_in, compared_form}
 use Rattle.hq_compiled.specs.Masks.{value_output, shown_look}
 use Rattle.hq_compiled.specs.Names.{table_alias, fold_alias, value_name, key_name, needed_name, unit_name}
 use Rattle.hq_compiled.specs.Predicates.{columns_in}
@@ -98,14 +100,14 @@ module _ (s : Schema) (g : Grants) where
       let shapes : joined_shapes s g within (joins_of J') ≡ final = joins_shapes s g within (n + 1) m J' _ j in
       let rows = list_clean s g scope true u n m a more tie (smaller a.limit (R.limit u)) outs J V ready f.permits f.wanted f.sorted le bound tied kids
       (λ fin b e v. none _ _ (valued fin v) (keys_clean s g u n look fin ready b.own es key at 0 e ready.key (each_own key))) in
-      let value : ExprTree = tree.aggregate (tree.json_agg (tree.column (fold_alias n) value_name false) (orders_of (output_orders (list_sorts s u a) s u n 0))) in
+      let value : ExprTree = tree.aggregate (tree.json_agg (tree.column (fold_alias n) value_name Plain) (orders_of (output_orders (list_sorts s u a) s u n 0))) in
       let all : List (List ℕ × Origin) = output_origins s final outs in
       let inner : Shapes = (fold_alias n, outputs all) ∷ scope in
       let here : shape_at inner (fold_alias n) ≡ outputs all = rw (same_text (fold_alias n)) refl in
       let first : output_named all value_name ≡ made = rw (same_text value_name) refl in
       let plain : is_plain g (origin_at s inner (fold_alias n) value_name) ≡ true = ap (λ sh. is_plain g (origin_in s sh (fold_alias n) value_name)) here ∙ ap (λ o. is_plain g (behind (fold_alias n) o)) first in
       let orders = orders_passed s g u n look final n all inner here ready seen.0.own es at seen.1.0 f.few (λ k. rw (value_is_no_key k) refl) in
-      let fold : expr_faults s g inner value ≡ [] = none _ _ (column_clean s g inner (fold_alias n) value_name false plain) orders in
+      let fold : expr_faults s g inner value ≡ [] = none _ _ (column_clean s g inner (fold_alias n) value_name Plain plain) orders in
       let outer : expr_faults s g ((fold_alias n, outputs (output_origins s (joined_shapes s g within (joins_of J')) outs)) ∷ scope) value ≡ [] = ap (λ f. expr_faults s g ((fold_alias n, outputs (output_origins s f outs)) ∷ scope) value) shapes ∙ fold in
       record { clean = none _ _ outer rows; shows = refl }
 
@@ -134,11 +136,11 @@ module _ (s : Schema) (g : Grants) where
 
   -- the fields of an aggregate, where each name of the fold's alias is plain
   module _ (inner : Shapes) (n : ℕ) (columns : List Column) (cs : List ℕ) (plain : (name : List ℕ) → is_plain g (origin_at s inner (fold_alias n) name) ≡ true) where
-    cell_clean : (c : ℕ) (collate : Bool) → expr_faults s g inner (needed_cell n cs c collate) ≡ []
-    cell_clean c collate = column_clean s g inner (fold_alias n) (needed_name (place_of c cs 0)) collate (plain (needed_name (place_of c cs 0)))
+    cell_clean : (c : ℕ) (form : ColumnForm) → expr_faults s g inner (needed_cell n cs c form) ≡ []
+    cell_clean c form = column_clean s g inner (fold_alias n) (needed_name (place_of c cs 0)) form (plain (needed_name (place_of c cs 0)))
 
     taken_clean : (a : Aggregate) (k : AggCol) → expr_faults s g inner (taken_value a columns n cs k) ≡ []
-    taken_clean a (of_column.Column c) = cell_clean c (is_text_column columns c)
+    taken_clean a (of_column.Column c) = cell_clean c (compared_form (type_in columns c))
     taken_clean a (of_column.Typename name) = refl
 
     takens_clean : (a : Aggregate) (ks : List KeyedAggCol) → pairs_faults s g inner (pairs_of (taken_pairs a columns n cs ks)) ≡ []
@@ -147,7 +149,7 @@ module _ (s : Schema) (g : Grants) where
 
     summary_clean : (f : AggField) → expr_faults s g inner (summary_value columns n cs f) ≡ []
     summary_clean (take.Count None distinct) = refl
-    summary_clean (take.Count (Some c) distinct) = cell_clean c (distinct && is_text_column columns c)
+    summary_clean (take.Count (Some c) distinct) = cell_clean c (counted_form distinct (type_in columns c))
     summary_clean (take.Columns a ks) = takens_clean a ks
     summary_clean (take.Typename name) = refl
 

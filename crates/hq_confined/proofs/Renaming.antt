@@ -23,10 +23,12 @@ use Rattle.hq_terms.specs.declared.test.Arity.{Arity}
 use Rattle.hq_terms.specs.declared.test.Arity.TheVariants.{Nothing, One, Many}
 use Rattle.hq_terms.specs.declared.test.Test.{Test}
 use Rattle.hq_terms.specs.declared.test.Test.TheVariants.{Compare, Among, IsNull, Like}
+use Rattle.hq_sql_tree.specs.declared.expr.ColumnForm.{ColumnForm}
+use Rattle.hq_sql_tree.proofs.Columns.{form_same}
 use Rattle.hq_sql_tree.specs.Tree as tree
 use Rattle.hq_sql_tree.specs.Tree.{ExprTree, PredTree, PredTrees, preds_of}
 use Rattle.hq_compiled.specs.Names.{table_alias, unit_name}
-use Rattle.hq_compiled.specs.Looks.{own_look, type_in, tested_at, compares, is_text_column, name_of}
+use Rattle.hq_compiled.specs.Looks.{own_look, type_in, tested_at, tested_form, compared_form, name_of}
 use Rattle.hq_compiled.proofs.TextLiterals.{of_either}
 use Rattle.hq_compiled.specs.Conditions.{literal, operand_literal, joined_by_and, joined_by_or, with_member, where_of, negation_if, literals_for, test_of}
 use Rattle.hq_compiled.specs.Predicates.{link_members, link, columns_in, numbers, numbers_all, predicate, predicates, filter_mode, own_numbers, own_predicate}
@@ -64,8 +66,8 @@ test_same IsNull = refl
 test_same (Like fold) = same_bool fold
 
 module _ (r : Renaming) where
-  column_alike : (a b name : List ℕ) (collate : Bool) → stands_for r a b ≡ true → is_alike_expr r (tree.column a name collate) (tree.column b name collate) ≡ true
-  column_alike a b name collate e = rw (e, same_text name, same_bool collate) refl
+  column_alike : (a b name : List ℕ) (form : ColumnForm) → stands_for r a b ≡ true → is_alike_expr r (tree.column a name form) (tree.column b name form) ≡ true
+  column_alike a b name form e = rw (e, same_text name, form_same form) refl
 
   literal_alike : (ty : Ty) (v : Val) → is_alike_expr r (literal ty v) (literal ty v) ≡ true
   literal_alike ty val.Null = refl
@@ -145,7 +147,7 @@ link_alike : (r : Renaming) (columns remote : List Column) (p q n m : ℕ) → s
     → Zip (Alike r) (link_members columns remote p n xs) (link_members columns remote q m xs)
 link_alike r columns remote p q n m own far [] = tt
 link_alike r columns remote p q n m own far (x ∷ xs) =
-    (rw (column_alike r (table_alias n) (table_alias m) (name_of remote x.remote) (is_text_column remote x.remote) far, column_alike r (table_alias p) (table_alias q) (name_of columns x.own) (is_text_column columns x.own) own) refl, link_alike r columns remote p q n m own far xs)
+    (rw (column_alike r (table_alias n) (table_alias m) (name_of remote x.remote) (compared_form (type_in remote x.remote)) far, column_alike r (table_alias p) (table_alias q) (name_of columns x.own) (compared_form (type_in columns x.own)) own) refl, link_alike r columns remote p q n m own far xs)
 
 -- an inner alias stands for its own, and hides none of an outer number
 inner_stands : (r : Renaming) (n m : ℕ) → stands_for ((table_alias n, table_alias m) ∷ r) (table_alias n) (table_alias m) ≡ true
@@ -163,7 +165,7 @@ module _ (s : Schema) where
     own_alike (or_of bs) r t p q n m h lt lu bn bm = or_alike r (predicates bs s (filter_mode s) (own_look (table s t).columns p) t p n) (predicates bs s (filter_mode s) (own_look (table s t).columns q) t q m) (owns_alike bs r t p q n m h lt lu bn bm)
     own_alike (not_of b) r t p q n m h lt lu bn bm = own_alike b r t p q n m h lt lu bn bm
     own_alike (test c tested vs negated) r t p q n m h lt lu bn bm =
-        test_alike r (type_in (table s t).columns c) (tested_at (table s t).columns (own_look (table s t).columns p c) c tested) (tested_at (table s t).columns (own_look (table s t).columns q c) c tested) tested (operands_of vs) negated (column_alike r (table_alias p) (table_alias q) (own_look (table s t).columns p c).name (compares tested && is_text_column (table s t).columns c) h)
+        test_alike r (type_in (table s t).columns c) (tested_at (table s t).columns (own_look (table s t).columns p c) c tested) (tested_at (table s t).columns (own_look (table s t).columns q c) c tested) tested (operands_of vs) negated (column_alike r (table_alias p) (table_alias q) (own_look (table s t).columns p c).name (tested_form tested (type_in (table s t).columns c)) h)
     own_alike (through k b) r t p q n m h lt lu bn bm =
         let u : ℕ = (rel s t k).remote in
         let within : Renaming = (table_alias n, table_alias m) ∷ r in
@@ -185,8 +187,8 @@ module _ (s : Schema) where
         rw (same_text (table s u).schema, same_text (table s u).name, same_text unit_name) kept
     own_alike (two_columns a op b) r t p q n m h lt lu bn bm =
         let columns : List Column = (table s t).columns in
-        let left = column_alike r (table_alias p) (table_alias q) (name_of columns a) (is_text_column columns a) h in
-        let right = column_alike r (table_alias p) (table_alias q) (name_of columns b) (is_text_column columns b) h in
+        let left = column_alike r (table_alias p) (table_alias q) (name_of columns a) (compared_form (type_in columns a)) h in
+        let right = column_alike r (table_alias p) (table_alias q) (name_of columns b) (compared_form (type_in columns b)) h in
         rw (left, op_same op, right) refl
 
     owns_alike : (bs : BexpTrees) (r : Renaming) (t p q n m : ℕ) → stands_for r (table_alias p) (table_alias q) ≡ true → p < n → q < m → n + numbers_all bs s (filter_mode s) t ≤ 2 ^ 64 → m + numbers_all bs s (filter_mode s) t ≤ 2 ^ 64

@@ -4,6 +4,7 @@ use Rattle.hq_base.specs.Lists.{Each}
 use Rattle.hq_terms.specs.Grants.{Grants, grant}
 use Rattle.hq_terms.specs.Schema.{Schema, table}
 use Rattle.hq_terms.specs.declared.table.Column.{Column}
+use Rattle.hq_sql_tree.specs.declared.expr.ColumnForm.{ColumnForm}
 use Rattle.hq_sql_tree.specs.Tree.{ExprTree, column, SelectTree, JoinTree, joins_of}
 use Rattle.hq_compiled.specs.Fine.{Has}
 use Rattle.hq_compiled.specs.Looks.{Look, Place, name_of, own_look, is_used, cell_at}
@@ -58,8 +59,8 @@ module _ (s : Schema) (g : Grants) where
   shows_right scope look cs ds k c used = k c (used_right c cs ds used)
 
   -- a column that is plain has no fault
-  pub column_clean : (scope : Shapes) (alias name : List ℕ) (collate : Bool) → is_plain g (origin_at s scope alias name) ≡ true → expr_faults s g scope (column alias name collate) ≡ []
-  column_clean scope alias name collate h = rw h refl
+  pub column_clean : (scope : Shapes) (alias name : List ℕ) (form : ColumnForm) → is_plain g (origin_at s scope alias name) ≡ true → expr_faults s g scope (column alias name form) ≡ []
+  column_clean scope alias name form h = rw h refl
 
   -- ---- joins
 

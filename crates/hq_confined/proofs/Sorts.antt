@@ -10,7 +10,7 @@ use Rattle.hq_compiled.specs.Fine.{Has}
 use Rattle.hq_compiled.specs.Looks.{Look, Place, own_look, is_used}
 use Rattle.hq_compiled.specs.Names.{table_alias, fold_alias, value_name, key_name}
 use Rattle.hq_compiled.specs.Rights.{Rights, rights_of}
-use Rattle.hq_compiled.specs.Sorts.{Sort, shown_sorts, own_sorts, used_by, used_sorts, last_used, is_text_sort, sort_place, sort_numbers, sort_joins, sorts_numbers, sorts_joins, orders, key_outputs, output_orders}
+use Rattle.hq_compiled.specs.Sorts.{Sort, shown_sorts, own_sorts, used_by, used_sorts, last_used, sort_form, sort_place, sort_numbers, sort_joins, sorts_numbers, sorts_joins, orders, key_outputs, output_orders}
 use Rattle.hq_compiled.proofs.Names.{same_text, used_left, used_right, key_names_differ}
 use Rattle.hq_compiled.proofs.Scopes.{under_later}
 use Rattle.hq_confined.specs.Origins.{Origin, made, of, Shapes, outputs, shape_at, origin_in, origin_at, origin, behind, output_named, output_origins}
@@ -34,11 +34,11 @@ module _ (s : Schema) (g : Grants) (t p : ℕ) (look : Look) where
   abbrev pub entry_orders : List SortKey → ℕ → List OrderTree
   entry_orders [] n = []
   entry_orders (k ∷ ks) n =
-      record { value = tree.column (place_at k n).alias (place_at k n).name (is_text_sort s t k); desc = k.desc; nulls_first = k.nulls_first } ∷ entry_orders ks (n + sort_numbers k.through s (rights_of g) t k.column)
+      record { value = tree.column (place_at k n).alias (place_at k n).name (sort_form s t k); desc = k.desc; nulls_first = k.nulls_first } ∷ entry_orders ks (n + sort_numbers k.through s (rights_of g) t k.column)
 
   pub orders_split : (es : List SortKey) (cs : List ℕ) (n : ℕ) → orders_of (orders (shown_sorts es (own_sorts cs)) s (rights_of g) look t p n) ≡ in_front (entry_orders es n) (orders_of (orders (own_sorts cs) s (rights_of g) look t p (behind_sorts es n)))
   orders_split [] cs n = refl
-  orders_split (k ∷ ks) cs n = ap (tree.order (tree.column (place_at k n).alias (place_at k n).name (is_text_sort s t k)) k.desc k.nulls_first) (orders_split ks cs (n + sort_numbers k.through s (rights_of g) t k.column))
+  orders_split (k ∷ ks) cs n = ap (tree.order (tree.column (place_at k n).alias (place_at k n).name (sort_form s t k)) k.desc k.nulls_first) (orders_split ks cs (n + sort_numbers k.through s (rights_of g) t k.column))
 
   -- where each of them stands it is plain
   abbrev pub EntriesPlain : Shapes → List SortKey → ℕ → Type 0
@@ -47,7 +47,7 @@ module _ (s : Schema) (g : Grants) (t p : ℕ) (look : Look) where
 
   pub entries_clean : (final : Shapes) (es : List SortKey) (n : ℕ) → EntriesPlain final es n → Each (λ x. expr_faults s g final x.value ≡ []) (entry_orders es n)
   entries_clean final [] n h = tt
-  entries_clean final (k ∷ ks) n h = (column_clean s g final (place_at k n).alias (place_at k n).name (is_text_sort s t k) h.0, entries_clean final ks (n + sort_numbers k.through s (rights_of g) t k.column) h.1)
+  entries_clean final (k ∷ ks) n h = (column_clean s g final (place_at k n).alias (place_at k n).name (sort_form s t k) h.0, entries_clean final ks (n + sort_numbers k.through s (rights_of g) t k.column) h.1)
 
   -- ---- joins
 

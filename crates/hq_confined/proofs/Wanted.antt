@@ -11,7 +11,7 @@ use Rattle.hq_sql_tree.specs.Tree as tree
 use Rattle.hq_sql_tree.specs.Tree.{ExprTree, OrderTree, OrderTrees, OutTree, SelectTree, FromTree, JoinTree, JoinTrees, FilterTree, PredTree, orders_of, joins_of}
 use Rattle.hq_compiled.specs.Conditions.{with_member, where_of}
 use Rattle.hq_compiled.specs.Fine.{Has}
-use Rattle.hq_compiled.specs.Looks.{Look, name_of, own_look, compared_at, tested_at, compares, is_text_column, is_used, type_in}
+use Rattle.hq_compiled.specs.Looks.{Look, name_of, own_look, compared_at, tested_at, tested_form, compared_form, is_used, type_in}
 use Rattle.hq_compiled.specs.Masks.{value_output, extra, masks, shown_look, filter_numbers, filter_predicate, where_mode}
 use Rattle.hq_compiled.specs.Names.{table_alias, value_name, unit_name}
 use Rattle.hq_compiled.specs.Predicates.{columns_in, columns_in_all, guard_from, inner_from, numbers, numbers_all, predicate, predicates, link}
@@ -74,7 +74,7 @@ module _ (s : Schema) (g : Grants) where
     wanted_clean (or_of bs) look t p n scope f own lt k u bound = or_clean s g scope (predicates bs s (where_mode s (rights_of g)) look t p n) (wanteds_clean bs look t p n scope f own lt k u bound)
     wanted_clean (not_of b) look t p n scope f own lt k u bound = wanted_clean b look t p n scope f own lt k u bound
     wanted_clean (test c tested vs negated) look t p n scope f own lt k u bound =
-        test_clean s g scope (type_in (table s t).columns c) (tested_at (table s t).columns (look c) c tested) tested (operands_of vs) negated (λ some. column_clean s g scope (look c).alias (look c).name (compares tested && is_text_column (table s t).columns c) (k c (used_else c (is_of_nothing tested (operands_of vs)) some)))
+        test_clean s g scope (type_in (table s t).columns c) (tested_at (table s t).columns (look c) c tested) tested (operands_of vs) negated (λ some. column_clean s g scope (look c).alias (look c).name (tested_form tested (type_in (table s t).columns c)) (k c (used_else c (is_of_nothing tested (operands_of vs)) some)))
     wanted_clean (through r b) look t p n scope f own lt k u bound =
         let R : Rights = rights_of g in
         let far : ℕ = (rel s t r).remote in
@@ -130,8 +130,8 @@ module _ (s : Schema) (g : Grants) where
         (ap (λ l. stand_among l (filter_conjuncts s g u) (table_alias n)) is ∙ stand) refl
         (subst (λ l. where_faults s g final (is_exempt s g final l (from_of u n)) (where_of (with_member A (with_member B []))) ≡ []) (sym is) kept) refl
     wanted_clean (two_columns l op r) look t p n scope f own lt k u bound =
-        none _ _ (column_clean s g scope (look l).alias (look l).name (is_text_column (table s t).columns l) (k l (used_left l (l ∷ []) (r ∷ []) (used_one l))))
-        (none _ _ (column_clean s g scope (look r).alias (look r).name (is_text_column (table s t).columns r) (k r (used_right r (l ∷ []) (r ∷ []) (used_one r)))) refl)
+        none _ _ (column_clean s g scope (look l).alias (look l).name (compared_form (type_in (table s t).columns l)) (k l (used_left l (l ∷ []) (r ∷ []) (used_one l))))
+        (none _ _ (column_clean s g scope (look r).alias (look r).name (compared_form (type_in (table s t).columns r)) (k r (used_right r (l ∷ []) (r ∷ []) (used_one r)))) refl)
 
     wanteds_clean : (bs : BexpTrees) (look : Look) (t p n : ℕ) (scope : Shapes) → AllAllowed bs s g t → Scans scope p t → p < n → Shows s g scope look (columns_in_all bs) → LooksUnder n look → n + numbers_all bs s (where_mode s (rights_of g)) t ≤ 2 ^ 64
         → Each (IsClean s g scope) (predicates bs s (where_mode s (rights_of g)) look t p n)

@@ -18,6 +18,7 @@ use Rattle.hq_terms.specs.declared.test.Test.TheVariants.{Compare}
 use Rattle.hq_ask_tree.specs.declared.aggregate.AggCol.TheVariants as of
 use Rattle.hq_ask_tree.specs.declared.aggregate.AggField.TheVariants as take
 use Rattle.hq_ask_tree.specs.Fields.{FieldTrees, no_field, field, FieldTree, column, object, list, by_key, aggregate, from_table, along, no_part, part, summary, nodes}
+use Rattle.hq_sql_tree.specs.declared.expr.ColumnForm.TheVariants.{Plain}
 use Rattle.hq_sql_tree.specs.Tree as tree
 use Rattle.hq_sql_tree.specs.Tree.{ExprTree, OutTree, OrderTree, SelectTree, FromTree, JoinTrees, FilterTree, PredTree}
 use Rattle.hq_compiled.specs.Rights.{rights_of}
@@ -32,7 +33,7 @@ schema =
     record {
       schema = codes "public";
       name = codes "author";
-      columns = record { name = codes "id"; ty = Integer; nullable = false } ∷ record { name = codes "name"; ty = Text; nullable = false } ∷ record { name = codes "email"; ty = Text; nullable = true } ∷ [];
+      columns = record { name = codes "id"; ty = Integer; of = []; nullable = false } ∷ record { name = codes "name"; ty = Text; of = []; nullable = false } ∷ record { name = codes "email"; ty = Text; of = []; nullable = true } ∷ [];
       key = 0 ∷ [];
       rels = record { name = codes "articles"; remote = 1; pairs = record { own = 0; remote = 1 } ∷ []; many = true } ∷ [];
     }
@@ -40,8 +41,8 @@ schema =
       schema = codes "public";
       name = codes "article";
       columns =
-          record { name = codes "id"; ty = Integer; nullable = false } ∷ record { name = codes "author_id"; ty = Integer; nullable = true } ∷ record { name = codes "title"; ty = Text; nullable = false }
-          ∷ record { name = codes "published"; ty = Boolean; nullable = false } ∷ record { name = codes "rating"; ty = Bigint; nullable = true } ∷ [];
+          record { name = codes "id"; ty = Integer; of = []; nullable = false } ∷ record { name = codes "author_id"; ty = Integer; of = []; nullable = true } ∷ record { name = codes "title"; ty = Text; of = []; nullable = false }
+          ∷ record { name = codes "published"; ty = Boolean; of = []; nullable = false } ∷ record { name = codes "rating"; ty = Bigint; of = []; nullable = true } ∷ [];
       key = 2 ∷ 0 ∷ [];
       rels = record { name = codes "author"; remote = 0; pairs = record { own = 1; remote = 0 } ∷ []; many = false } ∷ [];
     }
@@ -136,7 +137,7 @@ unfolding table_alias fold_alias join_alias value_name key_name needed_name unit
 nobody_breaks_1 = refl
 
 abbrev at_a : List ℕ → ExprTree
-at_a name = tree.column (codes "a") name false
+at_a name = tree.column (codes "a") name Plain
 
 abbrev sorted : ExprTree → OrderTree
 sorted e = record { value = e; desc = false; nulls_first = false }
@@ -144,7 +145,7 @@ sorted e = record { value = e; desc = false; nulls_first = false }
 -- the array of these values, over authors
 abbrev authors : (value : ExprTree) → JoinTrees → FilterTree → List OrderTree → (limit : Option ℕ) → SelectTree
 authors value joins condition keys limit =
-    tree.fold (record { value = tree.aggregate (tree.json_agg (tree.column (codes "s") (codes "v") false) (tree.order (tree.bool true) false false tree.no_order)); name = codes "v" })
+    tree.fold (record { value = tree.aggregate (tree.json_agg (tree.column (codes "s") (codes "v") Plain) (tree.order (tree.bool true) false false tree.no_order)); name = codes "v" })
     (tree.rows [] (record { value = tree.object (tree.pair (codes "x") value tree.no_pair); name = codes "v" } ∷ []) (tree.table (codes "public") (codes "author") (codes "a")) joins condition keys limit None)
     (codes "s")
 
@@ -177,7 +178,7 @@ mask_of_name n = tree.join (tree.rows [] (record { value = at_a (codes "name"); 
 abbrev masked_authors : Grants
 masked_authors = Some (record author { masks = record { column = 1; shown = test 0 (Compare Eq) (operands.List (Const (val.Int (pos 1)) ∷ [])) false } ∷ [] }) ∷ []
 
-mask_is_confined : faults schema masked_authors (authors (tree.column (codes "m") (codes "v") false) (mask_of_name 1) tree.no_filter by_id None) ≡ []
+mask_is_confined : faults schema masked_authors (authors (tree.column (codes "m") (codes "v") Plain) (mask_of_name 1) tree.no_filter by_id None) ≡ []
 unfolding table_alias fold_alias join_alias value_name key_name needed_name unit_name digits
 mask_is_confined = refl
 
@@ -185,7 +186,7 @@ unmasked_breaks_4 : worst (faults schema masked_authors (authors (at_a (codes "n
 unfolding table_alias fold_alias join_alias value_name key_name needed_name unit_name digits
 unmasked_breaks_4 = refl
 
-other_mask_breaks_4 : worst (faults schema masked_authors (authors (tree.column (codes "m") (codes "v") false) (mask_of_name 2) tree.no_filter by_id None)) ≡ due 4 (codes "a")
+other_mask_breaks_4 : worst (faults schema masked_authors (authors (tree.column (codes "m") (codes "v") Plain) (mask_of_name 2) tree.no_filter by_id None)) ≡ due 4 (codes "a")
 unfolding table_alias fold_alias join_alias value_name key_name needed_name unit_name digits
 other_mask_breaks_4 = refl
 
@@ -226,7 +227,7 @@ limited_breaks_6 = refl
 
 -- a relationship of two pairs is a whole link by both of them, and by one of them none
 abbrev whole : Column
-whole = record { name = codes "k"; ty = Integer; nullable = false }
+whole = record { name = codes "k"; ty = Integer; of = []; nullable = false }
 
 abbrev places : Schema
 places =
@@ -250,7 +251,7 @@ abbrev visitor : Grants
 visitor = Some (record author { columns = 0 ∷ [] }) ∷ Some (record author { columns = 0 ∷ [] }) ∷ []
 
 abbrev equals : List ℕ → PredTree
-equals name = tree.test (tree.column (codes "b") name false) (Compare Eq) (tree.column (codes "a") name false ∷ [])
+equals name = tree.test (tree.column (codes "b") name Plain) (Compare Eq) (tree.column (codes "a") name Plain ∷ [])
 
 abbrev visited : PredTree → SelectTree
 visited tie =

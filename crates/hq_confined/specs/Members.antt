@@ -49,7 +49,7 @@ pub record Equation : Type 0 where
   pub own_name : List ℕ
 
 abbrev pub equation_between : ExprTree → List ExprTree → Option Equation
-equation_between (tree.column a n collate) (tree.column b m other ∷ []) = Some (record { remote_alias = a; remote_name = n; own_alias = b; own_name = m })
+equation_between (tree.column a n form) (tree.column b m other ∷ []) = Some (record { remote_alias = a; remote_name = n; own_alias = b; own_name = m })
 equation_between _ _ = None
 
 abbrev pub equation : PredTree → Option Equation
@@ -108,7 +108,7 @@ shows_in s g alias name all (outputs os) = false
 
 -- one output, which is a column
 abbrev pub shows_one : Schema → Grants → Shapes → (all : List PredTree) → ExprTree → Bool
-shows_one s g scope all (tree.column alias name collate) = shows_in s g alias name all (shape_at scope alias)
+shows_one s g scope all (tree.column alias name form) = shows_in s g alias name all (shape_at scope alias)
 shows_one s g scope all _ = false
 
 abbrev pub shows_only : Schema → Grants → Shapes → (all : List PredTree) → List OutTree → Bool

@@ -58,7 +58,7 @@ origin_at s scope alias name = origin_in s (shape_at scope alias) alias name
 
 -- all other expressions make their values
 abbrev pub origin : Schema → Shapes → ExprTree → Origin
-origin s scope (tree.column alias name collate) = origin_at s scope alias name
+origin s scope (tree.column alias name form) = origin_at s scope alias name
 origin s scope _ = made
 
 abbrev pub output_origins : Schema → Shapes → List OutTree → List (List ℕ × Origin)

@@ -5,6 +5,7 @@ use Rattle.hq_terms.specs.declared.op.Op.{Op}
 use Rattle.hq_terms.specs.declared.op.Op.TheVariants.{Eq, Ne, Lt, Le, Gt, Ge}
 use Rattle.hq_terms.specs.declared.test.Test.{Test}
 use Rattle.hq_terms.specs.declared.test.Test.TheVariants.{Compare, Among, IsNull, Like}
+use Rattle.hq_sql_tree.specs.Columns.{same_form}
 use Rattle.hq_sql_tree.specs.Tree as tree
 use Rattle.hq_sql_tree.specs.Tree.{ExprTree, OrderTree, OutTree, SelectTree, FromTree, JoinTrees, FilterTree, PredTree, PredTrees}
 use Rattle.hq_sql_tree.specs.Form.{is_no_join}
@@ -36,8 +37,8 @@ same_test _ _ = false
 
 -- equal expressions; no aggregate equals another, and no object but the empty one
 abbrev pub is_alike_expr : Renaming → ExprTree → ExprTree → Bool
-is_alike_expr r (tree.column alias name collate) (tree.column other_alias other_name other_collate) =
-    stands_for r alias other_alias && bytes_eq name other_name && is_eq (bool_cmp collate other_collate)
+is_alike_expr r (tree.column alias name form) (tree.column other_alias other_name other_form) =
+    stands_for r alias other_alias && bytes_eq name other_name && same_form form other_form
 is_alike_expr r (tree.int n) (tree.int m) = is_eq (int_cmp n m)
 is_alike_expr r (tree.text s) (tree.text t) = bytes_eq s t
 is_alike_expr r (tree.uuid s) (tree.uuid t) = bytes_eq s t

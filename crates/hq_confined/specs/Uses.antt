@@ -71,7 +71,7 @@ less_one (suc n) = n
 -- the faults of a value, of an aggregate, and of sort keys, the first `left` of which belong to a run that has begun
 abbrev mutual
   pub expr_faults : Schema → Grants → Shapes → ExprTree → List Fault
-  expr_faults s g scope (tree.column alias name collate) = column_faults s g scope alias name
+  expr_faults s g scope (tree.column alias name form) = column_faults s g scope alias name
   expr_faults s g scope (tree.int n) = []
   expr_faults s g scope (tree.text t) = []
   expr_faults s g scope (tree.uuid t) = []
@@ -102,7 +102,7 @@ exprs_faults s g scope (e ∷ es) = expr_faults s g scope e ++ exprs_faults s g 
 
 -- an output; a key column may be one of its own
 abbrev pub out_faults : Schema → Grants → Shapes → ExprTree → List Fault
-out_faults s g scope (tree.column alias name collate) = needs (may_pass s g (origin_at s scope alias name)) (rule_of s g (origin_at s scope alias name)) alias
+out_faults s g scope (tree.column alias name form) = needs (may_pass s g (origin_at s scope alias name)) (rule_of s g (origin_at s scope alias name)) alias
 out_faults s g scope e = expr_faults s g scope e
 
 abbrev pub outs_faults : Schema → Grants → Shapes → List OutTree → List Fault

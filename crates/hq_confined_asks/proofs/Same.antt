@@ -1,5 +1,5 @@
 -- Two grants that are the same on the tables that fields touch give these one statement.
-use Rattle.std.proofs.Common.{◌≡◌, ℕ, ◌+◌, List, [], ◌∷◌, ◌++◌, flat_map, length, cond, false, Option, None, refl}
+use Rattle.std.proofs.Common.{◌≡◌, ℕ, ◌+◌, List, [], ◌∷◌, ◌++◌, flat_map, length, cond, Option, None, refl}
 use Rattle.hq_base.specs.Lists.{Each}
 use Rattle.hq_terms.specs.Bexp.{BexpTree, always, and_of, or_of, not_of, test, through, exists_in, two_columns, BexpTrees, no_bexp, bexp}
 use Rattle.hq_terms.specs.Grants.{Grants, grant}
@@ -10,6 +10,7 @@ use Rattle.hq_ask_tree.specs.Fields.{Origin, FieldTrees, no_field, field, FieldT
 use Rattle.hq_ask_tree.specs.Resolve.{origin_table}
 use Rattle.hq_ask_tree.specs.Touched.{condition_tables, conditions_tables, path_tables, list_tables, tables_of, field_tables, part_tables, one_part_tables}
 use Rattle.hq_ask_tree.specs.declared.aggregate.KeyedAggField.{KeyedAggField}
+use Rattle.hq_sql_tree.specs.declared.expr.ColumnForm.TheVariants.{Plain}
 use Rattle.hq_sql_tree.specs.Tree as tree
 use Rattle.hq_sql_tree.specs.Tree.{PredTree, OrderTree, OutTree, SelectTree, JoinTree, PairTree, joins_of, orders_of, pairs_of}
 use Rattle.hq_compiled.specs.Aggregates.{needed, needed_outputs, some_aggregate, summary_used, summary_pairs, summary_numbers, plain_select, summary_select}
@@ -22,7 +23,7 @@ use Rattle.hq_compiled.specs.Names.{table_alias, fold_alias, join_alias, value_n
 use Rattle.hq_compiled.specs.Predicates.{link, columns_in, inner_from, numbers, numbers_all, predicate, predicates, counted_rows}
 use Rattle.hq_compiled.specs.Rights.{Rights, rights_of}
 use Rattle.hq_compiled.specs.Selects.{filter_from, behind_filter, first_select}
-use Rattle.hq_compiled.specs.Sorts.{Sort, shown_sorts, own_sorts, last_used, is_text_sort, sort_place, sort_numbers, sort_joins, sorts_numbers, sorts_joins, orders, key_outputs, output_orders}
+use Rattle.hq_compiled.specs.Sorts.{Sort, shown_sorts, own_sorts, last_used, sort_form, sort_place, sort_numbers, sort_joins, sorts_numbers, sorts_joins, orders, key_outputs, output_orders}
 use Rattle.hq_compiled.specs.Statement.{statement}
 
 -- what holds of each item of two lists, one after the other, holds of each item of both
@@ -133,7 +134,7 @@ module _ (s : Schema) (g h : Grants) where
   orders_same [] look t p n e = refl
   orders_same (k ∷ ks) look t p n e =
       λ i. record {
-        value = tree.column (sort_place k.own k.key.through s look t p n k.key.column).alias (sort_place k.own k.key.through s look t p n k.key.column).name (is_text_sort s t k.key);
+        value = tree.column (sort_place k.own k.key.through s look t p n k.key.column).alias (sort_place k.own k.key.through s look t p n k.key.column).name (sort_form s t k.key);
         desc = k.key.desc;
         nulls_first = k.key.nulls_first;
       }
@@ -209,7 +210,7 @@ module _ (s : Schema) (g h : Grants) where
     pub list_select_same : (n : ℕ) (tie : PredTree) (values : List PairTree) (children : List JoinTree) → list_select s G u cs a n tie values children ≡ list_select s H u cs a n tie values children
     list_select_same n tie values children =
         λ i. tree.fold (record {
-          value = tree.aggregate (tree.json_agg (tree.column (fold_alias n) value_name false) (orders_of (output_orders (list_sorts s u a) s u n 0)));
+          value = tree.aggregate (tree.json_agg (tree.column (fold_alias n) value_name Plain) (orders_of (output_orders (list_sorts s u a) s u n 0)));
           name = value_name;
         })
         (list_rows_same n tie (smaller a.limit (e.0 i).limit) (list_outputs_same n values i) children i) (fold_alias n)
@@ -266,7 +267,7 @@ module _ (s : Schema) (g h : Grants) where
   fields_values_same (field key f fs) look t n e =
       let here = first_each Same (field_tables f s t) (tables_of fs s t) e in
       let later = second_each Same (field_tables f s t) (tables_of fs s t) e in
-      λ i. record { name = key; value = field_value f look n } ∷ fields_values_same fs look t (n + field_numbers_same f t here i) later i
+      λ i. record { name = key; value = field_value f (table s t).columns look n } ∷ fields_values_same fs look t (n + field_numbers_same f t here i) later i
 
   parts_values_same : (ps : PartTrees) (u : ℕ) (a : ListArguments) (n : ℕ) → Are (list_tables a s u) → Are (part_tables ps s u) → parts_values ps s G u a n ≡ parts_values ps s H u a n
   parts_values_same no_part u a n own e = refl

@@ -19,7 +19,7 @@ Fresh a (tree.join q b js) = (bytes_eq b a ≡ false) × Fresh a js
 -- no column stands outside aggregates
 abbrev mutual
   pub Folded : ExprTree → Type 0
-  Folded (tree.column alias name collate) = ⊥
+  Folded (tree.column alias name form) = ⊥
   Folded (tree.object ps) = AllFolded ps
   Folded _ = Unit {0}
 
@@ -62,7 +62,7 @@ abbrev mutual
 
 mutual
   folded_of : (e : ExprTree) (scope : Aliases) → is_folded scope e ≡ true → Folded e
-  folded_of (tree.column alias name collate) scope h = cc
+  folded_of (tree.column alias name form) scope h = cc
   folded_of (tree.int n) scope h = tt
   folded_of (tree.text t) scope h = tt
   folded_of (tree.uuid t) scope h = tt

@@ -55,7 +55,7 @@ orders_total (k ∷ ks) = then_total (on_total (value k.value []) (key_cmp_total
 
 -- a value whose origin is a column of the scan at an alias
 own_value : (s : Schema) (scope : Shapes) (a : List ℕ) (t : ℕ) → shape_at scope a ≡ scan t → (x : Scope) (row : Row) → x a ≡ named_row (table s t).columns row → (v : ExprTree) (c : ℕ) → origin s scope v ≡ of t (a ∷ []) c → value v [] x ≡ row_cell row c
-own_value s scope a t at x row shown (tree.column b n collate) c q =
+own_value s scope a t at x row shown (tree.column b n form) c q =
     let columns : (u : ℕ) → shape_at scope b ≡ scan u → (o : Option ℕ) → column_place s u n ≡ o → column_of u b o ≡ of t (a ∷ []) c → cell_named (x b) n ≡ row_cell row c =
     λ u sh. elim [
       | None ↦ λ e k. cc
@@ -137,7 +137,7 @@ has_map f (x ∷ xs) = refl
 
 mutual
   steady_value : {A : Type 0} (v : ExprTree) → shows_order v ≡ false → (f : A → Scope) (xs ys : List A) → Shuffled xs ys → (x : Scope) → value v (map f xs) x ≡ value v (map f ys) x
-  steady_value (tree.column a n collate) st f xs ys h x = refl
+  steady_value (tree.column a n form) st f xs ys h x = refl
   steady_value (tree.int n) st f xs ys h x = refl
   steady_value (tree.text n) st f xs ys h x = refl
   steady_value (tree.uuid n) st f xs ys h x = refl
@@ -253,7 +253,7 @@ module _ (s : Schema) (g : Grants) (tables : List Table) (d : List (List Row)) (
 
   mask_same : (scope : Shapes) (q : SelectTree) → MaskForm s g scope q → (x : Scope) → rows_of q K x ≡ rows_of q F x
   mask_same scope q m x =
-      let out : List OutTree = record { value = tree.column m.alias m.name m.collate; name = m.out } ∷ [] in
+      let out : List OutTree = record { value = tree.column m.alias m.name m.form; name = m.out } ∷ [] in
       subst (λ z. rows_of z K x ≡ rows_of z F x) (sym m.is)
       (ap (λ p. map (outputs out []) (sort (order_cmp []) (filter p (scopes_of (tree.one m.one) F x)))) (funext (where_same m.condition (ones_same (mask_conjuncts s g m.t m.c) m.alias (conjuncts m.condition) m.ones))))
 

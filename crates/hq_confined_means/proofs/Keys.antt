@@ -11,7 +11,8 @@ use Rattle.hq_base.specs.Lists.{Each, sort, all_differ}
 use Rattle.hq_base.proofs.Orders.{key_cmp_total}
 use Rattle.hq_base.specs.declared.value.Val.{Val}
 use Rattle.hq_base.specs.declared.value.Val.TheVariants as val
-use Rattle.hq_terms.specs.Catalog.{is_catalog, is_table, holds_no_null}
+use Rattle.hq_base.specs.Types.{is_ordered}
+use Rattle.hq_terms.specs.Catalog.{is_catalog, is_table, is_key_column}
 use Rattle.hq_terms.specs.Database.{Row, value_fits, row_fits, key_of, same_values, are_rows, is_database}
 use Rattle.hq_terms.specs.Meta.{MetaTree}
 use Rattle.hq_terms.specs.Permitted.{columns_cmp}
@@ -71,24 +72,24 @@ fits_counted c (val.Int n) h f = refl
 fits_counted c (val.Text s) h f = refl
 fits_counted c (val.Bool b) h f = refl
 
-full_at : (columns : List Column) (row : Row) (c : ℕ) → row_fits columns row ≡ true → holds_no_null (slice_get columns c) ≡ true → is_counted (row_cell row c) ≡ true
+full_at : (columns : List Column) (row : Row) (c : ℕ) → row_fits columns row ≡ true → is_key_column (slice_get columns c) ≡ true → is_counted (row_cell row c) ≡ true
 full_at [] row c f h = absurd cc
 full_at (x ∷ columns) [] c f h = absurd cc
-full_at (x ∷ columns) (v ∷ row) zero f h = fits_counted x v h (both (value_fits x v) (row_fits columns row) f).0
+full_at (x ∷ columns) (v ∷ row) zero f h = fits_counted x v (both (not x.nullable) (is_ordered x.ty) h).0 (both (value_fits x v) (row_fits columns row) f).0
 full_at (x ∷ columns) (v ∷ row) (suc c) f h = full_at columns row c (both (value_fits x v) (row_fits columns row) f).1 h
 
-full_row : (columns : List Column) (row : Row) (key : List ℕ) → row_fits columns row ≡ true → list_all (λ c. holds_no_null (slice_get columns c)) key ≡ true → Full key row
+full_row : (columns : List Column) (row : Row) (key : List ℕ) → row_fits columns row ≡ true → list_all (λ c. is_key_column (slice_get columns c)) key ≡ true → Full key row
 full_row columns row [] f h = tt
 full_row columns row (c ∷ key) f h =
-    let parts = both (holds_no_null (slice_get columns c)) (list_all (λ d. holds_no_null (slice_get columns d)) key) h in
+    let parts = both (is_key_column (slice_get columns c)) (list_all (λ d. is_key_column (slice_get columns d)) key) h in
     (full_at columns row c f parts.0, full_row columns row key f parts.1)
 
-full_rows : (columns : List Column) (rows : List Row) (key : List ℕ) → list_all (row_fits columns) rows ≡ true → list_all (λ c. holds_no_null (slice_get columns c)) key ≡ true → Each (Full key) rows
+full_rows : (columns : List Column) (rows : List Row) (key : List ℕ) → list_all (row_fits columns) rows ≡ true → list_all (λ c. is_key_column (slice_get columns c)) key ≡ true → Each (Full key) rows
 full_rows columns [] key f h = tt
 full_rows columns (r ∷ rs) key f h = let parts = both (row_fits columns r) (list_all (row_fits columns) rs) f in (full_row columns r key parts.0 h, full_rows columns rs key parts.1 h)
 
 -- the columns of a table's key hold no NULL
-key_holds : (all : List Table) (t : Table) → is_table all t ≡ true → list_all (λ c. holds_no_null (slice_get t.columns c)) t.key ≡ true
+key_holds : (all : List Table) (t : Table) → is_table all t ≡ true → list_all (λ c. is_key_column (slice_get t.columns c)) t.key ≡ true
 key_holds all t h = (both _ _ (both _ _ h).0).1
 
 -- ---- the tables of a database

@@ -27,7 +27,7 @@ abbrev pub equation_truth : Equation → Scope → PredTree → World → Type 0
 equation_truth q x c w = truth_at c w x ≡ equal (cell_named (x q.remote_alias) q.remote_name) (cell_named (x q.own_alias) q.own_name)
 
 between_truth : (v : ExprTree) (es : List ExprTree) (q : Equation) → equation_between v es ≡ Some q → (w : World) (x : Scope) → equation_truth q x (tree.test v (Compare Eq) es) w
-between_truth (tree.column a n collate) (tree.column b m other ∷ []) q h w x =
+between_truth (tree.column a n form) (tree.column b m other ∷ []) q h w x =
     let found : Equation = record { remote_alias = a; remote_name = n; own_alias = b; own_name = m } in
     let is : found ≡ q = some_is found q h in
     ap (λ (z : Equation). equal (cell_named (x z.remote_alias) z.remote_name) (cell_named (x z.own_alias) z.own_name)) is

@@ -4,6 +4,7 @@ use Rattle.std.specs.List.{list_all}
 use Rattle.std.proofs.lemmas.Bool.{and_parts}
 use Rattle.hq_terms.specs.Grants.{Grants, grant}
 use Rattle.hq_terms.specs.Schema.{Schema}
+use Rattle.hq_sql_tree.specs.declared.expr.ColumnForm.{ColumnForm}
 use Rattle.hq_sql_tree.specs.Tree as tree
 use Rattle.hq_sql_tree.specs.Tree.{ExprTree, OutTree, SelectTree, FromTree, FilterTree, PredTree}
 use Rattle.hq_sql_tree.specs.Form.{is_one, is_no_join}
@@ -18,12 +19,12 @@ pub record MaskForm (s : Schema) (g : Grants) (scope : Shapes) (q : SelectTree) 
   pub one : List ℕ
   pub alias : List ℕ
   pub name : List ℕ
-  pub collate : Bool
+  pub form : ColumnForm
   pub out : List ℕ
   pub condition : FilterTree
   pub t : ℕ
   pub c : ℕ
-  pub is : q ≡ tree.rows [] (record { value = tree.column alias name collate; name = out } ∷ []) (tree.one one) tree.no_join condition [] None None
+  pub is : q ≡ tree.rows [] (record { value = tree.column alias name form; name = out } ∷ []) (tree.one one) tree.no_join condition [] None None
   pub other : bytes_eq one alias ≡ false
   pub at : shape_at scope alias ≡ scan t
   pub column : column_place s t name ≡ Some c
@@ -77,9 +78,9 @@ module _ (s : Schema) (g : Grants) (scope : Shapes) where
       ∙ ap (λ x. tree.rows [] outs from tree.no_join condition [] None x) (none_is offset e.1) in
       let values : (one : List ℕ) (out : List ℕ) (v : ExprTree) → shows_one s g ((one, outputs []) ∷ scope) all v ≡ true → MaskForm s g scope (tree.rows [] (record { value = v; name = out } ∷ []) (tree.one one) tree.no_join condition [] None None) =
       λ one out. elim [
-        | tree.column alias name collate ↦ λ k.
+        | tree.column alias name form ↦ λ k.
             let x = shown_of one alias name condition k in
-            record { one = one; alias = alias; name = name; collate = collate; out = out; condition = condition; t = x.t; c = x.c; is = refl; other = x.other; at = x.at; column = x.column; permitted = x.permitted; stand = x.stand; ones = x.ones }
+            record { one = one; alias = alias; name = name; form = form; out = out; condition = condition; t = x.t; c = x.c; is = refl; other = x.other; at = x.at; column = x.column; permitted = x.permitted; stand = x.stand; ones = x.ones }
         | tree.int n ↦ λ k. cc
         | tree.text n ↦ λ k. cc
         | tree.uuid n ↦ λ k. cc

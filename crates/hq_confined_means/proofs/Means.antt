@@ -273,7 +273,7 @@ module _ (s : Schema) (g : Grants) (tables : List Table) (d e : List (List Row))
       let t : ℕ = m.t in
       let row = scan_rel scope x y h m.alias t m.at in
       let unit : NamedRow = (codes "u", bool true) ∷ [] in
-      let out : List OutTree = record { value = tree.column m.alias m.name m.collate; name = m.out } ∷ [] in
+      let out : List OutTree = record { value = tree.column m.alias m.name m.form; name = m.out } ∷ [] in
       let stays : (z : Scope) → with_alias z m.one unit m.alias ≡ z m.alias = λ z. ap (λ b. cond b unit (z m.alias)) m.other in
       let shows_d : cond (kept m.condition V (with_alias x m.one unit)) (cell_named (with_alias x m.one unit m.alias) m.name) null ≡ shown s g d t (slice_index_or (permitted s g d t) row.0 []) m.c =
       (let r : Row = slice_index_or (permitted s g d t) row.0 [] in

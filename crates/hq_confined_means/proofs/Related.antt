@@ -128,7 +128,7 @@ module _ (s : Schema) (g : Grants) (d e : List (List Row)) where
   -- a value whose origin is a column
   pub origin_value : (scope : Shapes) (P : Path → Option ℕ) (x y : Scope) → ScopeRel scope P x y → (v : ExprTree) (t : ℕ) (path : Path) (c : ℕ) → origin s scope v ≡ of t path c
       → (value v [] x ≡ row_cell (row_at s g d t (P path)) c) × (value v [] y ≡ row_cell (row_at s g e t (P path)) c)
-  origin_value scope P x y h (tree.column a n collate) t path c q = subst (λ o. CellRel o P (cell_named (x a) n) (cell_named (y a) n)) q (cell_ok scope P x y h a n)
+  origin_value scope P x y h (tree.column a n form) t path c q = subst (λ o. CellRel o P (cell_named (x a) n) (cell_named (y a) n)) q (cell_ok scope P x y h a n)
   origin_value scope P x y h (tree.int n) t path c q = cc
   origin_value scope P x y h (tree.text n) t path c q = cc
   origin_value scope P x y h (tree.uuid n) t path c q = cc
@@ -146,7 +146,7 @@ module _ (s : Schema) (g : Grants) (d e : List (List Row)) where
     module _ (scope : Shapes) where
       mutual
         pub plain_alike : (v : ExprTree) → expr_faults s g scope v ≡ [] → (x y : Scope) → ScopeOk scope x y → value v [] x ≡ value v [] y
-        plain_alike (tree.column a n collate) k x y h =
+        plain_alike (tree.column a n form) k x y h =
             plain_cell h.0 (origin_at s scope a n) (cell_named (x a) n) (cell_named (y a) n) (needed (is_plain g (origin_at s scope a n)) (rule_of s g (origin_at s scope a n)) a k) (cell_ok scope h.0 x y h.1 a n)
         plain_alike (tree.int n) k x y h = refl
         plain_alike (tree.text t) k x y h = refl
@@ -168,7 +168,7 @@ module _ (s : Schema) (g : Grants) (d e : List (List Row)) where
       -- ---- outputs
 
       out_alike : (P : Path → Option ℕ) (x y : Scope) → ScopeRel scope P x y → (v : ExprTree) → out_faults s g scope v ≡ [] → CellRel (origin s scope v) P (value v [] x) (value v [] y)
-      out_alike P x y h (tree.column a n collate) k = cell_ok scope P x y h a n
+      out_alike P x y h (tree.column a n form) k = cell_ok scope P x y h a n
       out_alike P x y h (tree.int n) k = refl
       out_alike P x y h (tree.text t) k = refl
       out_alike P x y h (tree.uuid t) k = refl
@@ -249,7 +249,7 @@ module _ (s : Schema) (g : Grants) (d e : List (List Row)) where
 
       mutual
         pub fold_alike : (v : ExprTree) → Folded v → expr_faults s g scope v ≡ [] → (x y : Scope) (xs ys : List Scope) → Zip (ScopeOk scope) xs ys → value v xs x ≡ value v ys y
-        fold_alike (tree.column a n collate) f k x y xs ys z = absurd f
+        fold_alike (tree.column a n form) f k x y xs ys z = absurd f
         fold_alike (tree.int n) f k x y xs ys z = refl
         fold_alike (tree.text t) f k x y xs ys z = refl
         fold_alike (tree.uuid t) f k x y xs ys z = refl

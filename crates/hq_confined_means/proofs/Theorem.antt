@@ -41,7 +41,7 @@ base_of tables meta d c k =
 
 -- the value of a statement is made
 object_made : (s : Schema) (scope : Shapes) (v : ExprTree) → is_object v ≡ true → origin s scope v ≡ made
-object_made s scope (tree.column a n collate) h = cc
+object_made s scope (tree.column a n form) h = cc
 object_made s scope (tree.int n) h = refl
 object_made s scope (tree.text t) h = refl
 object_made s scope (tree.uuid t) h = refl

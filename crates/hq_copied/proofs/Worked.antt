@@ -118,7 +118,7 @@ without_key : result_ok (made [] (sees (codes "both") (2 ∷ []) published ∷ [
       tables = record {
         schema = codes "public";
         name = codes "article";
-        columns = record { name = codes "title"; ty = Text; nullable = false } ∷ record { name = codes "hq_pos"; ty = Bigint; nullable = false } ∷ [];
+        columns = record { name = codes "title"; ty = Text; of = []; nullable = false } ∷ record { name = codes "hq_pos"; ty = Bigint; of = []; nullable = false } ∷ [];
         key = 1 ∷ [];
         foreign = [];
       } ∷ [];
@@ -161,7 +161,7 @@ not_kept = refl
 null_text : row_refusal (codes "t") 1 ((val.Text (codes "N") ∷ []) ∷ (number 1 ∷ val.Text (codes "\\N") ∷ []) ∷ []) ≡ Some (refusal.NotWritable (codes "t") 2)
 null_text = refl
 
-marked : begins_with_mark (record { name = 239 ∷ 187 ∷ 191 ∷ codes "id"; ty = Text; nullable = false } ∷ []) ≡ true
+marked : begins_with_mark (record { name = 239 ∷ 187 ∷ 191 ∷ codes "id"; ty = Text; of = []; nullable = false } ∷ []) ≡ true
 marked = refl
 
 -- a link by equal numbers, several rows on both sides, and 0 for NULL: the second row is linked to the rows at 2 and 4

@@ -57,4 +57,4 @@ is_nullable row_position = false
 
 -- the added column
 abbrev pub extra_column : Extra → Column
-extra_column e = record { name = extra_name e; ty = Bigint; nullable = is_nullable e }
+extra_column e = record { name = extra_name e; ty = Bigint; of = []; nullable = is_nullable e }

@@ -6,10 +6,10 @@ use Rattle.hq_base.specs.declared.value.Val.TheVariants as val
 use Rattle.hq_terms.specs.Binding.{bound_permission}
 use Rattle.hq_terms.specs.Catalog.{full_name}
 use Rattle.hq_terms.specs.Database.{Row}
-use Rattle.hq_terms.specs.Meta.{MetaTree}
-use Rattle.hq_terms.specs.Permission.{Permission}
+use Rattle.hq_terms.specs.Meta.{TrackedTree, MetaTree}
+use Rattle.hq_terms.specs.Permission.{Permission, named_columns}
 use Rattle.hq_terms.specs.Schema.{Schema, table, column, rel, schema_of}
-use Rattle.hq_terms.specs.SchemaNames.{fixed_types, types_of, roots_of}
+use Rattle.hq_terms.specs.SchemaNames.{all_types, roots_of, scalar_of}
 use Rattle.hq_terms.specs.Seen.{Sees}
 use Rattle.hq_terms.specs.declared.bind.BindRefusal.{BindRefusal}
 use Rattle.hq_terms.specs.declared.bind.BindRefusal.TheVariants as bind
@@ -80,10 +80,19 @@ abbrev pub repeated_after : (known names : List (List ℕ)) → Option CopyRefus
 repeated_after known [] = None
 repeated_after known (n ∷ ns) = or_else (refused_if (list_any (bytes_eq n) known) (refusal.NameTaken n)) (repeated_after (known ++ n ∷ []) ns)
 
+-- the scalar of an opaque column is named as one of these types
+abbrev pub like_type : (types : List (List ℕ)) → Option (List ℕ) → Option CopyRefusal
+like_type types None = None
+like_type types (Some n) = refused_if (list_any (λ t. bytes_eq t n) types) (refusal.NameTaken n)
+
+abbrev pub scalar_refusal : Schema → (types : List (List ℕ)) → TrackedTree → Option CopyRefusal
+scalar_refusal z types k = first_of (λ c. like_type types (scalar_of (column z k.table c))) (named_columns k)
+
 -- two types, or two root fields, of the copy's schema of admin have one name
 abbrev pub schema_name_refusal : Schema → MetaTree → Option CopyRefusal
 schema_name_refusal z m =
-    or_else (repeated_after [] (fixed_types ++ flat_map (types_of z) m.tracked)) (repeated_after [] (flat_map (roots_of z) m.tracked))
+    or_else (or_else (repeated_after [] (all_types z m)) (repeated_after [] (flat_map (roots_of z) m.tracked)))
+    (first_of (scalar_refusal z (all_types z m)) m.tracked)
 
 -- ---- tables that cannot be copied
 

@@ -11,7 +11,7 @@ use Rattle.hq_copied.specs.Sources.{Source, sources, place_in, keeps_key, has_ma
 
 -- a permitted column: it may hold NULL also where it shows in some rows only
 abbrev pub copied_column : Schema → Permission → ℕ → ℕ → Column
-copied_column s p t c = record { name = (column s t c).name; ty = (column s t c).ty; nullable = (column s t c).nullable || has_mask p c }
+copied_column s p t c = record { name = (column s t c).name; ty = (column s t c).ty; of = (column s t c).of; nullable = (column s t c).nullable || has_mask p c }
 
 -- the key: the old one where it is kept, and else the position, which is the last column
 abbrev pub copied_key : Role → MetaTree → Schema → Source → List ℕ

@@ -63,7 +63,7 @@ fits_all f g [] h = refl
 fits_all f g (x ∷ xs) h = and_from (value_fits (f x) (g x)) (row_fits (map f xs) (map g xs)) h.0 (fits_all f g xs h.1)
 
 -- a value of a column that may hold NULL wherever the old one may
-pub fits_wider : (name : List ℕ) (c : Column) (also : Bool) (v : Val) → value_fits c v ≡ true → value_fits (record { name = name; ty = c.ty; nullable = c.nullable || also }) v ≡ true
+pub fits_wider : (name : List ℕ) (c : Column) (also : Bool) (v : Val) → value_fits c v ≡ true → value_fits (record { name = name; ty = c.ty; of = c.of; nullable = c.nullable || also }) v ≡ true
 fits_wider name c also val.Null h = or_left c.nullable also h
 fits_wider name c also (val.Int n) h = h
 fits_wider name c also (val.Text t) h = h
@@ -81,9 +81,9 @@ pub small_number : (n : ℕ) → n < 2 ^ 63 → int_fits Bigint (pos n) ≡ true
 small_number n h = lt-ltb n (2 ^ 63) h
 
 pub number_fits : {A : Type 0} (name : List ℕ) (p : A → Bool) (xs : List A) → length xs < 2 ^ 31
-    → value_fits (record { name = name; ty = Bigint; nullable = true }) (number_value (position_from p 1 xs)) ≡ true
+    → value_fits (record { name = name; ty = Bigint; of = []; nullable = true }) (number_value (position_from p 1 xs)) ≡ true
 number_fits name p xs few =
-    let go : (o : Option ℕ) → position_from p 1 xs ≡ o → value_fits (record { name = name; ty = Bigint; nullable = true }) (number_value o) ≡ true =
+    let go : (o : Option ℕ) → position_from p 1 xs ≡ o → value_fits (record { name = name; ty = Bigint; of = []; nullable = true }) (number_value o) ≡ true =
     elim [ None ↦ λ e. refl | Some n ↦ λ e. let less = position_least p 1 n xs e in small_number n (omega (arith, less)) ] in
     go (position_from p 1 xs) refl
 

@@ -4,8 +4,9 @@ use Rattle.std.proofs.lemmas.Bool.{and_parts, and_from, eq-eqb, ne_eqb, lt-ltb, 
 use Rattle.std.specs.List.{list_all, list_any}
 use Rattle.std.specs.Prelude.{bytes_eq, codes, slice_index_or}
 use Rattle.hq_base.specs.Lists.{Each, all_differ}
+use Rattle.hq_base.specs.Types.{is_ordered}
 use Rattle.hq_base.proofs.Lists.{each_weaken, each_all}
-use Rattle.hq_terms.specs.Catalog.{full_name, holds_no_null, is_catalog, is_catalog_name, is_table}
+use Rattle.hq_terms.specs.Catalog.{full_name, is_key_column, is_catalog, is_catalog_name, is_table}
 use Rattle.hq_terms.specs.Fits.{fits}
 use Rattle.hq_terms.specs.Laws.{HasColumn}
 use Rattle.hq_terms.specs.Meta.{MetaTree}
@@ -51,7 +52,7 @@ pub record TableParts (t : SchemaTable) : Type 0 where
   pub differ : Apart (λ (c d : Column). bytes_eq c.name d.name) t.columns
   pub key : nat_lt 0 (length t.key) ≡ true
   pub once : Apart (λ c d. c == d) t.key
-  pub holds : Each (λ c. holds_no_null (slice_get t.columns c) ≡ true) t.key
+  pub holds : Each (λ c. is_key_column (slice_get t.columns c) ≡ true) t.key
 
 table_parts : (tables : List Table) (m : MetaTree) (u : ℕ) (t : Table) → is_table tables t ≡ true → TableParts (schema_table m u t)
 table_parts tables m u t h =
@@ -70,7 +71,7 @@ table_parts tables m u t h =
       differ = differ_apart (λ (c d : Column). bytes_eq c.name d.name) t.columns differ.1;
       key = key.1;
       once = differ_apart (λ c d. c == d) t.key once.1;
-      holds = each_of (λ c. holds_no_null (slice_get t.columns c)) t.key holds.1;
+      holds = each_of (λ c. is_key_column (slice_get t.columns c)) t.key holds.1;
     }
 
 -- the places of different numbers in a list differ
@@ -199,7 +200,7 @@ module _ (tables : List Table) (m : MetaTree) (role : Role) (whole : is_catalog 
     record KeyParts (o : Source) (key : List ℕ) : Type 0 where
       some : nat_lt 0 (length key) ≡ true
       differ : all_differ (λ c d. c == d) key ≡ true
-      holds : list_all (λ c. holds_no_null (slice_get (copied_columns role m s o) c)) key ≡ true
+      holds : list_all (λ c. is_key_column (slice_get (copied_columns role m s o) c)) key ≡ true
 
     key_parts : (o : Source) → Held tables m role o → KeyParts o (copied_key role m s o)
     key_parts o h =
@@ -219,29 +220,35 @@ module _ (tables : List Table) (m : MetaTree) (role : Role) (whole : is_catalog 
                 some = ap (nat_lt 0) (map_length f key) ∙ parts.key;
                 differ = apart_differ (λ c d. c == d) (map f key) (apart_map (λ c d. c == d) f key
                     (apart_on (λ c. list_any (λ d. d == c) p.columns ≡ true) (λ c d. c == d) (λ c d. f c == f d) (places_apart p.columns) key members parts.once));
-                holds = all_each (λ c. holds_no_null (slice_get cs c)) (map f key) (each_map (λ c. holds_no_null (slice_get cs c) ≡ true) f key
-                    (each_both (λ c. (list_any (λ d. d == c) p.columns ≡ true) × (has_mask p c ≡ false)) (λ c. holds_no_null (slice_get (table s t).columns c) ≡ true)
-                    (λ c. holds_no_null (slice_get cs (f c)) ≡ true)
-                    (λ c a b. ap holds_no_null (column_at role m s o c a.0) ∙ not_nullable o c a.1 b)
+                holds = all_each (λ c. is_key_column (slice_get cs c)) (map f key) (each_map (λ c. is_key_column (slice_get cs c) ≡ true) f key
+                    (each_both (λ c. (list_any (λ d. d == c) p.columns ≡ true) × (has_mask p c ≡ false)) (λ c. is_key_column (slice_get (table s t).columns c) ≡ true)
+                    (λ c. is_key_column (slice_get cs (f c)) ≡ true)
+                    (λ c a b. ap is_key_column (column_at role m s o c a.0) ∙ still_key o c a.1 b)
                     key (each_both (λ c. list_any (λ d. d == c) p.columns ≡ true) (λ c. has_mask p c ≡ false) _ (λ c a b. (a, b)) key members plain) parts.holds));
               }
           | false ↦ λ lost. record {
             some = refl;
             differ = refl;
-            holds = and_from _ _ (ap holds_no_null (extra_at role m s o (length (ends_of role m s t)) row_position (position_at role m s o lost))) refl;
+            holds = and_from _ _ (ap is_key_column (extra_at role m s o (length (ends_of role m s t)) row_position (position_at role m s o lost))) refl;
           }
         ] in
         go (keeps_key p key) refl
       where
-        not_nullable : (o : Source) (c : ℕ) → has_mask o.permission c ≡ false → holds_no_null (slice_get (table s o.entry.table).columns c) ≡ true
-            → not ((column s o.entry.table c).nullable || has_mask o.permission c) ≡ true
-        not_nullable o c plain old =
-            let go : (w : Option Column) → slice_get (table s o.entry.table).columns c ≡ w → holds_no_null w ≡ true → (column s o.entry.table c).nullable ≡ false =
+        still_key : (o : Source) (c : ℕ) → has_mask o.permission c ≡ false → is_key_column (slice_get (table s o.entry.table).columns c) ≡ true
+            → (not ((column s o.entry.table c).nullable || has_mask o.permission c) && is_ordered (column s o.entry.table c).ty) ≡ true
+        still_key o c plain old =
+            let go : (w : Option Column) → slice_get (table s o.entry.table).columns c ≡ w → is_key_column w ≡ true
+            → (not ((column s o.entry.table c).nullable || has_mask o.permission c) && is_ordered (column s o.entry.table c).ty) ≡ true =
             elim [
               | None ↦ λ e g. absurd (false≢true g)
-              | Some x ↦ λ e g. ap (λ (y : Column). y.nullable) (present (table s o.entry.table).columns c no_column x e) ∙ not-true x.nullable g
+              | Some x ↦ λ e g.
+                  let same : column s o.entry.table c ≡ x = present (table s o.entry.table).columns c no_column x e in
+                  let p = and_parts (not x.nullable) (is_ordered x.ty) g in
+                  and_from (not ((column s o.entry.table c).nullable || has_mask o.permission c)) (is_ordered (column s o.entry.table c).ty)
+                  (ap₂ (λ a b. not (a || b)) (ap (λ (y : Column). y.nullable) same ∙ not-true x.nullable p.0) plain)
+                  (ap (λ (y : Column). is_ordered y.ty) same ∙ p.1)
             ] in
-            ap₂ (λ a b. not (a || b)) (go (slice_get (table s o.entry.table).columns c) refl old) plain
+            go (slice_get (table s o.entry.table).columns c) refl old
 
     -- ---- the whole
 

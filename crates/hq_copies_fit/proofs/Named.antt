@@ -1,5 +1,5 @@
 -- The names that a copy's metadata gives in the schema of admin differ.
-use Rattle.std.proofs.Common.{◌≡◌, ℕ, suc, ◌+◌, List, [], ◌∷◌, ◌++◌, map, filter, Bool, true, false, cond, ◌&&◌, ◌||◌, ◌==◌, None, inl, refl, sym, ap, ap₂, ◌∙◌, subst, arith, is_some, append_assoc}
+use Rattle.std.proofs.Common.{◌≡◌, ℕ, suc, ◌+◌, List, [], ◌∷◌, ◌++◌, map, filter, Bool, true, false, cond, not, ◌&&◌, ◌||◌, ◌==◌, Option, Some, None, inl, refl, sym, ap, ap₂, ◌∙◌, subst, arith, is_some, append_assoc}
 use Rattle.std.proofs.lemmas.Bool.{and_parts, and_from, or_parts, false≢true}
 use Rattle.std.proofs.lemmas.List.Folds.{list_any-append}
 use Rattle.std.specs.List.{list_any}
@@ -9,8 +9,8 @@ use Rattle.hq_base.proofs.Lists.{each_weaken, each_all, filter_all}
 use Rattle.hq_terms.specs.Fits.{fits}
 use Rattle.hq_terms.specs.Meta.{MetaTree, TrackedTree}
 use Rattle.hq_terms.specs.Permission.{Permission, permission, named_columns}
-use Rattle.hq_terms.specs.Schema.{Schema, schema_of, table, rel, no_rel}
-use Rattle.hq_terms.specs.SchemaNames.{all_names_differ, column_names_of, fields_of, fixed_inputs, fixed_types, in_schema, inputs_of, is_in_schema, names_differ, rel_fields, rels_in_schema, roots_of, types_of}
+use Rattle.hq_terms.specs.Schema.{Schema, schema_of, table, column, rel, no_rel}
+use Rattle.hq_terms.specs.SchemaNames.{all_names_differ, all_types, column_names_of, fields_of, fixed_inputs, fixed_types, in_schema, inputs_of, is_in_schema, names_differ, rel_fields, rels_in_schema, roots_of, types_of, is_unlike, scalar_of, scalars_differ}
 use Rattle.hq_terms.specs.View.{places_from}
 use Rattle.hq_terms.specs.declared.meta.Rel.{Rel}
 use Rattle.hq_terms.specs.declared.role.Role.{Role}
@@ -18,13 +18,14 @@ use Rattle.hq_terms.specs.declared.table.Table.{Table}
 use Rattle.hq_terms.proofs.Places.{present}
 use Rattle.hq_copied.specs.Extras.{Extra, extras_of, extra_name}
 use Rattle.hq_copied.specs.Metadata.{copied_rel, places, copied_names, copied_entry, copied_meta}
-use Rattle.hq_copied.specs.Refusals.{is_kept_name, repeated_after, schema_name_refusal}
+use Rattle.hq_copied.specs.Refusals.{is_kept_name, or_else, first_of, like_type, scalar_refusal, repeated_after, schema_name_refusal}
+use Rattle.hq_copied.specs.declared.refusal.CopyRefusal.TheVariants.{NameTaken}
 use Rattle.hq_copied.specs.Sources.{Source, sources, table_place, kept_relationships}
 use Rattle.hq_copied.proofs.BySource.{by_source, something}
 use Rattle.hq_copied.proofs.Found.{copied_schema, entry_at, StandsFor, stands_for}
 use Rattle.hq_copied.proofs.Names.{all_named, has_columns as columns_of}
 use Rattle.hq_copied.proofs.Reader.{names_free}
-use Rattle.hq_copies.proofs.Refused.{neither, not_refused}
+use Rattle.hq_copies.proofs.Refused.{neither, none_of, not_refused}
 use Rattle.hq_copies_fit.proofs.Entries.{each_numbered, from_zero, kept_facts, rels_are}
 use Rattle.hq_copies_fit.proofs.Held.{Held, filtered, all_held, names_of_fit}
 use Rattle.hq_copies_fit.proofs.Texts.{unkept_differs, unkept_differs_back, aggregate_differs}
@@ -34,6 +35,20 @@ use Rattle.hq_copied.proofs.Lists.{each_map, found_each, each_of, all_each, each
 use Rattle.hq_copies_fit.proofs.Texts.{bytes_turn}
 
 -- ---- names of which none is refused
+
+-- no scalar is named as one of these types
+unlike : (types : List (List ℕ)) (o : Option (List ℕ)) → like_type types o ≡ None → is_unlike types o ≡ true
+unlike types None h = refl
+unlike types (Some n) h = ap not (not_refused (list_any (λ t. bytes_eq t n) types) (NameTaken n) h)
+
+none_like : (z : Schema) (types : List (List ℕ)) (ks : List TrackedTree) → first_of (scalar_refusal z types) ks ≡ None → list_all (scalars_differ z types) ks ≡ true
+none_like z types ks h =
+    all_each (scalars_differ z types) ks
+    (each_weaken (λ k. scalar_refusal z types k ≡ None) (λ k. scalars_differ z types k ≡ true)
+    (λ k g. all_each (λ c. is_unlike types (scalar_of (column z k.table c))) (named_columns k)
+    (each_weaken (λ c. like_type types (scalar_of (column z k.table c)) ≡ None) (λ c. is_unlike types (scalar_of (column z k.table c)) ≡ true)
+    (λ c e. unlike types (scalar_of (column z k.table c)) e) (named_columns k) (none_of (λ c. like_type types (scalar_of (column z k.table c))) (named_columns k) g)))
+    ks (none_of (scalar_refusal z types) ks h))
 
 -- no name stands among those before it
 not_repeated : (known names : List (List ℕ)) → repeated_after known names ≡ None → Each (λ n. list_any (bytes_eq n) known ≡ false) names × Apart bytes_eq names
@@ -175,7 +190,7 @@ module _ (tables : List Table) (m : MetaTree) (role : Role) (fit : fits tables m
   originals_differ =
       each_weaken (λ j. (all_names_differ (fields_of m j) && all_names_differ (inputs_of m j)) ≡ true) AllDiffer
       (λ j g. let both = and_parts _ _ g in (differ_apart bytes_eq (fields_of m j) both.0, differ_apart bytes_eq (inputs_of m j) both.1)) m.tracked
-      (each_of (λ j. all_names_differ (fields_of m j) && all_names_differ (inputs_of m j)) m.tracked (and_parts _ _ (names_of_fit tables m role fit)).1)
+      (each_of (λ j. all_names_differ (fields_of m j) && all_names_differ (inputs_of m j)) m.tracked (and_parts _ _ (and_parts _ _ (names_of_fit tables m role fit)).0).1)
 
   original_differs : (o : Source) → Held tables m role o → AllDiffer o.entry
   original_differs o h = found_each AllDiffer (λ j. j.table == o.entry.table) m.tracked o.entry originals_differ h.is.tracked
@@ -258,10 +273,12 @@ module _ (tables : List Table) (m : MetaTree) (role : Role) (fit : fits tables m
 
     pub copy_names_differ : schema_name_refusal z k ≡ None → names_differ z k ≡ true
     copy_names_differ none =
-        let both = neither (repeated_after [] (fixed_types ++ flat_map (types_of z) k.tracked)) (repeated_after [] (flat_map (roots_of z) k.tracked)) none in
-        and_from _ _ (and_from _ _
+        let parts = neither (or_else (repeated_after [] (all_types z k)) (repeated_after [] (flat_map (roots_of z) k.tracked))) (first_of (scalar_refusal z (all_types z k)) k.tracked) none in
+        let both = neither (repeated_after [] (all_types z k)) (repeated_after [] (flat_map (roots_of z) k.tracked)) parts.0 in
+        and_from _ _ (and_from _ _ (and_from _ _
         (apart_differ bytes_eq (fixed_types ++ flat_map (types_of z) k.tracked) (not_repeated [] (fixed_types ++ flat_map (types_of z) k.tracked) both.0).1)
         (apart_differ bytes_eq (flat_map (roots_of z) k.tracked) (not_repeated [] (flat_map (roots_of z) k.tracked) both.1).1))
         (all_each (λ j. all_names_differ (fields_of k j) && all_names_differ (inputs_of k j)) k.tracked
         (each_numbered (copied_entry role m s) (λ j. (all_names_differ (fields_of k j) && all_names_differ (inputs_of k j)) ≡ true) (Held tables m role) os
-        (λ u o at h. and_from _ _ (fields_differ u o h) (inputs_differ u o h)) 0 os (from_zero os) (all_held tables m role fit)))
+        (λ u o at h. and_from _ _ (fields_differ u o h) (inputs_differ u o h)) 0 os (from_zero os) (all_held tables m role fit))))
+        (none_like z (all_types z k) k.tracked parts.1)

@@ -78,7 +78,7 @@ object_named o (x ∷ xs) is h =
     let named : (e : ExprTree) → is_object e ≡ true → member_names (json_of (value e [] x)) ≡ object_names e =
     elim [
       | tree.object ps ↦ λ e. ap Some (members_named ps [] x)
-      | tree.column alias name collate ↦ λ e. absurd cc
+      | tree.column alias name form ↦ λ e. absurd cc
       | tree.int n ↦ λ e. absurd cc
       | tree.text s ↦ λ e. absurd cc
       | tree.uuid s ↦ λ e. absurd cc

@@ -26,7 +26,7 @@ abbrev pub engine_fault : Engine → Session → (body : List ℕ) → Option Re
 engine_fault engine session body = first_fault engine.catalog.tables (meta_view engine.meta) session body
 
 -- where it is read, its document violates no rule and its variables are coerced, that fault is one of building: of a limit on its size
--- (F32), of a session variable (F33, F34), or of what arguments ask for (F36 to F41)
+-- (F32), of a session variable (F33, F34), or of what arguments ask for (F36 to F42)
 abbrev pub FaultsOfBuilding : Engine → Session → (body : List ℕ) → Type 0
 FaultsOfBuilding engine session body =
     IsValid engine.catalog.tables (meta_view engine.meta) session body → (f : RequestFault) → engine_fault engine session body ≡ Some f → is_of_building (rule_of f) ≡ true

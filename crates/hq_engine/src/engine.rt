@@ -187,7 +187,7 @@ impl Engine {
         ensures kind { IfOk result (λ reply. tells_fault reply.body ≡ is_some (engine_fault self.now session.now body.now)) }
         ensures fault { IfOk result (λ reply. IfSome (engine_fault self.now session.now body.now) (λ f. reply.body ≡ fault_text f)) }
 
-        // Behind validation and variables, the fault is one of F32 to F34 and F36 to F41.
+        // Behind validation and variables, the fault is one of F32 to F34 and F36 to F42.
         ensures building { FaultsOfBuilding self.now session.now body.now }
 
         // Over each database that the session cannot tell apart from this one, the same reply is due.

@@ -1,4 +1,4 @@
-//! Faults of session variables, F33 and F34, and those of a field's arguments, F36 to F41.
+//! Faults of session variables, F33 and F34, and those of a field's arguments, F36 to F42.
 
 use crate::subject::{Sort, Subject};
 use hq_gql_nodes::Node;
@@ -15,7 +15,7 @@ fn of_field(words: &mut Words, subject: &Subject<'_>, said: &str) {
     words.put(said);
 }
 
-/// F36 to F41: what is wrong with the arguments of the field at the place.
+/// F36 to F42: what is wrong with the arguments of the field at the place.
 pub fn of_arguments(words: &mut Words, subject: &Subject<'_>, rule: RuleId) {
     match rule {
         RuleId::NegativeLimit => of_field(
@@ -39,6 +39,11 @@ pub fn of_arguments(words: &mut Words, subject: &Subject<'_>, rule: RuleId) {
             " has a null in \"where\" or \"order_by\"; compare with NULL by _is_null, or leave the member out",
         ),
         RuleId::CountColumns => of_field(words, subject, " is asked of two different columns"),
+        RuleId::UnorderedColumn => of_field(
+            words,
+            subject,
+            " asks for different values of a column of another type of PostgreSQL, which have no order here",
+        ),
         _ => of_field(words, subject, " has more than 100 sorts in \"order_by\""),
     }
 }

@@ -58,6 +58,8 @@ pub fn sentence(rule: RuleId) -> &'static str {
         RuleId::NullOperand => "null stands nowhere in \"where\" and \"order_by\"",
         RuleId::CountColumns => "\"count\" takes one column",
         RuleId::SortEntries => "\"order_by\" has at most 100 sorts",
+        RuleId::UnorderedColumn =>
+            "\"distinct_on\", and \"count\" with \"distinct\", name columns whose values have an order",
         RuleId::MissingVariable => "a filter's session variables are given",
         RuleId::UnreadableVariable =>
             "a filter's session variables are of the types of their columns",

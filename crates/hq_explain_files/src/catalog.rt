@@ -22,7 +22,7 @@ static ELEMENTS: [(&str, &str); 5] = [
 ];
 
 // What a member of this name is to be.
-static MEMBERS: [(&str, &str); 9] = [
+static MEMBERS: [(&str, &str); 10] = [
     ("tables", "a list of tables"),
     ("columns", "a list of columns, at least one"),
     ("primary_key", "a list of names of columns"),
@@ -35,6 +35,7 @@ static MEMBERS: [(&str, &str); 9] = [
     ("nullable", "true or false"),
     ("schema", "a text"),
     ("name", "a text"),
+    ("of", "a text: the name of the type in PostgreSQL"),
 ];
 
 fn expected(name: &[u8], element: bool) -> &'static str {

@@ -10,7 +10,7 @@ fn put_comma(words: &mut Words, at: usize) {
 
 /// Adds the names of the types of columns.
 pub fn put_types(words: &mut Words) {
-    for (at, ty) in Ty::all().iter().enumerate() {
+    for (at, ty) in Ty::of_columns().iter().enumerate() {
         put_comma(words, at);
         words.put(ty.catalog_name());
     }

@@ -50,5 +50,6 @@ has_no_zero rule.PatternEscape = refl
 has_no_zero rule.NullOperand = refl
 has_no_zero rule.CountColumns = refl
 has_no_zero rule.SortEntries = refl
+has_no_zero rule.UnorderedColumn = refl
 has_no_zero rule.MissingVariable = refl
 has_no_zero rule.UnreadableVariable = refl

@@ -21,6 +21,7 @@ code_of rule.InvalidBody = codes "invalid-json"
 code_of rule.RequestForm = codes "parse-failed"
 code_of rule.OnlyQueries = codes "not-supported"
 code_of rule.CountColumns = codes "not-supported"
+code_of rule.UnorderedColumn = codes "not-supported"
 code_of rule.MissingVariable = codes "not-found"
 code_of rule.UnreadableVariable = codes "data-exception"
 code_of _ = codes "validation-failed"
@@ -41,6 +42,7 @@ fixed_message rule.PatternEscape = Some (codes "pattern ends in an escape")
 fixed_message rule.NullOperand = Some (codes "null is not an operand")
 fixed_message rule.CountColumns = Some (codes "count takes one column")
 fixed_message rule.SortEntries = Some (codes "too many sort entries")
+fixed_message rule.UnorderedColumn = Some (codes "column has no order")
 fixed_message _ = None
 
 -- what a session variable was to be read as

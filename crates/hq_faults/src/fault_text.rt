@@ -20,7 +20,7 @@ fn code_of(rule: RuleId) -> &'static str
     match rule {
         RuleId::InvalidBody => "invalid-json",
         RuleId::RequestForm => "parse-failed",
-        RuleId::OnlyQueries | RuleId::CountColumns => "not-supported",
+        RuleId::OnlyQueries | RuleId::CountColumns | RuleId::UnorderedColumn => "not-supported",
         RuleId::MissingVariable => "not-found",
         RuleId::UnreadableVariable => "data-exception",
         _ => "validation-failed",
@@ -48,6 +48,7 @@ fn fixed_message(rule: RuleId) -> Option<&'static str>
         RuleId::NullOperand => Some("null is not an operand"),
         RuleId::CountColumns => Some("count takes one column"),
         RuleId::SortEntries => Some("too many sort entries"),
+        RuleId::UnorderedColumn => Some("column has no order"),
         _ => None,
     }
 }

@@ -9,7 +9,7 @@ use Rattle.hq_terms.specs.declared.table.Table.{Table}
 use Rattle.hq_generator.specs.Words.{is_clean}
 
 abbrev pub column_of : (name : List ℕ) → Ty → (nullable : Bool) → Column
-column_of name ty nullable = record { name = name; ty = ty; nullable = nullable }
+column_of name ty nullable = record { name = name; ty = ty; of = []; nullable = nullable }
 
 abbrev pub author_columns : List Column
 author_columns = column_of (codes "id") Integer false ∷ column_of (codes "name") Text false ∷ column_of (codes "email") Text true ∷ []

@@ -4,7 +4,7 @@ ghost use Rattle.std.specs.List.{list_all};
 ghost use Rattle.hq_generator.specs.Tables.{article_columns, article_table, author_columns, author_key, author_table, is_clean_row, row_column, tables};
 
 use crate::text::text;
-use hq_base::{List, Memory, Ty};
+use hq_base::{List, Memory, Txt, Ty};
 use hq_terms::{
     Catalog, ColId, ColList, Column, ColumnList, ForeignKey, ForeignKeyList, Table, TableId,
 };
@@ -20,6 +20,7 @@ fn columns(alloc: Global, rows: &[(&str, Ty, bool)]) -> Result<ColumnList, Memor
         columns.push(Column {
             name: text(alloc, name)?,
             ty: *ty,
+            of: Txt::new(alloc),
             nullable: *nullable,
         })?;
     }

@@ -64,6 +64,8 @@ pub enum RuleId {
     CountColumns,
     /// `order_by` has too many entries.
     SortEntries,
+    /// `distinct_on`, or `count` of different values, names a column whose values have no order.
+    UnorderedColumn,
     /// A session variable is missing.
     MissingVariable,
     /// A session variable cannot be read.
@@ -119,6 +121,7 @@ impl RuleId {
             RuleId::NullOperand => "F39",
             RuleId::CountColumns => "F40",
             RuleId::SortEntries => "F41",
+            RuleId::UnorderedColumn => "F42",
             RuleId::MissingVariable => "F33",
             RuleId::UnreadableVariable => "F34",
         }

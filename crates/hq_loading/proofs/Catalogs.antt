@@ -5,7 +5,7 @@ use Rattle.std.specs.Cmp.{first_so, second_so}
 use Rattle.std.proofs.lemmas.Bool.{leb-true}
 use Rattle.hq_base.specs.Lists.{all_differ}
 use Rattle.hq_terms.specs.Database.{Row, are_rows, is_database}
-use Rattle.hq_terms.specs.Catalog.{is_catalog, is_catalog_name, is_table, is_foreign_key, holds_no_null, full_name}
+use Rattle.hq_terms.specs.Catalog.{is_catalog, is_catalog_name, is_table, is_foreign_key, is_key_column, full_name}
 use Rattle.hq_terms.specs.declared.table.Table.{Table}
 use Rattle.hq_tables.specs.Header.{names_differ}
 
@@ -22,7 +22,7 @@ is_table-names tables t h =
     let differ = names_differ t.columns in
     let one = nat_lt 0 (length t.key) in
     let keys = all_differ (λ c d. c == d) t.key in
-    let full = list_all (λ c. holds_no_null (slice_get t.columns c)) t.key in
+    let full = list_all (λ c. is_key_column (slice_get t.columns c)) t.key in
     let foreign = list_all (is_foreign_key tables t) t.foreign in
     second_so front differ (first_so (front && differ) one (first_so (front && differ && one) keys (first_so (front && differ && one && keys) full (first_so (front && differ && one && keys && full) foreign h))))
 

@@ -10,13 +10,14 @@ use Rattle.hq_base.specs.Due.{and_then}
 use Rattle.hq_base.specs.Path.{member_path, item_path}
 use Rattle.hq_terms.specs.Meta.{TrackedTree, MetaTree}
 use Rattle.hq_terms.specs.Schema.{Schema}
-use Rattle.hq_terms.specs.SchemaNames.{fixed_types, fixed_inputs, types_of, roots_of, column_names_of, is_in_schema, rel_fields, fields_of, inputs_of, all_names_differ, names_differ}
+use Rattle.hq_terms.specs.SchemaNames.{fixed_types, fixed_inputs, types_of, roots_of, column_names_of, is_in_schema, rel_fields, fields_of, inputs_of, all_types, all_names_differ, scalars_differ, names_differ}
 use Rattle.hq_terms.specs.declared.meta.Rel.{Rel}
 use Rattle.hq_meta_names.specs.declared.known.Shared.{Shared}
 use Rattle.hq_meta_names.specs.declared.known.Own.{Own}
 use Rattle.hq_meta_names.specs.declared.refusal.NameRefusal.{NameRefusal}
+use Rattle.hq_meta_names.specs.declared.refusal.NameRefusal.TheVariants.{Repeated}
 use Rattle.hq_meta_names.specs.Added.{added}
-use Rattle.hq_meta_names.specs.Repeats.{with_rel, with_shown_rel, with_rels, object_count, objects_of, arrays_of, with_all_rels, with_columns, own_names, with_table, with_tables}
+use Rattle.hq_meta_names.specs.Repeats.{with_rel, with_shown_rel, with_rels, object_count, objects_of, arrays_of, with_all_rels, with_columns, own_names, with_table, with_tables, scalars_due, names_due}
 use Rattle.hq_meta_names.proofs.Results.{ok_and_then}
 use Rattle.hq_meta_names.proofs.Differ.{Adds, added-Adds}
 
@@ -179,15 +180,34 @@ with_tables-Tables s m path place known (k ∷ ks) =
     (with_tables s m path (place + 1) more ks) (with_tables-Tables s m path (place + 1) more ks))
     (with_table s m here known k) (with_table-Table s m here known k)
 
--- where no table was refused, the names of the schema differ
-pub tables-names_differ : (s : Schema) (m : MetaTree) (path : List ℕ) → IfOk (with_tables s m path 0 (record { types = fixed_types; roots = [] }) m.tracked) (λ all. names_differ s m ≡ true)
-tables-names_differ s m path =
+-- where no scalar was refused, they differ from the types
+scalars_due-differ : (s : Schema) (types : List (List ℕ)) (path : List ℕ) (place : ℕ) (ks : List TrackedTree) → IfOk (scalars_due s types path place ks) (λ done. list_all (scalars_differ s types) ks ≡ true)
+scalars_due-differ s types path place [] = refl
+scalars_due-differ s types path place (k ∷ ks) = by (scalars_differ s types k) refl (scalars_due-differ s types path (place + 1) ks)
+  where
+    more : (r : Result (Unit {0}) NameRefusal) → scalars_differ s types k ≡ true → IfOk r (λ done. list_all (scalars_differ s types) ks ≡ true) → IfOk r (λ done. list_all (scalars_differ s types) (k ∷ ks) ≡ true)
+    more (Ok done) e h = and_from (scalars_differ s types k) (list_all (scalars_differ s types) ks) e h
+    more (Err x) e h = tt
+
+    by : (b : Bool) → scalars_differ s types k ≡ b → IfOk (scalars_due s types path (place + 1) ks) (λ done. list_all (scalars_differ s types) ks ≡ true)
+        → IfOk (cond b (scalars_due s types path (place + 1) ks) (Err (Repeated (item_path path place)))) (λ done. list_all (scalars_differ s types) (k ∷ ks) ≡ true)
+    by true e later = more (scalars_due s types path (place + 1) ks) e later
+    by false e later = tt
+
+-- where nothing was refused, the names of the schema differ
+pub names_due-differ : (s : Schema) (m : MetaTree) (path : List ℕ) → IfOk (names_due s m path) (λ done. names_differ s m ≡ true)
+unfolding names_due
+names_due-differ s m path =
     let known : Shared = record { types = fixed_types; roots = [] } in
-    if_ok-weaker (Tables s m m.tracked known) (λ all. names_differ s m ≡ true)
+    ok_and_then (λ shared. scalars_due s shared.types path 0 m.tracked) (Tables s m m.tracked known) (λ done. names_differ s m ≡ true)
     (λ all h.
-    let types : all_names_differ (fixed_types ++ flat_map (types_of s) m.tracked) ≡ true = ap all_names_differ (sym h.types.are) ∙ h.types.differ refl in
+    let types : all_names_differ (all_types s m) ≡ true = ap all_names_differ (sym h.types.are) ∙ h.types.differ refl in
     let roots : all_names_differ (flat_map (roots_of s) m.tracked) ≡ true = ap all_names_differ (sym h.roots.are) ∙ h.roots.differ refl in
-    and_from (all_names_differ (fixed_types ++ flat_map (types_of s) m.tracked) && all_names_differ (flat_map (roots_of s) m.tracked))
-    (list_all (λ k. all_names_differ (fields_of m k) && all_names_differ (inputs_of m k)) m.tracked)
-    (and_from (all_names_differ (fixed_types ++ flat_map (types_of s) m.tracked)) (all_names_differ (flat_map (roots_of s) m.tracked)) types roots) h.each)
+    let front = all_names_differ (all_types s m) && all_names_differ (flat_map (roots_of s) m.tracked) in
+    let own = list_all (λ k. all_names_differ (fields_of m k) && all_names_differ (inputs_of m k)) m.tracked in
+    let last = list_all (scalars_differ s (all_types s m)) m.tracked in
+    if_ok-weaker (λ done. list_all (scalars_differ s all.types) m.tracked ≡ true) (λ done. names_differ s m ≡ true)
+    (λ done g. and_from (front && own) last (and_from front own (and_from (all_names_differ (all_types s m)) (all_names_differ (flat_map (roots_of s) m.tracked)) types roots) h.each)
+    (ap (λ types. list_all (scalars_differ s types) m.tracked) (sym h.types.are) ∙ g))
+    (scalars_due s all.types path 0 m.tracked) (scalars_due-differ s all.types path 0 m.tracked))
     (with_tables s m path 0 known m.tracked) (with_tables-Tables s m path 0 known m.tracked)

@@ -1,17 +1,19 @@
 -- Names that stand twice in the schema of admin, the widest of all roles (GraphQL October 2021, 3.3, 3.6 and 3.10: names of
 -- types, fields and inputs are unique). The types that are always there come first. Then each tracked table adds its types,
 -- its root fields, its columns and its relationships, one after the other. The first name that stands already in its list is
--- refused: at the entry of its table, or at the name of its relationship.
-use Rattle.std.specs.Prelude.{ℕ, ◌+◌, List, [], ◌∷◌, take, drop, filter, length, not, codes, Result, Ok, if◌then◌else◌}
-use Rattle.hq_base.specs.Due.{mapped, ◌>>=◌}
+-- refused: at the entry of its table, or at the name of its relationship. Then come the scalars of opaque columns, which many columns
+-- may share: the first that is named as another type is refused at the entry of its table.
+use Rattle.std.specs.Prelude.{ℕ, ◌+◌, List, [], ◌∷◌, take, drop, filter, length, not, codes, Result, Ok, Err, if◌then◌else◌}
+use Rattle.hq_base.specs.Due.{◌>>=◌}
 use Rattle.hq_base.specs.Path.{member_path, item_path}
 use Rattle.hq_terms.specs.Meta.{TrackedTree, MetaTree}
 use Rattle.hq_terms.specs.Schema.{Schema}
-use Rattle.hq_terms.specs.SchemaNames.{fixed_types, fixed_inputs, types_of, roots_of, column_names_of, is_in_schema, rel_fields}
+use Rattle.hq_terms.specs.SchemaNames.{fixed_types, fixed_inputs, types_of, roots_of, column_names_of, is_in_schema, rel_fields, scalars_differ}
 use Rattle.hq_terms.specs.declared.meta.Rel.{Rel}
 use Rattle.hq_meta_names.specs.declared.known.Shared.{Shared}
 use Rattle.hq_meta_names.specs.declared.known.Own.{Own}
 use Rattle.hq_meta_names.specs.declared.refusal.NameRefusal.{NameRefusal}
+use Rattle.hq_meta_names.specs.declared.refusal.NameRefusal.TheVariants.{Repeated}
 use Rattle.hq_meta_names.specs.Added.{added}
 
 -- a relationship's field, the field for aggregates beside it, and its input
@@ -73,6 +75,12 @@ abbrev pub with_tables : Schema → MetaTree → (path : List ℕ) (place : ℕ)
 with_tables s m path place shared [] = Ok shared
 with_tables s m path place shared (k ∷ ks) = with_table s m (item_path path place) shared k >>= λ more. with_tables s m path (place + 1) more ks
 
+-- the scalars of the tables, from this place on, of the list at a path, beside all other types
+abbrev pub scalars_due : Schema → (types : List (List ℕ)) → (path : List ℕ) (place : ℕ) → List TrackedTree → Result (Unit {0}) NameRefusal
+scalars_due s types path place [] = Ok tt
+scalars_due s types path place (k ∷ ks) = if scalars_differ s types k then scalars_due s types path (place + 1) ks else Err (Repeated (item_path path place))
+
 -- nothing, or the first name that stands twice, where the list of tables stands at a path
 unfoldable pub names_due : Schema → MetaTree → (path : List ℕ) → Result (Unit {0}) NameRefusal
-names_due s m path = mapped (λ shared. tt) (with_tables s m path 0 (record { types = fixed_types; roots = [] }) m.tracked)
+names_due s m path =
+    with_tables s m path 0 (record { types = fixed_types; roots = [] }) m.tracked >>= λ shared. scalars_due s shared.types path 0 m.tracked

@@ -1,5 +1,5 @@
-//! Finds the names of a metadata that stand twice in the schema of `admin`: two types, two root fields, or two fields or
-//! inputs of one type.
+//! Finds the names of a metadata that stand twice in the schema of `admin`: two types, two root fields, two fields or
+//! inputs of one type, or a scalar of an opaque column and another type.
 #![tactic(auto)]
 
 mod check;
@@ -7,6 +7,7 @@ mod fixed;
 mod known;
 mod own;
 mod refusal;
+mod scalars;
 mod shown;
 mod texts;
 mod types;

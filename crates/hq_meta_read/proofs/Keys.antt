@@ -6,8 +6,8 @@ use Rattle.std.proofs.lemmas.Bool.{and_parts, and_from}
 use Rattle.std.proofs.lemmas.Bool.Decides.{Decides-eqb}
 use Rattle.hq_base.specs.Lists.{all_differ}
 use Rattle.hq_base.specs.declared.value.Ty.{Ty}
-use Rattle.hq_base.specs.declared.value.Ty.TheVariants.{Integer, Bigint, Text, Boolean, Uuid}
-use Rattle.hq_terms.specs.Catalog.{comparable, can_pair, type_of, pairs_fit, pairs_fit_with, is_foreign_key, is_table, is_catalog, is_catalog_name, holds_no_null, full_name}
+use Rattle.hq_base.specs.declared.value.Ty.TheVariants.{Integer, Bigint, Text, Boolean, Uuid, Opaque}
+use Rattle.hq_terms.specs.Catalog.{comparable, can_pair, type_of, pairs_fit, pairs_fit_with, is_foreign_key, is_table, is_catalog, is_catalog_name, is_key_column, full_name}
 use Rattle.hq_terms.specs.declared.meta.Pair.{Pair}
 use Rattle.hq_terms.specs.declared.table.Column.{Column}
 use Rattle.hq_terms.specs.declared.table.ForeignKey.{ForeignKey}
@@ -53,6 +53,17 @@ comparable-sym Uuid Bigint = refl
 comparable-sym Uuid Text = refl
 comparable-sym Uuid Boolean = refl
 comparable-sym Uuid Uuid = refl
+comparable-sym Integer Opaque = refl
+comparable-sym Bigint Opaque = refl
+comparable-sym Text Opaque = refl
+comparable-sym Boolean Opaque = refl
+comparable-sym Uuid Opaque = refl
+comparable-sym Opaque Integer = refl
+comparable-sym Opaque Bigint = refl
+comparable-sym Opaque Text = refl
+comparable-sym Opaque Boolean = refl
+comparable-sym Opaque Uuid = refl
+comparable-sym Opaque Opaque = refl
 
 can_pair-sym : (a b : Option Ty) → can_pair a b ≡ can_pair b a
 can_pair-sym None None = refl
@@ -125,7 +136,7 @@ key_fits tables t table f there fit =
 table_keys : (tables : List Table) (t : Table) → is_table tables t ≡ true → list_all (is_foreign_key tables t) t.foreign ≡ true
 table_keys tables t h =
     (and_parts (is_catalog_name t.schema && is_catalog_name t.name && nat_lt 0 (length t.columns) && nat_le (length t.columns) 200 && list_all (λ c. is_catalog_name c.name) t.columns
-    && all_differ (λ c d. bytes_eq c.name d.name) t.columns && nat_lt 0 (length t.key) && all_differ (λ c d. c == d) t.key && list_all (λ c. holds_no_null (slice_get t.columns c)) t.key)
+    && all_differ (λ c d. bytes_eq c.name d.name) t.columns && nat_lt 0 (length t.key) && all_differ (λ c d. c == d) t.key && list_all (λ c. is_key_column (slice_get t.columns c)) t.key)
     (list_all (is_foreign_key tables t) t.foreign) h).1
 
 catalog_tables : (tables : List Table) → is_catalog tables ≡ true → list_all (is_table tables) tables ≡ true

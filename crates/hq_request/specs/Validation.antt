@@ -55,8 +55,9 @@ rule_rank rule.PatternEscape = 38
 rule_rank rule.NullOperand = 39
 rule_rank rule.CountColumns = 40
 rule_rank rule.SortEntries = 41
-rule_rank rule.MissingVariable = 42
-rule_rank rule.UnreadableVariable = 43
+rule_rank rule.UnorderedColumn = 42
+rule_rank rule.MissingVariable = 43
+rule_rank rule.UnreadableVariable = 44
 
 -- of two faults the one whose rule stands first
 abbrev pub earlier : Option Fault → Option Fault → Option Fault

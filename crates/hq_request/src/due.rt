@@ -17,7 +17,7 @@ use std::alloc::Global;
 
 /// The typed request that a body makes for a session whose role has this schema, or the first fault: of the body (F1, F2), of
 /// its text (F3, F4), of the rules of validation, of the operation and its variables (F30, F35, F31), and of the request (F32 to
-/// F34, F36 to F41).
+/// F34, F36 to F42).
 #[tactic(auto, unfolding(crate::specs::Request::request_by))]
 pub fn request(
     alloc: Global,

@@ -14,6 +14,7 @@ pub enum About {
     Aggregates,
     Introspection,
     Identities,
+    Opaques,
     Worlds,
     Requests,
     Skipped,
@@ -29,7 +30,7 @@ pub enum About {
 
 impl About {
     /// Each subject, in the order of its line.
-    pub const ALL: [About; 21] = [
+    pub const ALL: [About; 22] = [
         About::Worked,
         About::Blog,
         About::Shop,
@@ -40,6 +41,7 @@ impl About {
         About::Aggregates,
         About::Introspection,
         About::Identities,
+        About::Opaques,
         About::Worlds,
         About::Requests,
         About::Skipped,
@@ -67,6 +69,7 @@ impl Subject for About {
             About::Aggregates => "aggregates",
             About::Introspection => "introspection",
             About::Identities => "identities",
+            About::Opaques => "opaques",
             About::Worlds => "worlds",
             About::Requests => "requests",
             About::Skipped => "skipped",

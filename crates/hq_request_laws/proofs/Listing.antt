@@ -1,7 +1,7 @@
 -- The arguments of a list of rows: they use what is permitted, are of their columns' types, and are within their bounds.
-use Rattle.std.proofs.Common.{◌≡◌, refl, subst, ℕ, ◌≤◌, arith, List, [], length, true, nat_le, Option, Some, None, Ok, codes}
+use Rattle.std.proofs.Common.{◌≡◌, ◌∙◌, refl, subst, ℕ, ◌≤◌, arith, List, [], length, true, nat_le, Option, Some, None, Ok, codes}
 use Rattle.std.proofs.lemmas.Bool.{and_from, le-leb}
-use Rattle.hq_base.specs.Due.{◌>>=◌}
+use Rattle.hq_base.specs.Due.{and_then, ◌>>=◌}
 use Rattle.hq_base.specs.Json.{JsonTree}
 use Rattle.hq_base.specs.Lists.{Each}
 use Rattle.hq_terms.specs.Bexp.{BexpTree, always, depth}
@@ -24,7 +24,7 @@ use Rattle.hq_ask_tree.specs.Allowed.{Allowed, allowed_to}
 use Rattle.hq_ask_tree.specs.Conditions.{are_arguments}
 use Rattle.hq_ask_tree.specs.Standing.{SortsStand}
 use Rattle.hq_ask_tree.specs.Uses.{UsesArguments}
-use Rattle.hq_arguments.specs.Columns.{by_distinct, distinct_columns, distinct_due, matched}
+use Rattle.hq_arguments.specs.Columns.{by_distinct, distinct_columns, distinct_due, ordered, matched}
 use Rattle.hq_arguments.specs.Context.{Context}
 use Rattle.hq_arguments.specs.Due.{list_due}
 use Rattle.hq_arguments.specs.Page.{rows_due}
@@ -33,25 +33,25 @@ use Rattle.hq_arguments.specs.Sorts.{by_sorts, order_by_due}
 use Rattle.hq_arguments.specs.Where.{by_filter, where_due}
 use Rattle.hq_request_laws.specs.ObjectsNest.{objects_nest}
 use Rattle.hq_request_laws.proofs.Conditions.{Writes, filter_writes}
-use Rattle.hq_request_laws.proofs.Naming.{Permitted, columns_named, columns_use, matched_ok}
+use Rattle.hq_request_laws.proofs.Naming.{Permitted, columns_named, columns_use, ordered_ok, matched_ok}
 use Rattle.hq_request_laws.proofs.Places.{Schemed}
 use Rattle.hq_request_laws.proofs.Sorting.{Sorts, order_sorts, sorts_use, sorts_stand, sorts_short}
 use Rattle.hq_request_laws.proofs.Sources.{given_low}
 use Rattle.hq_request_laws.proofs.BuildingSteps.{then_ok}
 
 -- what follows in the arguments of a list, behind each of them
-abbrev after_offset : Context → List ArgTree → List ArgumentTree → BexpTree → List SortKey → Option ℕ → Option ℕ → Read ListArguments
-after_offset c args xs wanted sorts limit offset =
-    distinct_due c sorts (given_named c args xs (codes "distinct_on")) >>= λ distinct. Ok (record { wanted = wanted; sorts = sorts; distinct = distinct; limit = limit; offset = offset })
+abbrev after_offset : Context → List ArgTree → List ArgumentTree → (t : ℕ) → BexpTree → List SortKey → Option ℕ → Option ℕ → Read ListArguments
+after_offset c args xs t wanted sorts limit offset =
+    distinct_due c t sorts (given_named c args xs (codes "distinct_on")) >>= λ distinct. Ok (record { wanted = wanted; sorts = sorts; distinct = distinct; limit = limit; offset = offset })
 
-abbrev after_limit : Context → List ArgTree → List ArgumentTree → BexpTree → List SortKey → Option ℕ → Read ListArguments
-after_limit c args xs wanted sorts limit = rows_due (given_named c args xs (codes "offset")) >>= after_offset c args xs wanted sorts limit
+abbrev after_limit : Context → List ArgTree → List ArgumentTree → (t : ℕ) → BexpTree → List SortKey → Option ℕ → Read ListArguments
+after_limit c args xs t wanted sorts limit = rows_due (given_named c args xs (codes "offset")) >>= after_offset c args xs t wanted sorts limit
 
-abbrev after_sorts : Context → List ArgTree → List ArgumentTree → BexpTree → List SortKey → Read ListArguments
-after_sorts c args xs wanted sorts = rows_due (given_named c args xs (codes "limit")) >>= after_limit c args xs wanted sorts
+abbrev after_sorts : Context → List ArgTree → List ArgumentTree → (t : ℕ) → BexpTree → List SortKey → Read ListArguments
+after_sorts c args xs t wanted sorts = rows_due (given_named c args xs (codes "limit")) >>= after_limit c args xs t wanted sorts
 
 abbrev after_where : Context → List ArgTree → List ArgumentTree → (t : ℕ) → BexpTree → Read ListArguments
-after_where c args xs t wanted = order_by_due c t (given_named c args xs (codes "order_by")) >>= after_sorts c args xs wanted
+after_where c args xs t wanted = order_by_due c t (given_named c args xs (codes "order_by")) >>= after_sorts c args xs t wanted
 
 module _ (tables : List Table) (m : MetaTree) (metadata_fits : fits tables m ≡ true) (role : Role) (schemed : Schemed tables m role) (vars : List VarTree) (low : Each (λ v. objects_nest v.value ≤ 127) vars) where
   abbrev s : Schema
@@ -123,16 +123,17 @@ module _ (tables : List Table) (m : MetaTree) (metadata_fits : fits tables m ≡
     list_fits args xs fit shallow la e =
         let here : (name : List ℕ) (g : Given) → given_named c args xs name ≡ Some g → IsHere g = λ name g is. given_low (ArgFits types (list_target (Some u))) c args xs name g fit shallow low is in
         let one = then_ok (after_where c args xs u) (where_due c u (given_named c args xs (codes "where"))) la e in
-        let two = then_ok (after_sorts c args xs one.0) (order_by_due c u (given_named c args xs (codes "order_by"))) la one.2 in
-        let three = then_ok (after_limit c args xs one.0 two.0) (rows_due (given_named c args xs (codes "limit"))) la two.2 in
-        let four = then_ok (after_offset c args xs one.0 two.0 three.0) (rows_due (given_named c args xs (codes "offset"))) la three.2 in
+        let two = then_ok (after_sorts c args xs u one.0) (order_by_due c u (given_named c args xs (codes "order_by"))) la one.2 in
+        let three = then_ok (after_limit c args xs u one.0 two.0) (rows_due (given_named c args xs (codes "limit"))) la two.2 in
+        let four = then_ok (after_offset c args xs u one.0 two.0 three.0) (rows_due (given_named c args xs (codes "offset"))) la three.2 in
         let made : List ℕ → ListArguments = λ distinct. record { wanted = one.0; sorts = two.0; distinct = distinct; limit = three.0; offset = four.0 } in
-        let five = then_ok (λ distinct. Ok (made distinct)) (distinct_due c two.0 (given_named c args xs (codes "distinct_on"))) la four.2 in
-        let six = then_ok (matched two.0) (distinct_columns c (given_named c args xs (codes "distinct_on"))) five.0 five.1 in
+        let five = then_ok (λ distinct. Ok (made distinct)) (distinct_due c u two.0 (given_named c args xs (codes "distinct_on"))) la four.2 in
+        let six = then_ok (matched two.0) (and_then (ordered c u) (distinct_columns c (given_named c args xs (codes "distinct_on")))) five.0 five.1 in
+        let seven = then_ok (ordered c u) (distinct_columns c (given_named c args xs (codes "distinct_on"))) six.0 six.1 in
         let w = where_ok (given_named c args xs (codes "where")) (here (codes "where")) one.0 one.1 in
         let k = sorts_ok (given_named c args xs (codes "order_by")) (here (codes "order_by")) two.0 two.1 in
         let matches = matched_ok tables m metadata_fits role schemed vars two.0 six.0 five.0 six.2 in
-        let d : Named five.0 = subst Named matches.0 (distinct_ok (given_named c args xs (codes "distinct_on")) (here (codes "distinct_on")) six.0 six.1) in
+        let d : Named five.0 = subst Named (ordered_ok c u seven.0 six.0 seven.2 ∙ matches.0) (distinct_ok (given_named c args xs (codes "distinct_on")) (here (codes "distinct_on")) seven.0 seven.1) in
         let same : made five.0 ≡ la = cc in
         subst (ListFits u) same (record {
           uses = (w.uses, sorts_use tables m metadata_fits role schemed vars u two.0 k.0, columns_use tables m metadata_fits role schemed vars u five.0 d);

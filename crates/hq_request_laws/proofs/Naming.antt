@@ -16,7 +16,7 @@ use Rattle.hq_terms.specs.Selected.{SortKey}
 use Rattle.hq_terms.specs.declared.role.Role.{Role}
 use Rattle.hq_terms.specs.declared.table.Table.{Table}
 use Rattle.hq_gql_tree.specs.Values.{ArgumentTree}
-use Rattle.hq_gql_tree.specs.declared.rule.RuleId.TheVariants.{CountColumns, DistinctOrder, RequiredArguments, ValuesOfCorrectType}
+use Rattle.hq_gql_tree.specs.declared.rule.RuleId.TheVariants.{CountColumns, DistinctOrder, RequiredArguments, UnorderedColumn, ValuesOfCorrectType}
 use Rattle.hq_schema.specs.Look.{enum_column_of}
 use Rattle.hq_schema.specs.Schema.{ArgTree, TypeTree, TypeRefTree, SchemaTree}
 use Rattle.hq_schema.specs.declared.origin.ArgOrigin.{ArgOrigin}
@@ -29,8 +29,10 @@ use Rattle.hq_coerce.specs.Variables.{VarTree}
 use Rattle.hq_ask_tree.specs.Allowed.{Allowed, allowed_to}
 use Rattle.hq_ask_tree.specs.Conditions.{fits_distinct, is_key}
 use Rattle.hq_ask_tree.specs.Uses.{UsesColumns, UsesCounted}
-use Rattle.hq_arguments.specs.Columns.{column_due, columns_due, matched, one_column, same_as}
+use Rattle.hq_arguments.specs.Columns.{column_due, columns_due, has_order, ordered, is_counted, matched, one_column, same_as}
 use Rattle.hq_arguments.specs.Context.{Context}
+use Rattle.hq_arguments.specs.Due.{counting}
+use Rattle.hq_arguments.specs.FieldArguments.{FieldArguments, count}
 use Rattle.hq_arguments.specs.Keys.{is_for, key_argument, key_value, given_for, part_due}
 use Rattle.hq_terms.specs.Constants.{constant_in}
 use Rattle.hq_terms.proofs.Fitting.{constant_read}
@@ -77,13 +79,28 @@ module _ (tables : List Table) (m : MetaTree) (metadata_fits : fits tables m ≡
   columns_use t [] h = tt
   columns_use t (k ∷ cs) h = (column_allowed tables m metadata_fits role t k h.0, columns_use t cs h.1)
 
-  -- distinct columns that match the sorts
+  -- distinct columns have an order, and match the sorts
+  pub ordered_ok : (x : Context) (t : ℕ) (cs ds : List ℕ) → ordered x t cs ≡ Ok ds → cs ≡ ds
+  ordered_ok x t cs ds e = by (list_all (has_order x t) cs) e
+    where
+      by : (b : Bool) → cond b (Ok cs) (Err (Rule UnorderedColumn)) ≡ Ok ds → cs ≡ ds
+      by true e = cc
+      by false e = cc
+
   pub matched_ok : (sorts : List SortKey) (cs ds : List ℕ) → matched sorts cs ≡ Ok ds → (cs ≡ ds) × (fits_distinct ds sorts ≡ true)
   matched_ok sorts cs ds e = by (fits_distinct cs sorts) refl e
     where
       by : (b : Bool) → fits_distinct cs sorts ≡ b → cond b (Ok cs) (Err (Rule DistinctOrder)) ≡ Ok ds → (cs ≡ ds) × (fits_distinct ds sorts ≡ true)
       by true is e = let same : cs ≡ ds = cc in (same, subst (λ l. fits_distinct l sorts ≡ true) same is)
       by false is e = cc
+
+  -- what is counted
+  pub counting_ok : (x : Context) (t : ℕ) (k : Option ℕ) (distinct : Bool) (y : FieldArguments) → counting x t k distinct ≡ Ok y → count k distinct ≡ y
+  counting_ok x t k distinct y e = by (is_counted x t k distinct) e
+    where
+      by : (b : Bool) → cond b (Ok (count k distinct)) (Err (Rule UnorderedColumn)) ≡ Ok y → count k distinct ≡ y
+      by true e = cc
+      by false e = cc
 
   -- the column that is counted
   pub counted_use : (t : ℕ) (cs : List ℕ) (o : Option ℕ) → Permitted t cs → one_column cs ≡ Ok o → UsesCounted o ok t

@@ -1,5 +1,5 @@
 -- What the types of a role's schema stand for: tables that the role may see, under their names.
-use Rattle.std.proofs.Common.{◌≡◌, ◌∙◌, refl, sym, ap, subst, ℕ, ◌+◌, List, [], ◌∷◌, ◌++◌, Bool, true, false, cond, not, ◌==◌, Option, Some, None, is_some, option_map, option_and_then, slice_get, find, flat_map, codes, append_assoc, append-nil, eq-eqb, IfSome}
+use Rattle.std.proofs.Common.{◌≡◌, ◌∙◌, refl, sym, ap, subst, ℕ, ◌+◌, List, [], ◌∷◌, ◌++◌, map, Bool, true, false, cond, not, ◌==◌, Option, Some, None, is_some, option_map, option_and_then, slice_get, find, flat_map, codes, append_assoc, append-nil, eq-eqb, IfSome}
 use Rattle.std.specs.Prelude.{unwrap_or}
 use Rattle.std.specs.List.{list_any}
 use Rattle.std.proofs.lemmas.Bool.{and_parts, not-true, or_parts}
@@ -28,11 +28,13 @@ use Rattle.hq_schema.specs.declared.origin.TypeOrigin.{TypeOrigin}
 use Rattle.hq_schema.specs.declared.origin.TypeOrigin.TheVariants as type
 use Rattle.hq_schema.specs.declared.part.Part.{Part}
 use Rattle.hq_schema.specs.declared.part.Part.TheVariants.{Rows, Filter, Sort, Columns, Aggregate, AggregateFields, Aggregated}
+use Rattle.hq_role_schema.specs.Introspection.{introspection_fields}
 use Rattle.hq_role_schema.specs.Fields.{column_field, column_fields, part_fields}
-use Rattle.hq_role_schema.specs.FixedTypes.{fixed_type, fixed_types, fixed_fields}
+use Rattle.hq_role_schema.specs.FixedTypes.{fixed_values, fixed_type, fixed_types, fixed_fields}
 use Rattle.hq_role_schema.specs.Placed.{parts_of, part_count, placed, placed_from, links_from}
 use Rattle.hq_role_schema.specs.References.{fixed, plain_field}
 use Rattle.hq_role_schema.specs.RoleSchema.{part_type, table_types, role_schema}
+use Rattle.hq_role_schema.specs.Scalars.{scalars_of, behind_scalars, scalar_type}
 use Rattle.hq_role_schema.specs.Shown.{under_name, shown_table, shown_entry, shown_tables, has_aggregate}
 use Rattle.hq_role_schema.specs.declared.shown.Link.{Link}
 use Rattle.hq_role_schema.specs.declared.shown.PlacedTable.{PlacedTable}
@@ -173,37 +175,48 @@ module _ (tables : List Table) (m : MetaTree) (role : Role) where
   fixed_stands ps QueryRoot = record { is_seen = tt; name = refl; taken = plain (fixed_fields ps QueryRoot) }
 
   -- columns that have a field in a part pass its test
-  tested : (test : Ty → Bool) (p : Part) (t : ℕ) → ((c : ShownColumn) → column_ty s t c.col ≡ Some c.ty → IfSome (column_field p c) (λ (f : FieldTree). ColumnIs test t f.origin))
-      → (cs : List ShownColumn) → Each (λ (c : ShownColumn). column_ty s t c.col ≡ Some c.ty) cs → Each (λ (f : FieldTree). ColumnIs test t f.origin) (column_fields p cs)
-  tested test p t step cs h = each_filter_map (λ (f : FieldTree). ColumnIs test t f.origin) (λ (c : ShownColumn). column_ty s t c.col ≡ Some c.ty) (column_field p) step cs h
+  tested : (scalars : List (List ℕ)) (test : Ty → Bool) (p : Part) (t : ℕ) → ((c : ShownColumn) → column_ty s t c.col ≡ Some c.ty → IfSome (column_field scalars p c) (λ (f : FieldTree). ColumnIs test t f.origin))
+      → (cs : List ShownColumn) → Each (λ (c : ShownColumn). column_ty s t c.col ≡ Some c.ty) cs → Each (λ (f : FieldTree). ColumnIs test t f.origin) (column_fields scalars p cs)
+  tested scalars test p t step cs h = each_filter_map (λ (f : FieldTree). ColumnIs test t f.origin) (λ (c : ShownColumn). column_ty s t c.col ≡ Some c.ty) (column_field scalars p) step cs h
 
-  aggregate_tested : (g : OneAggregate) (t : ℕ) (c : ShownColumn) → column_ty s t c.col ≡ Some c.ty → IfSome (column_field (Aggregated g) c) (λ (f : FieldTree). ColumnIs (is_aggregate_of g) t f.origin)
-  aggregate_tested g t c typed = by (has_aggregate g c) refl
+  aggregate_tested : (scalars : List (List ℕ)) (g : OneAggregate) (t : ℕ) (c : ShownColumn) → column_ty s t c.col ≡ Some c.ty → IfSome (column_field scalars (Aggregated g) c) (λ (f : FieldTree). ColumnIs (is_aggregate_of g) t f.origin)
+  aggregate_tested scalars g t c typed = by (has_aggregate g c) refl
     where
       by : (b : Bool) → has_aggregate g c ≡ b → IfSome (option_map (λ r. plain_field c.name r (field.Column c.col)) (cond b (Some (fixed (Scalar (given_type g c.ty)))) None)) (λ (f : FieldTree). ColumnIs (is_aggregate_of g) t f.origin)
       by true e = ap (of_type (is_aggregate_of g)) typed ∙ e
       by false e = tt
 
-  part_stands : (p : PlacedTable) (ls : List Link) → IsShown p.shown → (q : Part) → Stands (part_type p ls q)
+  part_stands : (scalars : List (List ℕ)) (p : PlacedTable) (ls : List Link) → IsShown p.shown → (q : Part) → Stands (part_type scalars p ls q)
   unfolding part_type part_fields
-  part_stands p ls shown Rows = record { is_seen = shown.is_seen; name = append-nil p.shown.name ∙ shown.name; taken = plain (part_fields p.first p.shown.columns ls Rows) }
-  part_stands p ls shown Filter = record { is_seen = shown.is_seen; name = tt; taken = plain (part_fields p.first p.shown.columns ls Filter) }
-  part_stands p ls shown Sort = record { is_seen = shown.is_seen; name = tt; taken = plain (part_fields p.first p.shown.columns ls Sort) }
-  part_stands p ls shown Columns = record { is_seen = tt; name = tt; taken = plain (part_fields p.first p.shown.columns ls Columns) }
-  part_stands p ls shown Aggregate = record { is_seen = shown.is_seen; name = ap (λ n. n ++ codes "_aggregate") shown.name; taken = plain (part_fields p.first p.shown.columns ls Aggregate) }
-  part_stands p ls shown AggregateFields = record { is_seen = tt; name = ap (λ n. n ++ codes "_aggregate_fields") shown.name; taken = plain (part_fields p.first p.shown.columns ls AggregateFields) }
-  part_stands p ls shown (Aggregated g) = record { is_seen = tt; name = ap (λ n. n ++ aggregate_suffix g) shown.name; taken = tested (is_aggregate_of g) (Aggregated g) p.shown.table (aggregate_tested g p.shown.table) p.shown.columns shown.columns }
+  part_stands scalars p ls shown Rows = record { is_seen = shown.is_seen; name = append-nil p.shown.name ∙ shown.name; taken = plain (part_fields scalars p.first p.shown.columns ls Rows) }
+  part_stands scalars p ls shown Filter = record { is_seen = shown.is_seen; name = tt; taken = plain (part_fields scalars p.first p.shown.columns ls Filter) }
+  part_stands scalars p ls shown Sort = record { is_seen = shown.is_seen; name = tt; taken = plain (part_fields scalars p.first p.shown.columns ls Sort) }
+  part_stands scalars p ls shown Columns = record { is_seen = tt; name = tt; taken = plain (part_fields scalars p.first p.shown.columns ls Columns) }
+  part_stands scalars p ls shown Aggregate = record { is_seen = shown.is_seen; name = ap (λ n. n ++ codes "_aggregate") shown.name; taken = plain (part_fields scalars p.first p.shown.columns ls Aggregate) }
+  part_stands scalars p ls shown AggregateFields = record { is_seen = tt; name = ap (λ n. n ++ codes "_aggregate_fields") shown.name; taken = plain (part_fields scalars p.first p.shown.columns ls AggregateFields) }
+  part_stands scalars p ls shown (Aggregated g) = record { is_seen = tt; name = ap (λ n. n ++ aggregate_suffix g) shown.name; taken = tested scalars (is_aggregate_of g) (Aggregated g) p.shown.table (aggregate_tested scalars g p.shown.table) p.shown.columns shown.columns }
+
+  scalar_stands : (name : List ℕ) → Stands (scalar_type name)
+  unfolding scalar_type
+  scalar_stands name = record { is_seen = tt; name = tt; taken = tt }
 
   -- all types of the schema
   pub types_stand : all_differ (λ (j k : TrackedTree). j.table == k.table) m.tracked ≡ true → Each Stands (role_schema tables m role).types
   unfolding role_schema
   types_stand differ =
-      let ps : List PlacedTable = placed (shown_tables tables m role) in
-      each_append Stands (fixed_types ps) (flat_map (table_types ps) ps)
-      (each_map Stands (fixed_type ps) (fixed_stands ps) all_fixed)
-      (each_flat_map Stands (λ (p : PlacedTable). IsShown p.shown) (table_types ps)
-      (λ p shown. each_map Stands (part_type p (links_from ps 0 p.shown.rels)) (part_stands p (links_from ps 0 p.shown.rels) shown) (parts_of p.shown)) ps
-      (placed_shown 20 (shown_tables tables m role) (tables_shown differ)))
+      let ts : List ShownTable = shown_tables tables m role in
+      let scalars : List (List ℕ) = scalars_of ts in
+      let ps : List PlacedTable = placed ts in
+      each_append Stands (fixed_types ps ++ map scalar_type scalars) (flat_map (table_types scalars ps) ps)
+      (each_append Stands (fixed_types ps) (map scalar_type scalars) (each_map Stands (fixed_type ps) (fixed_stands ps) all_fixed) (each_map Stands scalar_type scalar_stands scalars))
+      (each_flat_map Stands (λ (p : PlacedTable). IsShown p.shown) (table_types scalars ps)
+      (λ p shown. each_map Stands (part_type scalars p (links_from ps 0 p.shown.rels)) (part_stands scalars p (links_from ps 0 p.shown.rels) shown) (parts_of p.shown)) ps
+      (placed_shown (behind_scalars scalars) ts (tables_shown differ)))
+
+  -- the scalar of an opaque column is that of texts
+  opaque_scalar : (ps : List PlacedTable) → fixed_type ps (Scalar ty.Opaque) ≡ fixed_type ps (Scalar ty.Text)
+  unfolding fixed_type fixed_values introspection_fields
+  opaque_scalar ps = refl
 
   -- the types that each schema has stand at their places
   pub introspection_at : (f : Fixed) → slice_get (role_schema tables m role).types (fixed_place f) ≡ Some (fixed_type (placed (shown_tables tables m role)) f)
@@ -213,12 +226,14 @@ module _ (tables : List Table) (m : MetaTree) (role : Role) where
   introspection_at (Scalar ty.Text) = refl
   introspection_at (Scalar ty.Bigint) = refl
   introspection_at (Scalar ty.Uuid) = refl
+  introspection_at (Scalar ty.Opaque) = ap (λ (d : TypeTree). Some d) (sym (opaque_scalar (placed (shown_tables tables m role))))
   introspection_at OrderBy = refl
   introspection_at (Comparison ty.Boolean) = refl
   introspection_at (Comparison ty.Integer) = refl
   introspection_at (Comparison ty.Text) = refl
   introspection_at (Comparison ty.Bigint) = refl
   introspection_at (Comparison ty.Uuid) = refl
+  introspection_at (Comparison ty.Opaque) = refl
   introspection_at SchemaType = refl
   introspection_at TypeType = refl
   introspection_at Field = refl

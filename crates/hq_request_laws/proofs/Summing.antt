@@ -44,7 +44,7 @@ use Rattle.hq_ask_tree.specs.TypeNames.{row_type_name, OneTakenNamed, TakenNamed
 use Rattle.hq_ask_tree.specs.Uses.{UsesOneTaken, UsesTaken, UsesCounted, UsesOneSummary, UsesSummary}
 use Rattle.hq_arguments.specs.Columns.{one_column, columns_due, by_columns, counted_due}
 use Rattle.hq_arguments.specs.Context.{Context}
-use Rattle.hq_arguments.specs.Due.{count_due, by_origin}
+use Rattle.hq_arguments.specs.Due.{counting, count_due, by_origin}
 use Rattle.hq_arguments.specs.FieldArguments.{FieldArguments, count}
 use Rattle.hq_arguments.specs.Plain.{flag_due}
 use Rattle.hq_arguments.specs.Reading.{Given, given_named}
@@ -53,7 +53,7 @@ use Rattle.hq_ask.specs.Summaries.{taken_by, with_taken, taken_due, summary_by, 
 use Rattle.hq_request_laws.specs.ObjectsNest.{objects_nest}
 use Rattle.hq_request_laws.proofs.Kept.{AreKept}
 use Rattle.hq_request_laws.proofs.Knowing.{known_is}
-use Rattle.hq_request_laws.proofs.Naming.{columns_named, counted_use}
+use Rattle.hq_request_laws.proofs.Naming.{columns_named, counting_ok, counted_use}
 use Rattle.hq_request_laws.proofs.Permitted.{column_allowed}
 use Rattle.hq_request_laws.proofs.Places.{At, Schemed, IsField, Found, own, type_name, of_schema, of_type as of_type_field, field_found, type_named, root_is}
 use Rattle.hq_request_laws.proofs.Sources.{given_low}
@@ -172,14 +172,14 @@ module _ (tables : List Table) (m : MetaTree) (metadata_fits : fits tables m ≡
     counted_ok None h x e = let same : None ≡ x = cc in subst (λ y. UsesCounted y ok u) same tt
     counted_ok (Some g) h x e = counted_by g.value g.arg.ty g.arg.origin (h g refl).reaches x e
 
-    count_summary : (below : CollectedTrees) (args : List ArgTree) (h : FieldHead) → Each (ArgFits types (count_target u)) args → arguments_nest h.args ≤ 50 → (x : FieldArguments) → count_due c args h.args ≡ Ok x
+    count_summary : (below : CollectedTrees) (args : List ArgTree) (h : FieldHead) → Each (ArgFits types (count_target u)) args → arguments_nest h.args ≤ 50 → (x : FieldArguments) → count_due c args h.args u ≡ Ok x
         → (f : AggField) → mapped (λ (y : Option ℕ × Bool). take.Count y.0 y.1) (count_of h x) ≡ Ok f → OneSummary below f
     count_summary below args h fit shallow x due f e =
         let column = given_named c args h.args (codes "columns") in
         let distinct = given_named c args h.args (codes "distinct") in
-        let one = then_ok (λ column. flag_due distinct >>= λ d. Ok (count column d)) (counted_due c column) x due in
-        let two = then_ok (λ d. Ok (count one.0 d)) (flag_due distinct) x one.2 in
-        let same : count one.0 two.0 ≡ x = cc in
+        let one = then_ok (λ column. flag_due distinct >>= λ d. counting c u column d) (counted_due c column) x due in
+        let two = then_ok (λ d. counting c u one.0 d) (flag_due distinct) x one.2 in
+        let same : count one.0 two.0 ≡ x = counting_ok c u one.0 two.0 x two.2 in
         let counted : UsesCounted one.0 ok u = counted_ok column (λ g is. (given_low (ArgFits types (count_target u)) c args h.args (codes "columns") g fit shallow low is).0) one.0 one.1 in
         let e' : mapped (λ (y : Option ℕ × Bool). take.Count y.0 y.1) (count_of h (count one.0 two.0)) ≡ Ok f = subst (λ y. mapped (λ (z : Option ℕ × Bool). take.Count z.0 z.1) (count_of h y) ≡ Ok f) (sym same) e in
         let last : take.Count one.0 two.0 ≡ f = cc in

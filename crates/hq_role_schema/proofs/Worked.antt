@@ -1,6 +1,6 @@
 -- The definitions at work on two tables: authors, and articles by them.
 use Rattle.std.specs.Prelude.{◌≡◌, ℕ, List, [], ◌∷◌, ◌++◌, map, flat_map, true, false, Option, Some, None, option_map, codes, refl}
-use Rattle.hq_base.specs.declared.value.Ty.TheVariants.{Integer, Bigint, Text, Boolean}
+use Rattle.hq_base.specs.declared.value.Ty.TheVariants.{Integer, Bigint, Text, Boolean, Opaque}
 use Rattle.hq_terms.specs.Bexp.{always}
 use Rattle.hq_terms.specs.Fits.{fits}
 use Rattle.hq_terms.specs.Meta.{MetaTree}
@@ -17,6 +17,7 @@ use Rattle.hq_role_schema.specs.Fields.{part_fields}
 use Rattle.hq_role_schema.specs.FixedTypes.{fixed_type}
 use Rattle.hq_role_schema.specs.Placed.{part_count}
 use Rattle.hq_role_schema.specs.RoleSchema.{part_type, role_schema}
+use Rattle.hq_role_schema.specs.Scalars.{scalar_type}
 
 -- the authors and the articles
 abbrev tables : List Table
@@ -25,9 +26,9 @@ tables =
       schema = codes "public";
       name = codes "author";
       columns =
-          record { name = codes "id"; ty = Integer; nullable = false }
-          ∷ record { name = codes "name"; ty = Text; nullable = false }
-          ∷ record { name = codes "email"; ty = Text; nullable = true } ∷ [];
+          record { name = codes "id"; ty = Integer; of = []; nullable = false }
+          ∷ record { name = codes "name"; ty = Text; of = []; nullable = false }
+          ∷ record { name = codes "email"; ty = Text; of = []; nullable = true } ∷ [];
       key = 0 ∷ [];
       foreign = [];
     }
@@ -35,11 +36,11 @@ tables =
       schema = codes "public";
       name = codes "article";
       columns =
-          record { name = codes "id"; ty = Integer; nullable = false }
-          ∷ record { name = codes "author_id"; ty = Integer; nullable = true }
-          ∷ record { name = codes "title"; ty = Text; nullable = false }
-          ∷ record { name = codes "published"; ty = Boolean; nullable = false }
-          ∷ record { name = codes "rating"; ty = Bigint; nullable = true } ∷ [];
+          record { name = codes "id"; ty = Integer; of = []; nullable = false }
+          ∷ record { name = codes "author_id"; ty = Integer; of = []; nullable = true }
+          ∷ record { name = codes "title"; ty = Text; of = []; nullable = false }
+          ∷ record { name = codes "published"; ty = Boolean; of = []; nullable = false }
+          ∷ record { name = codes "rating"; ty = Bigint; of = []; nullable = true } ∷ [];
       key = 0 ∷ [];
       foreign = [];
     }
@@ -107,28 +108,28 @@ abbrev leads : SchemaTree → ℕ → List ℕ → Option (FieldOrigin × ℕ)
 leads s t name = option_map (λ f. (f.origin, base f.ty)) (field_of s t name)
 
 -- the author of an article, an article's title, an author's articles and their aggregates, and the articles at the root
-author_of_article : leads (role_schema tables meta (Named (codes "user"))) 24 (codes "author") ≡ Some (origin.Object 0, 20)
+author_of_article : leads (role_schema tables meta (Named (codes "user"))) 25 (codes "author") ≡ Some (origin.Object 0, 21)
 unfolding role_schema part_count part_type part_fields fixed_type
 author_of_article = refl
 
-title_of_article : leads (role_schema tables meta (Named (codes "user"))) 24 (codes "title") ≡ Some (origin.Column 2, 2)
+title_of_article : leads (role_schema tables meta (Named (codes "user"))) 25 (codes "title") ≡ Some (origin.Column 2, 2)
 unfolding role_schema part_count part_type part_fields fixed_type
 title_of_article = refl
 
-articles_of_author : leads (role_schema tables meta (Named (codes "user"))) 20 (codes "articles") ≡ Some (origin.«List» 0, 24)
+articles_of_author : leads (role_schema tables meta (Named (codes "user"))) 21 (codes "articles") ≡ Some (origin.«List» 0, 25)
 unfolding role_schema part_count part_type part_fields fixed_type
 articles_of_author = refl
 
-aggregates_of_author : leads (role_schema tables meta (Named (codes "user"))) 20 (codes "articles_aggregate") ≡ Some (origin.ListAggregate 0, 28)
+aggregates_of_author : leads (role_schema tables meta (Named (codes "user"))) 21 (codes "articles_aggregate") ≡ Some (origin.ListAggregate 0, 29)
 unfolding role_schema part_count part_type part_fields fixed_type
 aggregates_of_author = refl
 
-articles : leads (role_schema tables meta (Named (codes "user"))) 19 (codes "article") ≡ Some (origin.Rows 1, 24)
+articles : leads (role_schema tables meta (Named (codes "user"))) 19 (codes "article") ≡ Some (origin.Rows 1, 25)
 unfolding role_schema part_count part_type part_fields fixed_type
 articles = refl
 
 -- an author's e-mail is hidden
-email_of_author : leads (role_schema tables meta (Named (codes "user"))) 20 (codes "email") ≡ None
+email_of_author : leads (role_schema tables meta (Named (codes "user"))) 21 (codes "email") ≡ None
 unfolding role_schema part_count part_type part_fields fixed_type
 email_of_author = refl
 
@@ -160,20 +161,80 @@ abbrev types : List ℕ → ℕ → List ℕ → Option (TypeRefTree × List Typ
 types role t name = option_map (λ f. (f.ty, map (λ a. a.ty) f.args)) (field_of (role_schema tables mixed (Named role)) t name)
 
 -- an id that one of the two roles sees may be null
-id_of_user : types (codes "user") 20 (codes "id") ≡ Some (non_null (named 1), [])
+id_of_user : types (codes "user") 21 (codes "id") ≡ Some (non_null (named 1), [])
 unfolding role_schema part_count part_type part_fields fixed_type
 id_of_user = refl
 
-id_of_mix : types (codes "mix") 20 (codes "id") ≡ Some (named 1, [])
+id_of_mix : types (codes "mix") 21 (codes "id") ≡ Some (named 1, [])
 unfolding role_schema part_count part_type part_fields fixed_type
 id_of_mix = refl
 
 -- a title that both see may not
-title_of_mix : types (codes "mix") 20 (codes "title") ≡ Some (non_null (named 2), [])
+title_of_mix : types (codes "mix") 21 (codes "title") ≡ Some (non_null (named 2), [])
 unfolding role_schema part_count part_type part_fields fixed_type
 title_of_mix = refl
 
 -- a look-up names each column of the key
-look_up_of_mix : types (codes "mix") 19 (codes "article_by_pk") ≡ Some (named 20, non_null (named 1) ∷ [])
+look_up_of_mix : types (codes "mix") 19 (codes "article_by_pk") ≡ Some (named 21, non_null (named 1) ∷ [])
 unfolding role_schema part_count part_type part_fields fixed_type
 look_up_of_mix = refl
+
+-- ---- opaque columns
+
+-- two columns of one type of PostgreSQL, and one whose type has no name of GraphQL
+abbrev priced : List Table
+priced =
+    record {
+      schema = codes "public";
+      name = codes "product";
+      columns =
+          record { name = codes "id"; ty = Integer; of = []; nullable = false }
+          ∷ record { name = codes "price"; ty = Opaque; of = codes "numeric"; nullable = true }
+          ∷ record { name = codes "made"; ty = Opaque; of = codes "timestamp with time zone"; nullable = true }
+          ∷ record { name = codes "cost"; ty = Opaque; of = codes "numeric"; nullable = true } ∷ [];
+      key = 0 ∷ [];
+      foreign = [];
+    }
+    ∷ []
+
+abbrev products : MetaTree
+products = record {
+  tracked =
+      record {
+        table = 0;
+        name = codes "product";
+        column_names = codes "id" ∷ codes "price" ∷ codes "made" ∷ codes "cost" ∷ [];
+        roots = roots_with (codes "product") (codes "product_aggregate") (codes "product_by_pk");
+        rels = [];
+        perms = record { role = codes "maker"; cols = 0 ∷ 2 ∷ []; filter = always; limit = None; aggregations = false } ∷ [];
+      }
+      ∷ [];
+  inherited = [];
+}
+
+products_fit : fits priced products ≡ true
+products_fit = refl
+
+-- the scalar of the two stands once, before the types of the table
+scalars_of_admin : names (role_schema priced products Admin) ≡ fixed_types ++ codes "numeric" ∷ flat_map (types_of (schema_of priced products)) products.tracked
+unfolding role_schema part_count part_type fixed_type scalar_type
+scalars_of_admin = refl
+
+-- and not where a role sees neither
+scalars_of_maker :
+    names (role_schema priced products (Named (codes "maker")))
+    ≡ fixed_types ++ codes "product" ∷ codes "product_bool_exp" ∷ codes "product_order_by" ∷ codes "product_select_column" ∷ []
+unfolding role_schema part_count part_type fixed_type scalar_type
+scalars_of_maker = refl
+
+price : leads (role_schema priced products Admin) 22 (codes "price") ≡ Some (origin.Column 1, 21)
+unfolding role_schema part_count part_type part_fields fixed_type scalar_type
+price = refl
+
+cost : leads (role_schema priced products Admin) 22 (codes "cost") ≡ Some (origin.Column 3, 21)
+unfolding role_schema part_count part_type part_fields fixed_type scalar_type
+cost = refl
+
+made : leads (role_schema priced products Admin) 22 (codes "made") ≡ Some (origin.Column 2, 2)
+unfolding role_schema part_count part_type part_fields fixed_type scalar_type
+made = refl

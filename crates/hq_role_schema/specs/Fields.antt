@@ -1,5 +1,5 @@
 -- The fields of a table's types (Hasura, API reference: GraphQL API, query syntax and aggregate object). `first` is the place
--- of the first type of the table to which a field leads.
+-- of the first type of the table to which a field leads, and `scalars` are those of opaque columns.
 use Rattle.std.specs.Prelude.{ℕ, ◌+◌, List, [], ◌∷◌, ◌++◌, flat_map, cond, codes, Option, Some, None, option_map}
 use Rattle.std.specs.List.{filter_map}
 use Rattle.hq_base.specs.Aggregates.{aggregate_name, given_type}
@@ -13,6 +13,7 @@ use Rattle.hq_schema.specs.declared.origin.FieldOrigin.TheVariants as origin
 use Rattle.hq_schema.specs.declared.part.Part.{Part}
 use Rattle.hq_schema.specs.declared.part.Part.TheVariants.{Rows, Filter, Sort, Columns, Aggregate, AggregateFields, Aggregated}
 use Rattle.hq_role_schema.specs.References.{fixed, part, items, all_items, arg, plain_field}
+use Rattle.hq_role_schema.specs.Scalars.{column_scalar}
 use Rattle.hq_role_schema.specs.Shown.{has_aggregate, aggregates_over}
 use Rattle.hq_role_schema.specs.declared.shown.ShownColumn.{ShownColumn}
 use Rattle.hq_role_schema.specs.declared.shown.Link.{Link}
@@ -36,21 +37,21 @@ aggregate_field name first o = record { name = name; args = list_args first; ty 
 -- ---- columns
 
 -- S for a column that may hold NULL, else S!
-abbrev pub row_type : ShownColumn → TypeRefTree
-row_type c = cond c.nullable (fixed (Scalar c.ty)) (non_null (fixed (Scalar c.ty)))
+abbrev pub row_type : (scalars : List (List ℕ)) → ShownColumn → TypeRefTree
+row_type scalars c = cond c.nullable (column_scalar scalars c) (non_null (column_scalar scalars c))
 
 -- the type of a column's field: its value in a row; or what an aggregate gives of it, null over no value
-abbrev pub column_type : Part → ShownColumn → Option TypeRefTree
-column_type Rows c = Some (row_type c)
-column_type (Aggregated a) c = cond (has_aggregate a c) (Some (fixed (Scalar (given_type a c.ty)))) None
-column_type _ c = None
+abbrev pub column_type : (scalars : List (List ℕ)) → Part → ShownColumn → Option TypeRefTree
+column_type scalars Rows c = Some (row_type scalars c)
+column_type scalars (Aggregated a) c = cond (has_aggregate a c) (Some (fixed (Scalar (given_type a c.ty)))) None
+column_type scalars _ c = None
 
-abbrev pub column_field : Part → ShownColumn → Option FieldTree
-column_field p c = option_map (λ r. plain_field c.name r (origin.Column c.col)) (column_type p c)
+abbrev pub column_field : (scalars : List (List ℕ)) → Part → ShownColumn → Option FieldTree
+column_field scalars p c = option_map (λ r. plain_field c.name r (origin.Column c.col)) (column_type scalars p c)
 
 -- the fields of columns
-abbrev pub column_fields : Part → List ShownColumn → List FieldTree
-column_fields p cs = filter_map (column_field p) cs
+abbrev pub column_fields : (scalars : List (List ℕ)) → Part → List ShownColumn → List FieldTree
+column_fields scalars p cs = filter_map (column_field scalars p) cs
 
 -- ---- relationships
 
@@ -93,8 +94,8 @@ over_rows first cs = count_field first ∷ aggregated_fields (first + 6) (aggreg
 -- ---- all
 
 -- the fields of a table's type
-unfoldable pub part_fields : (first : ℕ) → List ShownColumn → List Link → Part → List FieldTree
-part_fields first cs ls Rows = column_fields Rows cs ++ flat_map link_fields ls
-part_fields first cs ls Aggregate = beside_rows first
-part_fields first cs ls AggregateFields = over_rows first cs
-part_fields first cs ls p = column_fields p cs
+unfoldable pub part_fields : (scalars : List (List ℕ)) → (first : ℕ) → List ShownColumn → List Link → Part → List FieldTree
+part_fields scalars first cs ls Rows = column_fields scalars Rows cs ++ flat_map link_fields ls
+part_fields scalars first cs ls Aggregate = beside_rows first
+part_fields scalars first cs ls AggregateFields = over_rows first cs
+part_fields scalars first cs ls p = column_fields scalars p cs

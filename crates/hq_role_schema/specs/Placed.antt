@@ -5,6 +5,7 @@ use Rattle.hq_schema.specs.Parts.{row_parts, aggregate_parts}
 use Rattle.hq_schema.specs.declared.part.Part.{Part}
 use Rattle.hq_schema.specs.declared.part.Part.TheVariants.{Aggregated}
 use Rattle.hq_terms.specs.declared.meta.Rel.{Rel}
+use Rattle.hq_role_schema.specs.Scalars.{scalars_of, behind_scalars}
 use Rattle.hq_role_schema.specs.Shown.{aggregates_over}
 use Rattle.hq_role_schema.specs.declared.shown.ShownTable.{ShownTable}
 use Rattle.hq_role_schema.specs.declared.shown.PlacedTable.{PlacedTable}
@@ -24,9 +25,9 @@ abbrev pub placed_from : (first : ℕ) → List ShownTable → List PlacedTable
 placed_from first [] = []
 placed_from first (t ∷ ts) = record { shown = t; first = first } ∷ placed_from (first + part_count t) ts
 
--- they stand behind the types that each schema has
+-- they stand behind the types that each schema has, and the scalars of opaque columns
 abbrev pub placed : List ShownTable → List PlacedTable
-placed ts = placed_from 20 ts
+placed ts = placed_from (behind_scalars (scalars_of ts)) ts
 
 -- a relationship, by its place, to a table, where the role may see that
 abbrev pub link_to : (rel : ℕ) → Rel → Option PlacedTable → Option Link

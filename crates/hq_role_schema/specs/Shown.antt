@@ -5,6 +5,7 @@ use Rattle.hq_base.specs.Aggregates.{all_aggregates, is_aggregate_of}
 use Rattle.hq_base.specs.declared.aggregate.Aggregate.{Aggregate}
 use Rattle.hq_terms.specs.Meta.{TrackedTree, MetaTree}
 use Rattle.hq_terms.specs.Permission.{Mask, Permission, permission}
+use Rattle.hq_terms.specs.SchemaNames.{scalar_of}
 use Rattle.hq_terms.specs.declared.role.Role.{Role}
 use Rattle.hq_terms.specs.declared.table.Column.{Column}
 use Rattle.hq_terms.specs.declared.table.Table.{Table}
@@ -17,7 +18,7 @@ is_masked ms col = list_any (λ m. m.column == col) ms
 
 -- a column of the catalog under its GraphQL name; with a mask it may be null at some row
 abbrev pub under_name : List Mask → (col : ℕ) → Option Column → Option (List ℕ) → Option ShownColumn
-under_name ms col (Some c) (Some name) = Some (record { name = name; ty = c.ty; nullable = is_masked ms col || c.nullable; col = col })
+under_name ms col (Some c) (Some name) = Some (record { name = name; ty = c.ty; scalar = scalar_of c; nullable = is_masked ms col || c.nullable; col = col })
 under_name ms col _ _ = None
 
 -- columns of a table with these masks, by their places

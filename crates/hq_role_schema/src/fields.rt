@@ -8,16 +8,17 @@ use crate::arguments::{aggregate_field, count_args, list_field};
 use crate::columns::{aggregates_over, has_aggregate};
 use crate::member::{plain_field, plain_field_of};
 use crate::reference::{all_items, fixed, non_null, part};
+use crate::scalars::column_scalar;
 use crate::shown::{Link, LinkList, ShownColumn, ShownColumnList};
 use crate::text::{suffixed, text};
-use hq_base::{Aggregate, Memory};
+use hq_base::{Aggregate, Memory, Txt};
 use hq_schema::{FieldDef, FieldDefList, FieldOrigin, Fixed, NamedList, Part, TypeId, TypeRef};
 use std::alloc::Global;
 
-fn row_type(alloc: Global, column: &ShownColumn) -> Result<TypeRef, Memory>
-    ensures { IfOk result (λ r. type_ref_view r ≡ row_type column.now) }
+fn row_type(alloc: Global, scalars: &[Txt], column: &ShownColumn) -> Result<TypeRef, Memory>
+    ensures { IfOk result (λ r. type_ref_view r ≡ row_type scalars.now column.now) }
 {
-    let scalar = fixed(Fixed::Scalar(column.ty));
+    let scalar = column_scalar(scalars, column);
     if column.nullable {
         Ok(scalar)
     } else {
@@ -26,11 +27,16 @@ fn row_type(alloc: Global, column: &ShownColumn) -> Result<TypeRef, Memory>
 }
 
 // The type of a column's field in a part, None where the column has no field there.
-fn column_type(alloc: Global, p: Part, column: &ShownColumn) -> Result<Option<TypeRef>, Memory>
-    ensures { IfOk result (λ r. option_map type_ref_view r ≡ column_type p column.now) }
+fn column_type(
+    alloc: Global,
+    scalars: &[Txt],
+    p: Part,
+    column: &ShownColumn,
+) -> Result<Option<TypeRef>, Memory>
+    ensures { IfOk result (λ r. option_map type_ref_view r ≡ column_type scalars.now p column.now) }
 {
     match p {
-        Part::Rows => Ok(Some(row_type(alloc, column)?)),
+        Part::Rows => Ok(Some(row_type(alloc, scalars, column)?)),
         Part::Aggregated(aggregate) if has_aggregate(aggregate, column) => {
             Ok(Some(fixed(Fixed::Scalar(aggregate.given_type(column.ty)))))
         }
@@ -38,22 +44,32 @@ fn column_type(alloc: Global, p: Part, column: &ShownColumn) -> Result<Option<Ty
     }
 }
 
-fn column_field(alloc: Global, p: Part, column: &ShownColumn) -> Result<Option<FieldDef>, Memory>
-    ensures { IfOk result (λ f. option_map field_view f ≡ column_field p column.now) }
+fn column_field(
+    alloc: Global,
+    scalars: &[Txt],
+    p: Part,
+    column: &ShownColumn,
+) -> Result<Option<FieldDef>, Memory>
+    ensures { IfOk result (λ f. option_map field_view f ≡ column_field scalars.now p column.now) }
 {
-    let Some(ty) = column_type(alloc, p, column)? else {
+    let Some(ty) = column_type(alloc, scalars, p, column)? else {
         return Ok(None);
     };
     let origin = FieldOrigin::Column(column.col);
     Ok(Some(plain_field_of(alloc, &column.name, ty, origin)?))
 }
 
-fn column_fields(alloc: Global, p: Part, columns: &ShownColumnList) -> Result<Vec<FieldDef>, Memory>
-    ensures { IfOk result (λ fields. map field_view fields.items ≡ column_fields p columns.now) }
+fn column_fields(
+    alloc: Global,
+    scalars: &[Txt],
+    p: Part,
+    columns: &ShownColumnList,
+) -> Result<Vec<FieldDef>, Memory>
+    ensures { IfOk result (λ fields. map field_view fields.items ≡ column_fields scalars.now p columns.now) }
 {
     let mut fields = Vec::new(alloc);
     for column in columns.as_slice() {
-        if let Some(field) = column_field(alloc, p, column)? {
+        if let Some(field) = column_field(alloc, scalars, p, column)? {
             fields.push(field)?;
         }
     }
@@ -171,32 +187,34 @@ fn over_rows(alloc: Global, first: u32, columns: &ShownColumnList) -> Result<Vec
 // The columns of a row, and what is behind its relationships.
 fn row_fields(
     alloc: Global,
+    scalars: &[Txt],
     columns: &ShownColumnList,
     links: &LinkList,
 ) -> Result<Vec<FieldDef>, Memory>
-    ensures { IfOk result (λ fields. map field_view fields.items ≡ column_fields Part.Rows columns.now ++ flat_map link_fields links.now) }
+    ensures { IfOk result (λ fields. map field_view fields.items ≡ column_fields scalars.now Part.Rows columns.now ++ flat_map link_fields links.now) }
 {
-    let mut fields = column_fields(alloc, Part::Rows, columns)?;
+    let mut fields = column_fields(alloc, scalars, Part::Rows, columns)?;
     push_links(alloc, &mut fields, links)?;
     Ok(fields)
 }
 
-/// The fields of a table's type, where the table's types begin at a place.
+/// The fields of a table's type, where the table's types begin at a place, and these are the scalars of opaque columns.
 #[tactic(auto, unfolding(crate::specs::Fields::part_fields))]
 pub fn part_fields(
     alloc: Global,
+    scalars: &[Txt],
     first: u32,
     columns: &ShownColumnList,
     links: &LinkList,
     p: Part,
 ) -> Result<FieldDefList, Memory>
-    ensures { IfOk result (λ fields. map field_view fields ≡ part_fields first columns.now links.now p) }
+    ensures { IfOk result (λ fields. map field_view fields ≡ part_fields scalars.now first columns.now links.now p) }
 {
     let fields = match p {
-        Part::Rows => row_fields(alloc, columns, links),
+        Part::Rows => row_fields(alloc, scalars, columns, links),
         Part::Aggregate => beside_rows(alloc, first),
         Part::AggregateFields => over_rows(alloc, first, columns),
-        _ => column_fields(alloc, p, columns),
+        _ => column_fields(alloc, scalars, p, columns),
     }?;
     NamedList::new(alloc, fields)
 }

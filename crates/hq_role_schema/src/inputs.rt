@@ -33,11 +33,15 @@ fn input_type(p: Part, ty: Ty) -> Fixed
     }
 }
 
-fn column_input(alloc: Global, p: Part, column: &ShownColumn) -> Result<ArgDef, Memory>
-    ensures { IfOk result (λ a. arg_view a ≡ column_input p column.now) }
+fn column_input(alloc: Global, p: Part, column: &ShownColumn) -> Result<Option<ArgDef>, Memory>
+    ensures { IfOk result (λ a. option_map arg_view a ≡ column_input p column.now) }
 {
+    if !(is_filter(p) || column.ty.is_ordered()) {
+        return Ok(None);
+    }
     let ty = fixed(input_type(p, column.ty));
-    arg_of(alloc, &column.name, ty, ArgOrigin::Column(column.col))
+    let origin = ArgOrigin::Column(column.col);
+    Ok(Some(arg_of(alloc, &column.name, ty, origin)?))
 }
 
 // Adds the inputs of columns.
@@ -47,10 +51,12 @@ fn push_columns(
     p: Part,
     columns: &ShownColumnList,
 ) -> Result<(), Memory>
-    ensures { OnOk result (map arg_view inputs.new.items ≡ map arg_view inputs.old.items ++ map (column_input p) columns.now) }
+    ensures { OnOk result (map arg_view inputs.new.items ≡ map arg_view inputs.old.items ++ filter_map (column_input p) columns.now) }
 {
     for column in columns.as_slice() {
-        inputs.push(column_input(alloc, p, column)?)?;
+        if let Some(input) = column_input(alloc, p, column)? {
+            inputs.push(input)?;
+        }
     }
     Ok(())
 }

@@ -18,6 +18,7 @@ mod reference;
 mod role_schema;
 mod root;
 mod rows;
+mod scalars;
 mod see;
 mod shown;
 mod text;

@@ -9,18 +9,19 @@ use crate::fields::part_fields;
 use crate::inputs::{part_columns, part_inputs, part_values};
 use crate::shown::{LinkList, PlacedTable, ShownTable};
 use crate::text::suffixed;
-use hq_base::{Aggregate, Memory};
+use hq_base::{Aggregate, Memory, Txt};
 use hq_schema::{Part, TypeDef};
 use std::alloc::Global;
 
 #[tactic(auto, unfolding(crate::specs::RoleSchema::part_type))]
 fn part_type(
     alloc: Global,
+    scalars: &[Txt],
     placed: &PlacedTable,
     links: &LinkList,
     part: Part,
 ) -> Result<TypeDef, Memory>
-    ensures { IfOk result (λ t. type_view t ≡ part_type placed.now links.now part) }
+    ensures { IfOk result (λ t. type_view t ≡ part_type scalars.now placed.now links.now part) }
 {
     let shown = &placed.shown;
     // what is let go in the fewest steps comes first
@@ -28,7 +29,7 @@ fn part_type(
     let name = suffixed(alloc, &shown.name, part.suffix())?;
     let values = part_values(alloc, &shown.columns, part)?;
     let inputs = part_inputs(alloc, placed.first, &shown.columns, links, part)?;
-    let fields = part_fields(alloc, placed.first, &shown.columns, links, part)?;
+    let fields = part_fields(alloc, scalars, placed.first, &shown.columns, links, part)?;
     Ok(TypeDef {
         name,
         kind: part.kind(),
@@ -81,14 +82,15 @@ fn parts_of(alloc: Global, table: &ShownTable) -> Result<Vec<Part>, Memory>
 fn push_parts(
     alloc: Global,
     types: &mut Vec<TypeDef>,
+    scalars: &[Txt],
     placed: &PlacedTable,
     links: &LinkList,
     parts: &[Part],
 ) -> Result<(), Memory>
-    ensures { OnOk result (map type_view types.new.items ≡ map type_view types.old.items ++ map (part_type placed.now links.now) parts.now) }
+    ensures { OnOk result (map type_view types.new.items ≡ map type_view types.old.items ++ map (part_type scalars.now placed.now links.now) parts.now) }
 {
     for part in parts {
-        types.push(part_type(alloc, placed, links, *part)?)?;
+        types.push(part_type(alloc, scalars, placed, links, *part)?)?;
     }
     Ok(())
 }
@@ -97,11 +99,12 @@ fn push_parts(
 pub fn push_types(
     alloc: Global,
     types: &mut Vec<TypeDef>,
+    scalars: &[Txt],
     placed: &PlacedTable,
     links: &LinkList,
 ) -> Result<(), Memory>
-    ensures { OnOk result (map type_view types.new.items ≡ map type_view types.old.items ++ types_with placed.now links.now) }
+    ensures { OnOk result (map type_view types.new.items ≡ map type_view types.old.items ++ types_with scalars.now placed.now links.now) }
 {
     let parts = parts_of(alloc, &placed.shown)?;
-    push_parts(alloc, types, placed, links, parts.as_slice())
+    push_parts(alloc, types, scalars, placed, links, parts.as_slice())
 }

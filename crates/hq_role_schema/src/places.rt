@@ -1,27 +1,24 @@
 ghost use Rattle.std.specs.Prelude.{◌≡◌, IfOk};
-ghost use Rattle.hq_role_schema.specs.Placed.{placed};
+ghost use Rattle.hq_role_schema.specs.Placed.{placed_from};
 
 use crate::columns::part_count;
 use crate::shown::{PlacedTable, PlacedTableList, ShownTableList};
 use hq_base::{List, Memory};
 use std::alloc::Global;
 
-// How many types each schema has.
-const FIXED: u32 = 20;
-
-/// The tables with the places of their types.
-pub fn placed(alloc: Global, tables: ShownTableList) -> Result<PlacedTableList, Memory>
-    ensures { IfOk result (λ ps. ps ≡ placed tables) }
+/// The tables with the places of their types, of which the first stands at this one.
+pub fn placed(alloc: Global, first: u32, tables: ShownTableList) -> Result<PlacedTableList, Memory>
+    ensures { IfOk result (λ ps. ps ≡ placed_from first tables) }
 {
     let mut placed = List::new(alloc);
-    let mut first = FIXED;
+    let mut next = first;
     for shown in tables.into_vec() {
         let count = part_count(&shown);
-        placed.push(PlacedTable { shown, first })?;
-        let Some(next) = first.checked_add(count) else {
+        placed.push(PlacedTable { shown, first: next })?;
+        let Some(behind) = next.checked_add(count) else {
             return Err(Memory);
         };
-        first = next;
+        next = behind;
     }
     Ok(placed)
 }

@@ -8,9 +8,11 @@ use crate::fixed_types::fixed_types;
 use crate::links::links_of;
 use crate::parts::push_types;
 use crate::places::placed;
+use crate::scalars;
+use crate::scalars::behind_scalars;
 use crate::see::shown_tables;
 use crate::shown::{PlacedTable, PlacedTableList};
-use hq_base::Memory;
+use hq_base::{Memory, Txt};
 use hq_schema::{Fixed, NamedList, Schema, TypeDef, TypeDefList};
 use hq_terms::{Catalog, Meta, Role};
 use std::alloc::Global;
@@ -19,44 +21,51 @@ use std::alloc::Global;
 fn push_table(
     alloc: Global,
     types: &mut Vec<TypeDef>,
+    scalars: &[Txt],
     tables: &PlacedTableList,
     placed: &PlacedTable,
 ) -> Result<(), Memory>
-    ensures { OnOk result (map type_view types.new.items ≡ map type_view types.old.items ++ table_types tables.now placed.now) }
+    ensures { OnOk result (map type_view types.new.items ≡ map type_view types.old.items ++ table_types scalars.now tables.now placed.now) }
 {
     let links = links_of(alloc, tables, &placed.shown.rels)?;
-    push_types(alloc, types, placed, &links)
+    push_types(alloc, types, scalars, placed, &links)
 }
 
 // Adds the types of all tables.
 fn push_tables(
     alloc: Global,
     types: &mut Vec<TypeDef>,
+    scalars: &[Txt],
     tables: &PlacedTableList,
 ) -> Result<(), Memory>
-    ensures { OnOk result (map type_view types.new.items ≡ map type_view types.old.items ++ flat_map (table_types tables.now) tables.now) }
+    ensures { OnOk result (map type_view types.new.items ≡ map type_view types.old.items ++ flat_map (table_types scalars.now tables.now) tables.now) }
 {
     for placed in tables.as_slice() {
-        push_table(alloc, types, tables, placed)?;
+        push_table(alloc, types, scalars, tables, placed)?;
     }
     Ok(())
 }
 
 // All types, where a role may see these tables.
-fn all_types(alloc: Global, tables: &PlacedTableList) -> Result<TypeDefList, Memory>
-    ensures { IfOk result (λ types. map type_view types ≡ all_types tables.now) }
+fn all_types(
+    alloc: Global,
+    scalars: &[Txt],
+    tables: &PlacedTableList,
+) -> Result<TypeDefList, Memory>
+    ensures { IfOk result (λ types. map type_view types ≡ all_types scalars.now tables.now) }
 {
     let mut types = fixed_types(alloc, tables)?;
-    push_tables(alloc, &mut types, tables)?;
+    scalars::push_types(alloc, &mut types, scalars)?;
+    push_tables(alloc, &mut types, scalars, tables)?;
     NamedList::new(alloc, types)
 }
 
 // The schema where a role may see these tables.
-fn schema_over(alloc: Global, tables: &PlacedTableList) -> Result<Schema, Memory>
-    ensures { IfOk result (λ schema. schema_view schema ≡ schema_over tables.now) }
+fn schema_over(alloc: Global, scalars: &[Txt], tables: &PlacedTableList) -> Result<Schema, Memory>
+    ensures { IfOk result (λ schema. schema_view schema ≡ schema_over scalars.now tables.now) }
 {
     Ok(Schema {
-        types: all_types(alloc, tables)?,
+        types: all_types(alloc, scalars, tables)?,
         query: Fixed::QueryRoot.place(),
         introspection: introspection(alloc)?,
         conditions: conditions(alloc)?,
@@ -72,6 +81,8 @@ pub fn derive(alloc: Global, catalog: &Catalog, meta: &Meta, role: &Role) -> Res
     ensures { IfOk result (λ schema. schema_view schema ≡ role_schema catalog.now.tables (meta_view meta.now) role.now) }
 {
     let shown = shown_tables(alloc, catalog, meta, role)?;
-    let tables = placed(alloc, shown)?;
-    schema_over(alloc, &tables)
+    let scalars = scalars::scalars_of(alloc, &shown)?;
+    let first = behind_scalars(scalars.as_slice())?;
+    let tables = placed(alloc, first, shown)?;
+    schema_over(alloc, scalars.as_slice(), &tables)
 }

@@ -2,6 +2,7 @@ ghost use Rattle.std.specs.Prelude.{◌≡◌, ◌==◌, [], IfOk, map, option_c
 ghost use Rattle.std.specs.List.{list_all, list_any};
 ghost use Rattle.hq_terms.specs.Meta.{tracked_view, meta_view};
 ghost use Rattle.hq_terms.specs.PermView.{mask_view, permission_view};
+ghost use Rattle.hq_terms.specs.SchemaNames.{scalar_of};
 ghost use Rattle.hq_role_schema.specs.Shown.{is_masked, under_name, shown_columns, shown_key, shown_table, shown_entry, shown_tables};
 
 use crate::shown::{ShownColumn, ShownColumnList, ShownTable, ShownTableList};
@@ -23,6 +24,16 @@ fn is_masked(masks: &[Mask], col: ColId) -> bool
     false
 }
 
+// A copy of the scalar that is named for a column.
+fn scalar_of(alloc: Global, column: &Column) -> Result<Option<Txt>, Memory>
+    ensures { IfOk result (λ scalar. scalar ≡ scalar_of column.now) }
+{
+    match column.scalar() {
+        Some(name) => Ok(Some(name.copy(alloc)?)),
+        None => Ok(None),
+    }
+}
+
 // A column under its GraphQL name, where it has both; with a mask it may be null.
 fn under_name(
     alloc: Global,
@@ -37,6 +48,7 @@ fn under_name(
         (Some(column), Some(name)) => Ok(Some(ShownColumn {
             name: name.copy(alloc)?,
             ty: column.ty,
+            scalar: scalar_of(alloc, column)?,
             nullable: is_masked(masks, col) || column.nullable,
             col,
         })),

@@ -1,11 +1,13 @@
 use hq_base::{List, Txt, Ty};
 use hq_terms::{ColId, RelId, RelList, RootNames, TableId};
 
-/// A column as a schema shows it: its GraphQL name, its type, whether it may hold NULL, and which column it is.
+/// A column as a schema shows it: its GraphQL name, its type, the scalar that is named for an opaque one, whether it may hold NULL, and
+/// which column it is.
 #[derive(Drop)]
 pub struct ShownColumn {
     pub name: Txt,
     pub ty: Ty,
+    pub scalar: Option<Txt>,
     pub nullable: bool,
     pub col: ColId,
 }

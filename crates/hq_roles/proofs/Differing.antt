@@ -7,7 +7,7 @@ use Rattle.std.proofs.lemmas.List.{map-append}
 use Rattle.hq_base.specs.Aggregates.{all_aggregates, aggregate_name}
 use Rattle.hq_base.specs.Lists.{Each, all_differ}
 use Rattle.hq_base.specs.declared.aggregate.Aggregate.{Aggregate as OneAggregate}
-use Rattle.hq_base.proofs.Lists.{each_all, each_weaken, map_map}
+use Rattle.hq_base.proofs.Lists.{each_all, each_weaken, each_firsts, firsts_differ, map_map}
 use Rattle.hq_schema.specs.Fixed.{all_fixed}
 use Rattle.hq_schema.specs.Parts.{part_suffix}
 use Rattle.hq_schema.specs.Schema.{TypeRefTree, ArgTree, FieldTree, TypeTree}
@@ -16,7 +16,7 @@ use Rattle.hq_schema.specs.declared.fixed.Fixed.TheVariants.{Scalar, OrderBy, Co
 use Rattle.hq_schema.specs.declared.origin.FieldOrigin.TheVariants as field
 use Rattle.hq_schema.specs.declared.part.Part.{Part}
 use Rattle.hq_schema.specs.declared.part.Part.TheVariants.{Rows, Filter, Sort, Columns, Aggregate, AggregateFields, Aggregated}
-use Rattle.hq_terms.specs.Catalog.{is_catalog, is_table, is_catalog_name, full_name, holds_no_null, is_foreign_key}
+use Rattle.hq_terms.specs.Catalog.{is_catalog, is_table, is_catalog_name, full_name, is_key_column, is_foreign_key}
 use Rattle.hq_terms.specs.Fits.{fits, fits_tracked}
 use Rattle.hq_terms.specs.Meta.{TrackedTree, MetaTree, tracked_table}
 use Rattle.hq_terms.specs.Operators.{all_operators, operator_name}
@@ -34,6 +34,7 @@ use Rattle.hq_role_schema.specs.Placed.{parts_of, part_count, placed_from, place
 use Rattle.hq_role_schema.specs.References.{plain_field, part}
 use Rattle.hq_role_schema.specs.RoleSchema.{part_type, types_with, table_types, all_types, schema_over, role_schema}
 use Rattle.hq_role_schema.specs.Root.{key_arg, key_fields, aggregate_root, root_fields, query_fields}
+use Rattle.hq_role_schema.specs.Scalars.{table_scalars, scalars_of, behind_scalars, scalar_type}
 use Rattle.hq_role_schema.specs.Shown.{is_over, aggregates_over, shown_columns, shown_table, shown_entry, shown_tables}
 use Rattle.hq_role_schema.specs.declared.shown.ShownColumn.{ShownColumn}
 use Rattle.hq_role_schema.specs.declared.shown.ShownTable.{ShownTable}
@@ -44,8 +45,9 @@ use Rattle.hq_roles.proofs.Granted.{granted, has_some, in_schema_is}
 use Rattle.hq_roles.proofs.KeyNames.{images_differ}
 use Rattle.hq_roles.proofs.Lists.{each_append, each_map, each_flat_map, each_filter_map}
 use Rattle.hq_roles.proofs.Permits.{each_of, all_tracked_first}
-use Rattle.hq_roles.proofs.Subs.{Sub, sub_keep, sub_same, sub_skip, sub_append, sub_front, sub_trans, sub_map, sub_filter, sub_given, any_sub, differ_sub}
-use Rattle.hq_roles.proofs.TableNames.{types_sub, key_names, root_names, roots_sub, columns_named, columns_sub, fields_sub, link_fields_sub, link_inputs_sub}
+use Rattle.hq_roles.proofs.Subs.{Sub, sub_keep, sub_same, sub_skip, sub_append, sub_front, sub_trans, sub_map, sub_filter, sub_given, none_sub, any_sub, differ_sub}
+use Rattle.hq_roles.proofs.ScalarNames.{chosen_unlike, differ_between}
+use Rattle.hq_roles.proofs.TableNames.{types_sub, key_names, root_names, roots_sub, columns_named, columns_sub, fields_sub, inputs_sub, link_fields_sub, link_inputs_sub}
 
 abbrev differ : List (List ℕ) → Bool
 differ = all_differ bytes_eq
@@ -67,15 +69,20 @@ column_name c = c.name
 abbrev type_names : ShownTable → List (List ℕ)
 type_names t = map (λ (q : Part). t.name ++ part_suffix q) (parts_of t)
 
-tables_named : (ps : List PlacedTable) (first : ℕ) (ts : List ShownTable) → map (λ (t : TypeTree). t.name) (flat_map (table_types ps) (placed_from first ts)) ≡ flat_map type_names ts
+tables_named : (scalars : List (List ℕ)) (ps : List PlacedTable) (first : ℕ) (ts : List ShownTable) → map (λ (t : TypeTree). t.name) (flat_map (table_types scalars ps) (placed_from first ts)) ≡ flat_map type_names ts
 unfolding part_type
-tables_named ps first [] = refl
-tables_named ps first (t ∷ ts) =
+tables_named scalars ps first [] = refl
+tables_named scalars ps first (t ∷ ts) =
     let p : PlacedTable = record { shown = t; first = first } in
     let ls = links_from ps 0 t.rels in
-    map-append (λ (t : TypeTree). t.name) (types_with p ls) (flat_map (table_types ps) (placed_from (first + part_count t) ts))
-    ∙ (ap (λ xs. xs ++ map (λ (t : TypeTree). t.name) (flat_map (table_types ps) (placed_from (first + part_count t) ts))) (map_map (λ (t : TypeTree). t.name) (part_type p ls) (parts_of t))
-    ∙ ap (λ xs. type_names t ++ xs) (tables_named ps (first + part_count t) ts))
+    map-append (λ (t : TypeTree). t.name) (types_with scalars p ls) (flat_map (table_types scalars ps) (placed_from (first + part_count t) ts))
+    ∙ (ap (λ xs. xs ++ map (λ (t : TypeTree). t.name) (flat_map (table_types scalars ps) (placed_from (first + part_count t) ts))) (map_map (λ (t : TypeTree). t.name) (part_type scalars p ls) (parts_of t))
+    ∙ ap (λ xs. type_names t ++ xs) (tables_named scalars ps (first + part_count t) ts))
+
+scalars_named : (scalars : List (List ℕ)) → map (λ (t : TypeTree). t.name) (map scalar_type scalars) ≡ scalars
+unfolding scalar_type
+scalars_named [] = refl
+scalars_named (n ∷ ns) = ap (λ xs. n ∷ xs) (scalars_named ns)
 
 fixed_named : (ps : List PlacedTable) → map (λ (t : TypeTree). t.name) (fixed_types ps) ≡ admin.fixed_types
 unfolding fixed_type
@@ -99,7 +106,7 @@ roots_named first (t ∷ ts) =
 
 pub record TableDiffers (ps : List PlacedTable) (t : ShownTable) : Type 0 where
   pub columns : differ (map column_name t.columns) ≡ true
-  pub row : differ (map field_name (column_fields Rows t.columns ++ flat_map link_fields (links_from ps 0 t.rels))) ≡ true
+  pub row : (scalars : List (List ℕ)) → differ (map field_name (column_fields scalars Rows t.columns ++ flat_map link_fields (links_from ps 0 t.rels))) ≡ true
   pub filters : (first : ℕ) → differ (map input_name (connectives first ++ inputs_of Filter t.columns (links_from ps 0 t.rels))) ≡ true
   pub sorts : differ (map input_name (inputs_of Sort t.columns (links_from ps 0 t.rels))) ≡ true
   pub key : IfSome t.key (λ (key : List ShownColumn). differ (map column_name key) ≡ true)
@@ -126,24 +133,24 @@ module _ (m : MetaTree) (ps : List PlacedTable) (seen : Each (λ (p : PlacedTabl
   columns_some : Sub (map column_name columns_of) (admin.column_names_of k)
   columns_some = columns_sub tb k p.masks p.columns chosen
 
-  row_differs : differ (map field_name (column_fields Rows columns_of ++ flat_map link_fields links_of)) ≡ true
-  row_differs =
-      let joined = map-append field_name (column_fields Rows columns_of) (flat_map link_fields links_of) in
-      let some : Sub (map field_name (column_fields Rows columns_of) ++ map field_name (flat_map link_fields links_of)) (admin.fields_of m k) =
-      sub_append (map field_name (column_fields Rows columns_of)) (admin.column_names_of k) (map field_name (flat_map link_fields links_of)) (flat_map admin.rel_fields (admin.rels_in_schema m k))
-      (sub_trans (map field_name (column_fields Rows columns_of)) (map column_name columns_of) (admin.column_names_of k) (fields_sub Rows columns_of) columns_some)
+  row_differs : (scalars : List (List ℕ)) → differ (map field_name (column_fields scalars Rows columns_of ++ flat_map link_fields links_of)) ≡ true
+  row_differs scalars =
+      let joined = map-append field_name (column_fields scalars Rows columns_of) (flat_map link_fields links_of) in
+      let some : Sub (map field_name (column_fields scalars Rows columns_of) ++ map field_name (flat_map link_fields links_of)) (admin.fields_of m k) =
+      sub_append (map field_name (column_fields scalars Rows columns_of)) (admin.column_names_of k) (map field_name (flat_map link_fields links_of)) (flat_map admin.rel_fields (admin.rels_in_schema m k))
+      (sub_trans (map field_name (column_fields scalars Rows columns_of)) (map column_name columns_of) (admin.column_names_of k) (fields_sub scalars Rows columns_of) columns_some)
       (link_fields_sub m ps seen k.rels)
       in
-      ap differ joined ∙ differ_some (map field_name (column_fields Rows columns_of) ++ map field_name (flat_map link_fields links_of)) (admin.fields_of m k) some fields_differ
+      ap differ joined ∙ differ_some (map field_name (column_fields scalars Rows columns_of) ++ map field_name (flat_map link_fields links_of)) (admin.fields_of m k) some fields_differ
 
   inputs_some : (q : Part) → Sub (map input_name (inputs_of q columns_of links_of)) (admin.column_names_of k ++ rel_names)
   inputs_some q =
-      let joined : map input_name (inputs_of q columns_of links_of) ≡ map column_name columns_of ++ map input_name (filter_map (link_input q) links_of) =
-      map-append input_name (map (column_input q) columns_of) (filter_map (link_input q) links_of)
-      ∙ ap (λ xs. xs ++ map input_name (filter_map (link_input q) links_of)) (map_map input_name (column_input q) columns_of)
-      in
+      let own : List (List ℕ) = map input_name (filter_map (column_input q) columns_of) in
+      let joined : map input_name (inputs_of q columns_of links_of) ≡ own ++ map input_name (filter_map (link_input q) links_of) =
+      map-append input_name (filter_map (column_input q) columns_of) (filter_map (link_input q) links_of) in
+      let own_some : Sub own (admin.column_names_of k) = sub_trans own (map column_name columns_of) (admin.column_names_of k) (inputs_sub q columns_of) columns_some in
       let P : List (List ℕ) → Type 0 = λ xs. Sub xs (admin.column_names_of k ++ rel_names) in
-      subst P (sym joined) (sub_append (map column_name columns_of) (admin.column_names_of k) (map input_name (filter_map (link_input q) links_of)) rel_names columns_some (link_inputs_sub m ps seen q k.rels))
+      subst P (sym joined) (sub_append own (admin.column_names_of k) (map input_name (filter_map (link_input q) links_of)) rel_names own_some (link_inputs_sub m ps seen q k.rels))
 
   filters_differ : (first : ℕ) → differ (map input_name (connectives first ++ inputs_of Filter columns_of links_of)) ≡ true
   filters_differ first =
@@ -179,11 +186,11 @@ module _ (m : MetaTree) (ps : List PlacedTable) (seen : Each (λ (p : PlacedTabl
 
 -- ---- types
 
-column_args : (q : Part) (cs : List ShownColumn) → Each ArgsDiffer (column_fields q cs)
-column_args q [] = tt
-column_args q (c ∷ cs) = by (column_type q c) (column_args q cs)
+column_args : (scalars : List (List ℕ)) (q : Part) (cs : List ShownColumn) → Each ArgsDiffer (column_fields scalars q cs)
+column_args scalars q [] = tt
+column_args scalars q (c ∷ cs) = by (column_type scalars q c) (column_args scalars q cs)
   where
-    by : (o : Option TypeRefTree) → Each ArgsDiffer (column_fields q cs) → Each ArgsDiffer (cons_option (option_map (λ r. plain_field c.name r (field.Column c.col)) o) (column_fields q cs))
+    by : (o : Option TypeRefTree) → Each ArgsDiffer (column_fields scalars q cs) → Each ArgsDiffer (cons_option (option_map (λ r. plain_field c.name r (field.Column c.col)) o) (column_fields scalars q cs))
     by None later = later
     by (Some r) later = (refl, later)
 
@@ -208,12 +215,12 @@ aggregated_args : (place : ℕ) (gs : List OneAggregate) → Each ArgsDiffer (ag
 aggregated_args place [] = tt
 aggregated_args place (g ∷ gs) = (refl, aggregated_args (place + 1) gs)
 
-module _ (ps : List PlacedTable) (p : PlacedTable) (d : TableDiffers ps p.shown) where
+module _ (scalars : List (List ℕ)) (ps : List PlacedTable) (p : PlacedTable) (d : TableDiffers ps p.shown) where
   abbrev these : List Link
   these = links_from ps 0 p.shown.rels
 
-  columns_field_names : (q : Part) → differ (map field_name (column_fields q p.shown.columns)) ≡ true
-  columns_field_names q = differ_some (map field_name (column_fields q p.shown.columns)) (map column_name p.shown.columns) (fields_sub q p.shown.columns) d.columns
+  columns_field_names : (q : Part) → differ (map field_name (column_fields scalars q p.shown.columns)) ≡ true
+  columns_field_names q = differ_some (map field_name (column_fields scalars q p.shown.columns)) (map column_name p.shown.columns) (fields_sub scalars q p.shown.columns) d.columns
 
   over_names : differ (map field_name (over_rows p.first p.shown.columns)) ≡ true
   over_names =
@@ -227,19 +234,19 @@ module _ (ps : List PlacedTable) (p : PlacedTable) (d : TableDiffers ps p.shown)
   unfolding count_args
   over_args = (refl, aggregated_args (p.first + 6) (aggregates_over p.shown.columns))
 
-  part_differs : (q : Part) → TypeDiffers (part_type p these q)
-  unfolding part_type part_fields part_inputs
-  part_differs Rows = record { fields = d.row; args = each_append ArgsDiffer (column_fields Rows p.shown.columns) (flat_map link_fields these) (column_args Rows p.shown.columns) (links_args these); inputs = refl; values = refl }
-  part_differs Filter = record { fields = columns_field_names Filter; args = column_args Filter p.shown.columns; inputs = d.filters p.first; values = refl }
-  part_differs Sort = record { fields = columns_field_names Sort; args = column_args Sort p.shown.columns; inputs = d.sorts; values = refl }
-  part_differs Columns = record { fields = columns_field_names Columns; args = column_args Columns p.shown.columns; inputs = refl; values = d.columns }
+  part_differs : (q : Part) → TypeDiffers (part_type scalars p these q)
+  unfolding part_type scalars part_fields part_inputs
+  part_differs Rows = record { fields = d.row scalars; args = each_append ArgsDiffer (column_fields scalars Rows p.shown.columns) (flat_map link_fields these) (column_args scalars Rows p.shown.columns) (links_args these); inputs = refl; values = refl }
+  part_differs Filter = record { fields = columns_field_names Filter; args = column_args scalars Filter p.shown.columns; inputs = d.filters p.first; values = refl }
+  part_differs Sort = record { fields = columns_field_names Sort; args = column_args scalars Sort p.shown.columns; inputs = d.sorts; values = refl }
+  part_differs Columns = record { fields = columns_field_names Columns; args = column_args scalars Columns p.shown.columns; inputs = refl; values = d.columns }
   part_differs Aggregate = record { fields = refl; args = (refl, (refl, tt)); inputs = refl; values = refl }
   part_differs AggregateFields = record { fields = over_names; args = over_args; inputs = refl; values = refl }
-  part_differs (Aggregated g) = record { fields = columns_field_names (Aggregated g); args = column_args (Aggregated g) p.shown.columns; inputs = refl; values = refl }
+  part_differs (Aggregated g) = record { fields = columns_field_names (Aggregated g); args = column_args scalars (Aggregated g) p.shown.columns; inputs = refl; values = refl }
 
-  parts_differ : Each TypeDiffers (table_types ps p)
+  parts_differ : Each TypeDiffers (table_types scalars ps p)
   parts_differ =
-      each_map TypeDiffers (λ (q : Part). Unit {0}) (part_type p these) (λ q u. part_differs q) (parts_of p.shown)
+      each_map TypeDiffers (λ (q : Part). Unit {0}) (part_type scalars p these) (λ q u. part_differs q) (parts_of p.shown)
       (each_all (λ (q : Part). Unit {0}) (λ q. tt) (parts_of p.shown))
 
   -- the root fields of a table
@@ -259,16 +266,16 @@ module _ (ts : List ShownTable) (each_differs : Each (λ (p : PlacedTable). Tabl
   query_names : differ (map field_name (query_fields (placed ts))) ≡ true
   query_names = by ts roots
     where
-      by : (us : List ShownTable) → differ (flat_map root_names us) ≡ true → differ (map field_name (query_fields (placed_from 20 us))) ≡ true
+      by : (us : List ShownTable) → differ (flat_map root_names us) ≡ true → differ (map field_name (query_fields (placed_from (behind_scalars (scalars_of ts)) us))) ≡ true
       by [] h = refl
-      by (u ∷ us) h = ap differ (roots_named 20 (u ∷ us)) ∙ h
+      by (u ∷ us) h = ap differ (roots_named (behind_scalars (scalars_of ts)) (u ∷ us)) ∙ h
 
   query_args : Each ArgsDiffer (query_fields (placed ts))
   query_args = by (placed ts) each_differs
     where
       by : (ps : List PlacedTable) → Each (λ (p : PlacedTable). TableDiffers (placed ts) p.shown) ps → Each ArgsDiffer (query_fields ps)
       by [] h = (refl, tt)
-      by (p ∷ ps) h = each_flat_map ArgsDiffer (λ (p : PlacedTable). TableDiffers (placed ts) p.shown) root_fields (root_args (placed ts)) (p ∷ ps) h
+      by (p ∷ ps) h = each_flat_map ArgsDiffer (λ (p : PlacedTable). TableDiffers (placed ts) p.shown) root_fields (root_args (scalars_of ts) (placed ts)) (p ∷ ps) h
 
   fixed_differs : (f : Fixed) → TypeDiffers (fixed_type (placed ts) f)
   unfolding fixed_type introspection_fields fixed_values operator_inputs
@@ -294,11 +301,18 @@ module _ (ts : List ShownTable) (each_differs : Each (λ (p : PlacedTable). Tabl
   fixed_differs DirectiveLocation = record { fields = refl; args = tt; inputs = refl; values = refl }
   fixed_differs QueryRoot = record { fields = query_names; args = query_args; inputs = refl; values = refl }
 
-  types_differ : Each TypeDiffers (all_types (placed ts))
+  scalar_differs : (name : List ℕ) → TypeDiffers (scalar_type name)
+  unfolding scalar_type
+  scalar_differs name = record { fields = refl; args = tt; inputs = refl; values = refl }
+
+  types_differ : Each TypeDiffers (all_types (scalars_of ts) (placed ts))
   types_differ =
-      each_append TypeDiffers (fixed_types (placed ts)) (flat_map (table_types (placed ts)) (placed ts))
+      let scalars = scalars_of ts in
+      each_append TypeDiffers (fixed_types (placed ts) ++ map scalar_type scalars) (flat_map (table_types scalars (placed ts)) (placed ts))
+      (each_append TypeDiffers (fixed_types (placed ts)) (map scalar_type scalars)
       (each_map TypeDiffers (λ (f : Fixed). Unit {0}) (fixed_type (placed ts)) (λ f u. fixed_differs f) all_fixed (each_all (λ (f : Fixed). Unit {0}) (λ f. tt) all_fixed))
-      (each_flat_map TypeDiffers (λ (p : PlacedTable). TableDiffers (placed ts) p.shown) (table_types (placed ts)) (parts_differ (placed ts)) (placed ts) each_differs)
+      (each_map TypeDiffers (λ (n : List ℕ). Unit {0}) scalar_type (λ n u. scalar_differs n) scalars (each_all (λ (n : List ℕ). Unit {0}) (λ n. tt) scalars)))
+      (each_flat_map TypeDiffers (λ (p : PlacedTable). TableDiffers (placed ts) p.shown) (table_types scalars (placed ts)) (parts_differ scalars (placed ts)) (placed ts) each_differs)
 
 -- ---- the whole
 
@@ -318,7 +332,7 @@ key_of_table tables t h =
     && list_all (λ c. is_catalog_name c.name) t.columns && all_differ (λ c d. bytes_eq c.name d.name) t.columns && nat_lt 0 (length t.key)
     in
     let key : Bool = all_differ (λ (c d : ℕ). c == d) t.key in
-    let held : Bool = list_all (λ c. holds_no_null (slice_get t.columns c)) t.key in
+    let held : Bool = list_all (λ c. is_key_column (slice_get t.columns c)) t.key in
     let foreign : Bool = list_all (is_foreign_key tables t) t.foreign in
     (and_parts front key (and_parts (front && key) held (and_parts (front && key && held) foreign h).0).0).1
 
@@ -341,8 +355,14 @@ module _ (tables : List Table) (m : MetaTree) (role : Role) (catalog : is_catalo
   tracked_once : once ≡ true
   tracked_once = (and_parts once entries (and_parts (once && entries) (admin.names_differ (schema_of tables m) m) (and_parts _ _ fit).0).0).0
 
+  abbrev ScalarsDiffer : TrackedTree → Bool
+  ScalarsDiffer k = admin.scalars_differ (schema_of tables m) (admin.all_types (schema_of tables m) m) k
+
+  all_names : (types_once && roots_once && list_all OwnDiffer m.tracked && list_all ScalarsDiffer m.tracked) ≡ true
+  all_names = (and_parts (once && entries) (admin.names_differ (schema_of tables m) m) (and_parts _ _ fit).0).1
+
   names : (types_once && roots_once && list_all OwnDiffer m.tracked) ≡ true
-  names = (and_parts (once && entries) (admin.names_differ (schema_of tables m) m) (and_parts _ _ fit).0).1
+  names = (and_parts (types_once && roots_once && list_all OwnDiffer m.tracked) (list_all ScalarsDiffer m.tracked) all_names).0
 
   abbrev First : TrackedTree → Type 0
   First k = tracked_table m k.table ≡ Some k
@@ -374,7 +394,7 @@ module _ (tables : List Table) (m : MetaTree) (role : Role) (catalog : is_catalo
       (each_both First (λ (k : TrackedTree). OwnDiffer k ≡ true) m.tracked firsts (each_of OwnDiffer m.tracked (and_parts (types_once && roots_once) (list_all OwnDiffer m.tracked) names).1))
     where
       seen : Each (λ (p : PlacedTable). admin.is_in_schema m p.shown.table ≡ true) (placed shown)
-      seen = placed_each (λ (t : ShownTable). admin.is_in_schema m t.table ≡ true) 20 shown seen_tables
+      seen = placed_each (λ (t : ShownTable). admin.is_in_schema m t.table ≡ true) (behind_scalars (scalars_of shown)) shown seen_tables
 
       valid : (i : ℕ) (t : Table) → slice_get tables i ≡ Some t → is_table tables t ≡ true
       valid i t e = each_get (λ (t : Table). is_table tables t ≡ true) tables i t (each_of (is_table tables) tables (and_parts (nat_le (length tables) 500 && all_differ (λ t u. bytes_eq (full_name t) (full_name u)) tables) (list_all (is_table tables) tables) catalog).1) e
@@ -405,22 +425,55 @@ module _ (tables : List Table) (m : MetaTree) (role : Role) (catalog : is_catalo
       let P : ShownTable → Type 0 = λ u. Sub (root_names u) (admin.roots_of (schema_of tables m) k) in
       subst P (sym g.is) (roots_sub tables m k g.table g.here g.perm g.columns (has_some tables k t g))) m.tracked firsts
 
-  over_differs : NamesDiffer (schema_over (placed shown))
+  -- the scalars are named as none of admin's other types
+  abbrev Unlike : List ℕ → Type 0
+  Unlike n = list_any (λ t. bytes_eq t n) (admin.all_types (schema_of tables m) m) ≡ false
+
+  scalars_unlike : Each Unlike (scalars_of shown)
+  scalars_unlike =
+      each_firsts Unlike bytes_eq (flat_map table_scalars shown)
+      (each_flat_map Unlike (λ (t : ShownTable). Each Unlike (table_scalars t)) table_scalars (λ t h. h) shown
+      (each_filter_map (λ (t : ShownTable). Each Unlike (table_scalars t)) (λ (k : TrackedTree). First k × (ScalarsDiffer k ≡ true)) (shown_entry tables m role) (λ k h. one k h.0 h.1) m.tracked
+      (each_both First (λ (k : TrackedTree). ScalarsDiffer k ≡ true) m.tracked firsts
+      (each_of ScalarsDiffer m.tracked (and_parts (types_once && roots_once && list_all OwnDiffer m.tracked) (list_all ScalarsDiffer m.tracked) all_names).1))))
+    where
+      one : (k : TrackedTree) → First k → ScalarsDiffer k ≡ true → IfSome (shown_entry tables m role k) (λ (t : ShownTable). Each Unlike (table_scalars t))
+      one k first own = by (shown_entry tables m role k) refl
+        where
+          by : (o : Option ShownTable) → shown_entry tables m role k ≡ o → IfSome o (λ (t : ShownTable). Each Unlike (table_scalars t))
+          by None e = tt
+          by (Some t) e =
+              let g = granted tables m role k first t e in
+              let P : ShownTable → Type 0 = λ u. Each Unlike (table_scalars u) in
+              subst P (sym g.is) (chosen_unlike tables m k g.table g.here (admin.all_types (schema_of tables m) m) g.perm g.columns own)
+
+  over_differs : NamesDiffer (schema_over (scalars_of shown) (placed shown))
   over_differs =
       let both = and_parts types_once roots_once (and_parts (types_once && roots_once) (list_all OwnDiffer m.tracked) names).0 in
       let type_name = λ (t : TypeTree). t.name in
-      let are : map type_name (all_types (placed shown)) ≡ admin.fixed_types ++ flat_map type_names shown =
-      map-append type_name (fixed_types (placed shown)) (flat_map (table_types (placed shown)) (placed shown))
-      ∙ (ap (λ xs. xs ++ map type_name (flat_map (table_types (placed shown)) (placed shown))) (fixed_named (placed shown))
-      ∙ ap (λ xs. admin.fixed_types ++ xs) (tables_named (placed shown) 20 shown))
+      let scalars = scalars_of shown in
+      let own_types = flat_map (table_types scalars (placed shown)) (placed shown) in
+      let own_names = flat_map type_names shown in
+      let front : map type_name (fixed_types (placed shown) ++ map scalar_type scalars) ≡ admin.fixed_types ++ scalars =
+      map-append type_name (fixed_types (placed shown)) (map scalar_type scalars)
+      ∙ (ap (λ xs. xs ++ map type_name (map scalar_type scalars)) (fixed_named (placed shown)) ∙ ap (λ xs. admin.fixed_types ++ xs) (scalars_named scalars))
       in
-      let some : Sub (admin.fixed_types ++ flat_map type_names shown) (admin.fixed_types ++ flat_map (admin.types_of (schema_of tables m)) m.tracked) =
-      sub_append admin.fixed_types admin.fixed_types (flat_map type_names shown) (flat_map (admin.types_of (schema_of tables m)) m.tracked) (sub_same admin.fixed_types) types_some
+      let are : map type_name (all_types scalars (placed shown)) ≡ (admin.fixed_types ++ scalars) ++ own_names =
+      map-append type_name (fixed_types (placed shown) ++ map scalar_type scalars) own_types
+      ∙ (ap (λ xs. xs ++ map type_name own_types) front
+      ∙ ap (λ xs. (admin.fixed_types ++ scalars) ++ xs) (tables_named scalars (placed shown) (behind_scalars scalars) shown))
+      in
+      let wide = admin.all_types (schema_of tables m) m in
+      let some : Sub (admin.fixed_types ++ own_names) wide =
+      sub_append admin.fixed_types admin.fixed_types own_names (flat_map (admin.types_of (schema_of tables m)) m.tracked) (sub_same admin.fixed_types) types_some
+      in
+      let unlike : Each (λ n. list_any (λ t. bytes_eq t n) (admin.fixed_types ++ own_names) ≡ false) scalars =
+      each_weaken Unlike (λ n. list_any (λ t. bytes_eq t n) (admin.fixed_types ++ own_names) ≡ false) (λ n h. none_sub (λ t. bytes_eq t n) (admin.fixed_types ++ own_names) wide some h) scalars scalars_unlike
       in
       record {
-        types = ap differ are ∙ differ_some (admin.fixed_types ++ flat_map type_names shown) (admin.fixed_types ++ flat_map (admin.types_of (schema_of tables m)) m.tracked) some both.0;
+        types = ap differ are ∙ differ_between admin.fixed_types scalars own_names (differ_some (admin.fixed_types ++ own_names) wide some both.0) (firsts_differ bytes_eq (flat_map table_scalars shown)) unlike;
         members =
-            types_differ shown (placed_each (TableDiffers (placed shown)) 20 shown tables_differ)
+            types_differ shown (placed_each (TableDiffers (placed shown)) (behind_scalars scalars) shown tables_differ)
             (differ_some (flat_map root_names shown) (flat_map (admin.roots_of (schema_of tables m)) m.tracked) roots_some both.1);
       }
 

@@ -1,10 +1,13 @@
 -- The fields, arguments and inputs of a table's types fit.
-use Rattle.std.proofs.Common.{◌≡◌, ◌∙◌, refl, sym, ap, ℕ, List, [], ◌∷◌, ◌++◌, map, Bool, true, false, cond, not, ◌||◌, Option, Some, None, subst}
-use Rattle.std.specs.Prelude.{flat_map, option_map, slice_get, nat_lt, codes, IfSome}
+use Rattle.std.proofs.Common.{◌≡◌, ◌<◌, ◌∙◌, refl, sym, ap, ℕ, List, [], ◌∷◌, ◌++◌, map, Bool, true, false, cond, not, ◌||◌, Option, Some, None, subst}
+use Rattle.std.specs.Prelude.{flat_map, option_map, option_and_then, position, slice_get, length, nat_lt, bytes_eq, codes, IfSome}
 use Rattle.std.specs.List.{filter_map}
 use Rattle.std.specs.Option.{option_map_or}
+use Rattle.std.proofs.lemmas.List.Quantifiers.{position-Some}
+use Rattle.hq_base.specs.Types.{is_ordered}
 use Rattle.hq_base.specs.Lists.{Each}
 use Rattle.hq_base.specs.Aggregates.{given_type}
+use Rattle.hq_base.specs.declared.value.Ty.TheVariants.{Opaque}
 use Rattle.hq_schema.specs.Fixed.{fixed_place, fixed_kind, fixed_origin, int}
 use Rattle.hq_schema.specs.Parts.{part_offset}
 use Rattle.hq_schema.specs.Schema.{TypeRefTree, non_null, base, FieldTree, TypeTree}
@@ -22,15 +25,16 @@ use Rattle.hq_schema.specs.declared.schema.Kind.TheVariants as kind
 use Rattle.hq_role_schema.specs.Fields.{list_args, list_field, aggregate_field, row_type, column_field, column_fields, link_fields}
 use Rattle.hq_role_schema.specs.Inputs.{connectives, column_input, link_input, inputs_of}
 use Rattle.hq_role_schema.specs.References.{fixed, part, items, all_items, arg}
+use Rattle.hq_role_schema.specs.Scalars.{scalar_at, column_scalar}
 use Rattle.hq_role_schema.specs.Shown.{has_aggregate}
 use Rattle.hq_role_schema.specs.declared.shown.ShownColumn.{ShownColumn}
 use Rattle.hq_role_schema.specs.declared.shown.Link.{Link}
 use Rattle.hq_roles.specs.Access.{Access}
 use Rattle.hq_roles.specs.Leads.{Target, plain, to, where_holds, behind_one, behind_many, aggregates_behind, behind, list_target, remote_of, field_target, input_target, Reaches, IsOf, is_output, is_input, ArgFits, FieldFits}
 use Rattle.hq_roles.proofs.Links.{LinkFits}
-use Rattle.hq_roles.proofs.Lists.{each_append, each_map, each_flat_map, each_filter_map}
+use Rattle.hq_roles.proofs.Lists.{each_append, each_flat_map, each_filter_map}
 use Rattle.hq_roles.proofs.Permits.{Permitted}
-use Rattle.hq_roles.proofs.Standing.{what, StandsAt, PartStands}
+use Rattle.hq_roles.proofs.Standing.{what, StandsAt, PartStands, ScalarsStand}
 
 -- ---- what stands at a place is of its kind, and stands for what it stands for
 
@@ -104,37 +108,50 @@ module _ (types : List TypeTree) (a : Access) (fixed_ones : (f : Fixed) → Stan
 
   -- ---- columns
 
+  -- the place of a scalar is one among them
+  abbrev scalar_place : (scalars : List (List ℕ)) → Option (List ℕ) → Option ℕ
+  scalar_place scalars o = option_and_then (λ name. position (λ s. bytes_eq s name) scalars) o
+
   -- a column's field in a part
-  column_fits : (owner : TypeOrigin) (t : ℕ) (p : Part) → ((c : ℕ) → field_target a owner (field.Column c) ≡ where_holds (a.column t c) plain) → (c : ShownColumn) → a.column t c.col ≡ true → IfSome (column_field p c) (FieldFits types a owner)
-  column_fits owner t p target c allowed = by p
+  column_fits : (scalars : List (List ℕ)) → ScalarsStand types scalars → (owner : TypeOrigin) (t : ℕ) (p : Part) → ((c : ℕ) → field_target a owner (field.Column c) ≡ where_holds (a.column t c) plain) → (c : ShownColumn) → a.column t c.col ≡ true → IfSome (column_field scalars p c) (FieldFits types a owner)
+  column_fits scalars scalar_ones owner t p target c allowed = by p
     where
-      fits : (r : TypeRefTree) (f : Fixed) → base r ≡ fixed_place f → is_output (fixed_kind f) ≡ true → FieldFits types a owner (record { name = c.name; args = []; ty = r; origin = field.Column c.col })
-      fits r f e is_so = record {
+      fits : (r : TypeRefTree) → IsOf is_output types r → FieldFits types a owner (record { name = c.name; args = []; ty = r; origin = field.Column c.col })
+      fits r out = record {
         reaches = at_target types r (field_target a owner (field.Column c.col)) (where_holds (a.column t c.col) plain) (target c.col) (where_is types r (a.column t c.col) plain allowed tt);
-        output = fixed_output r f e is_so;
+        output = out;
         args = tt;
       }
 
-      held : (b : Bool) (r : TypeRefTree) (f : Fixed) → base r ≡ fixed_place f → is_output (fixed_kind f) ≡ true → IfSome (option_map (λ (r : TypeRefTree). let x : FieldTree = record { name = c.name; args = []; ty = r; origin = field.Column c.col } in x) (cond b (Some r) None)) (FieldFits types a owner)
-      held true r f e is_so = fits r f e is_so
-      held false r f e is_so = tt
+      held : (b : Bool) (r : TypeRefTree) → IsOf is_output types r → IfSome (option_map (λ (r : TypeRefTree). let x : FieldTree = record { name = c.name; args = []; ty = r; origin = field.Column c.col } in x) (cond b (Some r) None)) (FieldFits types a owner)
+      held true r out = fits r out
+      held false r out = tt
 
-      row_base : (b : Bool) → base (cond b (fixed (fixed_type.Scalar c.ty)) (non_null (fixed (fixed_type.Scalar c.ty)))) ≡ fixed_place (fixed_type.Scalar c.ty)
-      row_base true = refl
-      row_base false = refl
+      within : (o : Option (List ℕ)) (i : ℕ) → scalar_place scalars o ≡ Some i → i < length scalars
+      within None i e = absurd cc
+      within (Some name) i e = (position-Some (λ s. bytes_eq s name) scalars i [] e).0
 
-      by : (q : Part) → IfSome (column_field q c) (FieldFits types a owner)
-      by Rows = fits (row_type c) (fixed_type.Scalar c.ty) (row_base c.nullable) refl
-      by (Aggregated g) = held (has_aggregate g c) (fixed (fixed_type.Scalar (given_type g c.ty))) (fixed_type.Scalar (given_type g c.ty)) refl refl
+      -- so a column's values have a type that is an output
+      valued : (o : Option ℕ) → scalar_place scalars c.scalar ≡ o → (r : TypeRefTree) → base r ≡ base (scalar_at c.ty o) → IsOf is_output types r
+      valued None e r same = fixed_output r (fixed_type.Scalar c.ty) same refl
+      valued (Some i) e r same = is_of types is_output r (type.Scalar Opaque) kind.Scalar (rw same (scalar_ones i (within c.scalar i e))) refl
+
+      row_base : (b : Bool) (r : TypeRefTree) → base (cond b r (non_null r)) ≡ base r
+      row_base true r = refl
+      row_base false r = refl
+
+      by : (q : Part) → IfSome (column_field scalars q c) (FieldFits types a owner)
+      by Rows = fits (row_type scalars c) (valued (scalar_place scalars c.scalar) refl (row_type scalars c) (row_base c.nullable (column_scalar scalars c)))
+      by (Aggregated g) = held (has_aggregate g c) (fixed (fixed_type.Scalar (given_type g c.ty))) (fixed_output (fixed (fixed_type.Scalar (given_type g c.ty))) (fixed_type.Scalar (given_type g c.ty)) refl refl)
       by Filter = tt
       by Sort = tt
       by Columns = tt
       by Aggregate = tt
       by AggregateFields = tt
 
-  pub columns_fit : (owner : TypeOrigin) (t : ℕ) (p : Part) → ((c : ℕ) → field_target a owner (field.Column c) ≡ where_holds (a.column t c) plain) → (cs : List ShownColumn) → Permitted a t cs → Each (FieldFits types a owner) (column_fields p cs)
-  columns_fit owner t p target cs allowed =
-      each_filter_map (FieldFits types a owner) (λ (c : ShownColumn). a.column t c.col ≡ true) (column_field p) (column_fits owner t p target) cs allowed
+  pub columns_fit : (scalars : List (List ℕ)) → ScalarsStand types scalars → (owner : TypeOrigin) (t : ℕ) (p : Part) → ((c : ℕ) → field_target a owner (field.Column c) ≡ where_holds (a.column t c) plain) → (cs : List ShownColumn) → Permitted a t cs → Each (FieldFits types a owner) (column_fields scalars p cs)
+  columns_fit scalars scalar_ones owner t p target cs allowed =
+      each_filter_map (FieldFits types a owner) (λ (c : ShownColumn). a.column t c.col ≡ true) (column_field scalars p) (column_fits scalars scalar_ones owner t p target) cs allowed
 
   -- ---- relationships
 
@@ -206,28 +223,32 @@ module _ (types : List TypeTree) (a : Access) (fixed_ones : (f : Fixed) → Stan
 
   -- ---- inputs
 
-  filter_column_fits : (t : ℕ) (c : ShownColumn) → a.column t c.col ≡ true → ArgFits types (input_target a (type.Filter t)) (column_input Filter c)
+  filter_column_fits : (t : ℕ) (c : ShownColumn) → a.column t c.col ≡ true → IfSome (column_input Filter c) (ArgFits types (input_target a (type.Filter t)))
   filter_column_fits t c allowed = record {
     reaches = where_is types (fixed (fixed_type.Comparison c.ty)) (a.column t c.col) plain allowed tt;
     input = fixed_input (fixed (fixed_type.Comparison c.ty)) (fixed_type.Comparison c.ty) refl refl;
   }
 
-  sort_column_fits : (t : ℕ) (c : ShownColumn) → a.column t c.col ≡ true → ArgFits types (input_target a (type.Sort t)) (column_input Sort c)
-  sort_column_fits t c allowed = record {
-    reaches = where_is types (fixed fixed_type.OrderBy) (a.column t c.col) (to type.Directions) allowed (reaches_it types (fixed fixed_type.OrderBy) type.Directions kind.Enum (fixed_ones fixed_type.OrderBy));
-    input = fixed_input (fixed fixed_type.OrderBy) fixed_type.OrderBy refl refl;
-  }
+  sort_column_fits : (t : ℕ) (c : ShownColumn) → a.column t c.col ≡ true → IfSome (column_input Sort c) (ArgFits types (input_target a (type.Sort t)))
+  sort_column_fits t c allowed = by (is_ordered c.ty)
+    where
+      by : (b : Bool) → IfSome (cond (false || b) (Some (arg c.name (fixed fixed_type.OrderBy) (arg_origin.Column c.col))) None) (ArgFits types (input_target a (type.Sort t)))
+      by true = record {
+        reaches = where_is types (fixed fixed_type.OrderBy) (a.column t c.col) (to type.Directions) allowed (reaches_it types (fixed fixed_type.OrderBy) type.Directions kind.Enum (fixed_ones fixed_type.OrderBy));
+        input = fixed_input (fixed fixed_type.OrderBy) fixed_type.OrderBy refl refl;
+      }
+      by false = tt
 
   pub filters_fit : (t : ℕ) (cs : List ShownColumn) (ls : List Link) → Permitted a t cs → Each (LinkFits types a t) ls → Each (ArgFits types (input_target a (type.Filter t))) (inputs_of Filter cs ls)
   filters_fit t cs ls allowed h =
-      each_append (ArgFits types (input_target a (type.Filter t))) (map (column_input Filter) cs) (filter_map (link_input Filter) ls)
-      (each_map (ArgFits types (input_target a (type.Filter t))) (λ (c : ShownColumn). a.column t c.col ≡ true) (column_input Filter) (filter_column_fits t) cs allowed)
+      each_append (ArgFits types (input_target a (type.Filter t))) (filter_map (column_input Filter) cs) (filter_map (link_input Filter) ls)
+      (each_filter_map (ArgFits types (input_target a (type.Filter t))) (λ (c : ShownColumn). a.column t c.col ≡ true) (column_input Filter) (filter_column_fits t) cs allowed)
       (each_filter_map (ArgFits types (input_target a (type.Filter t))) (LinkFits types a t) (link_input Filter) (filter_input_fits t) ls h)
 
   pub sorts_fit : (t : ℕ) (cs : List ShownColumn) (ls : List Link) → Permitted a t cs → Each (LinkFits types a t) ls → Each (ArgFits types (input_target a (type.Sort t))) (inputs_of Sort cs ls)
   sorts_fit t cs ls allowed h =
-      each_append (ArgFits types (input_target a (type.Sort t))) (map (column_input Sort) cs) (filter_map (link_input Sort) ls)
-      (each_map (ArgFits types (input_target a (type.Sort t))) (λ (c : ShownColumn). a.column t c.col ≡ true) (column_input Sort) (sort_column_fits t) cs allowed)
+      each_append (ArgFits types (input_target a (type.Sort t))) (filter_map (column_input Sort) cs) (filter_map (link_input Sort) ls)
+      (each_filter_map (ArgFits types (input_target a (type.Sort t))) (λ (c : ShownColumn). a.column t c.col ≡ true) (column_input Sort) (sort_column_fits t) cs allowed)
       (each_filter_map (ArgFits types (input_target a (type.Sort t))) (LinkFits types a t) (link_input Sort) (sort_input_fits t) ls h)
 
   pub connectives_fit : (t first : ℕ) → PartStands types first t Filter → Each (ArgFits types (input_target a (type.Filter t))) (connectives first)

@@ -1,5 +1,5 @@
 -- All types of a role's schema fit.
-use Rattle.std.proofs.Common.{◌≡◌, ◌∙◌, refl, sym, subst, ℕ, suc, ◌+◌, List, [], ◌∷◌, ◌++◌, map, Bool, true, false, cond, ◌==◌, Some, None, arith}
+use Rattle.std.proofs.Common.{◌≡◌, ◌∙◌, refl, sym, ap, subst, ℕ, suc, ◌+◌, List, [], ◌∷◌, ◌++◌, length, map, Bool, true, false, cond, ◌==◌, Some, None, append_assoc, length-append, arith}
 use Rattle.std.specs.Prelude.{flat_map, slice_get}
 use Rattle.std.proofs.lemmas.List.{length-map}
 use Rattle.hq_base.specs.Aggregates.{aggregate_name}
@@ -25,6 +25,7 @@ use Rattle.hq_role_schema.specs.Inputs.{connectives, inputs_of, part_inputs}
 use Rattle.hq_role_schema.specs.Placed.{placed, links_from}
 use Rattle.hq_role_schema.specs.References.{fixed, part, items, all_items, plain_field}
 use Rattle.hq_role_schema.specs.RoleSchema.{part_type, types_with, table_types, all_types, role_schema}
+use Rattle.hq_role_schema.specs.Scalars.{fixed_count, scalars_of, behind_scalars, scalar_type}
 use Rattle.hq_role_schema.specs.Shown.{aggregates_over, shown_tables}
 use Rattle.hq_role_schema.specs.declared.shown.ShownColumn.{ShownColumn}
 use Rattle.hq_role_schema.specs.declared.shown.ShownTable.{ShownTable}
@@ -37,26 +38,26 @@ use Rattle.hq_roles.proofs.FixedFit.{fixed_fits}
 use Rattle.hq_roles.proofs.Links.{Sound, each_sound, LinkFits, links_fit}
 use Rattle.hq_roles.proofs.Lists.{each_append, each_map, each_flat_map, each_filter_map}
 use Rattle.hq_roles.proofs.Permits.{Permits, tables_permit, placed_permit}
-use Rattle.hq_roles.proofs.Standing.{StandsAt, PartStands, has_four, has_fields_part, has_aggregated, stand_from, fixed_stands}
+use Rattle.hq_roles.proofs.Standing.{StandsAt, PartStands, ScalarsStand, has_four, has_fields_part, has_aggregated, stand_from, scalars_stand, fixed_stands}
 
-module _ (types : List TypeTree) (a : Access) (fixed_ones : (f : Fixed) → StandsAt types (fixed_place f) (fixed_origin f) (fixed_kind f)) (p : PlacedTable) (s : Sound types a p) (ls : List Link) (linked : Each (LinkFits types a p.shown.table) ls) where
+module _ (types : List TypeTree) (a : Access) (fixed_ones : (f : Fixed) → StandsAt types (fixed_place f) (fixed_origin f) (fixed_kind f)) (scalars : List (List ℕ)) (scalar_ones : ScalarsStand types scalars) (p : PlacedTable) (s : Sound types a p) (ls : List Link) (linked : Each (LinkFits types a p.shown.table) ls) where
   -- a part in which no column has a field
-  no_columns : (owner : TypeOrigin) (q : Part) → ((c : ShownColumn) → column_field q c ≡ None) → Each (FieldFits types a owner) (column_fields q p.shown.columns)
+  no_columns : (owner : TypeOrigin) (q : Part) → ((c : ShownColumn) → column_field scalars q c ≡ None) → Each (FieldFits types a owner) (column_fields scalars q p.shown.columns)
   no_columns owner q none =
-      each_filter_map (FieldFits types a owner) (λ (c : ShownColumn). a.column p.shown.table c.col ≡ true) (column_field q) (λ c g. rw (none c) tt) p.shown.columns s.permits.columns
+      each_filter_map (FieldFits types a owner) (λ (c : ShownColumn). a.column p.shown.table c.col ≡ true) (column_field scalars q) (λ c g. rw (none c) tt) p.shown.columns s.permits.columns
 
-  row_part : TypeFits types a (part_type p ls Rows)
+  row_part : TypeFits types a (part_type scalars p ls Rows)
   unfolding part_type part_fields part_inputs
   row_part = record {
     fields =
-        each_append (FieldFits types a (type.Rows p.shown.table)) (column_fields Rows p.shown.columns) (flat_map link_fields ls)
-        (columns_fit types a fixed_ones (type.Rows p.shown.table) p.shown.table Rows (λ c. refl) p.shown.columns s.permits.columns)
+        each_append (FieldFits types a (type.Rows p.shown.table)) (column_fields scalars Rows p.shown.columns) (flat_map link_fields ls)
+        (columns_fit types a fixed_ones scalars scalar_ones (type.Rows p.shown.table) p.shown.table Rows (λ c. refl) p.shown.columns s.permits.columns)
         (links_fields_fit types a fixed_ones p.shown.table ls linked);
     inputs = tt;
     columns = refl;
   }
 
-  filter_part : TypeFits types a (part_type p ls Filter)
+  filter_part : TypeFits types a (part_type scalars p ls Filter)
   unfolding part_type part_fields part_inputs
   filter_part = record {
     fields = no_columns (type.Filter p.shown.table) Filter (λ c. refl);
@@ -67,7 +68,7 @@ module _ (types : List TypeTree) (a : Access) (fixed_ones : (f : Fixed) → Stan
     columns = refl;
   }
 
-  sort_part : TypeFits types a (part_type p ls Sort)
+  sort_part : TypeFits types a (part_type scalars p ls Sort)
   unfolding part_type part_fields part_inputs
   sort_part = record {
     fields = no_columns (type.Sort p.shown.table) Sort (λ c. refl);
@@ -75,7 +76,7 @@ module _ (types : List TypeTree) (a : Access) (fixed_ones : (f : Fixed) → Stan
     columns = refl;
   }
 
-  columns_part : TypeFits types a (part_type p ls Columns)
+  columns_part : TypeFits types a (part_type scalars p ls Columns)
   unfolding part_type part_fields part_inputs
   columns_part = record {
     fields = no_columns (type.Columns p.shown.table) Columns (λ c. refl);
@@ -86,7 +87,7 @@ module _ (types : List TypeTree) (a : Access) (fixed_ones : (f : Fixed) → Stan
     );
   }
 
-  aggregate_part : p.shown.aggregates ≡ true → TypeFits types a (part_type p ls Aggregate)
+  aggregate_part : p.shown.aggregates ≡ true → TypeFits types a (part_type scalars p ls Aggregate)
   unfolding part_type part_fields part_inputs
   aggregate_part allowed =
       let owner = type.Aggregate p.shown.table in
@@ -147,7 +148,7 @@ module _ (types : List TypeTree) (a : Access) (fixed_ones : (f : Fixed) → Stan
       behind : (n i : ℕ) → n + suc i ≡ n + 1 + i
       behind n i = omega arith
 
-  over_part : p.shown.aggregates ≡ true → TypeFits types a (part_type p ls AggregateFields)
+  over_part : p.shown.aggregates ≡ true → TypeFits types a (part_type scalars p ls AggregateFields)
   unfolding part_type part_fields part_inputs
   over_part allowed =
       let stand : (i : ℕ) (g : OneAggregate) → slice_get (aggregates_over p.shown.columns) i ≡ Some g → StandsAt types (p.first + 6 + i) (type.Aggregated g p.shown.table) kind.Object =
@@ -165,39 +166,53 @@ module _ (types : List TypeTree) (a : Access) (fixed_ones : (f : Fixed) → Stan
       behind : (n i : ℕ) → n + (6 + i) ≡ n + 6 + i
       behind n i = omega arith
 
-  aggregated_part : (g : OneAggregate) → TypeFits types a (part_type p ls (Aggregated g))
+  aggregated_part : (g : OneAggregate) → TypeFits types a (part_type scalars p ls (Aggregated g))
   unfolding part_type part_fields part_inputs
   aggregated_part g = record {
-    fields = columns_fit types a fixed_ones (type.Aggregated g p.shown.table) p.shown.table (Aggregated g) (λ c. refl) p.shown.columns s.permits.columns;
+    fields = columns_fit types a fixed_ones scalars scalar_ones (type.Aggregated g p.shown.table) p.shown.table (Aggregated g) (λ c. refl) p.shown.columns s.permits.columns;
     inputs = tt;
     columns = refl;
   }
 
-  aggregated_parts : (gs : List OneAggregate) → Each (TypeFits types a) (map (part_type p ls) (map Aggregated gs))
+  aggregated_parts : (gs : List OneAggregate) → Each (TypeFits types a) (map (part_type scalars p ls) (map Aggregated gs))
   aggregated_parts [] = tt
   aggregated_parts (g ∷ gs) = (aggregated_part g, aggregated_parts gs)
 
-  types_fit : Each (TypeFits types a) (types_with p ls)
+  types_fit : Each (TypeFits types a) (types_with scalars p ls)
   types_fit = (row_part, (filter_part, (sort_part, (columns_part, by p.shown.aggregates refl))))
     where
-      by : (b : Bool) → p.shown.aggregates ≡ b → Each (TypeFits types a) (map (part_type p ls) (cond b (aggregate_parts ++ map Aggregated (aggregates_over p.shown.columns)) []))
+      by : (b : Bool) → p.shown.aggregates ≡ b → Each (TypeFits types a) (map (part_type scalars p ls) (cond b (aggregate_parts ++ map Aggregated (aggregates_over p.shown.columns)) []))
       by true allowed = (aggregate_part allowed, (over_part allowed, aggregated_parts (aggregates_over p.shown.columns)))
       by false closed = tt
 
-table_fits : (types : List TypeTree) (a : Access) → ((f : Fixed) → StandsAt types (fixed_place f) (fixed_origin f) (fixed_kind f)) → (ps : List PlacedTable) → Each (Sound types a) ps → (p : PlacedTable) → Sound types a p → Each (TypeFits types a) (table_types ps p)
-table_fits types a fixed_ones ps sound p s =
-    types_fit types a fixed_ones p s (links_from ps 0 p.shown.rels) (links_fit types a ps sound p.shown.table p.shown.rels s.permits.rels)
+table_fits : (types : List TypeTree) (a : Access) → ((f : Fixed) → StandsAt types (fixed_place f) (fixed_origin f) (fixed_kind f)) → (scalars : List (List ℕ)) → ScalarsStand types scalars → (ps : List PlacedTable) → Each (Sound types a) ps → (p : PlacedTable) → Sound types a p → Each (TypeFits types a) (table_types scalars ps p)
+table_fits types a fixed_ones scalars scalar_ones ps sound p s =
+    types_fit types a fixed_ones scalars scalar_ones p s (links_from ps 0 p.shown.rels) (links_fit types a ps sound p.shown.table p.shown.rels s.permits.rels)
+
+scalar_fits : (types : List TypeTree) (a : Access) (name : List ℕ) → TypeFits types a (scalar_type name)
+unfolding scalar_type
+scalar_fits types a name = record { fields = tt; inputs = tt; columns = refl }
 
 -- all types of the schema over tables that are permitted
-over_fits : (a : Access) (ts : List ShownTable) → Each (Permits a) ts → Each (TypeFits (all_types (placed ts)) a) (all_types (placed ts))
+over_fits : (a : Access) (ts : List ShownTable) → Each (Permits a) ts → Each (TypeFits (all_types (scalars_of ts) (placed ts)) a) (all_types (scalars_of ts) (placed ts))
 over_fits a ts permits =
+    let scalars = scalars_of ts in
     let ps = placed ts in
-    let types = all_types ps in
-    let sound : Each (Sound types a) ps = each_sound types a ps (stand_from ps (fixed_types ps) 20 ts refl) (placed_permit a 20 ts permits) in
-    let fixed_ones = fixed_stands ps (flat_map (table_types ps) ps) in
-    each_append (TypeFits types a) (fixed_types ps) (flat_map (table_types ps) ps)
+    let own = map scalar_type scalars in
+    let front = fixed_types ps ++ own in
+    let rest = flat_map (table_types scalars ps) ps in
+    let types = all_types scalars ps in
+    let long : length front ≡ behind_scalars scalars = length-append (fixed_types ps) own ∙ ap (λ n. fixed_count + n) (length-map scalars scalar_type) in
+    let sound : Each (Sound types a) ps = each_sound types a ps (stand_from scalars ps front (behind_scalars scalars) ts long) (placed_permit a (behind_scalars scalars) ts permits) in
+    let fixed_ones : (f : Fixed) → StandsAt types (fixed_place f) (fixed_origin f) (fixed_kind f) =
+    λ f. subst (λ (us : List TypeTree). StandsAt us (fixed_place f) (fixed_origin f) (fixed_kind f)) (sym (append_assoc (fixed_types ps) own rest)) (fixed_stands ps (own ++ rest) f)
+    in
+    let scalar_ones : ScalarsStand types scalars = scalars_stand scalars (fixed_types ps) rest refl in
+    each_append (TypeFits types a) front rest
+    (each_append (TypeFits types a) (fixed_types ps) own
     (each_map (TypeFits types a) (λ (f : Fixed). Unit {0}) (fixed_type ps) (λ f g. fixed_fits types a fixed_ones ps sound f) all_fixed (each_all (λ (f : Fixed). Unit {0}) (λ f. tt) all_fixed))
-    (each_flat_map (TypeFits types a) (Sound types a) (table_types ps) (table_fits types a fixed_ones ps sound) ps sound)
+    (each_map (TypeFits types a) (λ (n : List ℕ). Unit {0}) scalar_type (λ n u. scalar_fits types a n) scalars (each_all (λ (n : List ℕ). Unit {0}) (λ n. tt) scalars)))
+    (each_flat_map (TypeFits types a) (Sound types a) (table_types scalars ps) (table_fits types a fixed_ones scalars scalar_ones ps sound) ps sound)
 
 pub schema_fits : (tables : List Table) (m : MetaTree) (role : Role) → all_differ (λ (j k : TrackedTree). j.table == k.table) m.tracked ≡ true → Each (TypeFits (role_schema tables m role).types (access_of m role)) (role_schema tables m role).types
 unfolding role_schema

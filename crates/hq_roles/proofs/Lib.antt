@@ -9,6 +9,7 @@ mod Subs
 mod Granted
 mod TableNames
 mod KeyNames
+mod ScalarNames
 mod Differing
 mod OtherRoles
 mod RolesKept

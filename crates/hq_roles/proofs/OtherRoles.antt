@@ -7,6 +7,7 @@ use Rattle.hq_base.specs.Lists.{Each}
 use Rattle.std.proofs.lemmas.Slice.Eq.{bytes_eq-Decides}
 use Rattle.hq_role_schema.specs.Placed.{placed}
 use Rattle.hq_role_schema.specs.RoleSchema.{schema_over, role_schema}
+use Rattle.hq_role_schema.specs.Scalars.{scalars_of}
 use Rattle.hq_role_schema.specs.Shown.{shown_table, shown_entry}
 use Rattle.hq_schema.specs.declared.schema.Schema.{Schema}
 use Rattle.hq_terms.specs.Fits.{fits, fits_tracked, fits_perm, fits_inherited}
@@ -133,7 +134,7 @@ none_shown tables m name h (k ∷ ks) =
 -- two roles that see nothing have one schema
 alike : (tables : List Table) (m : MetaTree) (a b : List ℕ) → SeesNothing m a → SeesNothing m b → role_schema tables m (Named a) ≡ role_schema tables m (Named b)
 unfolding role_schema
-alike tables m a b none_a none_b = ap (λ ts. schema_over (placed ts)) (none_shown tables m a none_a m.tracked ∙ sym (none_shown tables m b none_b m.tracked))
+alike tables m a b none_a none_b = ap (λ ts. schema_over (scalars_of ts) (placed ts)) (none_shown tables m a none_a m.tracked ∙ sym (none_shown tables m b none_b m.tracked))
 
 -- ---- the two ways to know it
 

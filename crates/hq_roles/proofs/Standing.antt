@@ -3,7 +3,7 @@ use Rattle.std.proofs.Common.{◌≡◌, ◌∙◌, refl, sym, ap, ℕ, suc, ◌
 use Rattle.std.specs.Prelude.{flat_map, option_map, slice_get, nat_lt}
 use Rattle.std.proofs.lemmas.Bool.{false≢true}
 use Rattle.std.proofs.lemmas.List.{length-map}
-use Rattle.std.proofs.lemmas.Option.{slice_get-map}
+use Rattle.std.proofs.lemmas.Option.{slice_get-map, slice_get-get_or}
 use Rattle.hq_base.specs.Lists.{Each}
 use Rattle.hq_base.specs.declared.aggregate.Aggregate.{Aggregate as OneAggregate}
 use Rattle.hq_base.specs.declared.value.Ty.TheVariants as ty
@@ -13,12 +13,15 @@ use Rattle.hq_schema.specs.Schema.{TypeTree}
 use Rattle.hq_schema.specs.declared.fixed.Fixed.{Fixed}
 use Rattle.hq_schema.specs.declared.fixed.Fixed.TheVariants.{Scalar, OrderBy, Comparison, Schema, «Type» as TypeType, Field, InputValue, EnumValue, Directive, TypeKind, DirectiveLocation, QueryRoot}
 use Rattle.hq_schema.specs.declared.origin.TypeOrigin.{TypeOrigin}
+use Rattle.hq_schema.specs.declared.origin.TypeOrigin.TheVariants as type
 use Rattle.hq_schema.specs.declared.part.Part.{Part}
 use Rattle.hq_schema.specs.declared.part.Part.TheVariants.{Rows, Filter, Sort, Columns, Aggregate, AggregateFields, Aggregated}
 use Rattle.hq_schema.specs.declared.schema.Kind.{Kind}
+use Rattle.hq_schema.specs.declared.schema.Kind.TheVariants as kind
 use Rattle.hq_role_schema.specs.FixedTypes.{fixed_type, fixed_types}
 use Rattle.hq_role_schema.specs.Placed.{parts_of, part_count, placed_from, links_from}
 use Rattle.hq_role_schema.specs.RoleSchema.{part_type, types_with, table_types}
+use Rattle.hq_role_schema.specs.Scalars.{fixed_count, scalar_type}
 use Rattle.hq_role_schema.specs.Shown.{aggregates_over}
 use Rattle.hq_role_schema.specs.declared.shown.ShownTable.{ShownTable}
 use Rattle.hq_role_schema.specs.declared.shown.PlacedTable.{PlacedTable}
@@ -77,31 +80,47 @@ has_aggregated t i g allowed here =
 -- ---- tables one after the other
 
 -- a type among those of its table
-in_block : (p : PlacedTable) (ls : List Link) (i : ℕ) (part : Part) → slice_get (parts_of p.shown) i ≡ Some part → option_map what (slice_get (types_with p ls) i) ≡ Some (part_origin part p.shown.table, part_kind part)
+in_block : (scalars : List (List ℕ)) (p : PlacedTable) (ls : List Link) (i : ℕ) (part : Part) → slice_get (parts_of p.shown) i ≡ Some part → option_map what (slice_get (types_with scalars p ls) i) ≡ Some (part_origin part p.shown.table, part_kind part)
 unfolding part_type
-in_block p ls i part here =
-    ap (option_map what) (slice_get-map (part_type p ls) (parts_of p.shown) i ∙ ap (option_map (part_type p ls)) here)
+in_block scalars p ls i part here =
+    ap (option_map what) (slice_get-map (part_type scalars p ls) (parts_of p.shown) i ∙ ap (option_map (part_type scalars p ls)) here)
 
-pub stand_from : (ps : List PlacedTable) (front : List TypeTree) (first : ℕ) (ts : List ShownTable) → length front ≡ first → Each (Stands (front ++ flat_map (table_types ps) (placed_from first ts))) (placed_from first ts)
-stand_from ps front first [] long = tt
-stand_from ps front first (t ∷ ts) long =
+pub stand_from : (scalars : List (List ℕ)) (ps : List PlacedTable) (front : List TypeTree) (first : ℕ) (ts : List ShownTable) → length front ≡ first → Each (Stands (front ++ flat_map (table_types scalars ps) (placed_from first ts))) (placed_from first ts)
+stand_from scalars ps front first [] long = tt
+stand_from scalars ps front first (t ∷ ts) long =
     let p : PlacedTable = record { shown = t; first = first } in
     let ls = links_from ps 0 t.rels in
-    let block = types_with p ls in
-    let rest = flat_map (table_types ps) (placed_from (first + part_count t) ts) in
-    let size : length block ≡ length (parts_of t) = length-map (parts_of t) (part_type p ls) in
+    let block = types_with scalars p ls in
+    let rest = flat_map (table_types scalars ps) (placed_from (first + part_count t) ts) in
+    let size : length block ≡ length (parts_of t) = length-map (parts_of t) (part_type scalars p ls) in
     let here : Stands (front ++ (block ++ rest)) p =
     λ i part e.
     let there : i < length (parts_of t) = got_within (parts_of t) i part e in
     let within : i < length block = rw size there in
     ap (λ n. option_map what (slice_get (front ++ (block ++ rest)) (n + i))) (sym long)
-    ∙ (ap (option_map what) (get_middle front block rest i within) ∙ in_block p ls i part e)
+    ∙ (ap (option_map what) (get_middle front block rest i within) ∙ in_block scalars p ls i part e)
     in
     let long_next : length (front ++ block) ≡ first + part_count t =
     length-append front block ∙ (ap (λ n. n + length block) long ∙ ap (λ n. first + n) (size ∙ count_is t)) in
-    let later = stand_from ps (front ++ block) (first + part_count t) ts long_next in
+    let later = stand_from scalars ps (front ++ block) (first + part_count t) ts long_next in
     let P : List TypeTree → Type 0 = λ types. Each (Stands types) (placed_from (first + part_count t) ts) in
     (here, subst P (append_assoc front block rest) later)
+
+-- ---- the scalars of opaque columns
+
+-- scalars that stand one behind the other, behind the types that each schema has
+abbrev pub ScalarsStand : List TypeTree → (scalars : List (List ℕ)) → Type 0
+ScalarsStand types scalars = (i : ℕ) → i < length scalars → StandsAt types (fixed_count + i) (type.Scalar ty.Opaque) kind.Scalar
+
+pub scalars_stand : (scalars : List (List ℕ)) (front rest : List TypeTree) → length front ≡ fixed_count → ScalarsStand ((front ++ map scalar_type scalars) ++ rest) scalars
+unfolding scalar_type
+scalars_stand scalars front rest long i within =
+    let block = map scalar_type scalars in
+    let size : length block ≡ length scalars = length-map scalars scalar_type in
+    let here : i < length block = rw size within in
+    ap (λ (types : List TypeTree). option_map what (slice_get types (fixed_count + i))) (append_assoc front block rest)
+    ∙ (ap (λ n. option_map what (slice_get (front ++ (block ++ rest)) (n + i))) (sym long)
+    ∙ ap (option_map what) (get_middle front block rest i here ∙ (slice_get-map scalar_type scalars i ∙ ap (option_map scalar_type) (slice_get-get_or scalars i [] within))))
 
 -- ---- the types that each schema has
 
@@ -112,12 +131,14 @@ fixed_stands ps rest (Scalar ty.Integer) = refl
 fixed_stands ps rest (Scalar ty.Text) = refl
 fixed_stands ps rest (Scalar ty.Bigint) = refl
 fixed_stands ps rest (Scalar ty.Uuid) = refl
+fixed_stands ps rest (Scalar ty.Opaque) = refl
 fixed_stands ps rest OrderBy = refl
 fixed_stands ps rest (Comparison ty.Boolean) = refl
 fixed_stands ps rest (Comparison ty.Integer) = refl
 fixed_stands ps rest (Comparison ty.Text) = refl
 fixed_stands ps rest (Comparison ty.Bigint) = refl
 fixed_stands ps rest (Comparison ty.Uuid) = refl
+fixed_stands ps rest (Comparison ty.Opaque) = refl
 fixed_stands ps rest Schema = refl
 fixed_stands ps rest TypeType = refl
 fixed_stands ps rest Field = refl

@@ -65,12 +65,18 @@ module _ {A : Type 0} where
       by false true f later = inl later
       by false false f later = later
 
-  none_sub : (p : A → Bool) (xs ys : List A) → Sub xs ys → list_any p ys ≡ false → list_any p xs ≡ false
+  pub none_sub : (p : A → Bool) (xs ys : List A) → Sub xs ys → list_any p ys ≡ false → list_any p xs ≡ false
   none_sub p xs [] h none = ap (list_any p) h
   none_sub p xs (y ∷ ys) (inl h) none = none_sub p xs ys h (or_parts (p y) (list_any p ys) none).1
   none_sub p xs (y ∷ ys) (inr r) none =
       let parts = or_parts (p y) (list_any p ys) none in
       ap (list_any p) r.1 ∙ or_from (p y) (list_any p r.0) parts.0 (none_sub p r.0 ys r.2 parts.1)
+
+  -- what each of many has, each of some has
+  pub each_sub : (P : A → Type 0) (xs ys : List A) → Sub xs ys → Each P ys → Each P xs
+  each_sub P xs [] h all = subst (Each P) (sym h) tt
+  each_sub P xs (y ∷ ys) (inl h) all = each_sub P xs ys h all.1
+  each_sub P xs (y ∷ ys) (inr r) all = subst (Each P) (sym r.1) (all.0, each_sub P r.0 ys r.2 all.1)
 
   pub any_sub : (p : A → Bool) (xs ys : List A) → Sub xs ys → list_any p xs ≡ true → list_any p ys ≡ true
   any_sub p xs ys h some = by (list_any p ys) refl

@@ -5,6 +5,7 @@ use Rattle.std.specs.List.{list_any, list_all, filter_map, cons_option}
 use Rattle.std.proofs.lemmas.Bool.{and_parts, and_from, eqb-true}
 use Rattle.std.proofs.lemmas.List.{map-append}
 use Rattle.std.proofs.lemmas.Option.{get_or_from_slice_get}
+use Rattle.hq_base.specs.Types.{is_ordered}
 use Rattle.hq_base.specs.Aggregates.{all_aggregates, aggregate_suffix, is_aggregate_of}
 use Rattle.hq_base.specs.Lists.{Each}
 use Rattle.hq_base.specs.declared.aggregate.Aggregate.{Aggregate as OneAggregate}
@@ -23,9 +24,9 @@ use Rattle.hq_terms.specs.declared.table.Column.{Column}
 use Rattle.hq_terms.specs.declared.table.Table.{Table}
 use Rattle.hq_terms.proofs.Places.{table_present}
 use Rattle.hq_role_schema.specs.Fields.{column_type, column_fields, list_field, aggregate_field, link_fields}
-use Rattle.hq_role_schema.specs.Inputs.{is_filter, link_input}
+use Rattle.hq_role_schema.specs.Inputs.{is_filter, input_type, column_input, link_input}
 use Rattle.hq_role_schema.specs.Placed.{parts_of, link_to, links_from}
-use Rattle.hq_role_schema.specs.References.{plain_field, part, arg}
+use Rattle.hq_role_schema.specs.References.{fixed, plain_field, part, arg}
 use Rattle.hq_role_schema.specs.Shown.{is_over, aggregates_over, under_name, shown_columns, shown_table}
 use Rattle.hq_role_schema.specs.declared.shown.ShownColumn.{ShownColumn}
 use Rattle.hq_role_schema.specs.declared.shown.ShownTable.{ShownTable}
@@ -168,13 +169,23 @@ columns_sub tb k ms cs chosen =
     sub_trans (map (λ (c : ShownColumn). c.name) (shown_columns tb k ms cs)) (map (λ c. get_or k.column_names c []) cs) (column_names_of k) (columns_named tb k ms cs) (sub_map (λ c. get_or k.column_names c []) cs (named_columns k) chosen)
 
 -- the fields of columns are named for columns
-pub fields_sub : (q : Part) (cs : List ShownColumn) → Sub (map (λ (f : FieldTree). f.name) (column_fields q cs)) (map (λ (c : ShownColumn). c.name) cs)
-fields_sub q [] = refl
-fields_sub q (c ∷ cs) = by (column_type q c) (fields_sub q cs)
+pub fields_sub : (scalars : List (List ℕ)) (q : Part) (cs : List ShownColumn) → Sub (map (λ (f : FieldTree). f.name) (column_fields scalars q cs)) (map (λ (c : ShownColumn). c.name) cs)
+fields_sub scalars q [] = refl
+fields_sub scalars q (c ∷ cs) = by (column_type scalars q c) (fields_sub scalars q cs)
   where
-    by : (o : Option TypeRefTree) → Sub (map (λ (f : FieldTree). f.name) (column_fields q cs)) (map (λ (c : ShownColumn). c.name) cs) → Sub (map (λ (f : FieldTree). f.name) (cons_option (option_map (λ r. plain_field c.name r (field.Column c.col)) o) (column_fields q cs))) (c.name ∷ map (λ (c : ShownColumn). c.name) cs)
+    by : (o : Option TypeRefTree) → Sub (map (λ (f : FieldTree). f.name) (column_fields scalars q cs)) (map (λ (c : ShownColumn). c.name) cs) → Sub (map (λ (f : FieldTree). f.name) (cons_option (option_map (λ r. plain_field c.name r (field.Column c.col)) o) (column_fields scalars q cs))) (c.name ∷ map (λ (c : ShownColumn). c.name) cs)
     by None later = inl later
-    by (Some r) later = inr (map (λ (f : FieldTree). f.name) (column_fields q cs), refl, later)
+    by (Some r) later = inr (map (λ (f : FieldTree). f.name) (column_fields scalars q cs), refl, later)
+
+-- the inputs of columns are named for columns
+pub inputs_sub : (q : Part) (cs : List ShownColumn) → Sub (map (λ (x : ArgTree). x.name) (filter_map (column_input q) cs)) (map (λ (c : ShownColumn). c.name) cs)
+inputs_sub q [] = refl
+inputs_sub q (c ∷ cs) = by (is_filter q || is_ordered c.ty) (inputs_sub q cs)
+  where
+    by : (b : Bool) → Sub (map (λ (x : ArgTree). x.name) (filter_map (column_input q) cs)) (map (λ (c : ShownColumn). c.name) cs)
+        → Sub (map (λ (x : ArgTree). x.name) (cons_option (cond b (Some (arg c.name (fixed (input_type q c.ty)) (arg_origin.Column c.col))) None) (filter_map (column_input q) cs))) (c.name ∷ map (λ (c : ShownColumn). c.name) cs)
+    by false later = inl later
+    by true later = inr (map (λ (x : ArgTree). x.name) (filter_map (column_input q) cs), refl, later)
 
 -- ---- the names of relationships
 

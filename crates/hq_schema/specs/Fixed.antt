@@ -1,6 +1,7 @@
 -- The types that each schema has (GraphQL October 2021, 3.5 and 4.2; Hasura, API reference: GraphQL API).
 use Rattle.std.specs.Prelude.{ℕ, ◌+◌, List, [], ◌∷◌, ◌++◌, map, codes}
 use Rattle.hq_base.specs.Types.{all_types, type_place, scalar_name, comparison_name}
+use Rattle.hq_base.specs.declared.value.Ty.{Ty}
 use Rattle.hq_base.specs.declared.value.Ty.TheVariants as ty
 use Rattle.hq_schema.specs.declared.fixed.Fixed.{Fixed}
 use Rattle.hq_schema.specs.declared.fixed.Fixed.TheVariants.{Scalar, OrderBy, Comparison, Schema, «Type» as TypeType, Field, InputValue, EnumValue, Directive, TypeKind, DirectiveLocation, QueryRoot}
@@ -13,7 +14,7 @@ use Rattle.hq_schema.specs.declared.schema.Kind.TheVariants as kind
 abbrev pub all_fixed : List Fixed
 all_fixed =
     map Scalar all_types ++ OrderBy ∷ map Comparison all_types
-    ++ Schema ∷ TypeType ∷ Field ∷ InputValue ∷ EnumValue ∷ Directive ∷ TypeKind ∷ DirectiveLocation ∷ QueryRoot ∷ []
+    ++ Schema ∷ TypeType ∷ Field ∷ InputValue ∷ EnumValue ∷ Directive ∷ TypeKind ∷ DirectiveLocation ∷ QueryRoot ∷ Comparison ty.Opaque ∷ []
 
 -- the scalars that arguments and the types of introspection have
 abbrev pub boolean : Fixed
@@ -40,11 +41,21 @@ fixed_name TypeKind = codes "__TypeKind"
 fixed_name DirectiveLocation = codes "__DirectiveLocation"
 fixed_name QueryRoot = codes "query_root"
 
+-- the place of the comparisons of a type
+abbrev pub comparison_place : Ty → ℕ
+comparison_place ty.Opaque = 20
+comparison_place t = 6 + type_place t
+
+-- the type whose scalar stands for values of a type: an opaque column has that of texts
+abbrev pub scalar_type : Ty → Ty
+scalar_type ty.Opaque = ty.Text
+scalar_type t = t
+
 -- their places, the same in all schemas
 abbrev pub fixed_place : Fixed → ℕ
 fixed_place (Scalar t) = type_place t
 fixed_place OrderBy = 5
-fixed_place (Comparison t) = 6 + type_place t
+fixed_place (Comparison t) = comparison_place t
 fixed_place Schema = 11
 fixed_place TypeType = 12
 fixed_place Field = 13
@@ -66,7 +77,7 @@ fixed_kind _ = kind.Object
 
 -- what they stand for
 abbrev pub fixed_origin : Fixed → TypeOrigin
-fixed_origin (Scalar t) = origin.Scalar t
+fixed_origin (Scalar t) = origin.Scalar (scalar_type t)
 fixed_origin OrderBy = origin.Directions
 fixed_origin (Comparison t) = origin.Comparison t
 fixed_origin QueryRoot = origin.Query

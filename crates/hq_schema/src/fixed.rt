@@ -1,5 +1,6 @@
 ghost use Rattle.std.specs.Prelude.{◌≡◌, false};
 ghost use Rattle.hq_base.specs.Text.{has_zero};
+ghost use Rattle.hq_schema.specs.Fixed.{comparison_place, scalar_type};
 
 use crate::{Kind, TypeId, TypeOrigin};
 use hq_base::Ty;
@@ -23,6 +24,26 @@ pub enum Fixed {
     QueryRoot,
 }
 
+// The place of the comparisons of a type.
+fn comparison_place(ty: Ty) -> usize
+    ensures { result ≡ comparison_place ty }
+{
+    match ty {
+        Ty::Opaque => 20,
+        Ty::Boolean | Ty::Integer | Ty::Text | Ty::Bigint | Ty::Uuid => 6 + ty.place(),
+    }
+}
+
+// The type whose scalar stands for values of a type: an opaque column has that of texts.
+fn scalar_type(ty: Ty) -> Ty
+    ensures { result ≡ scalar_type ty }
+{
+    match ty {
+        Ty::Opaque => Ty::Text,
+        Ty::Boolean | Ty::Integer | Ty::Text | Ty::Bigint | Ty::Uuid => ty,
+    }
+}
+
 impl Fixed {
     ghost use Rattle.hq_schema.specs.Fixed.{all_fixed, fixed_name, fixed_place, fixed_kind, fixed_origin};
 
@@ -36,7 +57,7 @@ impl Fixed {
     pub const STRING: Fixed = Fixed::Scalar(Ty::Text);
 
     /// All of them, in order.
-    pub fn all() -> [Fixed; 20]
+    pub fn all() -> [Fixed; 21]
         ensures { result ≡ all_fixed }
     {
         let [a, b, c, d, e] = Ty::all();
@@ -61,6 +82,7 @@ impl Fixed {
             Fixed::TypeKind,
             Fixed::DirectiveLocation,
             Fixed::QueryRoot,
+            Fixed::Comparison(Ty::Opaque),
         ]
     }
 
@@ -92,7 +114,7 @@ impl Fixed {
         match self {
             Fixed::Scalar(ty) => ty.place(),
             Fixed::OrderBy => 5,
-            Fixed::Comparison(ty) => 6 + ty.place(),
+            Fixed::Comparison(ty) => comparison_place(ty),
             Fixed::Schema => 11,
             Fixed::Type => 12,
             Fixed::Field => 13,
@@ -129,7 +151,7 @@ impl Fixed {
         ensures { result ≡ fixed_origin self }
     {
         match self {
-            Fixed::Scalar(ty) => TypeOrigin::Scalar(ty),
+            Fixed::Scalar(ty) => TypeOrigin::Scalar(scalar_type(ty)),
             Fixed::OrderBy => TypeOrigin::Directions,
             Fixed::Comparison(ty) => TypeOrigin::Comparison(ty),
             Fixed::QueryRoot => TypeOrigin::Query,

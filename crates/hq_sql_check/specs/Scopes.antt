@@ -4,7 +4,7 @@ use Rattle.std.specs.Prelude.{ℕ, List, [], ◌∷◌, map, Option, option_map,
 use Rattle.hq_sql_tree.specs.WellFormed as well
 use Rattle.hq_sql_tree.specs.WellFormed.{Names, Aliases}
 use Rattle.hq_sql_check.specs.declared.scope.Kind.{Kind}
-use Rattle.hq_sql_check.specs.declared.scope.Kind.TheVariants.{Whole, Text, Uuid, Truth, Json}
+use Rattle.hq_sql_check.specs.declared.scope.Kind.TheVariants.{Whole, Text, Uuid, Truth, Json, Opaque}
 use Rattle.hq_sql_check.specs.declared.scope.Name.{Name}
 use Rattle.hq_sql_check.specs.declared.scope.Alias.{Alias}
 use Rattle.hq_sql_check.specs.declared.scope.Scope.{Scope, Nothing, Level'}
@@ -15,6 +15,7 @@ kind_view Text = well.text
 kind_view Uuid = well.uuid
 kind_view Truth = well.truth
 kind_view Json = well.json
+kind_view Opaque = well.opaque
 
 -- a column with its kind
 abbrev pub name_view : Name → List ℕ × Option well.Kind

@@ -8,7 +8,7 @@ ghost use Rattle.hq_sql_check.specs.Scopes.{scope_view};
 use crate::differ::pairs_differ;
 use crate::parts::are_keys;
 use crate::scope::Scope;
-use crate::values::{is_collated, is_compared, is_value, kind, takes_kind};
+use crate::values::{is_collated, is_compared, is_member, is_value, kind, takes_kind};
 use hq_base::{Memory, is_uuid_form};
 use hq_sql_tree::{Agg, Expr, ExprPairList};
 use std::alloc::Global;
@@ -32,7 +32,7 @@ fn is_taken(alloc: Global, scope: &Scope<'_, '_>, agg: &Agg) -> Result<bool, Mem
                 && is_collated(scope, value),
         ),
         Agg::JsonAgg { value, order } => {
-            Ok(is_value(alloc, scope, value)? && are_keys(alloc, scope, order)?)
+            Ok(is_member(alloc, scope, value)? && are_keys(alloc, scope, order)?)
         }
     }
 }

@@ -13,20 +13,16 @@ fn same_expr(a: &Expr, b: &Expr) -> bool
 {
     match (a, b) {
         (
-            Expr::Column {
-                alias,
-                name,
-                collate,
-            },
+            Expr::Column { alias, name, form },
             Expr::Column {
                 alias: other_alias,
                 name: other_name,
-                collate: other_collate,
+                form: other_form,
             },
         ) => {
             alias.as_bytes() == other_alias.as_bytes()
                 && name.as_bytes() == other_name.as_bytes()
-                && *collate == *other_collate
+                && form.is_same(*other_form)
         }
         (Expr::Int(n), Expr::Int(m)) => *n == *m,
         (Expr::Text(s), Expr::Text(t)) => s.as_bytes() == t.as_bytes(),

@@ -19,6 +19,7 @@ fn kind_of(ty: Ty) -> Kind
         Ty::Text => Kind::Text,
         Ty::Boolean => Kind::Truth,
         Ty::Uuid => Kind::Uuid,
+        Ty::Opaque => Kind::Opaque,
     }
 }
 

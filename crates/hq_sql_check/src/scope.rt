@@ -6,7 +6,8 @@ ghost use Rattle.hq_sql_check.specs.Scopes.{kind_view, name_view, alias_view, st
 use hq_base::{Memory, Txt};
 use std::alloc::Global;
 
-/// What an expression's values are: whole numbers, perhaps those of a table's column, texts, truth values or JSON.
+/// What an expression's values are: whole numbers, perhaps those of a table's column, texts, uuids, truth values, JSON, or values
+/// of another type of PostgreSQL.
 #[derive(Clone, Copy, PartialEq, Eq)]
 pub(crate) enum Kind {
     Whole { of_column: bool },
@@ -14,6 +15,7 @@ pub(crate) enum Kind {
     Uuid,
     Truth,
     Json,
+    Opaque,
 }
 
 /// The name of a column or of an output, and the kind of its values, where it has one.

@@ -7,7 +7,7 @@ ghost use Rattle.hq_sql_tree.specs.WellFormed.{is_tested, is_operand, is_typed_t
 ghost use Rattle.hq_sql_check.specs.Scopes.{scope_view};
 
 use crate::scope::Scope;
-use crate::values::{is_compared, is_item, is_text, is_value, kind};
+use crate::values::{is_compared, is_item, is_member, is_text, kind};
 use hq_base::Memory;
 use hq_sql_tree::{Expr, ExprList};
 use hq_terms::Test;
@@ -28,7 +28,7 @@ fn is_tested(alloc: Global, scope: &Scope<'_, '_>, test: Test, value: &Expr) -> 
     ensures { IfOk result (λ well. well ≡ is_tested (scope_view scope.now) test (expr_view value.now)) }
 {
     match test {
-        Test::IsNull => is_value(alloc, scope, value),
+        Test::IsNull => is_member(alloc, scope, value),
         Test::Like { .. } => Ok(is_compared(alloc, scope, value)? && is_text(kind(scope, value))),
         _ => is_compared(alloc, scope, value),
     }

@@ -2,14 +2,21 @@
 ghost use Rattle.std.specs.Prelude.{◌≡◌, IfOk, map, option_map};
 ghost use Rattle.hq_sql_tree.specs.Tree.{pairs_of, orders_of};
 ghost use Rattle.hq_sql_tree.specs.View.{agg_view, expr_view, pair_view, order_view};
-ghost use Rattle.hq_sql_tree.specs.WellFormed.{not_of_column, kind, agg_kind, is_text_kind, has_order, has_extremes, is_summed, taken_kind, takes_kind, compare_kinds, pair_names, is_value, are_values, is_collated, is_compared, are_keys, is_item};
+ghost use Rattle.hq_sql_tree.specs.WellFormed.{seen_kind, may_stand, can_cast, is_known, not_of_column, kind, agg_kind, is_text_kind, has_order, has_extremes, is_summed, taken_kind, takes_kind, compare_kinds, pair_names, is_value, is_member, are_values, is_collated, is_compared, are_keys, is_item};
 ghost use Rattle.hq_sql_check.specs.Scopes.{kind_view, scope_view};
 
 use crate::differ::pairs_differ;
 use crate::scope::{Kind, Scope, kind_at};
 use hq_base::{Aggregate, Memory, is_uuid_form};
-use hq_sql_tree::{Agg, Expr, ExprPairList, OrderList};
+use hq_sql_tree::{Agg, ColumnForm, Expr, ExprPairList, OrderList};
 use std::alloc::Global;
+
+// The kind of a column that is written so, of this kind: of one that is written by its text, a text.
+fn seen_kind(form: ColumnForm, kind: Option<Kind>) -> Option<Kind>
+    ensures { option_map kind_view result ≡ seen_kind form (option_map kind_view kind) }
+{
+    if form.casts() { Some(Kind::Text) } else { kind }
+}
 
 // The kind without the column that it came from.
 fn not_of_column(kind: Option<Kind>) -> Option<Kind>
@@ -37,7 +44,7 @@ pub(crate) fn kind(scope: &Scope<'_, '_>, value: &Expr) -> Option<Kind>
     ensures { option_map kind_view result ≡ kind (scope_view scope.now) (expr_view value.now) }
 {
     match value {
-        Expr::Column { alias, name, .. } => kind_at(*scope, alias, name),
+        Expr::Column { alias, name, form } => seen_kind(*form, kind_at(*scope, alias, name)),
         Expr::Int(_) => Some(Kind::Whole { of_column: false }),
         Expr::Text(_) => Some(Kind::Text),
         Expr::Uuid(_) => Some(Kind::Uuid),
@@ -64,6 +71,31 @@ pub(crate) fn is_text(kind: Option<Kind>) -> bool
     ensures { result ≡ is_text_kind (option_map kind_view kind) }
 {
     matches!(kind, Some(Kind::Text))
+}
+
+// Whether values of this kind may be written by their text.
+fn can_cast(kind: Option<Kind>) -> bool
+    ensures { result ≡ can_cast (option_map kind_view kind) }
+{
+    matches!(kind, Some(Kind::Text) | Some(Kind::Opaque))
+}
+
+/// Whether values of this kind become JSON, or are tested for NULL.
+pub(crate) fn is_known(kind: Option<Kind>) -> bool
+    ensures { result ≡ is_known (option_map kind_view kind) }
+{
+    !matches!(kind, Some(Kind::Opaque))
+}
+
+// Whether a column of this kind may be written so.
+fn may_stand(form: ColumnForm, kind: Option<Kind>) -> bool
+    ensures { result ≡ may_stand form (option_map kind_view kind) }
+{
+    match form {
+        ColumnForm::Plain => kind.is_some(),
+        ColumnForm::Collated => is_text(kind),
+        ColumnForm::AsText | ColumnForm::AsTextCollated => can_cast(kind),
+    }
 }
 
 /// Whether values of this kind are compared, sorted, grouped or counted distinct.
@@ -113,26 +145,15 @@ fn can_compare(left: Option<Kind>, right: Option<Kind>) -> bool
     }
 }
 
-/// Whether no aggregate stands in the expression, its columns are in scope, COLLATE stands on text columns alone, each
-/// uuid is in its one form, and the names of each object differ.
+/// Whether no aggregate stands in the expression, its columns are in scope, each in a form that it may have, each uuid is
+/// in its one form, what stands in an object is known, and the names of each object differ.
 #[inline(never)]
 #[cycle(is_value)]
 pub(crate) fn is_value(alloc: Global, scope: &Scope<'_, '_>, value: &Expr) -> Result<bool, Memory>
     ensures { IfOk result (λ well. well ≡ is_value (scope_view scope.now) (expr_view value.now)) }
 {
     match value {
-        Expr::Column {
-            alias,
-            name,
-            collate,
-        } => {
-            let kind = kind_at(*scope, alias, name);
-            Ok(if *collate {
-                is_text(kind)
-            } else {
-                kind.is_some()
-            })
-        }
+        Expr::Column { alias, name, form } => Ok(may_stand(*form, kind_at(*scope, alias, name))),
         Expr::Object(pairs) => Ok(pairs_differ(alloc, pairs)? && are_values(alloc, scope, pairs)?),
         Expr::Agg(_) => Ok(false),
         Expr::Uuid(text) => Ok(is_uuid_form(text.as_str())),
@@ -140,12 +161,20 @@ pub(crate) fn is_value(alloc: Global, scope: &Scope<'_, '_>, value: &Expr) -> Re
     }
 }
 
+/// Whether the expression is a value that becomes JSON, or is tested for NULL.
+#[cycle(is_value)]
+pub(crate) fn is_member(alloc: Global, scope: &Scope<'_, '_>, value: &Expr) -> Result<bool, Memory>
+    ensures { IfOk result (λ well. well ≡ is_member (scope_view scope.now) (expr_view value.now)) }
+{
+    Ok(is_value(alloc, scope, value)? && is_known(kind(scope, value)))
+}
+
 #[cycle(is_value)]
 fn are_values(alloc: Global, scope: &Scope<'_, '_>, pairs: &ExprPairList) -> Result<bool, Memory>
     ensures { IfOk result (λ well. well ≡ are_values (scope_view scope.now) (pairs_of (map pair_view pairs.now.items))) }
 {
     for pair in pairs {
-        if !is_value(alloc, scope, &pair.value)? {
+        if !is_member(alloc, scope, &pair.value)? {
             return Ok(false);
         }
     }
@@ -157,11 +186,9 @@ pub(crate) fn is_collated(scope: &Scope<'_, '_>, value: &Expr) -> bool
     ensures { result ≡ is_collated (scope_view scope.now) (expr_view value.now) }
 {
     match value {
-        Expr::Column {
-            alias,
-            name,
-            collate,
-        } => *collate || !is_text(kind_at(*scope, alias, name)),
+        Expr::Column { alias, name, form } => {
+            form.collates() || !is_text(seen_kind(*form, kind_at(*scope, alias, name)))
+        }
         _ => true,
     }
 }

@@ -52,7 +52,7 @@ agree_more names alias row x y h other named =
     go (bytes_eq alias other) named
 
 value_alike : (names : List (List ℕ)) (x y : Scope) → AgreeAt names x y → (e : ExprTree) → is_bound names e ≡ true → value e [] x ≡ value e [] y
-value_alike names x y agree (tree.column alias name collate) h = ap (λ row. cell_named row name) (agree alias h)
+value_alike names x y agree (tree.column alias name form) h = ap (λ row. cell_named row name) (agree alias h)
 value_alike names x y agree (tree.int n) h = refl
 value_alike names x y agree (tree.text s) h = refl
 value_alike names x y agree (tree.uuid s) h = refl

@@ -10,7 +10,7 @@ is_named (n ∷ ns) alias = bytes_eq n alias || is_named ns alias
 
 -- an expression; objects and aggregates stand in no condition that a request makes, and count as open
 abbrev pub is_bound : List (List ℕ) → ExprTree → Bool
-is_bound names (column alias name collate) = is_named names alias
+is_bound names (column alias name form) = is_named names alias
 is_bound names (int n) = true
 is_bound names (text s) = true
 is_bound names (uuid s) = true

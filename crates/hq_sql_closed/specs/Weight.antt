@@ -26,7 +26,7 @@ agg_step (Agg-F.Take a e) = 4 + e.value
 agg_step (Agg-F.JsonAgg e os) = 6 + (e.value + total os.items)
 
 abbrev pub expr_step : Expr-F ℕ ℕ ℕ ℕ → ℕ
-expr_step (Expr-F.Column alias name collate) = 1
+expr_step (Expr-F.Column alias name form) = 1
 expr_step (Expr-F.Int n) = 1
 expr_step (Expr-F.Text t) = 1
 expr_step (Expr-F.Uuid t) = 1

@@ -13,17 +13,13 @@ fn same_expr(a: &Expr, b: &Expr) -> bool
 {
     match (a, b) {
         (
-            Expr::Column {
-                alias,
-                name,
-                collate,
-            },
+            Expr::Column { alias, name, form },
             Expr::Column {
                 alias: other_alias,
                 name: other_name,
-                collate: other_collate,
+                form: other_form,
             },
-        ) => *alias == *other_alias && (*name == *other_name && *collate == *other_collate),
+        ) => *alias == *other_alias && (*name == *other_name && *form == *other_form),
         (Expr::Int(a), Expr::Int(b)) => *a == *b,
         (Expr::Text(a), Expr::Text(b)) => *a == *b,
         (Expr::Uuid(a), Expr::Uuid(b)) => *a == *b,

@@ -39,7 +39,7 @@ module _ (s : Schema) (g : Rights) (root : ℕ) where
       let key : List ℕ = (keyed_field_view k).0 in
       let f : FieldTree = (keyed_field_view k).1 in
       let rest : FieldTrees = table_fields (fields_view ks) in
-      let one : PairTree = record { name = key; value = field_value f (own_look (table s root).columns 0) n } in
+      let one : PairTree = record { name = key; value = field_value f (table s root).columns (own_look (table s root).columns 0) n } in
       let by : (b : Bool) → root_values (cond b (field key f rest) rest) n
       ≡ root_values (cond b (field key f no_field) no_field) n ++ root_values rest (n + fields_numbers (cond b (field key f no_field) no_field) s g root) =
       elim [

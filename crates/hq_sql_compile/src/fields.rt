@@ -27,7 +27,7 @@ use hq_compile_lists::{
 };
 use hq_compile_masks::{FirstRow, remote_row};
 use hq_compile_summaries::summary_select;
-use hq_compile_tables::{MaskPlace, first_select, one_join, table_column, value_column};
+use hq_compile_tables::{MaskPlace, first_select, one_join, table_shown_column, value_column};
 use hq_sql_tree::{Expr, ExprPair, ExprPairList, Join, JoinList};
 use hq_terms::{RelId, TableId};
 use std::alloc::Global;
@@ -42,11 +42,11 @@ fn field_value(
     n: u64,
     field: &AskField,
 ) -> Result<Expr, Memory>
-    ensures { let look = look_in places.now (table (context_schema context.now) t).columns p in
-        IfOk result (λ e. expr_view e ≡ field_value (field_view field.now) look n) }
+    ensures { let columns = (table (context_schema context.now) t).columns in
+        IfOk result (λ e. expr_view e ≡ field_value (field_view field.now) columns (look_in places.now columns p) n) }
 {
     match field {
-        AskField::Column { col } => table_column(alloc, context, t, p, places, *col, false),
+        AskField::Column { col } => table_shown_column(alloc, context, t, p, places, *col),
         AskField::Typename { name } => Ok(Expr::Text(name.copy(alloc)?)),
         _ => value_column(alloc, n),
     }
@@ -116,8 +116,8 @@ fn push_field(
     next: &mut u64,
     row: &mut Row,
 ) -> Result<(), Memory>
-    ensures pairs { let look = look_in places.now (table (context_schema context.now) t).columns p in let f = keyed_field_view keyed.now in
-        OnOk result (map pair_view row.new.pairs.items ≡ map pair_view row.old.pairs.items ++ record { name = f.0; value = field_value f.1 look next.old } ∷ []) }
+    ensures pairs { let columns = (table (context_schema context.now) t).columns in let look = look_in places.now columns p in let f = keyed_field_view keyed.now in
+        OnOk result (map pair_view row.new.pairs.items ≡ map pair_view row.old.pairs.items ++ record { name = f.0; value = field_value f.1 columns look next.old } ∷ []) }
     ensures joins { let s = context_schema context.now in let g = context_rights context.now in
         OnOk result (map join_view row.new.joins.items ≡ map join_view row.old.joins.items ++ field_joins (keyed_field_view keyed.now).1 s g t p next.old) }
     ensures numbers { OnOk result (next.new ≡ next.old + field_numbers (keyed_field_view keyed.now).1 (context_schema context.now) (context_rights context.now) t) }

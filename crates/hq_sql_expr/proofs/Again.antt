@@ -1,18 +1,20 @@
 -- Expressions: what is spelled so is read again, whatever follows.
-use Rattle.std.proofs.Common.{◌≡◌, ℕ, zero, suc, ◌<◌, Bool, true, false, List, [], ◌∷◌, ◌++◌, length, map, Some, None, refl, sym, ap, subst, ◌∙◌, append_assoc, arith}
+use Rattle.std.proofs.Common.{◌≡◌, ℕ, zero, suc, ◌<◌, Bool, true, false, List, [], ◌∷◌, ◌++◌, length, map, Option, Some, None, refl, sym, ap, subst, ◌∙◌, append_assoc, arith}
 use Rattle.std.specs.Prelude.{codes}
 use Rattle.std.proofs.lemmas.List.{append-nil}
 use Rattle.std.specs.List.{AllByRecursion}
 use Rattle.std.specs.Fmt.{signed_decimal}
+use Rattle.hq_sql_tree.specs.declared.expr.ColumnForm.{ColumnForm}
+use Rattle.hq_sql_tree.specs.declared.expr.ColumnForm.TheVariants as form
 use Rattle.hq_sql_tree.specs.declared.word.Word.TheVariants as word
 use Rattle.hq_sql_tree.specs.Word.{word_text}
 use Rattle.hq_sql_tree.specs.Form.{is_text, is_bigint}
 use Rattle.hq_sql_tree.specs.Tree as tree
 use Rattle.hq_sql_tree.specs.Tree.{ExprTree, PairTree, PairTrees, AggTree, OrderTree, OrderTrees, OutTree, pairs_of, pair_list, orders_of, order_list}
-use Rattle.hq_sql_tree.specs.Spelling.{quoted, name_text, literal_text, uuid_text, int_text, separated, each_after, collate_text, bool_text, direction_word, expr_text, pair_text, pair_texts, order_text, order_texts, out_text}
+use Rattle.hq_sql_tree.specs.Spelling.{quoted, name_text, literal_text, uuid_text, int_text, separated, each_after, form_start, form_text, bool_text, direction_word, expr_text, pair_text, pair_texts, order_text, order_texts, out_text}
 use Rattle.hq_sql_expr.specs.declared.head.Head.{Head}
 use Rattle.hq_sql_expr.specs.declared.head.Head.TheVariants as head
-use Rattle.hq_sql_expr.specs.Reading.{◌>>=◌, Reader, nothing, after, strip, all_many, literal_at, collate_at, column_at, head_word, head_at, expr_with, pair_with, pairs_with, argument_with, direction_at, order_with, ordered_with, inside_with, expr_at, ordered_at, out_with}
+use Rattle.hq_sql_expr.specs.Reading.{◌>>=◌, Reader, nothing, after, strip, all_many, quoted_at, literal_at, form_at, cast_form_at, column_with, column_at, cast_at, head_word, head_at, expr_with, pair_with, pairs_with, argument_with, direction_at, order_with, ordered_with, inside_with, expr_at, ordered_at, out_with}
 use Rattle.hq_sql_expr.proofs.Sound.{after_again}
 use Rattle.hq_sql_expr.proofs.Listed.{all_many_again}
 use Rattle.hq_sql_expr.proofs.Fits.{FitsExpr, FitsPairs, FitsAgg, FitsOrders, AtLeastOne}
@@ -21,7 +23,14 @@ use Rattle.hq_sql_expr.proofs.Ints.{int_again, int_is_text}
 use Rattle.hq_sql_expr.proofs.Exprs.{GoodPair, GoodOrder, GoodOut}
 use Rattle.hq_sql_expr.proofs.Aggregates.{agg_apart, head_taken, with_taken}
 
--- what may follow an expression: no quote, which would go on with a name, and no COLLATE
+-- whether a column is written by its text
+abbrev pub is_cast : ColumnForm → Bool
+is_cast form.Plain = false
+is_cast form.Collated = false
+is_cast form.AsText = true
+is_cast form.AsTextCollated = true
+
+-- what may follow an expression: no quote, which would go on with a name, and nothing that tells how a column is written
 abbrev pub Ends : List ℕ → Type 0
 Ends rest = Free 34 rest × (after word.Collate rest ≡ None)
 
@@ -70,21 +79,68 @@ or_empty_ends rest = (refl, refl)
 
 -- ---- columns and literals
 
-collate_again : (c : Bool) (rest : List ℕ) → after word.Collate rest ≡ None → collate_at (collate_text c ++ rest) ≡ Some (c, rest)
-collate_again true rest none = rw (after_again word.Collate rest) refl
-collate_again false rest none = rw none refl
-
-collate_free : (c : Bool) (rest : List ℕ) → Free 34 rest → Free 34 (collate_text c ++ rest)
+open_stands : word_text word.Open ≡ [] → ⊥
 unfolding word_text
-collate_free true rest free = refl
-collate_free false rest free = free
+open_stands e = absurd cc
 
-column_again : (a n : List ℕ) (c : Bool) (rest : List ℕ) → is_text a ≡ true → is_text n ≡ true → Ends rest → column_at (expr_text (tree.column a n c) ++ rest) ≡ Some (tree.column a n c, rest)
+form_again : (f : ColumnForm) (rest : List ℕ) → form_start f ≡ [] → Ends rest → form_at (form_text f ++ rest) ≡ Some (f, rest)
+form_again form.Plain rest starts ends = rw ends.1 refl
+form_again form.Collated rest starts ends = rw (after_again word.Collate rest) refl
+form_again form.AsText rest starts ends = absurd (open_stands starts)
+form_again form.AsTextCollated rest starts ends = absurd (open_stands starts)
+
+-- the text of a column is not collated where no COLLATE follows
+cast_alone : (rest : List ℕ) → after word.Collate rest ≡ None → after word.CloseAsTextCollate (word_text word.CloseAsText ++ rest) ≡ None
+unfolding word_text after
+cast_alone rest none = none
+
+cast_form_again : (f : ColumnForm) (rest : List ℕ) → is_cast f ≡ true → Ends rest → cast_form_at (form_text f ++ rest) ≡ Some (f, rest)
+cast_form_again form.Plain rest cast ends = absurd cc
+cast_form_again form.Collated rest cast ends = absurd cc
+cast_form_again form.AsText rest cast ends = rw (cast_alone rest ends.1, after_again word.CloseAsText rest) refl
+cast_form_again form.AsTextCollated rest cast ends = rw (after_again word.CloseAsTextCollate rest) refl
+
+form_free : (f : ColumnForm) (rest : List ℕ) → Free 34 rest → Free 34 (form_text f ++ rest)
+unfolding word_text
+form_free form.Plain rest free = free
+form_free form.Collated rest free = refl
+form_free form.AsText rest free = refl
+form_free form.AsTextCollated rest free = refl
+
+-- the names of a column and what stands behind them
+abbrev pub names_text : List ℕ → List ℕ → ColumnForm → List ℕ
+names_text a n f = name_text a ++ (word_text word.Dot ++ (name_text n ++ form_text f))
+
+abbrev column_by : List ℕ → List ℕ → Option (ColumnForm × List ℕ) → Option (ExprTree × List ℕ)
+column_by a n o = o >>= λ f. Some (tree.column a n f.0, f.1)
+
+names_again : (forms : Reader ColumnForm) (a n : List ℕ) (f : ColumnForm) (rest : List ℕ) → is_text a ≡ true → is_text n ≡ true → Free 34 rest → column_with forms (names_text a n f ++ rest) ≡ column_by a n (forms (form_text f ++ rest))
+names_again forms a n f rest is_a is_n free =
+    let last = form_text f ++ rest in
+    let regrouped : names_text a n f ++ rest ≡ name_text a ++ (word_text word.Dot ++ (name_text n ++ last)) = simp append_assoc in
+    rw (regrouped, quoted_again 34 a (word_text word.Dot ++ (name_text n ++ last)) is_a (dot_free (name_text n ++ last)), after_again word.Dot (name_text n ++ last), quoted_again 34 n last is_n (form_free f rest free)) refl
+
+column_again : (a n : List ℕ) (f : ColumnForm) (rest : List ℕ) → is_text a ≡ true → is_text n ≡ true → Ends rest → form_start f ≡ [] → column_at (names_text a n f ++ rest) ≡ Some (tree.column a n f, rest)
 unfolding column_at
-column_again a n c rest is_a is_n ends =
-    let last = collate_text c ++ rest in
-    let regrouped : expr_text (tree.column a n c) ++ rest ≡ name_text a ++ (word_text word.Dot ++ (name_text n ++ last)) = simp append_assoc in
-    rw (regrouped, quoted_again 34 a (word_text word.Dot ++ (name_text n ++ last)) is_a (dot_free (name_text n ++ last)), after_again word.Dot (name_text n ++ last), quoted_again 34 n last is_n (collate_free c rest ends.0), collate_again c rest ends.1) refl
+column_again a n f rest is_a is_n ends starts = names_again form_at a n f rest is_a is_n ends.0 ∙ ap (column_by a n) (form_again f rest starts ends)
+
+-- a column that is written by its text, behind the parenthesis before it
+pub cast_again : (a n : List ℕ) (f : ColumnForm) (rest : List ℕ) → is_text a ≡ true → is_text n ≡ true → Ends rest → is_cast f ≡ true → cast_at (names_text a n f ++ rest) ≡ Some (tree.column a n f, rest)
+unfolding cast_at
+cast_again a n f rest is_a is_n ends cast = names_again cast_form_at a n f rest is_a is_n ends.0 ∙ ap (column_by a n) (cast_form_again f rest cast ends)
+
+-- nothing is one that begins with no name, or is not told to be one behind its names
+pub unnamed : (bytes : List ℕ) → Free 34 bytes → cast_at bytes ≡ None
+unfolding cast_at quoted_at
+unnamed bytes free = rw free refl
+
+pub no_cast_again : (a n : List ℕ) (f : ColumnForm) (rest : List ℕ) → is_text a ≡ true → is_text n ≡ true → Free 34 rest → cast_form_at (form_text f ++ rest) ≡ None → cast_at (names_text a n f ++ rest) ≡ None
+unfolding cast_at
+no_cast_again a n f rest is_a is_n free none = names_again cast_form_at a n f rest is_a is_n free ∙ ap (column_by a n) none
+
+pub collate_no_cast : (rest : List ℕ) → cast_form_at (word_text word.Collate ++ rest) ≡ None
+unfolding word_text after
+collate_no_cast rest = refl
 
 text_free : (rest : List ℕ) → Free 39 (word_text word.AsText ++ rest)
 unfolding word_text
@@ -139,7 +195,10 @@ Plain rest = (strip (codes "*)") rest ≡ None) × (strip (codes "DISTINCT ") re
 
 expr_plain : (e : ExprTree) (rest : List ℕ) → Plain (expr_text e ++ rest)
 unfolding word_text quoted
-expr_plain (tree.column a n c) rest = (refl, refl)
+expr_plain (tree.column a n form.Plain) rest = (refl, refl)
+expr_plain (tree.column a n form.Collated) rest = (refl, refl)
+expr_plain (tree.column a n form.AsText) rest = (refl, refl)
+expr_plain (tree.column a n form.AsTextCollated) rest = (refl, refl)
 expr_plain (tree.int n) rest = (refl, refl)
 expr_plain (tree.text t) rest = (refl, refl)
 expr_plain (tree.uuid t) rest = (refl, refl)
@@ -166,6 +225,10 @@ module _ (inside : Head → Reader ExprTree) where
   unfolding expr_with after word_text
   with_name bytes = refl
 
+  with_open : (bytes : List ℕ) → expr_with inside (40 ∷ bytes) ≡ cast_at bytes
+  unfolding expr_with after word_text
+  with_open bytes = refl
+
   with_quote : (bytes : List ℕ) → expr_with inside (39 ∷ bytes) ≡ literal_at (39 ∷ bytes)
   unfolding expr_with after word_text
   with_quote bytes = refl
@@ -175,9 +238,13 @@ module _ (inside : Head → Reader ExprTree) where
   with_bool true bytes = refl
   with_bool false bytes = refl
 
-  quoted_column : (a n : List ℕ) (c : Bool) (rest : List ℕ) → expr_with inside (expr_text (tree.column a n c) ++ rest) ≡ column_at (expr_text (tree.column a n c) ++ rest)
+  quoted_column : (a n : List ℕ) (c : ColumnForm) (rest : List ℕ) → expr_with inside (names_text a n c ++ rest) ≡ column_at (names_text a n c ++ rest)
   unfolding quoted
   quoted_column a n c rest = with_name _
+
+  opened_column : (bytes : List ℕ) → expr_with inside (word_text word.Open ++ bytes) ≡ cast_at bytes
+  unfolding word_text
+  opened_column bytes = with_open bytes
 
   quoted_literal : (t more rest : List ℕ) → expr_with inside ((quoted 39 t ++ more) ++ rest) ≡ literal_at ((quoted 39 t ++ more) ++ rest)
   unfolding quoted
@@ -289,8 +356,15 @@ module _ (d : ℕ) (expr : Reader ExprTree) (expr_again : Again d expr) where
 -- ---- expressions
 
 module _ (inside : Head → Reader ExprTree) where
+  opened_again : (a n : List ℕ) (f : ColumnForm) (rest : List ℕ) → FitsExpr (tree.column a n f) zero → Ends rest → is_cast f ≡ true → expr_with inside ((word_text word.Open ++ names_text a n f) ++ rest) ≡ Some (tree.column a n f, rest)
+  opened_again a n f rest fits ends cast =
+      ap (expr_with inside) (append_assoc (word_text word.Open) (names_text a n f) rest) ∙ opened_column inside (names_text a n f ++ rest) ∙ cast_again a n f rest fits.0 fits.1 ends cast
+
   simple_again : (e : ExprTree) (rest : List ℕ) → FitsExpr e zero → Ends rest → expr_with inside (expr_text e ++ rest) ≡ Some (e, rest)
-  simple_again (tree.column a n c) rest fits ends = quoted_column inside a n c rest ∙ column_again a n c rest fits.0 fits.1 ends
+  simple_again (tree.column a n form.Plain) rest fits ends = quoted_column inside a n form.Plain rest ∙ column_again a n form.Plain rest fits.0 fits.1 ends refl
+  simple_again (tree.column a n form.Collated) rest fits ends = quoted_column inside a n form.Collated rest ∙ column_again a n form.Collated rest fits.0 fits.1 ends refl
+  simple_again (tree.column a n form.AsText) rest fits ends = opened_again a n form.AsText rest fits ends refl
+  simple_again (tree.column a n form.AsTextCollated) rest fits ends = opened_again a n form.AsTextCollated rest fits ends refl
   simple_again (tree.int n) rest fits ends = quoted_literal inside (signed_decimal n) (word_text word.AsBigint) rest ∙ int_literal_again n rest fits
   simple_again (tree.text t) rest fits ends = quoted_literal inside t (word_text word.AsText) rest ∙ text_literal_again t rest fits
   simple_again (tree.uuid t) rest fits ends = quoted_literal inside t (word_text word.AsUuid) rest ∙ uuid_literal_again t rest fits

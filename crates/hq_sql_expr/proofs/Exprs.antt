@@ -2,18 +2,20 @@
 use Rattle.std.proofs.Common.{◌≡◌, ℕ, zero, suc, ℤ, Bool, true, false, List, [], ◌∷◌, ◌++◌, map, Option, Some, None, refl, sym, ap, ◌∙◌}
 use Rattle.std.proofs.lemmas.List.{append-nil}
 use Rattle.std.specs.List.{AllByRecursion}
+use Rattle.hq_sql_tree.specs.declared.expr.ColumnForm.{ColumnForm}
+use Rattle.hq_sql_tree.specs.declared.expr.ColumnForm.TheVariants as form
 use Rattle.hq_sql_tree.specs.declared.word.Word.TheVariants as word
 use Rattle.hq_base.specs.Aggregates.{all_aggregates}
 use Rattle.hq_sql_tree.specs.Word.{word_text, aggregate_word}
 use Rattle.hq_sql_tree.specs.Form.{is_text}
 use Rattle.hq_sql_tree.specs.Tree as tree
 use Rattle.hq_sql_tree.specs.Tree.{ExprTree, PairTree, AggTree, OrderTree, OutTree, pairs_of, orders_of}
-use Rattle.hq_sql_tree.specs.Spelling.{quoted, name_text, literal_text, separated, collate_text, direction_word, expr_text, pair_text, order_text, out_text}
+use Rattle.hq_sql_tree.specs.Spelling.{quoted, name_text, literal_text, separated, form_start, form_text, direction_word, expr_text, pair_text, order_text, out_text}
 use Rattle.hq_sql_expr.specs.declared.head.Head.{Head}
 use Rattle.hq_sql_expr.specs.declared.head.Head.TheVariants as head
-use Rattle.hq_sql_expr.specs.Reading.{◌>>=◌, Reader, nothing, after, choose, all_many, name_at, quoted_at, text_at, int_from, literal_at, collate_at, column_at, first_word, head_word, head_or, head_at, expr_with, pair_with, pairs_with, argument_with, direction_or, direction_at, order_with, ordered_with, inside_with, expr_at, ordered_at, out_with}
+use Rattle.hq_sql_expr.specs.Reading.{◌>>=◌, Reader, nothing, after, choose, all_many, name_at, quoted_at, text_at, int_from, literal_at, form_at, cast_form_at, column_with, column_at, cast_at, first_word, head_word, head_or, head_at, expr_with, pair_with, pairs_with, argument_with, direction_or, direction_at, order_with, ordered_with, inside_with, expr_at, ordered_at, out_with}
 use Rattle.hq_sql_expr.proofs.Between.{pair_texts_of, order_texts_of}
-use Rattle.hq_sql_expr.proofs.Sound.{Taken, Sound, Spelled, sound_next, sound_last, sound_word, sound_choose_end, sound_end, sound_peek, sound_pure, sound_nothing}
+use Rattle.hq_sql_expr.proofs.Sound.{Taken, Sound, Spelled, sound_next, sound_last, sound_word, sound_choose, sound_choose_end, sound_end, sound_peek, sound_pure, sound_nothing}
 use Rattle.hq_sql_expr.proofs.Words.{first_word_takes}
 use Rattle.hq_sql_expr.proofs.Listed.{AllGood, list_text, all_many_takes}
 use Rattle.hq_sql_expr.proofs.Fits.{FitsExpr, FitsPairs, FitsOrders, AtLeastOne}
@@ -30,16 +32,38 @@ Behind d h b e = OneExpr d (word_text (head_word h) ++ b) e
 
 -- ---- columns and literals
 
-collate_takes : Sound collate_at (Spelled collate_text (λ c. Unit {0}))
-collate_takes = sound_choose_end word.Collate true (Spelled collate_text (λ c. Unit {0})) (refl, tt) (λ bytes. Some (false, bytes)) (sound_pure false (Spelled collate_text (λ c. Unit {0})) (refl, tt))
+-- what stands behind the name of a column, and what of one that is written by its text
+form_takes : Sound form_at (Spelled form_text (λ f. form_start f ≡ []))
+form_takes =
+    sound_choose_end word.Collate form.Collated (Spelled form_text (λ f. form_start f ≡ [])) (refl, refl) (λ bytes. Some (form.Plain, bytes))
+    (sound_pure form.Plain (Spelled form_text (λ f. form_start f ≡ [])) (refl, refl))
+
+cast_form_takes : Sound cast_form_at (Spelled form_text (λ f. form_start f ≡ word_text word.Open))
+cast_form_takes =
+    sound_choose_end word.CloseAsTextCollate form.AsTextCollated (Spelled form_text (λ f. form_start f ≡ word_text word.Open)) (refl, refl) (λ bytes. after word.CloseAsText bytes >>= λ rest. Some (form.AsText, rest))
+    (sound_end word.CloseAsText form.AsText (Spelled form_text (λ f. form_start f ≡ word_text word.Open)) (refl, refl))
+
+-- a column whose forms have this before it
+module _ (d : ℕ) (start : List ℕ) (forms : Reader ColumnForm) (forms_take : Sound forms (Spelled form_text (λ f. form_start f ≡ start))) where
+  abbrev BehindStart : List ℕ → ExprTree → Type 0
+  BehindStart b e = OneExpr d (start ++ b) e
+
+  columns_take : Sound (column_with forms) BehindStart
+  columns_take =
+      sound_next name_at (λ a bytes. after word.Dot bytes >>= λ rest. name_at rest >>= λ n. forms n.1 >>= λ f. Some (tree.column a n.0 f.0, f.1)) name_text IsText BehindStart (quoted_takes 34)
+      (λ a is_a. sound_word word.Dot (λ rest. name_at rest >>= λ n. forms n.1 >>= λ f. Some (tree.column a n.0 f.0, f.1)) (λ b e. BehindStart (name_text a ++ b) e)
+      (sound_next name_at (λ n bytes. forms bytes >>= λ f. Some (tree.column a n f.0, f.1)) name_text IsText (λ b e. BehindStart (name_text a ++ (word_text word.Dot ++ b)) e) (quoted_takes 34)
+      (λ n is_n. sound_last forms (λ f. tree.column a n f) form_text (λ f. form_start f ≡ start) (λ b e. BehindStart (name_text a ++ (word_text word.Dot ++ (name_text n ++ b))) e)
+      (λ f starts. (ap (λ s. s ++ (name_text a ++ (word_text word.Dot ++ (name_text n ++ form_text f)))) (sym starts), (is_a, is_n))) forms_take)))
 
 column_takes : (d : ℕ) → Sound column_at (OneExpr d)
 unfolding column_at
-column_takes d =
-    sound_next name_at (λ a bytes. after word.Dot bytes >>= λ rest. name_at rest >>= λ n. collate_at n.1 >>= λ c. Some (tree.column a n.0 c.0, c.1)) name_text IsText (OneExpr d) (quoted_takes 34)
-    (λ a is_a. sound_word word.Dot (λ rest. name_at rest >>= λ n. collate_at n.1 >>= λ c. Some (tree.column a n.0 c.0, c.1)) (λ b e. OneExpr d (name_text a ++ b) e)
-    (sound_next name_at (λ n bytes. collate_at bytes >>= λ c. Some (tree.column a n c.0, c.1)) name_text IsText (λ b e. OneExpr d (name_text a ++ (word_text word.Dot ++ b)) e) (quoted_takes 34)
-    (λ n is_n. sound_last collate_at (λ c. tree.column a n c) collate_text (λ c. Unit {0}) (λ b e. OneExpr d (name_text a ++ (word_text word.Dot ++ (name_text n ++ b))) e) (λ c u. (refl, (is_a, is_n))) collate_takes)))
+column_takes d = columns_take d [] form_at form_takes
+
+-- a column that is written by its text, behind the parenthesis before it
+pub cast_takes : (d : ℕ) → Sound cast_at (λ b e. OneExpr d (word_text word.Open ++ b) e)
+unfolding cast_at
+cast_takes d = columns_take d (word_text word.Open) cast_form_at cast_form_takes
 
 -- the quoted digits are those of a whole number
 int_taken : (d : ℕ) (t rest : List ℕ) (o : Option ℤ) → int_from t ≡ o → Taken (λ b e. OneExpr d (quoted 39 t ++ (word_text word.AsBigint ++ b)) e) rest (o >>= λ n. Some (tree.int n, rest))
@@ -193,12 +217,13 @@ module _ (d : ℕ) (inside : Head → Reader ExprTree) (inside_takes : (h : Head
   unfolding expr_with
   expr_with_takes =
       sound_choose_end word.True (tree.bool true) (OneExpr d) (refl, tt)
-      (λ bytes. choose (after word.False bytes) (λ rest. Some (tree.bool false, rest)) (choose (after word.TextQuote bytes) (λ rest. literal_at bytes) (choose (after word.NameQuote bytes) (λ rest. column_at bytes) (head_at bytes >>= λ h. inside h.0 h.1))))
+      (λ bytes. choose (after word.False bytes) (λ rest. Some (tree.bool false, rest)) (choose (after word.TextQuote bytes) (λ rest. literal_at bytes) (choose (after word.NameQuote bytes) (λ rest. column_at bytes) (choose (after word.Open bytes) (λ rest. cast_at rest) (head_at bytes >>= λ h. inside h.0 h.1)))))
       (sound_choose_end word.False (tree.bool false) (OneExpr d) (refl, tt)
-      (λ bytes. choose (after word.TextQuote bytes) (λ rest. literal_at bytes) (choose (after word.NameQuote bytes) (λ rest. column_at bytes) (head_at bytes >>= λ h. inside h.0 h.1)))
-      (sound_peek word.TextQuote literal_at (λ bytes. choose (after word.NameQuote bytes) (λ rest. column_at bytes) (head_at bytes >>= λ h. inside h.0 h.1)) (OneExpr d) (literal_takes d)
-      (sound_peek word.NameQuote column_at (λ bytes. head_at bytes >>= λ h. inside h.0 h.1) (OneExpr d) (column_takes d)
-      (sound_next head_at inside head_text (λ h. Unit {0}) (OneExpr d) head_takes (λ h u. inside_takes h)))))
+      (λ bytes. choose (after word.TextQuote bytes) (λ rest. literal_at bytes) (choose (after word.NameQuote bytes) (λ rest. column_at bytes) (choose (after word.Open bytes) (λ rest. cast_at rest) (head_at bytes >>= λ h. inside h.0 h.1))))
+      (sound_peek word.TextQuote literal_at (λ bytes. choose (after word.NameQuote bytes) (λ rest. column_at bytes) (choose (after word.Open bytes) (λ rest. cast_at rest) (head_at bytes >>= λ h. inside h.0 h.1))) (OneExpr d) (literal_takes d)
+      (sound_peek word.NameQuote column_at (λ bytes. choose (after word.Open bytes) (λ rest. cast_at rest) (head_at bytes >>= λ h. inside h.0 h.1)) (OneExpr d) (column_takes d)
+      (sound_choose word.Open (λ rest. cast_at rest) (OneExpr d) (cast_takes d) (λ bytes. head_at bytes >>= λ h. inside h.0 h.1)
+      (sound_next head_at inside head_text (λ h. Unit {0}) (OneExpr d) head_takes (λ h u. inside_takes h))))))
 
 both_take : (d : ℕ) → Sound (expr_at d) (OneExpr d) × Sound (ordered_at d) (Behind (suc d) head.JsonAgg)
 unfolding expr_at ordered_at

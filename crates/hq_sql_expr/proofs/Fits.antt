@@ -10,7 +10,7 @@ AtLeastOne (tree.order e desc nulls_first os) = Unit {0}
 
 abbrev mutual
   pub FitsExpr : ExprTree → ℕ → Type 0
-  FitsExpr (tree.column alias name collate) d = (is_text alias ≡ true) × (is_text name ≡ true)
+  FitsExpr (tree.column alias name form) d = (is_text alias ≡ true) × (is_text name ≡ true)
   FitsExpr (tree.int n) d = is_bigint n ≡ true
   FitsExpr (tree.text bytes) d = is_text bytes ≡ true
   FitsExpr (tree.uuid bytes) d = is_text bytes ≡ true

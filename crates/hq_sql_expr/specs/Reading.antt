@@ -3,6 +3,8 @@ use Rattle.std.specs.Prelude.{ℕ, zero, suc, ◌+◌, ℤ, Bool, true, false, �
 use Rattle.std.specs.Prelude.{◌≡◌}
 use Rattle.std.specs.Str.Parse.{digits_value, signed_digits_value}
 use Rattle.std.specs.Fmt.{decimal, signed_decimal}
+use Rattle.hq_sql_tree.specs.declared.expr.ColumnForm.{ColumnForm}
+use Rattle.hq_sql_tree.specs.declared.expr.ColumnForm.TheVariants as form
 use Rattle.hq_sql_tree.specs.declared.word.Word.{Word}
 use Rattle.hq_sql_tree.specs.declared.word.Word.TheVariants as word
 use Rattle.hq_base.specs.Aggregates.{all_aggregates}
@@ -144,16 +146,30 @@ number_at bytes = do
 
 -- ---- expressions
 
-abbrev pub collate_at : Reader Bool
-collate_at bytes = choose (after word.Collate bytes) (λ rest. Some (true, rest)) (Some (false, bytes))
+-- what stands behind the name of a column
+abbrev pub form_at : Reader ColumnForm
+form_at bytes = choose (after word.Collate bytes) (λ rest. Some (form.Collated, rest)) (Some (form.Plain, bytes))
 
-unfoldable pub column_at : Reader ExprTree
-column_at bytes = do
+-- and of one that is written by its text
+abbrev pub cast_form_at : Reader ColumnForm
+cast_form_at bytes =
+    choose (after word.CloseAsTextCollate bytes) (λ rest. Some (form.AsTextCollated, rest)) (after word.CloseAsText bytes >>= λ rest. Some (form.AsText, rest))
+
+-- an alias, a name, and in which form they are a column
+abbrev pub column_with : Reader ColumnForm → Reader ExprTree
+column_with forms bytes = do
   a ← name_at bytes
   rest ← after word.Dot a.1
   n ← name_at rest
-  c ← collate_at n.1
-  Some (tree.column a.0 n.0 c.0, c.1)
+  f ← forms n.1
+  Some (tree.column a.0 n.0 f.0, f.1)
+
+unfoldable pub column_at : Reader ExprTree
+column_at bytes = column_with form_at bytes
+
+-- a column that is written by its text, behind the parenthesis before it
+unfoldable pub cast_at : Reader ExprTree
+cast_at bytes = column_with cast_form_at bytes
 
 abbrev pub head_word : Head → Word
 head_word head.Object = word.BuildObject
@@ -178,7 +194,8 @@ expr_with inside bytes =
     (choose (after word.False bytes) (λ rest. Some (tree.bool false, rest))
     (choose (after word.TextQuote bytes) (λ rest. literal_at bytes)
     (choose (after word.NameQuote bytes) (λ rest. column_at bytes)
-    (head_at bytes >>= λ h. inside h.0 h.1))))
+    (choose (after word.Open bytes) (λ rest. cast_at rest)
+    (head_at bytes >>= λ h. inside h.0 h.1)))))
 
 unfoldable pub pair_with : Reader ExprTree → Reader PairTree
 pair_with expr bytes = do

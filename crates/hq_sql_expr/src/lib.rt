@@ -13,5 +13,6 @@ pub use lists::{read_closed_expr, read_closed_exprs, read_expr, read_exprs, read
 pub use printing::{
     put_between, put_expr, put_exprs, put_keys, put_name, put_number, put_out, put_outs, put_word,
 };
+pub use reading::read_cast;
 pub use refusal::ReadRefusal;
 pub use texts::{read_name, read_number, skip, starts};

@@ -4,13 +4,13 @@ ghost use Rattle.std.specs.Fmt.{decimal};
 ghost use Rattle.hq_sql_tree.specs.Word.{word_text};
 ghost use Rattle.hq_sql_tree.specs.View.{agg_view, expr_view, pair_view, order_view, out_view};
 ghost use Rattle.hq_sql_tree.specs.Tree.{pairs_of, orders_of};
-ghost use Rattle.hq_sql_tree.specs.Spelling.{name_text, literal_text, uuid_text, int_text, separated, collate_text, direction_word, pair_texts, order_texts, expr_text, agg_text, order_text, out_text, pair_text};
+ghost use Rattle.hq_sql_tree.specs.Spelling.{name_text, literal_text, uuid_text, int_text, separated, form_start, form_text, direction_word, pair_texts, order_texts, expr_text, agg_text, order_text, out_text, pair_text};
 ghost use Rattle.hq_sql_expr.specs.Between.{before};
 
 use hq_base::{Memory, Txt};
 use hq_sql_quotes::put_quoted;
 use hq_sql_tree::{
-    Agg, Expr, ExprList, ExprPair, ExprPairList, Order, OrderList, Out, OutList, Word,
+    Agg, ColumnForm, Expr, ExprList, ExprPair, ExprPairList, Order, OrderList, Out, OutList, Word,
 };
 use std::alloc::Global;
 
@@ -70,22 +70,36 @@ pub fn put_number(alloc: Global, out: &mut Vec<u8>, n: u64) -> Result<(), Memory
     Ok(())
 }
 
-fn put_collate(out: &mut Vec<u8>, collate: bool) -> Result<(), Memory>
-    ensures { OnOk result (out.new.items ≡ out.old.items ++ collate_text collate) }
+// What stands before a column.
+fn put_start(out: &mut Vec<u8>, form: ColumnForm) -> Result<(), Memory>
+    ensures { OnOk result (out.new.items ≡ out.old.items ++ form_start form) }
 {
-    if collate {
-        put_word(out, Word::Collate)?;
+    match form {
+        ColumnForm::Plain | ColumnForm::Collated => Ok(()),
+        ColumnForm::AsText | ColumnForm::AsTextCollated => put_word(out, Word::Open),
     }
-    Ok(())
 }
 
-fn put_column(out: &mut Vec<u8>, alias: &Txt, name: &Txt, collate: bool) -> Result<(), Memory>
-    ensures { OnOk result (out.new.items ≡ out.old.items ++ (name_text alias.now ++ (word_text Word.Dot ++ (name_text name.now ++ collate_text collate)))) }
+// And what stands behind its name.
+fn put_form(out: &mut Vec<u8>, form: ColumnForm) -> Result<(), Memory>
+    ensures { OnOk result (out.new.items ≡ out.old.items ++ form_text form) }
 {
+    match form {
+        ColumnForm::Plain => Ok(()),
+        ColumnForm::Collated => put_word(out, Word::Collate),
+        ColumnForm::AsText => put_word(out, Word::CloseAsText),
+        ColumnForm::AsTextCollated => put_word(out, Word::CloseAsTextCollate),
+    }
+}
+
+fn put_column(out: &mut Vec<u8>, alias: &Txt, name: &Txt, form: ColumnForm) -> Result<(), Memory>
+    ensures { OnOk result (out.new.items ≡ out.old.items ++ (form_start form ++ (name_text alias.now ++ (word_text Word.Dot ++ (name_text name.now ++ form_text form))))) }
+{
+    put_start(out, form)?;
     put_name(out, alias)?;
     put_word(out, Word::Dot)?;
     put_name(out, name)?;
-    put_collate(out, collate)
+    put_form(out, form)
 }
 
 /// Writes an expression.
@@ -94,11 +108,7 @@ pub fn put_expr(alloc: Global, out: &mut Vec<u8>, expr: &Expr) -> Result<(), Mem
     ensures { OnOk result (out.new.items ≡ out.old.items ++ expr_text (expr_view expr.now)) }
 {
     match expr {
-        Expr::Column {
-            alias,
-            name,
-            collate,
-        } => put_column(out, alias, name, *collate),
+        Expr::Column { alias, name, form } => put_column(out, alias, name, *form),
         Expr::Int(n) => put_int(alloc, out, *n),
         Expr::Text(text) => put_literal(out, text),
         Expr::Uuid(text) => put_uuid(out, text),

@@ -4,22 +4,32 @@ ghost use Rattle.hq_base.specs.Aggregates.{all_aggregates};
 ghost use Rattle.hq_sql_tree.specs.View.{expr_view, pair_view, order_view};
 ghost use Rattle.hq_sql_tree.specs.Word.{aggregate_word};
 ghost use Rattle.hq_sql_tree.specs.declared.word.Word.TheVariants as words;
-ghost use Rattle.hq_sql_expr.specs.Reading.{Reads, below, all_many, collate_at, column_at, first_word, head_word, head_at, expr_with, pair_with, pairs_with, argument_with, direction_at, order_with, ordered_with, inside_with, inside_at, listed_at};
+ghost use Rattle.hq_sql_expr.specs.Reading.{Reads, below, all_many, form_at, cast_form_at, column_at, cast_at, first_word, head_word, head_at, expr_with, pair_with, pairs_with, argument_with, direction_at, order_with, ordered_with, inside_with, inside_at, listed_at};
 
 use crate::head::Head;
 use crate::texts::{literal_of, text_of};
 use crate::{ReadRefusal, read_name, skip, starts};
 use hq_base::Aggregate;
-use hq_sql_tree::{Agg, Expr, ExprPair, ExprPairList, Order, OrderList, Word};
+use hq_sql_tree::{Agg, ColumnForm, Expr, ExprPair, ExprPairList, Order, OrderList, Word};
 use std::alloc::Global;
 
-fn collate_of(bytes: &[u8]) -> (bool, &[u8])
-    ensures { collate_at bytes.now ≡ Some (result.0, result.1.now) }
+fn form_of(bytes: &[u8]) -> (ColumnForm, &[u8])
+    ensures { form_at bytes.now ≡ Some (result.0, result.1.now) }
 {
     match starts(bytes, Word::Collate) {
-        Some(rest) => (true, rest),
-        None => (false, bytes),
+        Some(rest) => (ColumnForm::Collated, rest),
+        None => (ColumnForm::Plain, bytes),
     }
+}
+
+fn cast_form_of(bytes: &[u8]) -> Result<(ColumnForm, &[u8]), ReadRefusal>
+    ensures { Reads (λ x. (x.0, x.1.now)) result (cast_form_at bytes.now) }
+{
+    if let Some(rest) = starts(bytes, Word::CloseAsTextCollate) {
+        return Ok((ColumnForm::AsTextCollated, rest));
+    }
+    let rest = skip(bytes, Word::CloseAsText)?;
+    Ok((ColumnForm::AsText, rest))
 }
 
 #[tactic(auto, unfolding(crate::specs::Reading::column_at))]
@@ -29,15 +39,20 @@ fn column_of(alloc: Global, bytes: &[u8]) -> Result<(Expr, &[u8]), ReadRefusal>
     let (alias, rest) = read_name(alloc, bytes)?;
     let rest = skip(rest, Word::Dot)?;
     let (name, rest) = read_name(alloc, rest)?;
-    let (collate, rest) = collate_of(rest);
-    Ok((
-        Expr::Column {
-            alias,
-            name,
-            collate,
-        },
-        rest,
-    ))
+    let (form, rest) = form_of(rest);
+    Ok((Expr::Column { alias, name, form }, rest))
+}
+
+/// Reads a column that is written by its text, behind the parenthesis before it.
+#[tactic(auto, unfolding(crate::specs::Reading::cast_at))]
+pub fn read_cast(alloc: Global, bytes: &[u8]) -> Result<(Expr, &[u8]), ReadRefusal>
+    ensures { Reads (λ x. (expr_view x.0, x.1.now)) result (cast_at bytes.now) }
+{
+    let (alias, rest) = read_name(alloc, bytes)?;
+    let rest = skip(rest, Word::Dot)?;
+    let (name, rest) = read_name(alloc, rest)?;
+    let (form, rest) = cast_form_of(rest)?;
+    Ok((Expr::Column { alias, name, form }, rest))
 }
 
 impl Head {
@@ -108,6 +123,9 @@ pub(crate) fn expr_of(alloc: Global, depth: u32, bytes: &[u8]) -> Result<(Expr, 
     }
     if starts(bytes, Word::NameQuote).is_some() {
         return column_of(alloc, bytes);
+    }
+    if let Some(rest) = starts(bytes, Word::Open) {
+        return read_cast(alloc, rest);
     }
     let (head, rest) = head_of(bytes)?;
     inside_below(alloc, depth, head, rest)

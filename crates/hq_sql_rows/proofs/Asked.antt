@@ -71,7 +71,7 @@ same_name a b e = (bytes_eq-Decides a b).0 e
 
 -- the value of the column of an alias
 pub column_value : (alias name : List ℕ) (e : ExprTree) (m : Names) → is_column alias name e ≡ true → value e [] m ≡ cell_named (m alias) name
-column_value alias name (tree.column a n collate) m is =
+column_value alias name (tree.column a n form) m is =
     let both = and_parts (bytes_eq alias a) (bytes_eq name n) is in
     ap₂ (λ b c. cell_named (m b) c) (sym (same_name alias a both.0)) (sym (same_name name n both.1))
 column_value alias name (tree.int n) m is = cc
@@ -104,7 +104,7 @@ not_true false e = refl
 
 -- an outer expression has at a row the value that it has around it
 outer_value : (alias : List ℕ) (js : JoinTrees) (e : ExprTree) (m n : Names) → is_outer alias js e ≡ true → IsAround m n alias js → value e [] m ≡ value e [] n
-outer_value alias js (tree.column a name collate) m n is around =
+outer_value alias js (tree.column a name form) m n is around =
     let both = and_parts (not (bytes_eq alias a)) (not (is_joined js a)) is in
     ap (λ row. cell_named row name) (around a (not_true (bytes_eq alias a) both.0) (not_true (is_joined js a) both.1))
 outer_value alias js (tree.int k) m n is around = refl
@@ -115,7 +115,7 @@ outer_value alias js (tree.object ps) m n is around = cc
 outer_value alias js (tree.aggregate a) m n is around = cc
 
 no_column : Column
-no_column = record { name = []; ty = Text; nullable = true }
+no_column = record { name = []; ty = Text; of = []; nullable = true }
 
 -- the cell of a column that no earlier one has the name of
 named_at : (cs : List Column) (row : Row) (name : List ℕ) (at : ℕ) → at < length cs → bytes_eq (get_or cs at no_column).name name ≡ true → ((k : ℕ) → k < at → bytes_eq (get_or cs k no_column).name name ≡ false)

@@ -23,12 +23,12 @@ is_joined (join select a js) alias = bytes_eq a alias || is_joined js alias
 
 -- the column of an alias
 abbrev pub is_column : (alias name : List ℕ) → ExprTree → Bool
-is_column alias name (column a n collate) = bytes_eq alias a && bytes_eq name n
+is_column alias name (column a n form) = bytes_eq alias a && bytes_eq name n
 is_column alias name _ = false
 
 -- a column of an alias that is neither the scanned one nor that of a join, or a literal
 abbrev pub is_outer : (alias : List ℕ) → JoinTrees → ExprTree → Bool
-is_outer alias js (column a name collate) = not (bytes_eq alias a) && not (is_joined js a)
+is_outer alias js (column a name form) = not (bytes_eq alias a) && not (is_joined js a)
 is_outer alias js (int n) = true
 is_outer alias js (text t) = true
 is_outer alias js (uuid t) = true

@@ -10,13 +10,14 @@ use Rattle.hq_sql_tree.specs.Tree as tree
 use Rattle.hq_sql_tree.specs.Tree.{ExprTree, OrderTree, SelectTree, FilterTree, PredTree, preds_of}
 use Rattle.hq_sql_tree.specs.Form.{is_rows, is_count}
 use Rattle.hq_sql_tree.specs.Spelling.{separated, clause_text, expr_text, order_text, number_text, select_text, filter_text, pred_text, pred_texts}
-use Rattle.hq_sql_expr.specs.Reading.{◌>>=◌, Reader, after, choose, all_many, expr_at, order_with}
-use Rattle.hq_sql_expr.proofs.Sound.{Taken, Sound, Spelled, sound_next, sound_last, sound_word, sound_choose, sound_choose_end, sound_end, sound_pure}
+use Rattle.hq_sql_expr.specs.Reading.{◌>>=◌, Reader, after, choose, first_of, all_many, cast_at, expr_at, order_with}
+use Rattle.hq_sql_expr.proofs.Sound.{Taken, Sound, Spelled, sound_next, sound_last, sound_first, sound_word, sound_choose, sound_choose_end, sound_end, sound_pure}
 use Rattle.hq_sql_expr.proofs.Listed.{AllGood, list_text, all_many_takes}
 use Rattle.hq_sql_expr.proofs.Fits.{FitsExpr}
+use Rattle.hq_sql_expr.proofs.Exprs as expressions
 use Rattle.hq_sql_expr.proofs.Exprs.{GoodOrder, expr_takes, orders_take}
 use Rattle.hq_sql_expr.proofs.Closed.{closed_list_text}
-use Rattle.hq_sql_text.specs.Reading.{EndTree, clause_with, count_at, test_at, operands_at, test_with, tested_at, member_next, others_with, joined_with, negated_with, inside_with, exists_with, pred_with, filter_with, counts_with, end_with}
+use Rattle.hq_sql_text.specs.Reading.{EndTree, clause_with, count_at, test_at, operands_at, test_with, tested_at, cast_next, member_next, others_with, joined_with, negated_with, inside_with, exists_with, pred_with, filter_with, counts_with, end_with}
 use Rattle.hq_sql_text.proofs.Fits.{AtLeastTwo, FitsOperands, FitsFilter, FitsPred, FitsPreds}
 use Rattle.hq_sql_text.proofs.Operands.{operands_take}
 use Rattle.hq_sql_text.proofs.Tests.{test_at_takes}
@@ -119,11 +120,16 @@ module _ (d : ℕ) (condition : Reader PredTree) (condition_takes : Sound condit
       sound_next condition (λ p bytes. after word.Close bytes >>= λ rest. Some (tree.negation p, rest)) pred_text (λ p. FitsPred p d) (λ b p. Inside d (word_text word.Not ++ b) p) condition_takes
       (λ p fits. sound_end word.Close (tree.negation p) (λ b x. Inside d (word_text word.Not ++ (pred_text p ++ b)) x) (refl, fits))
 
+  cast_takes : Sound cast_next (Spelled expr_text (λ e. FitsExpr e d))
+  cast_takes = sound_word word.Open (λ rest. cast_at rest) (Spelled expr_text (λ e. FitsExpr e d)) (expressions.cast_takes d)
+
   pub inside_takes : Sound (inside_with d condition) (Inside d)
   unfolding inside_with
   inside_takes =
-      sound_choose word.Not (λ rest. negated_with condition rest) (Inside d) negated_takes (λ bytes. cond (member_next bytes) (joined_with condition bytes) (tested_at d bytes))
-      (sound_test member_next (joined_with condition) (tested_at d) (Inside d) joined_takes (tested_takes d))
+      sound_choose word.Not (λ rest. negated_with condition rest) (Inside d) negated_takes
+      (λ bytes. first_of (cast_next bytes) (λ e. test_with d e.0 e.1) (cond (member_next bytes) (joined_with condition bytes) (tested_at d bytes)))
+      (sound_first cast_next (test_with d) (λ bytes. cond (member_next bytes) (joined_with condition bytes) (tested_at d bytes)) expr_text (λ e. FitsExpr e d) (Inside d) cast_takes (test_takes d)
+      (sound_test member_next (joined_with condition) (tested_at d) (Inside d) joined_takes (tested_takes d)))
 
 -- ---- EXISTS
 

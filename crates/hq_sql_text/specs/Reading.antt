@@ -1,5 +1,5 @@
 -- Reading a select from left to right.
-use Rattle.std.specs.Prelude.{ℕ, zero, suc, Bool, false, ◌||◌, List, [], ◌∷◌, length, Option, Some, None, is_some, ◌==◌, if◌then◌else◌}
+use Rattle.std.specs.Prelude.{◌≡◌, ℕ, zero, suc, Bool, false, ◌||◌, List, [], ◌∷◌, length, Option, Some, None, option_map, is_some, Result, Ok, Err, ◌==◌, if◌then◌else◌}
 use Rattle.hq_terms.specs.Tests.{arity}
 use Rattle.hq_terms.specs.declared.test.Test.{Test}
 use Rattle.hq_terms.specs.declared.test.Arity.{Arity}
@@ -10,7 +10,9 @@ use Rattle.hq_sql_tree.specs.Form.{is_rows, reads_as_fold}
 use Rattle.hq_sql_tree.specs.Word.{all_tests, test_word}
 use Rattle.hq_sql_tree.specs.Tree as tree
 use Rattle.hq_sql_tree.specs.Tree.{ExprTree, OrderTree, OutTree, SelectTree, FromTree, JoinTree, FilterTree, PredTree, joins_of, preds_of}
-use Rattle.hq_sql_expr.specs.Reading.{◌>>=◌, Reader, nothing, below, choose, after, first_word, all_many, name_at, number_at, expr_at, argument_with, order_with, out_with, closed_exprs}
+use Rattle.hq_sql_expr.specs.declared.refusal.ReadRefusal.{ReadRefusal}
+use Rattle.hq_sql_expr.specs.declared.refusal.ReadRefusal.TheVariants.{NotSql, Memory}
+use Rattle.hq_sql_expr.specs.Reading.{◌>>=◌, Reader, nothing, below, choose, first_of, after, first_word, all_many, name_at, number_at, cast_at, expr_at, argument_with, order_with, out_with, closed_exprs}
 
 -- a list behind a word, or none
 abbrev pub clause_with : {A : Type 0} → (first between : Word) → Reader A → Reader (List A)
@@ -25,6 +27,12 @@ abbrev pub count_at : Word → Reader (Option ℕ)
 count_at w bytes = choose (after w bytes) (λ rest. number_at rest >>= λ n. Some (Some n.0, n.1)) (Some (None, bytes))
 
 -- ---- conditions
+
+-- a function's answer, seen by view, is what the reader finds, or none where it finds nothing; memory may always run out
+abbrev pub Finds : {X Y : Type 0} → (X → Y) → Result (Option X) ReadRefusal → Option Y → Type 0
+Finds view (Ok o) given = given ≡ option_map view o
+Finds view (Err Memory) given = Unit {0}
+Finds view (Err NotSql) given = ⊥
 
 -- the test whose operator stands here
 unfoldable pub test_at : Reader Test
@@ -45,6 +53,10 @@ test_with d value bytes = do
 
 unfoldable pub tested_at : ℕ → Reader PredTree
 tested_at d bytes = expr_at d bytes >>= λ e. test_with d e.0 e.1
+
+-- a column that is written by its text stands here, in its parentheses, and no condition
+abbrev pub cast_next : Reader ExprTree
+cast_next bytes = after word.Open bytes >>= λ rest. cast_at rest
 
 -- AND or OR stands here
 abbrev pub joint_next : List ℕ → Bool
@@ -80,7 +92,9 @@ negated_with condition bytes = do
 
 -- what a parenthesis holds, up to the one that closes it
 unfoldable pub inside_with : ℕ → Reader PredTree → Reader PredTree
-inside_with d condition bytes = choose (after word.Not bytes) (λ rest. negated_with condition rest) (if member_next bytes then joined_with condition bytes else tested_at d bytes)
+inside_with d condition bytes =
+    choose (after word.Not bytes) (λ rest. negated_with condition rest)
+    (first_of (cast_next bytes) (λ e. test_with d e.0 e.1) (if member_next bytes then joined_with condition bytes else tested_at d bytes))
 
 -- the rows of an EXISTS, up to the closing parenthesis
 unfoldable pub exists_with : Reader SelectTree → Reader PredTree

@@ -3,10 +3,12 @@ ghost use Rattle.std.specs.Prelude.{◌≡◌, List, ℕ, map};
 ghost use Rattle.hq_terms.specs.declared.test.Arity.TheVariants as arities;
 ghost use Rattle.hq_sql_tree.specs.View.{expr_view, pred_view};
 ghost use Rattle.hq_sql_expr.specs.Reading.{Reads, after};
-ghost use Rattle.hq_sql_text.specs.Reading.{joint_behind, joint_next, member_next, test_at, operands_at, test_with, tested_at};
+ghost use Rattle.hq_sql_text.specs.Reading.{Finds, cast_next, joint_behind, joint_next, member_next, test_at, operands_at, test_with, tested_at};
 
 use crate::parts::boxed;
-use hq_sql_expr::{ReadRefusal, read_closed_expr, read_closed_exprs, read_expr, skip, starts};
+use hq_sql_expr::{
+    ReadRefusal, read_cast, read_closed_expr, read_closed_exprs, read_expr, skip, starts,
+};
 use hq_sql_tree::{Expr, ExprList, Pred, Word};
 use hq_terms::{Arity, Test};
 use std::alloc::Global;
@@ -76,6 +78,41 @@ fn asked_of(
     ))
 }
 
+/// What is asked of the value, up to the closing parenthesis, in a box.
+#[inline(never)]
+pub(crate) fn asked_boxed(
+    alloc: Global,
+    depth: u32,
+    value: Box<Expr>,
+    bytes: &[u8],
+) -> Result<(Box<Pred>, &[u8]), ReadRefusal>
+    ensures { Reads (λ x. (pred_view x.0.value, x.1.now)) result (test_with depth (expr_view value.value) bytes.now) }
+{
+    let (pred, rest) = asked_of(alloc, depth, value, bytes)?;
+    boxed(alloc, pred, rest)
+}
+
+/// A column that is written by its text, where one stands here in its parentheses.
+#[inline(never)]
+pub(crate) fn cast_of(
+    alloc: Global,
+    bytes: &[u8],
+) -> Result<Option<(Box<Expr>, &[u8])>, ReadRefusal>
+    ensures { Finds (λ x. (expr_view x.0.value, x.1.now)) result (cast_next bytes.now) }
+{
+    let Some(rest) = starts(bytes, Word::Open) else {
+        return Ok(None);
+    };
+    match read_cast(alloc, rest) {
+        Ok((value, rest)) => {
+            let value = Box::new(alloc, value)?;
+            Ok(Some((value, rest)))
+        }
+        Err(ReadRefusal::NotSql) => Ok(None),
+        Err(ReadRefusal::Memory) => Err(ReadRefusal::Memory),
+    }
+}
+
 /// An expression and what is asked of it, up to the closing parenthesis.
 #[inline(never)]
 #[tactic(auto, unfolding(crate::specs::Reading::tested_at))]
@@ -88,8 +125,7 @@ pub(crate) fn tested_of(
 {
     let (value, rest) = read_expr(alloc, depth, bytes)?;
     let value = Box::new(alloc, value)?;
-    let (pred, rest) = asked_of(alloc, depth, value, rest)?;
-    boxed(alloc, pred, rest)
+    asked_boxed(alloc, depth, value, rest)
 }
 
 // Whether AND or OR stands here.

@@ -20,7 +20,7 @@ author =
     record {
       schema = codes "public";
       name = codes "author";
-      columns = record { name = codes "id"; ty = ty.Integer; nullable = false } ∷ record { name = codes "name"; ty = ty.Text; nullable = false } ∷ record { name = codes "email"; ty = ty.Text; nullable = true } ∷ [];
+      columns = record { name = codes "id"; ty = ty.Integer; of = []; nullable = false } ∷ record { name = codes "name"; ty = ty.Text; of = []; nullable = false } ∷ record { name = codes "email"; ty = ty.Text; of = []; nullable = true } ∷ [];
       key = 0 ∷ [];
       foreign = [];
     }

@@ -200,7 +200,7 @@ is_count (Some n) = nat_lt n (2 ^ 64)
 
 abbrev mutual
   pub expr_fits : ExprTree → Bool
-  expr_fits (tree.column alias name collate) = is_text alias && is_text name
+  expr_fits (tree.column alias name form) = is_text alias && is_text name
   expr_fits (tree.int n) = is_bigint n
   expr_fits (tree.text bytes) = is_text bytes
   expr_fits (tree.uuid bytes) = is_text bytes

@@ -1,3 +1,4 @@
+pub mod Columns
 pub mod Tree
 pub mod View
 pub mod Word

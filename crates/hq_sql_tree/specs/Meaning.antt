@@ -67,7 +67,7 @@ rows_named (t ∷ ts) database schema name =
 -- The value of an expression in its scope. An aggregate is taken over the group.
 abbrev mutual
   pub value : ExprTree → List Scope → Scope → CellTree
-  value (column alias name collate) group scope = cell_named (scope alias) name
+  value (column alias name form) group scope = cell_named (scope alias) name
   value (int n) group scope = cell.int n
   value (text s) group scope = cell.text s
   value (uuid s) group scope = cell.text s

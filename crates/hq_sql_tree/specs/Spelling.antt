@@ -1,6 +1,8 @@
 -- The one spelling of each tree (PostgreSQL's SELECT).
 use Rattle.std.specs.Prelude.{ℕ, ℤ, Bool, true, false, List, [], ◌∷◌, ◌++◌, map, Option, Some, None, ◌==◌, if◌then◌else◌}
 use Rattle.std.specs.Fmt.{decimal, signed_decimal}
+use Rattle.hq_sql_tree.specs.declared.expr.ColumnForm.{ColumnForm}
+use Rattle.hq_sql_tree.specs.declared.expr.ColumnForm.TheVariants as form
 use Rattle.hq_sql_tree.specs.declared.word.Word.{Word}
 use Rattle.hq_sql_tree.specs.declared.word.Word.TheVariants as word
 use Rattle.hq_sql_tree.specs.Word.{word_text, aggregate_word, test_word, test_close}
@@ -54,9 +56,18 @@ abbrev pub bool_text : Bool → List ℕ
 bool_text true = word_text word.True
 bool_text false = word_text word.False
 
-abbrev pub collate_text : Bool → List ℕ
-collate_text true = word_text word.Collate
-collate_text false = []
+-- what stands before a column, and what behind its name: one that is written by its text stands in parentheses
+abbrev pub form_start : ColumnForm → List ℕ
+form_start form.Plain = []
+form_start form.Collated = []
+form_start form.AsText = word_text word.Open
+form_start form.AsTextCollated = word_text word.Open
+
+abbrev pub form_text : ColumnForm → List ℕ
+form_text form.Plain = []
+form_text form.Collated = word_text word.Collate
+form_text form.AsText = word_text word.CloseAsText
+form_text form.AsTextCollated = word_text word.CloseAsTextCollate
 
 -- the direction of a sort key, and where NULLs stand
 abbrev pub direction_word : (desc nulls_first : Bool) → Word
@@ -71,7 +82,7 @@ count_word false = word.Count
 
 abbrev mutual
   pub expr_text : ExprTree → List ℕ
-  expr_text (tree.column alias name collate) = name_text alias ++ (word_text word.Dot ++ (name_text name ++ collate_text collate))
+  expr_text (tree.column alias name f) = form_start f ++ (name_text alias ++ (word_text word.Dot ++ (name_text name ++ form_text f)))
   expr_text (tree.int n) = int_text n
   expr_text (tree.text bytes) = literal_text bytes
   expr_text (tree.uuid bytes) = uuid_text bytes

@@ -2,11 +2,12 @@
 use Rattle.std.specs.Prelude.{ℕ, ℤ, Bool, List, [], ◌∷◌, Option}
 use Rattle.hq_base.specs.declared.aggregate.Aggregate.{Aggregate}
 use Rattle.hq_terms.specs.declared.test.Test.{Test}
+use Rattle.hq_sql_tree.specs.declared.expr.ColumnForm.{ColumnForm}
 
 -- expressions: columns of an alias, literals, JSON objects, and aggregates
 mutual
   pub data ExprTree : Type 0 where
-    column : (alias name : List ℕ) → (collate : Bool) → ExprTree
+    column : (alias name : List ℕ) → ColumnForm → ExprTree
     int : ℤ → ExprTree
     text : List ℕ → ExprTree
     uuid : List ℕ → ExprTree

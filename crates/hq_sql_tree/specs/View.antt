@@ -23,7 +23,7 @@ agg_step (Agg-F.Take a e) = tree.take a e.value
 agg_step (Agg-F.JsonAgg e os) = tree.json_agg e.value (orders_of os.items)
 
 abbrev pub expr_step : Expr-F AggTree ExprTree PairTree OrderTree → ExprTree
-expr_step (Expr-F.Column alias name collate) = tree.column alias name collate
+expr_step (Expr-F.Column alias name form) = tree.column alias name form
 expr_step (Expr-F.Int n) = tree.int n
 expr_step (Expr-F.Text t) = tree.text t
 expr_step (Expr-F.Uuid t) = tree.uuid t

@@ -1,6 +1,6 @@
 -- Which trees are well-formed for a catalog (PostgreSQL manual: Value Expressions, Aggregate Expressions, Collation Support, UUID Type;
 -- SELECT with its FROM, LATERAL, WHERE, DISTINCT and ORDER BY clauses). PostgreSQL takes more; what is said here is this subset.
-use Rattle.std.specs.Prelude.{ℕ, List, [], ◌∷◌, map, Bool, true, false, ◌&&◌, ◌||◌, nat_le, Option, Some, None, is_some, is_ok, bytes_eq, codes, if◌then◌else◌}
+use Rattle.std.specs.Prelude.{ℕ, List, [], ◌∷◌, map, Bool, true, false, not, ◌&&◌, ◌||◌, nat_le, Option, Some, None, is_some, is_ok, bytes_eq, codes, if◌then◌else◌}
 use Rattle.std.specs.List.{list_all, list_any}
 use Rattle.std.specs.Ordering.{int_cmp, bool_cmp, is_eq}
 use Rattle.hq_base.specs.Lists.{all_differ}
@@ -9,23 +9,28 @@ use Rattle.hq_base.specs.Uuids.{is_uuid_form}
 use Rattle.hq_base.specs.declared.aggregate.Aggregate.{Aggregate}
 use Rattle.hq_base.specs.declared.aggregate.Aggregate.TheVariants.{Sum}
 use Rattle.hq_base.specs.declared.value.Ty.{Ty}
-use Rattle.hq_base.specs.declared.value.Ty.TheVariants.{Integer, Bigint, Text, Boolean, Uuid}
+use Rattle.hq_base.specs.declared.value.Ty.TheVariants.{Integer, Bigint, Text, Boolean, Uuid, Opaque}
 use Rattle.hq_terms.specs.declared.table.Table.{Table}
 use Rattle.hq_terms.specs.declared.test.Test.{Test}
 use Rattle.hq_terms.specs.declared.test.Test.TheVariants.{IsNull, Like}
+use Rattle.hq_sql_tree.specs.declared.expr.ColumnForm.{ColumnForm}
+use Rattle.hq_sql_tree.specs.declared.expr.ColumnForm.TheVariants.{Plain, Collated}
+use Rattle.hq_sql_tree.specs.Columns.{casts, collates, same_form}
 use Rattle.hq_sql_tree.specs.Form.{is_select, select_depth, select_fits}
 use Rattle.hq_sql_tree.specs.Tree as tree
 use Rattle.hq_sql_tree.specs.Tree.{ExprTree, PairTrees, AggTree, OrderTrees, OrderTree, OutTree, SelectTree, FromTree, JoinTrees, FilterTree, PredTree, PredTrees}
 
 -- ---- kinds of values, and what is in scope
 
--- a whole number, which may be that of a table's column; a text; a uuid; a truth value; JSON
+-- a whole number, which may be that of a table's column; a text; a uuid; a truth value; JSON; and a value of another type of
+-- PostgreSQL, of which the text alone is known
 pub data Kind : Type 0 where
   whole : (of_column : Bool) → Kind
   text : Kind
   uuid : Kind
   truth : Kind
   json : Kind
+  opaque : Kind
 
 -- the columns of an alias with their kinds; none where the column has none
 abbrev pub Names : Type 0
@@ -41,6 +46,7 @@ kind_of_type Bigint = whole true
 kind_of_type Text = text
 kind_of_type Boolean = truth
 kind_of_type Uuid = uuid
+kind_of_type Opaque = opaque
 
 abbrev pub kind_named : Names → List ℕ → Option Kind
 kind_named [] name = None
@@ -61,6 +67,10 @@ table_names (t ∷ ts) schema name = if is_table schema name t then map (λ c. (
 
 -- ---- kinds of expressions
 
+-- the kind of a column that is written so: of one that is written by its text, a text
+abbrev pub seen_kind : ColumnForm → Option Kind → Option Kind
+seen_kind form k = if casts form then Some text else k
+
 -- the kind without the column that it came from
 abbrev pub not_of_column : Option Kind → Option Kind
 not_of_column (Some (whole of_column)) = Some (whole false)
@@ -73,7 +83,7 @@ taken_kind _ k = not_of_column k
 
 abbrev mutual
   pub kind : Aliases → ExprTree → Option Kind
-  kind scope (tree.column alias name collate) = kind_at scope alias name
+  kind scope (tree.column alias name form) = seen_kind form (kind_at scope alias name)
   kind scope (tree.int n) = Some (whole false)
   kind scope (tree.text s) = Some text
   kind scope (tree.uuid s) = Some uuid
@@ -90,6 +100,17 @@ abbrev mutual
 abbrev pub is_text_kind : Option Kind → Bool
 is_text_kind (Some text) = true
 is_text_kind _ = false
+
+-- what may be written by its text: a text, and a value of another type of PostgreSQL
+abbrev pub can_cast : Option Kind → Bool
+can_cast (Some text) = true
+can_cast (Some opaque) = true
+can_cast _ = false
+
+-- what becomes JSON, or is tested for NULL: all but a value of another type of PostgreSQL, whose text does
+abbrev pub is_known : Option Kind → Bool
+is_known (Some opaque) = false
+is_known _ = true
 
 -- what is compared, sorted, grouped or counted distinct
 abbrev pub has_order : Option Kind → Bool
@@ -127,12 +148,17 @@ abbrev pub pair_names : PairTrees → List (List ℕ)
 pair_names tree.no_pair = []
 pair_names (tree.pair name e ps) = name ∷ pair_names ps
 
--- No aggregate stands in the expression, its columns are in scope, COLLATE stands on text columns alone,
--- each uuid is in its one form, and the names of each object differ.
+-- a column of this kind may be written so
+abbrev pub may_stand : ColumnForm → Option Kind → Bool
+may_stand Plain k = is_some k
+may_stand Collated k = is_text_kind k
+may_stand _ k = can_cast k
+
+-- No aggregate stands in the expression, its columns are in scope, each in a form that it may have, each uuid is in its one form, what
+-- stands in an object is known, and the names of each object differ.
 abbrev mutual
   pub is_value : Aliases → ExprTree → Bool
-  is_value scope (tree.column alias name false) = is_some (kind_at scope alias name)
-  is_value scope (tree.column alias name true) = is_text_kind (kind_at scope alias name)
+  is_value scope (tree.column alias name form) = may_stand form (kind_at scope alias name)
   is_value scope (tree.uuid s) = is_uuid_form s
   is_value scope (tree.object ps) = all_differ bytes_eq (pair_names ps) && are_values scope ps
   is_value scope (tree.aggregate a) = false
@@ -140,11 +166,15 @@ abbrev mutual
 
   pub are_values : Aliases → PairTrees → Bool
   are_values scope tree.no_pair = true
-  are_values scope (tree.pair name e ps) = is_value scope e && are_values scope ps
+  are_values scope (tree.pair name e ps) = (is_value scope e && is_known (kind scope e)) && are_values scope ps
 
--- a text column stands under COLLATE
+-- a value that becomes JSON, or is tested for NULL
+abbrev pub is_member : Aliases → ExprTree → Bool
+is_member scope e = is_value scope e && is_known (kind scope e)
+
+-- a column of texts, or by its text, stands under COLLATE
 abbrev pub is_collated : Aliases → ExprTree → Bool
-is_collated scope (tree.column alias name false) = if is_text_kind (kind_at scope alias name) then false else true
+is_collated scope (tree.column alias name form) = collates form || not (is_text_kind (seen_kind form (kind_at scope alias name)))
 is_collated scope _ = true
 
 -- a value that is compared, sorted, grouped or counted distinct
@@ -161,12 +191,12 @@ is_taken scope tree.count_all = true
 is_taken scope (tree.count e false) = is_value scope e
 is_taken scope (tree.count e true) = is_compared scope e
 is_taken scope (tree.take a e) = is_value scope e && takes_kind a (kind scope e) && is_collated scope e
-is_taken scope (tree.json_agg e os) = is_value scope e && are_keys scope os
+is_taken scope (tree.json_agg e os) = is_member scope e && are_keys scope os
 
 -- the output of a fold: its columns stand inside aggregates alone, and each uuid is in its one form
 abbrev mutual
   pub is_folded : Aliases → ExprTree → Bool
-  is_folded scope (tree.column alias name collate) = false
+  is_folded scope (tree.column alias name form) = false
   is_folded scope (tree.uuid s) = is_uuid_form s
   is_folded scope (tree.object ps) = all_differ bytes_eq (pair_names ps) && are_folded scope ps
   is_folded scope (tree.aggregate a) = is_taken scope a
@@ -180,7 +210,7 @@ abbrev mutual
 
 -- equal expressions, of those that are sorted by
 abbrev pub same_expr : ExprTree → ExprTree → Bool
-same_expr (tree.column alias name collate) (tree.column other_alias other_name other_collate) = bytes_eq alias other_alias && bytes_eq name other_name && is_eq (bool_cmp collate other_collate)
+same_expr (tree.column alias name form) (tree.column other_alias other_name other_form) = bytes_eq alias other_alias && bytes_eq name other_name && same_form form other_form
 same_expr (tree.int n) (tree.int m) = is_eq (int_cmp n m)
 same_expr (tree.text s) (tree.text t) = bytes_eq s t
 same_expr (tree.uuid s) (tree.uuid t) = bytes_eq s t
@@ -225,9 +255,9 @@ is_pattern _ = false
 abbrev pub is_item : Aliases → ExprTree → ExprTree → Bool
 is_item scope e item = is_compared scope item && compare_kinds (kind scope e) (kind scope item)
 
--- the value of a test is one that is compared; LIKE takes a text, and IS NULL any value
+-- the value of a test is one that is compared; LIKE takes a text, and IS NULL any value that is known
 abbrev pub is_tested : Aliases → Test → ExprTree → Bool
-is_tested scope IsNull e = is_value scope e
+is_tested scope IsNull e = is_member scope e
 is_tested scope (Like fold) e = is_compared scope e && is_text_kind (kind scope e)
 is_tested scope _ e = is_compared scope e
 

@@ -1,3 +1,6 @@
+ghost use Rattle.std.specs.Prelude.{◌≡◌};
+ghost use Rattle.hq_sql_tree.specs.Columns.{casts, collates, same_form};
+
 use hq_base::{Aggregate, Txt};
 
 /// Expressions, in order.
@@ -9,15 +12,48 @@ pub type ExprPairList = Vec<ExprPair>;
 /// Sort keys, the first one first.
 pub type OrderList = Vec<Order>;
 
+/// How a column is written: as it stands, or by its text in the form `::text`; and with `COLLATE "C"`, by which texts are
+/// compared byte by byte.
+#[derive(Clone, Copy, PartialEq, Eq)]
+pub enum ColumnForm {
+    Plain,
+    Collated,
+    AsText,
+    AsTextCollated,
+}
+
+impl ColumnForm {
+    /// Whether it is written by its text.
+    pub fn casts(self) -> bool
+        ensures { result ≡ casts self }
+    {
+        matches!(self, ColumnForm::AsText | ColumnForm::AsTextCollated)
+    }
+
+    /// Whether `COLLATE "C"` stands behind it.
+    pub fn collates(self) -> bool
+        ensures { result ≡ collates self }
+    {
+        matches!(self, ColumnForm::Collated | ColumnForm::AsTextCollated)
+    }
+
+    /// Whether it is the other one.
+    pub fn is_same(self, other: ColumnForm) -> bool
+        ensures { result ≡ same_form self other }
+    {
+        self.casts() == other.casts() && self.collates() == other.collates()
+    }
+}
+
 /// A value expression.
 #[derive(Drop)]
 #[cycle(expr)]
 pub enum Expr {
-    /// A column of an alias; with `collate` it is compared by `COLLATE "C"`, byte by byte.
+    /// A column of an alias.
     Column {
         alias: Txt,
         name: Txt,
-        collate: bool,
+        form: ColumnForm,
     },
     /// A `bigint` literal.
     Int(i64),

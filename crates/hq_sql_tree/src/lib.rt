@@ -11,6 +11,6 @@ mod select;
 mod statement;
 mod word;
 
-pub use expr::{Agg, Expr, ExprList, ExprPair, ExprPairList, Order, OrderList};
+pub use expr::{Agg, ColumnForm, Expr, ExprList, ExprPair, ExprPairList, Order, OrderList};
 pub use select::{From, Join, JoinList, Out, OutList, Pred, PredList, Select};
 pub use word::Word;

@@ -17,7 +17,7 @@ use Rattle.hq_base.specs.Refused.{text_of}
 use Rattle.hq_base.specs.declared.txt.TxtRefusal.{TxtRefusal}
 use Rattle.hq_base.specs.Uuids.{is_uuid_form}
 use Rattle.hq_base.specs.declared.value.Ty.{Ty}
-use Rattle.hq_base.specs.declared.value.Ty.TheVariants.{Integer, Bigint, Text, Boolean, Uuid}
+use Rattle.hq_base.specs.declared.value.Ty.TheVariants.{Integer, Bigint, Text, Boolean, Uuid, Opaque}
 use Rattle.hq_base.specs.declared.value.Val.{Val}
 use Rattle.hq_base.specs.declared.value.Val.TheVariants as val
 use Rattle.hq_terms.specs.Database.{Row, are_rows, key_of, row_fits, same_values, value_fits}
@@ -102,6 +102,7 @@ type_due-fits Integer s v e = read_due-fits Integer s v e
 type_due-fits Bigint s v e = read_due-fits Bigint s v e
 type_due-fits Text s v e = read_due-fits Text s v e
 type_due-fits Boolean s v e = read_due-fits Boolean s v e
+type_due-fits Opaque s v e = read_due-fits Opaque s v e
 
 -- a value that is read by the column's type fits it
 typed_fits : (c : Column) (s : List ℕ) (v : Val) → typed_due c.ty s ≡ Ok v → value_fits c v ≡ true

@@ -110,7 +110,7 @@ fn typed(alloc: Global, ty: Ty, text: &str) -> Result<Val, FieldRefusal>
 {
     match ty {
         Ty::Uuid => uuid(alloc, text),
-        Ty::Integer | Ty::Bigint | Ty::Text | Ty::Boolean => read(alloc, ty, text),
+        Ty::Integer | Ty::Bigint | Ty::Text | Ty::Boolean | Ty::Opaque => read(alloc, ty, text),
     }
 }
 

@@ -22,7 +22,7 @@ fn whole_number_fits(ty: Ty, n: i64) -> bool
     match ty {
         Ty::Integer => i64::from(i32::MIN) <= n && n <= i64::from(i32::MAX),
         Ty::Bigint => true,
-        Ty::Text | Ty::Boolean | Ty::Uuid => false,
+        Ty::Text | Ty::Boolean | Ty::Uuid | Ty::Opaque => false,
     }
 }
 

@@ -10,7 +10,7 @@ use Rattle.hq_base.specs.Patterns.{pattern_of}
 use Rattle.hq_base.specs.Uuids.{uuid_form, is_uuid_form}
 use Rattle.hq_base.proofs.Uuids.{form_is_uuid}
 use Rattle.hq_base.specs.declared.value.Ty.{Ty}
-use Rattle.hq_base.specs.declared.value.Ty.TheVariants.{Integer, Bigint, Text, Boolean, Uuid}
+use Rattle.hq_base.specs.declared.value.Ty.TheVariants.{Integer, Bigint, Text, Boolean, Uuid, Opaque}
 use Rattle.hq_base.specs.declared.value.Val.{Val}
 use Rattle.hq_base.specs.declared.value.Val.TheVariants as val
 use Rattle.hq_terms.specs.Constants.{text_constant, truth_constant, constant_in}
@@ -55,6 +55,7 @@ read_fits Integer s v e = int_ok Integer want.Integer (whole_number Integer s) v
 read_fits Bigint s v e = int_ok Bigint want.Bigint (whole_number Bigint s) v (λ n. whole_fits n Bigint s) e
 read_fits Text s v e = let same : val.Text s ≡ v = cc in subst (λ w. constant_fits Text w ≡ true) same refl
 read_fits Boolean s v e = bool_ok (truth_value s) v e
+read_fits Opaque s v e = let same : val.Text s ≡ v = cc in subst (λ w. constant_fits Opaque w ≡ true) same refl
 read_fits Uuid s v e = uuid_ok (uuid_form s) v (form_is_uuid s) e
 
 -- a text that is read as a pattern is one
@@ -77,6 +78,7 @@ text_fits Integer s v e = cc
 text_fits Bigint s v e = int_some Bigint (whole_number Bigint s) v (λ n. whole_fits n Bigint s) e
 text_fits Text s v e = let same : val.Text s ≡ v = cc in subst (λ w. constant_fits Text w ≡ true) same refl
 text_fits Boolean s v e = cc
+text_fits Opaque s v e = let same : val.Text s ≡ v = cc in subst (λ w. constant_fits Opaque w ≡ true) same refl
 text_fits Uuid s v e = uuid_some (uuid_form s) v (form_is_uuid s) e
 
 truth_fits : (ty : Ty) (b : Bool) (v : Val) → truth_constant ty b ≡ Some v → constant_fits ty v ≡ true
@@ -84,6 +86,7 @@ truth_fits Integer b v e = cc
 truth_fits Bigint b v e = cc
 truth_fits Text b v e = cc
 truth_fits Uuid b v e = cc
+truth_fits Opaque b v e = cc
 truth_fits Boolean b v e = let same : val.Bool b ≡ v = cc in subst (λ w. constant_fits Boolean w ≡ true) same refl
 
 number_fits : (ty : Ty) (n : ℤ) (v : Val) (b : Bool) → int_fits ty n ≡ b → cond b (Some (val.Int n)) None ≡ Some v → constant_fits ty v ≡ true
@@ -114,6 +117,7 @@ no_pattern Integer j v other is e = cc
 no_pattern Bigint j v other is e = cc
 no_pattern Boolean j v other is e = cc
 no_pattern Uuid j v other is e = cc
+no_pattern Opaque j v other is e = cc
 
 -- a constant that is no text fits each test of its type
 pub other_fits : (t : Test) (ty : Ty) (j : JsonTree) (v : Val) → str_in j ≡ None → applies t ty ≡ true → constant_in ty j ≡ Some v → test_fits t ty v ≡ true

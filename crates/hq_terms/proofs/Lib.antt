@@ -6,6 +6,7 @@ pub mod Names
 pub mod Fitting
 pub mod Places
 pub mod Steps
+pub mod Firsts
 mod Worked
 pub mod Together
 pub mod Permitting

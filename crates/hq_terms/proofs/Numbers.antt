@@ -10,7 +10,7 @@ use Rattle.std.proofs.lemmas.Bool.{false≢true}
 use borrow.Author.Tests.{ltb-true}
 use Rattle.std.proofs.lemmas.Str.Parse.{IsNumeralModel, numerals_by_value, without_leading_plus_none}
 use Rattle.hq_base.specs.declared.value.Ty.{Ty}
-use Rattle.hq_base.specs.declared.value.Ty.TheVariants.{Integer, Bigint, Text, Boolean, Uuid}
+use Rattle.hq_base.specs.declared.value.Ty.TheVariants.{Integer, Bigint, Text, Boolean, Uuid, Opaque}
 use Rattle.hq_terms.specs.Database.{int_fits}
 use Rattle.hq_terms.specs.Reading.{are_digits, is_whole_number, whole_number}
 
@@ -40,6 +40,7 @@ fits_wide Bigint (negsuc n) h = record { sfits = ltb-true n (2 ^ 63) h }
 fits_wide Text n h = absurd (false≢true h)
 fits_wide Boolean n h = absurd (false≢true h)
 fits_wide Uuid n h = absurd (false≢true h)
+fits_wide Opaque n h = absurd (false≢true h)
 
 -- a number that was read, and that the type holds
 pub whole_number-parsed : (ty : Ty) (s : List ℕ) (n : ℤ) → slice_index s 0 ≢ 43 → IsNumeral 10 (without_leading_sign s) → n ≡ signed_digits_value 10 s → int_fits ty n ≡ true → Some n ≡ whole_number ty s

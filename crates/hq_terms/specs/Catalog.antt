@@ -5,6 +5,7 @@ use Rattle.std.specs.List.{list_all}
 use Rattle.hq_base.specs.Lists.{all_differ}
 use Rattle.hq_base.specs.declared.value.Ty.{Ty}
 pub use Rattle.hq_base.specs.Types.{comparable}
+use Rattle.hq_base.specs.Types.{is_ordered}
 use Rattle.hq_terms.specs.declared.table.Column.{Column}
 use Rattle.hq_terms.specs.declared.table.ForeignKey.{ForeignKey}
 use Rattle.hq_terms.specs.declared.table.Table.{Table}
@@ -26,10 +27,10 @@ is_catalog_name name = nat_lt 0 (length name) && nat_le (length name) 63
 abbrev pub full_name : Table → List ℕ
 full_name t = t.schema ++ codes "." ++ t.name
 
--- the column is there and holds no NULL
-abbrev pub holds_no_null : Option Column → Bool
-holds_no_null None = false
-holds_no_null (Some c) = not c.nullable
+-- the column is there, holds no NULL, and its values are compared
+abbrev pub is_key_column : Option Column → Bool
+is_key_column None = false
+is_key_column (Some c) = not c.nullable && is_ordered c.ty
 
 -- two columns are there, and their values can be compared
 abbrev pub can_pair : Option Ty → Option Ty → Bool
@@ -51,7 +52,7 @@ pairs_fit_with t (Some u) cs ds = pairs_fit t u cs ds
 abbrev pub is_foreign_key : List Table → Table → ForeignKey → Bool
 is_foreign_key tables t f = nat_lt 0 (length f.columns) && pairs_fit_with t (slice_get tables f.remote) f.columns f.references
 
--- 1 to 200 columns of different names, a primary key of different columns that hold no NULL, and foreign keys that fit
+-- 1 to 200 columns of different names, a primary key of different columns that hold no NULL and are compared, and foreign keys that fit
 abbrev pub is_table : List Table → Table → Bool
 is_table tables t =
     is_catalog_name t.schema && is_catalog_name t.name
@@ -60,7 +61,7 @@ is_table tables t =
     && all_differ (λ c d. bytes_eq c.name d.name) t.columns
     && nat_lt 0 (length t.key)
     && all_differ (λ c d. c == d) t.key
-    && list_all (λ c. holds_no_null (slice_get t.columns c)) t.key
+    && list_all (λ c. is_key_column (slice_get t.columns c)) t.key
     && list_all (is_foreign_key tables t) t.foreign
 
 -- at most 500 tables of different names

@@ -3,17 +3,19 @@ use Rattle.std.specs.Prelude.{ℕ, List, Bool, if◌then◌else◌, Option, Some
 use Rattle.hq_base.specs.Json.{JsonTree, bool, int, str}
 use Rattle.hq_base.specs.Uuids.{uuid_form}
 use Rattle.hq_base.specs.declared.value.Ty.{Ty}
-use Rattle.hq_base.specs.declared.value.Ty.TheVariants.{Bigint, Text, Boolean, Uuid}
+use Rattle.hq_base.specs.declared.value.Ty.TheVariants.{Bigint, Text, Boolean, Uuid, Opaque}
 use Rattle.hq_base.specs.declared.value.Val.{Val}
 use Rattle.hq_base.specs.declared.value.Val.TheVariants as val
 use Rattle.hq_terms.specs.Database.{int_fits}
 use Rattle.hq_terms.specs.Reading.{whole_number}
 
--- a text as a value of a column's type: for a bigint it spells a whole number, for a uuid one in its one form
+-- a text as a value of a column's type: for a bigint it spells a whole number, for a uuid one in its one form, and of another type of
+-- PostgreSQL it is one
 abbrev pub text_constant : Ty → List ℕ → Option Val
 text_constant Bigint s = option_map val.Int (whole_number Bigint s)
 text_constant Text s = Some (val.Text s)
 text_constant Uuid s = option_map val.Text (uuid_form s)
+text_constant Opaque s = Some (val.Text s)
 text_constant ty s = None
 
 -- a truth value as a value of a column's type

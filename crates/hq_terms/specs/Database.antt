@@ -7,7 +7,7 @@ use Rattle.hq_base.specs.Cells.{same_cell, cell_of}
 use Rattle.hq_base.specs.Uuids.{is_uuid_form}
 use Rattle.hq_base.specs.declared.value.Ty.{Ty}
 pub use Rattle.hq_base.specs.Types.{is_text, is_boolean}
-use Rattle.hq_base.specs.declared.value.Ty.TheVariants.{Integer, Bigint, Text, Boolean, Uuid}
+use Rattle.hq_base.specs.declared.value.Ty.TheVariants.{Integer, Bigint, Text, Boolean, Uuid, Opaque}
 use Rattle.hq_base.specs.declared.value.Val.{Val}
 use Rattle.hq_base.specs.declared.value.Val.TheVariants as val
 use Rattle.hq_terms.specs.declared.table.Column.{Column}
@@ -29,11 +29,13 @@ int_fits Bigint n = fits_bits 64 n
 int_fits Text n = false
 int_fits Boolean n = false
 int_fits Uuid n = false
+int_fits Opaque n = false
 
--- a text of the column's type: any text, or the one form of a uuid
+-- a text of the column's type: any text, for an opaque column too, or the one form of a uuid
 abbrev pub is_text_of : Ty → List ℕ → Bool
 is_text_of Text s = true
 is_text_of Uuid s = is_uuid_form s
+is_text_of Opaque s = true
 is_text_of _ s = false
 
 -- a value that the column may hold

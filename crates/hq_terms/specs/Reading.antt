@@ -7,7 +7,7 @@ use Rattle.std.specs.Str.Parse.{signed_digits_value}
 use Rattle.hq_base.specs.Patterns.{pattern_of}
 use Rattle.hq_base.specs.Uuids.{uuid_form}
 use Rattle.hq_base.specs.declared.value.Ty.{Ty}
-use Rattle.hq_base.specs.declared.value.Ty.TheVariants.{Integer, Bigint, Text, Boolean, Uuid}
+use Rattle.hq_base.specs.declared.value.Ty.TheVariants.{Integer, Bigint, Text, Boolean, Uuid, Opaque}
 use Rattle.hq_base.specs.declared.value.Val.{Val}
 use Rattle.hq_base.specs.declared.value.Val.TheVariants as val
 use Rattle.hq_terms.specs.Database.{int_fits}
@@ -43,13 +43,14 @@ truth_read s = ok_or (option_map val.Bool (truth_value s)) want.Boolean
 abbrev pub uuid_read : List ℕ → Result Val Want
 uuid_read s = ok_or (option_map val.Text (uuid_form s)) want.Uuid
 
--- a text as a value of this type: a text as it stands. Else what it is not
+-- a text as a value of this type: a text, and that of another type of PostgreSQL, as it stands. Else what it is not
 abbrev pub read_as : Ty → List ℕ → Result Val Want
 read_as Integer s = whole_read Integer want.Integer s
 read_as Bigint s = whole_read Bigint want.Bigint s
 read_as Text s = Ok (val.Text s)
 read_as Boolean s = truth_read s
 read_as Uuid s = uuid_read s
+read_as Opaque s = Ok (val.Text s)
 
 -- a text as a pattern, which must not end in an escape
 abbrev pub read_pattern : List ℕ → Result Val Want

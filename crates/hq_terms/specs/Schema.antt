@@ -52,7 +52,7 @@ table s t = slice_index_or s t no_table
 
 -- the column that stands beyond a table's columns: a nullable text of no name
 abbrev pub no_column : Column
-no_column = record { name = []; ty = Text; nullable = true }
+no_column = record { name = []; ty = Text; of = []; nullable = true }
 
 -- a column of a table, by the places of both
 abbrev pub column : Schema → ℕ → ℕ → Column

@@ -1,14 +1,17 @@
 -- The names that a metadata gives in the schema of admin, the widest of all roles (Hasura, API reference: GraphQL API).
-use Rattle.std.specs.Prelude.{ℕ, List, [], ◌∷◌, ◌++◌, map, filter, flat_map, Bool, true, false, cond, ◌&&◌, ◌==◌, bytes_eq, codes, slice_index_or, Option, Some, None}
+use Rattle.std.specs.Prelude.{ℕ, List, [], ◌∷◌, ◌++◌, map, filter, flat_map, Bool, true, false, not, cond, ◌&&◌, ◌==◌, bytes_eq, codes, slice_index_or, Option, Some, None}
 use Rattle.std.specs.List.{list_all, list_any}
 use Rattle.hq_base.specs.Aggregates.{all_aggregates, aggregate_suffix, is_aggregate_of}
 use Rattle.hq_base.specs.Lists.{all_differ}
+use Rattle.hq_base.specs.Types.{is_opaque}
 use Rattle.hq_base.specs.declared.aggregate.Aggregate.{Aggregate}
 use Rattle.hq_base.specs.declared.value.Ty.{Ty}
 use Rattle.hq_terms.specs.Meta.{TrackedTree, MetaTree, tracked_table}
+use Rattle.hq_terms.specs.Names.{is_free_name}
 use Rattle.hq_terms.specs.Permission.{named_columns}
 use Rattle.hq_terms.specs.Schema.{Schema, table, column}
 use Rattle.hq_terms.specs.declared.meta.Rel.{Rel}
+use Rattle.hq_terms.specs.declared.table.Column.{Column}
 
 -- the types that each schema has
 abbrev pub fixed_types : List (List ℕ)
@@ -17,7 +20,8 @@ fixed_types =
     ∷ codes "Boolean_comparison_exp" ∷ codes "Int_comparison_exp" ∷ codes "String_comparison_exp" ∷ codes "bigint_comparison_exp"
     ∷ codes "uuid_comparison_exp"
     ∷ codes "__Schema" ∷ codes "__Type" ∷ codes "__Field" ∷ codes "__InputValue" ∷ codes "__EnumValue" ∷ codes "__Directive"
-    ∷ codes "__TypeKind" ∷ codes "__DirectiveLocation" ∷ codes "query_root" ∷ []
+    ∷ codes "__TypeKind" ∷ codes "__DirectiveLocation" ∷ codes "query_root"
+    ∷ codes "opaque_comparison_exp" ∷ []
 
 -- the inputs that each boolean expression has
 abbrev pub fixed_inputs : List (List ℕ)
@@ -87,13 +91,31 @@ fields_of m k = column_names_of k ++ flat_map rel_fields (rels_in_schema m k)
 abbrev pub inputs_of : MetaTree → TrackedTree → List (List ℕ)
 inputs_of m k = fixed_inputs ++ column_names_of k ++ map (λ r. r.name) (rels_in_schema m k)
 
+-- the scalar of an opaque column is named for its type of PostgreSQL, where that is a name that a schema may give
+abbrev pub scalar_of : Column → Option (List ℕ)
+scalar_of c = cond (is_opaque c.ty && is_free_name c.of) (Some c.of) None
+
+-- the types of all tables, behind those that each schema has
+abbrev pub all_types : Schema → MetaTree → List (List ℕ)
+all_types s m = fixed_types ++ flat_map (types_of s) m.tracked
+
+-- a scalar, where there is one, has the name of none of these types
+abbrev pub is_unlike : (types : List (List ℕ)) → Option (List ℕ) → Bool
+is_unlike types None = true
+is_unlike types (Some n) = not (list_any (λ t. bytes_eq t n) types)
+
+-- so have those of a table's columns that have GraphQL names
+abbrev pub scalars_differ : Schema → (types : List (List ℕ)) → TrackedTree → Bool
+scalars_differ s types k = list_all (λ c. is_unlike types (scalar_of (column s k.table c))) (named_columns k)
+
 -- no two names of a list are equal
 abbrev pub all_names_differ : List (List ℕ) → Bool
 all_names_differ = all_differ bytes_eq
 
--- no two types, no two root fields, and no two fields or inputs of one type have one name
+-- no two types, no two root fields, and no two fields or inputs of one type have one name; columns may share a scalar
 abbrev pub names_differ : Schema → MetaTree → Bool
 names_differ s m =
-    all_names_differ (fixed_types ++ flat_map (types_of s) m.tracked)
+    all_names_differ (all_types s m)
     && all_names_differ (flat_map (roots_of s) m.tracked)
     && list_all (λ k. all_names_differ (fields_of m k) && all_names_differ (inputs_of m k)) m.tracked
+    && list_all (scalars_differ s (all_types s m)) m.tracked

@@ -5,7 +5,7 @@ use Rattle.std.specs.Result.{result_ok}
 use Rattle.std.specs.Str.{str_eq_ignore_ascii_case}
 use Rattle.hq_base.specs.Refused.{text_of}
 use Rattle.hq_base.specs.declared.value.Ty.{Ty}
-use Rattle.hq_base.specs.declared.value.Ty.TheVariants.{Integer, Bigint, Text, Boolean, Uuid}
+use Rattle.hq_base.specs.declared.value.Ty.TheVariants.{Integer, Bigint, Text, Boolean, Uuid, Opaque}
 use Rattle.hq_base.specs.declared.value.Val.{Val}
 use Rattle.hq_terms.specs.Tests.{Test, reads}
 use Rattle.hq_terms.specs.declared.session_list.Place.{Place}
@@ -97,3 +97,4 @@ list_want Bigint = want.BigintList
 list_want Text = want.TextList
 list_want Boolean = want.BooleanList
 list_want Uuid = want.UuidList
+list_want Opaque = want.TextList

@@ -3,7 +3,7 @@
 use Rattle.std.specs.Prelude.{ℕ, List, [], Bool, true, false, ◌==◌, Result}
 use Rattle.hq_base.specs.Aggregates.{first_cell}
 use Rattle.hq_base.specs.Cells.{CellTree}
-use Rattle.hq_base.specs.Types.{is_text}
+use Rattle.hq_base.specs.Types.{is_text, is_ordered}
 use Rattle.hq_base.specs.declared.value.Ty.{Ty}
 use Rattle.hq_base.specs.declared.value.Val.{Val}
 use Rattle.hq_terms.specs.Logic.{Truth, truth_of, compared, among, null_test, matched}
@@ -37,10 +37,10 @@ takes_many Many = true
 abbrev pub takes : Test → (operands : ℕ) → Bool
 takes t n = has_arity (arity t) n
 
--- the types of whose values each is a test: patterns are of texts alone
+-- the types of whose values each is a test: patterns are of texts alone, and of an opaque column there is the test of NULL alone
 abbrev pub applies : Test → Ty → Bool
-applies (Compare op) ty = true
-applies Among ty = true
+applies (Compare op) ty = is_ordered ty
+applies Among ty = is_ordered ty
 applies IsNull ty = true
 applies (Like fold) ty = is_text ty
 

@@ -63,7 +63,7 @@ pub fn read_as(alloc: Global, ty: Ty, text: &str) -> Result<Result<Val, Want>, M
     match ty {
         Ty::Integer => Ok(read_whole(Ty::Integer, Want::Integer, text)),
         Ty::Bigint => Ok(read_whole(Ty::Bigint, Want::Bigint, text)),
-        Ty::Text => Ok(Ok(read_text(alloc, text)?)),
+        Ty::Text | Ty::Opaque => Ok(Ok(read_text(alloc, text)?)),
         Ty::Boolean => Ok(read_truth(text)),
         Ty::Uuid => read_uuid(alloc, text),
     }
@@ -105,7 +105,7 @@ pub fn whole_value(ty: Ty, n: i128) -> Option<Val>
     let (low, high) = match ty {
         Ty::Integer => (i32::MIN as i128, i32::MAX as i128),
         Ty::Bigint => (i64::MIN as i128, i64::MAX as i128),
-        Ty::Text | Ty::Boolean | Ty::Uuid => return None,
+        Ty::Text | Ty::Boolean | Ty::Uuid | Ty::Opaque => return None,
     };
     if low <= n && n <= high {
         Some(Val::Int(n as i64))
@@ -129,7 +129,7 @@ fn text_value(alloc: Global, ty: Ty, text: &Txt) -> Result<Option<Val>, Memory>
     ensures { IfOk result (λ o. o ≡ text_constant ty text.now) }
 {
     match ty {
-        Ty::Text => Ok(Some(Val::Text(text.copy(alloc)?))),
+        Ty::Text | Ty::Opaque => Ok(Some(Val::Text(text.copy(alloc)?))),
         Ty::Bigint => match whole_number(Ty::Bigint, text.as_str()) {
             Some(n) => Ok(Some(Val::Int(n))),
             None => Ok(None),
@@ -145,7 +145,7 @@ fn bool_value(ty: Ty, b: bool) -> Option<Val>
 {
     match ty {
         Ty::Boolean => Some(Val::Bool(b)),
-        Ty::Integer | Ty::Bigint | Ty::Text | Ty::Uuid => None,
+        Ty::Integer | Ty::Bigint | Ty::Text | Ty::Uuid | Ty::Opaque => None,
     }
 }
 

@@ -11,7 +11,7 @@ fn fits(ty: Ty, n: i64) -> bool
     match ty {
         Ty::Integer => i64::from(i32::MIN) <= n && n <= i64::from(i32::MAX),
         Ty::Bigint => true,
-        Ty::Text | Ty::Boolean | Ty::Uuid => false,
+        Ty::Text | Ty::Boolean | Ty::Uuid | Ty::Opaque => false,
     }
 }
 
@@ -41,7 +41,7 @@ pub fn is_text_of(ty: Ty, text: &str) -> bool
     ensures { result ≡ is_text_of ty text.now }
 {
     match ty {
-        Ty::Text => true,
+        Ty::Text | Ty::Opaque => true,
         Ty::Uuid => is_uuid_form(text),
         Ty::Integer | Ty::Bigint | Ty::Boolean => false,
     }

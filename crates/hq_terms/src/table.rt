@@ -1,7 +1,8 @@
 ghost use Rattle.std.specs.Prelude.{◌≡◌, ◌&&◌, bytes_eq, option_copied, position, slice_get};
 ghost use Rattle.hq_terms.specs.Catalog.{can_pair, type_of};
+ghost use Rattle.hq_terms.specs.SchemaNames.{scalar_of};
 
-use crate::{ColId, ColList, TableId};
+use crate::{ColId, ColList, TableId, is_free_name};
 use hq_base::{List, Txt, Ty};
 
 /// A column of a table.
@@ -9,8 +10,22 @@ use hq_base::{List, Txt, Ty};
 pub struct Column {
     pub name: Txt,
     pub ty: Ty,
+    /// The name of its type in PostgreSQL, which is known of an opaque column; else it may be empty.
+    pub of: Txt,
     /// Whether it may hold NULL.
     pub nullable: bool,
+}
+
+impl Column {
+    /// The scalar that is named for its type, where it is opaque and a schema may give that name.
+    pub fn scalar(&self) -> Option<&Txt>
+        ensures { option_copied result ≡ scalar_of self.now }
+    {
+        match self.ty {
+            Ty::Opaque if is_free_name(&self.of) => Some(&self.of),
+            _ => None,
+        }
+    }
 }
 
 /// Columns, in the table's order.

@@ -38,13 +38,14 @@ impl Test {
         }
     }
 
-    /// Whether it is a test of the values of a type: patterns are of texts alone.
+    /// Whether it is a test of the values of a type: patterns are of texts alone, and of an opaque column there is the test of NULL alone.
     pub fn applies(self, ty: Ty) -> bool
         ensures { result ≡ applies self ty }
     {
         match self {
             Test::Like { .. } => ty == Ty::Text,
-            Test::Compare(_) | Test::Among | Test::IsNull => true,
+            Test::Compare(_) | Test::Among => ty.is_ordered(),
+            Test::IsNull => true,
         }
     }
 }

@@ -23,6 +23,7 @@ fn type_of(case: &Case) -> Result<Ty, Stop> {
         "text" => Ok(Ty::Text),
         "boolean" => Ok(Ty::Boolean),
         "uuid" => Ok(Ty::Uuid),
+        "opaque" => Ok(Ty::Opaque),
         _ => Err(Stop::Shape),
     }
 }

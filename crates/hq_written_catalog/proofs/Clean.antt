@@ -1,23 +1,23 @@
 -- A catalog's JSON value can be read back.
-use Rattle.std.proofs.Common.{◌≡◌, ℕ, zero, suc, ◌≤◌, ◌&&◌, List, [], ◌∷◌, map, Bool, true, false, Option, Some, None, slice_get, refl, sym, ap, subst, arith}
+use Rattle.std.proofs.Common.{◌≡◌, ℕ, zero, suc, ◌≤◌, ◌&&◌, List, [], ◌∷◌, ◌++◌, map, Bool, true, false, cond, Option, Some, None, slice_get, refl, sym, ap, subst, arith}
 use Rattle.std.specs.List.{list_all}
 use Rattle.std.specs.Str.{is_utf8, chars}
 use lib.Utf8.{encode}
 use Rattle.std.proofs.lemmas.Bool.{and_parts, and_from}
-use Rattle.hq_base.specs.Json.{JsonTree}
+use Rattle.hq_base.specs.Json.{JsonTree, bool, str}
 use Rattle.hq_base.specs.Lists.{Each}
 use Rattle.hq_base.specs.Types.{catalog_name}
 use Rattle.hq_base.specs.declared.value.Ty.{Ty}
-use Rattle.hq_base.specs.declared.value.Ty.TheVariants.{Integer, Bigint, Text, Boolean, Uuid}
+use Rattle.hq_base.specs.declared.value.Ty.TheVariants.{Integer, Bigint, Text, Boolean, Uuid, Opaque}
 use Rattle.hq_terms.specs.declared.table.Column.{Column}
 use Rattle.hq_terms.specs.declared.table.ForeignKey.{ForeignKey}
 use Rattle.hq_terms.specs.declared.table.Table.{Table}
 use Rattle.hq_catalog_read.specs.Field.{field_name}
 use Rattle.hq_catalog_read.specs.declared.field.Field.TheVariants as field
-use Rattle.hq_written_json.specs.Building.{list, texts}
+use Rattle.hq_written_json.specs.Building.{object, list, texts}
 use Rattle.hq_written_json.specs.ReadBack.{IsReadable, is_clean}
 use Rattle.hq_written_json.proofs.Building.{Readable, readable, text_readable, bool_readable, texts_readable, map_readable, object_readable, are_member_names}
-use Rattle.hq_written_catalog.specs.Written.{name_in, name_at, column_members, column_json, schema_in, table_name_in, columns_in, table_ref_members, foreign_members, foreign_json, table_members, table_json, catalog_members, catalog_json, has_clean_names}
+use Rattle.hq_written_catalog.specs.Written.{name_in, name_at, has_of, column_json, schema_in, table_name_in, columns_in, table_ref_members, foreign_members, foreign_json, table_members, table_json, catalog_members, catalog_json, is_clean_column, has_clean_names}
 use Rattle.hq_written_catalog.proofs.Lists.{each_true, at_each}
 
 -- ---- the names of members
@@ -25,6 +25,10 @@ use Rattle.hq_written_catalog.proofs.Lists.{each_true, at_each}
 column_names : are_member_names (field_name field.Name ∷ field_name field.ColumnType ∷ field_name field.Nullable ∷ []) ≡ true
 unfolding field_name is_utf8 chars encode
 column_names = refl
+
+opaque_names : are_member_names (field_name field.Name ∷ field_name field.ColumnType ∷ field_name field.Of ∷ field_name field.Nullable ∷ []) ≡ true
+unfolding field_name is_utf8 chars encode
+opaque_names = refl
 
 ref_names : are_member_names (field_name field.Schema ∷ field_name field.Name ∷ []) ≡ true
 unfolding field_name is_utf8 chars encode
@@ -49,6 +53,7 @@ clean_type Bigint = refl
 clean_type Text = refl
 clean_type Boolean = refl
 clean_type Uuid = refl
+clean_type Opaque = refl
 
 clean_nothing : is_clean [] ≡ true
 unfolding is_utf8 chars encode
@@ -58,17 +63,17 @@ clean_nothing = refl
 
 -- the columns' names are clean
 abbrev pub CleanColumns : List Column → Type 0
-CleanColumns columns = list_all (λ c. is_clean c.name) columns ≡ true
+CleanColumns columns = list_all is_clean_column columns ≡ true
 
 -- and the table's
 abbrev pub clean_table : Table → Bool
-clean_table t = is_clean t.schema && is_clean t.name && list_all (λ c. is_clean c.name) t.columns
+clean_table t = is_clean t.schema && is_clean t.name && list_all is_clean_column t.columns
 
 pub name_clean : (columns : List Column) (k : ℕ) → CleanColumns columns → is_clean (name_at columns k) ≡ true
 name_clean columns k h =
     let go : (o : Option Column) → slice_get columns k ≡ o → is_clean (name_in o) ≡ true = elim [
       | None ↦ λ e. clean_nothing
-      | Some c ↦ λ e. at_each (λ (d : Column). is_clean d.name ≡ true) columns (each_true (λ (d : Column). is_clean d.name) columns h) k c e
+      | Some c ↦ λ e. (and_parts _ _ (at_each (λ (d : Column). is_clean_column d ≡ true) columns (each_true is_clean_column columns h) k c e)).0
     ] in
     go (slice_get columns k) refl
 
@@ -76,8 +81,19 @@ pub names_clean : (columns : List Column) (ks : List ℕ) → CleanColumns colum
 names_clean columns [] h = refl
 names_clean columns (k ∷ ks) h = and_from _ _ (name_clean columns k h) (names_clean columns ks h)
 
-column_readable : (c : Column) → is_clean c.name ≡ true → Readable 1 (column_json c)
-column_readable c h = object_readable 0 (column_members c) column_names (text_readable 0 c.name h, (text_readable 0 (catalog_name c.ty) (clean_type c.ty), (bool_readable 0 c.nullable, tt)))
+-- the members of a column, with its type of PostgreSQL or without
+abbrev members_of : Column → Bool → List (List ℕ × JsonTree)
+members_of c b = (field_name field.Name, str c.name) ∷ (field_name field.ColumnType, str (catalog_name c.ty)) ∷ (cond b ((field_name field.Of, str c.of) ∷ []) [] ++ (field_name field.Nullable, bool c.nullable) ∷ [])
+
+column_readable : (c : Column) → is_clean_column c ≡ true → Readable 1 (column_json c)
+column_readable c h = by (has_of c)
+  where
+    p : (is_clean c.name ≡ true) × (is_clean c.of ≡ true)
+    p = and_parts (is_clean c.name) (is_clean c.of) h
+
+    by : (b : Bool) → Readable 1 (object (members_of c b))
+    by true = object_readable 0 (members_of c true) opaque_names (text_readable 0 c.name p.0, (text_readable 0 (catalog_name c.ty) (clean_type c.ty), (text_readable 0 c.of p.1, (bool_readable 0 c.nullable, tt))))
+    by false = object_readable 0 (members_of c false) column_names (text_readable 0 c.name p.0, (text_readable 0 (catalog_name c.ty) (clean_type c.ty), (bool_readable 0 c.nullable, tt)))
 
 columns_readable : (columns : List Column) → CleanColumns columns → Each (λ c. Readable 1 (column_json c)) columns
 columns_readable [] h = tt

@@ -5,10 +5,11 @@ use Rattle.std.specs.Cmp.Lexicographic.{bytes_decides}
 use Rattle.std.proofs.lemmas.Bool.{and_from, and_parts}
 use Rattle.std.proofs.lemmas.Bool.Decides.{Decides-eqb}
 use Rattle.hq_base.specs.Lists.{Each, all_differ}
-use Rattle.hq_terms.specs.Catalog.{type_of, can_pair, column_type, pairs_fit, holds_no_null}
+use Rattle.hq_base.specs.Types.{is_ordered}
+use Rattle.hq_terms.specs.Catalog.{type_of, can_pair, column_type, pairs_fit, is_key_column}
 use Rattle.hq_terms.specs.declared.table.Column.{Column}
 use Rattle.hq_terms.specs.declared.table.Table.{Table}
-use Rattle.hq_catalog_read.specs.Resolved.{column_named, settled}
+use Rattle.hq_catalog_read.specs.Resolved.{column_named, key_column_named, settled}
 use Rattle.hq_written_catalog.specs.Written.{name_in, name_at}
 use Rattle.hq_written_catalog.proofs.Lists.{not_true, position_of, each_at, map_each}
 
@@ -32,12 +33,23 @@ pub named_place : (columns : List Column) (k : ℕ) (path : List ℕ) → differ
 unfolding column_named
 named_place columns k path h is = rw (place_found columns k h is) refl
 
-some_place : (columns : List Column) (k : ℕ) (o : Option Column) → slice_get columns k ≡ o → holds_no_null o ≡ true → IsPlace columns k
-some_place columns k None e h = cc
-some_place columns k (Some c) e h = (c, e)
+-- the same of a column whose values are compared
+abbrev pub IsKeyPlace : List Column → ℕ → Type 0
+IsKeyPlace columns k = (c : Column) × (slice_get columns k ≡ Some c) × (is_ordered c.ty ≡ true)
 
--- a column that holds no NULL is there
-pub key_places : (columns : List Column) (key : List ℕ) → list_all (λ c. holds_no_null (slice_get columns c)) key ≡ true → Each (IsPlace columns) key
+pub key_place : (columns : List Column) (k : ℕ) → IsKeyPlace columns k → IsPlace columns k
+key_place columns k is = (is.0, is.1)
+
+pub named_key : (columns : List Column) (k : ℕ) (path : List ℕ) → differ columns ≡ true → IsKeyPlace columns k → key_column_named columns path (name_at columns k) ≡ Ok k
+unfolding key_column_named
+named_key columns k path h is = rw (place_found columns k h (key_place columns k is), is.1, is.2) refl
+
+some_place : (columns : List Column) (k : ℕ) (o : Option Column) → slice_get columns k ≡ o → is_key_column o ≡ true → IsKeyPlace columns k
+some_place columns k None e h = cc
+some_place columns k (Some c) e h = (c, e, (and_parts (not c.nullable) (is_ordered c.ty) h).1)
+
+-- a column that a key may have is there
+pub key_places : (columns : List Column) (key : List ℕ) → list_all (λ c. is_key_column (slice_get columns c)) key ≡ true → Each (IsKeyPlace columns) key
 key_places columns [] h = tt
 key_places columns (k ∷ ks) h = let p = and_parts _ _ h in (some_place columns k (slice_get columns k) refl p.0, key_places columns ks p.1)
 
@@ -49,17 +61,17 @@ one_place columns j k h a b e =
     cc
 
 -- a name of the key is that of a column that holds no NULL
-not_null : (columns : List Column) (k : ℕ) (c : Column) (key : List ℕ) → differ columns ≡ true → slice_get columns k ≡ Some c → list_all (λ p. holds_no_null (slice_get columns p)) key ≡ true
+not_null : (columns : List Column) (k : ℕ) (c : Column) (key : List ℕ) → differ columns ≡ true → slice_get columns k ≡ Some c → list_all (λ p. is_key_column (slice_get columns p)) key ≡ true
     → list_any (λ name. bytes_eq name c.name) (map (name_at columns) key) ≡ true → c.nullable ≡ false
 not_null columns k c [] h at keyed e = cc
 not_null columns k c (p ∷ ps) h at keyed e =
     let parts = and_parts _ _ keyed in
-    let there = some_place columns p (slice_get columns p) refl parts.0 in
+    let there = key_place columns p (some_place columns p (slice_get columns p) refl parts.0) in
     let go : (b : Bool) → bytes_eq (name_at columns p) c.name ≡ b → c.nullable ≡ false = elim [
       | true ↦ λ same.
           let named : name_at columns k ≡ c.name = ap name_in at in
           let is = one_place columns p k h there (c, at) (ap (bytes_eq (name_at columns p)) named ∙ same) in
-          not_true c.nullable (ap holds_no_null (sym at ∙ ap (slice_get columns) (sym is)) ∙ parts.0)
+          not_true c.nullable (and_parts (not c.nullable) (is_ordered c.ty) (ap is_key_column (sym at ∙ ap (slice_get columns) (sym is)) ∙ parts.0)).0
       | false ↦ λ same. not_null columns k c ps h at parts.1 (rw same at e)
     ] in
     go (bytes_eq (name_at columns p) c.name) refl
@@ -68,7 +80,7 @@ not_in_key : (b : Bool) → (b && not false) ≡ b
 not_in_key true = refl
 not_in_key false = refl
 
-settled_same : (columns : List Column) (key : List ℕ) (k : ℕ) (c : Column) → differ columns ≡ true → list_all (λ p. holds_no_null (slice_get columns p)) key ≡ true → slice_get columns k ≡ Some c
+settled_same : (columns : List Column) (key : List ℕ) (k : ℕ) (c : Column) → differ columns ≡ true → list_all (λ p. is_key_column (slice_get columns p)) key ≡ true → slice_get columns k ≡ Some c
     → settled (map (name_at columns) key) c ≡ c
 settled_same columns key k c h keyed at =
     let among = list_any (λ name. bytes_eq name c.name) (map (name_at columns) key) in
@@ -79,7 +91,7 @@ settled_same columns key k c h keyed at =
     ap (λ (b : Bool). record c { nullable = b }) (go among refl)
 
 -- a column that the key names is as nullable as before
-pub settled_all : (columns : List Column) (key : List ℕ) → differ columns ≡ true → list_all (λ p. holds_no_null (slice_get columns p)) key ≡ true → map (settled (map (name_at columns) key)) columns ≡ columns
+pub settled_all : (columns : List Column) (key : List ℕ) → differ columns ≡ true → list_all (λ p. is_key_column (slice_get columns p)) key ≡ true → map (settled (map (name_at columns) key)) columns ≡ columns
 settled_all columns key h keyed = map_each (settled (map (name_at columns) key)) columns (each_at (λ c. settled (map (name_at columns) key) c ≡ c) columns (λ k c at. settled_same columns key k c h keyed at))
 
 -- ---- pairs of columns

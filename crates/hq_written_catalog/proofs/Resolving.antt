@@ -15,7 +15,7 @@ use Rattle.hq_terms.specs.declared.table.ForeignKey.{ForeignKey}
 use Rattle.hq_terms.specs.declared.table.Table.{Table}
 use Rattle.hq_catalog_read.specs.Each.{each}
 use Rattle.hq_catalog_read.specs.Node.{at}
-use Rattle.hq_catalog_read.specs.Resolved.{column_named, table_named, columns_at, can_refer, foreign_key_of, settled, table_of, resolved}
+use Rattle.hq_catalog_read.specs.Resolved.{column_named, key_column_named, table_named, columns_at, can_refer, foreign_key_of, settled, table_of, resolved}
 use Rattle.hq_catalog_read.specs.Resolved as reading
 use Rattle.hq_catalog_read.specs.declared.field.Field.TheVariants as field
 use Rattle.hq_catalog_read.specs.declared.refusal.CatalogRefusal.{CatalogRefusal}
@@ -24,7 +24,7 @@ use Rattle.hq_catalog_read.specs.declared.written.WrittenForeignKey.{WrittenFore
 use Rattle.hq_catalog_read.specs.declared.written.WrittenTable.{WrittenTable}
 use Rattle.hq_written_catalog.specs.Written.{name_at, schema_in, table_name_in, columns_in}
 use Rattle.hq_written_catalog.proofs.Lists.{position_of, differ_weaken, differ_map, slice_get_map, each_true}
-use Rattle.hq_written_catalog.proofs.Places.{same_name, IsPlace, differ, named_place, key_places, own_places, remote_places, as_many, zipped, settled_all}
+use Rattle.hq_written_catalog.proofs.Places.{same_name, IsPlace, IsKeyPlace, differ, named_place, named_key, key_places, own_places, remote_places, as_many, zipped, settled_all}
 use Rattle.hq_written_catalog.proofs.Shapes.{each_back, itself, written, written_key}
 use Rattle.hq_written_catalog.proofs.Tests.{IsGood}
 
@@ -34,6 +34,12 @@ use Rattle.hq_written_catalog.proofs.Tests.{IsGood}
 columns_named : (columns : List Column) (path : List ℕ) (ks : List ℕ) → differ columns ≡ true → Each (IsPlace columns) ks → each (column_named columns) path (map (name_at columns) ks) ≡ Ok ks
 columns_named columns path ks h there =
     each_back (column_named columns) (name_at columns) (λ k. k) path 0 ks (each_weaken (IsPlace columns) (λ k. (p : List ℕ) → column_named columns p (name_at columns k) ≡ Ok k) (λ k is p. named_place columns k p h is) ks there)
+    ∙ ap Ok (itself ks)
+
+-- so are those of a key
+keys_named : (columns : List Column) (path : List ℕ) (ks : List ℕ) → differ columns ≡ true → Each (IsKeyPlace columns) ks → each (key_column_named columns) path (map (name_at columns) ks) ≡ Ok ks
+keys_named columns path ks h there =
+    each_back (key_column_named columns) (name_at columns) (λ k. k) path 0 ks (each_weaken (IsKeyPlace columns) (λ k. (p : List ℕ) → key_column_named columns p (name_at columns k) ≡ Ok k) (λ k is p. named_key columns k p h is) ks there)
     ∙ ap Ok (itself ks)
 
 -- ---- tables
@@ -111,7 +117,7 @@ whole_table : (tables : List Table) (t : Table) (path : List ℕ) → all_differ
     → table_of (map (written tables) tables) path (written tables t) ≡ Ok t
 unfolding table_of
 whole_table tables t path h all g =
-    let key = columns_named t.columns (at path field.PrimaryKey) t.key g.differ (key_places t.columns t.key g.no_null) in
+    let key = keys_named t.columns (at path field.PrimaryKey) t.key g.differ (key_places t.columns t.key g.no_null) in
     let foreign : each (foreign_key_of (map (written tables) tables) t.columns) (at path field.ForeignKeys) (map (written_key tables t) t.foreign) ≡ Ok t.foreign =
     each_back (foreign_key_of (map (written tables) tables) t.columns) (written_key tables t) (λ f. f) (at path field.ForeignKeys) 0 t.foreign (foreign_all tables t t.foreign h all g g.foreign) ∙ ap Ok (itself t.foreign) in
     rw (key, foreign, settled_all t.columns t.key g.differ g.no_null) refl

@@ -1,13 +1,14 @@
 -- What a written catalog has the form of: its tables, by names.
-use Rattle.std.proofs.Common.{◌≡◌, ◌∙◌, ℕ, zero, suc, ◌+◌, ◌<◌, ◌==◌, nat_lt, List, [], ◌∷◌, length, map, Bool, true, false, cond, Option, Some, None, Result, Ok, Err, slice_get, refl, sym, ap, arith, ne_eqb, ltb-true}
+use Rattle.std.proofs.Common.{◌≡◌, ◌∙◌, ℕ, zero, suc, ◌+◌, ◌<◌, ◌==◌, nat_lt, List, [], ◌∷◌, ◌++◌, length, map, Bool, true, false, cond, not, Option, Some, None, Result, Ok, Err, slice_get, refl, sym, ap, arith, ne_eqb, ltb-true}
+use Rattle.std.proofs.lemmas.Bool.{or_parts, true≢false}
 use Rattle.hq_base.specs.Due.{and_then, mapped}
-use Rattle.hq_base.specs.Json.{JsonTree, str, elements_of}
+use Rattle.hq_base.specs.Json.{JsonTree, bool, str, elements_of}
 use Rattle.hq_base.specs.Lists.{Each}
 use Rattle.hq_base.specs.Look.{element_list}
 use Rattle.hq_base.specs.Path.{top_path, item_path}
-use Rattle.hq_base.specs.Types.{catalog_name, type_named}
+use Rattle.hq_base.specs.Types.{catalog_name, type_named, is_opaque}
 use Rattle.hq_base.specs.declared.value.Ty.{Ty}
-use Rattle.hq_base.specs.declared.value.Ty.TheVariants.{Integer, Bigint, Text, Boolean, Uuid}
+use Rattle.hq_base.specs.declared.value.Ty.TheVariants.{Integer, Bigint, Text, Boolean, Uuid, Opaque}
 use Rattle.hq_base.proofs.Lists.{each_all}
 use Rattle.hq_terms.specs.declared.table.Column.{Column}
 use Rattle.hq_terms.specs.declared.table.ForeignKey.{ForeignKey}
@@ -15,15 +16,16 @@ use Rattle.hq_terms.specs.declared.table.Table.{Table}
 use Rattle.hq_catalog_read.specs.Each.{each, each_from}
 use Rattle.hq_catalog_read.specs.Field.{field_name}
 use Rattle.hq_catalog_read.specs.Node.{required, at, object_at, text_at, text_member, list_member, names_member, object_member}
-use Rattle.hq_catalog_read.specs.Shape.{type_member, nullable_member, column_at, columns_member, foreign_key_at, foreign_keys_member, table_at, written_tables}
+use Rattle.hq_catalog_read.specs.Shape.{type_member, of_absent, of_member, nullable_member, column_at, columns_member, foreign_key_at, foreign_keys_member, table_at, written_tables}
 use Rattle.hq_catalog_read.specs.declared.field.Field.TheVariants as field
 use Rattle.hq_catalog_read.specs.declared.refusal.CatalogRefusal.{CatalogRefusal}
 use Rattle.hq_catalog_read.specs.declared.refusal.CatalogRefusal.TheVariants.{Shape}
 use Rattle.hq_catalog_read.specs.declared.written.WrittenForeignKey.{WrittenForeignKey}
 use Rattle.hq_catalog_read.specs.declared.written.WrittenTable.{WrittenTable}
+use Rattle.hq_written_json.specs.Building.{object}
 use Rattle.hq_written_json.specs.ReadBack.{in_name_order, elements_in_name_order}
 use Rattle.hq_written_json.proofs.Building.{elements_read}
-use Rattle.hq_written_catalog.specs.Written.{name_at, column_json, schema_in, table_name_in, columns_in, table_ref, foreign_json, table_json, catalog_json}
+use Rattle.hq_written_catalog.specs.Written.{name_at, has_of, column_json, schema_in, table_name_in, columns_in, table_ref, foreign_json, table_json, catalog_json}
 use Rattle.hq_written_catalog.proofs.Lists.{map_each}
 
 -- ---- arrays
@@ -57,10 +59,32 @@ type_back Bigint = refl
 type_back Text = refl
 type_back Boolean = refl
 type_back Uuid = refl
+type_back Opaque = refl
+
+-- a column that is not opaque may lack the name of PostgreSQL's type
+absent_back : (path : List ℕ) (ty : Ty) → is_opaque ty ≡ false → of_absent path ty ≡ Ok []
+absent_back path Integer h = refl
+absent_back path Bigint h = refl
+absent_back path Text h = refl
+absent_back path Boolean h = refl
+absent_back path Uuid h = refl
+absent_back path Opaque h = cc
+
+no_text : (s : List ℕ) → not (length s == 0) ≡ false → s ≡ []
+no_text [] h = refl
+no_text (b ∷ s) h = absurd (true≢false h)
 
 column_back : (c : Column) (path : List ℕ) → column_at path (in_name_order (column_json c)) ≡ Ok c
-unfolding column_at object_at text_member type_member nullable_member field_name
-column_back c path = rw (type_back c.ty) refl
+unfolding column_at object_at text_member type_member of_member nullable_member field_name
+column_back c path = by (has_of c) refl
+  where
+    by : (b : Bool) → has_of c ≡ b
+        → column_at path (in_name_order (object ((field_name field.Name, str c.name) ∷ (field_name field.ColumnType, str (catalog_name c.ty)) ∷ (cond b ((field_name field.Of, str c.of) ∷ []) [] ++ (field_name field.Nullable, bool c.nullable) ∷ [])))) ≡ Ok c
+    by true e = rw (type_back c.ty) refl
+    by false e =
+        let parts = or_parts (is_opaque c.ty) (not (length c.of == 0)) e in
+        let whole : List ℕ → Result Column CatalogRefusal = λ o. Ok (record c { of = o }) in
+        rw (type_back c.ty, absent_back (at path field.Of) c.ty parts.0) (ap whole (sym (no_text c.of parts.1)))
 
 not_none : {E : Type 0} (columns : List Column) (e : E) → nat_lt 0 (length columns) ≡ true → cond (length columns == 0) (Err e) (Ok columns) ≡ Ok columns
 not_none columns e h = let some = ltb-true 0 (length columns) h in rw (ne_eqb (length columns) 0 (λ z. omega (arith, z, some))) refl

@@ -8,7 +8,7 @@ use Rattle.std.proofs.lemmas.List.{length-map}
 use Rattle.hq_base.specs.Lists.{Each, all_differ}
 use Rattle.hq_base.proofs.Lists.{each_weaken}
 use Rattle.hq_terms.specs.Catalog as catalog
-use Rattle.hq_terms.specs.Catalog.{is_catalog_name, is_table, is_foreign_key, holds_no_null}
+use Rattle.hq_terms.specs.Catalog.{is_catalog_name, is_table, is_foreign_key, is_key_column}
 use Rattle.hq_terms.specs.declared.table.Column.{Column}
 use Rattle.hq_terms.specs.declared.table.Table.{Table}
 use Rattle.hq_catalog_read.specs.Field.{field_name}
@@ -19,7 +19,7 @@ use Rattle.hq_catalog_read.specs.declared.refusal.CatalogRefusal.TheVariants.{To
 use Rattle.hq_catalog_read.specs.declared.written.WrittenTable.{WrittenTable}
 use Rattle.hq_written_catalog.specs.Written.{name_at}
 use Rattle.hq_written_catalog.proofs.Lists.{not_true, each_true, find_none, find_none_flat, none_before, differ_weaken, differ_map}
-use Rattle.hq_written_catalog.proofs.Places.{IsPlace, differ, key_places, one_place}
+use Rattle.hq_written_catalog.proofs.Places.{IsPlace, IsKeyPlace, key_place, differ, key_places, one_place}
 use Rattle.hq_written_catalog.proofs.Shapes.{written}
 
 -- what a table of a catalog has
@@ -32,7 +32,7 @@ pub record IsGood (tables : List Table) (t : Table) : Type 0 where
   pub differ : differ t.columns ≡ true
   pub keyed : nat_lt 0 (length t.key) ≡ true
   pub apart : all_differ (λ c d. c == d) t.key ≡ true
-  pub no_null : list_all (λ c. holds_no_null (slice_get t.columns c)) t.key ≡ true
+  pub no_null : list_all (λ c. is_key_column (slice_get t.columns c)) t.key ≡ true
   pub foreign : list_all (is_foreign_key tables t) t.foreign ≡ true
 
 good : (tables : List Table) (t : Table) → is_table tables t ≡ true → IsGood tables t
@@ -121,7 +121,8 @@ none_within : (tables : List Table) (t : Table) → IsGood tables t → repeat_w
 unfolding repeat_within
 none_within tables t g =
     let columns = no_repeat [] (map (λ (c : Column). c.name) t.columns) (differ_map bytes_eq (λ (c : Column). c.name) t.columns ∙ g.differ) in
-    let key = no_repeat [] (map (name_at t.columns) t.key) (key_names t.columns t.key g.differ g.apart (key_places t.columns t.key g.no_null)) in
+    let there = each_weaken (IsKeyPlace t.columns) (IsPlace t.columns) (key_place t.columns) t.key (key_places t.columns t.key g.no_null) in
+    let key = no_repeat [] (map (name_at t.columns) t.key) (key_names t.columns t.key g.differ g.apart there) in
     rw columns key
 
 none_from : (tables : List Table) (earlier : List (List ℕ)) (ts : List Table) → all_differ bytes_eq (earlier ++ map catalog.full_name ts) ≡ true → Each (IsGood tables) ts → repeat_from earlier (map (written tables) ts) ≡ None

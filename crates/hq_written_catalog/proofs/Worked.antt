@@ -9,13 +9,13 @@ use Rattle.hq_written_catalog.specs.Written.{catalog_json}
 
 -- authors, and their articles
 abbrev authors : Table
-authors = record { schema = codes "public"; name = codes "author"; columns = record { name = codes "id"; ty = Integer; nullable = false } ∷ []; key = 0 ∷ []; foreign = [] }
+authors = record { schema = codes "public"; name = codes "author"; columns = record { name = codes "id"; ty = Integer; of = []; nullable = false } ∷ []; key = 0 ∷ []; foreign = [] }
 
 abbrev articles : Table
 articles = record {
   schema = codes "public";
   name = codes "article";
-  columns = record { name = codes "id"; ty = Integer; nullable = false } ∷ record { name = codes "writer"; ty = Integer; nullable = true } ∷ [];
+  columns = record { name = codes "id"; ty = Integer; of = []; nullable = false } ∷ record { name = codes "writer"; ty = Integer; of = []; nullable = true } ∷ [];
   key = 0 ∷ [];
   foreign = record { columns = 1 ∷ []; remote = 0; references = 0 ∷ [] } ∷ [];
 }

@@ -1,9 +1,9 @@
 -- A catalog as a JSON value: the tables with their columns, keys and foreign keys, each named as it is in the database. The
--- members stand in this order, and none is left out.
-use Rattle.std.specs.Prelude.{ℕ, List, [], ◌∷◌, map, Bool, ◌&&◌, Option, Some, None, slice_get}
+-- members stand in this order, and none is left out but an empty `of`.
+use Rattle.std.specs.Prelude.{ℕ, List, [], ◌∷◌, ◌++◌, map, length, Bool, not, cond, ◌&&◌, ◌||◌, ◌==◌, Option, Some, None, slice_get}
 use Rattle.std.specs.List.{list_all}
 use Rattle.hq_base.specs.Json.{JsonTree, bool, str}
-use Rattle.hq_base.specs.Types.{catalog_name}
+use Rattle.hq_base.specs.Types.{catalog_name, is_opaque}
 use Rattle.hq_terms.specs.declared.table.Column.{Column}
 use Rattle.hq_terms.specs.declared.table.ForeignKey.{ForeignKey}
 use Rattle.hq_terms.specs.declared.table.Table.{Table}
@@ -20,15 +20,21 @@ name_in (Some c) = c.name
 abbrev pub name_at : List Column → ℕ → List ℕ
 name_at columns c = name_in (slice_get columns c)
 
+-- the name of a column's type in PostgreSQL, which an opaque column always has
+abbrev pub has_of : Column → Bool
+has_of c = is_opaque c.ty || not (length c.of == 0)
+
+abbrev pub of_members : Column → List (List ℕ × JsonTree)
+of_members c = cond (has_of c) ((field_name field.Of, str c.of) ∷ []) []
+
 -- the members of a column
 abbrev pub column_members : Column → List (List ℕ × JsonTree)
 column_members c =
     (field_name field.Name, str c.name)
     ∷ (field_name field.ColumnType, str (catalog_name c.ty))
-    ∷ (field_name field.Nullable, bool c.nullable)
-    ∷ []
+    ∷ (of_members c ++ (field_name field.Nullable, bool c.nullable) ∷ [])
 
--- a column: its name, its type and whether it may hold NULL
+-- a column: its name, its type, perhaps with PostgreSQL's name of it, and whether it may hold NULL
 abbrev pub column_json : Column → JsonTree
 column_json c = object (column_members c)
 
@@ -90,5 +96,8 @@ abbrev pub catalog_json : List Table → JsonTree
 catalog_json tables = object (catalog_members tables)
 
 -- each name of the catalog is UTF-8 without a zero byte
+abbrev pub is_clean_column : Column → Bool
+is_clean_column c = is_clean c.name && is_clean c.of
+
 abbrev pub has_clean_names : List Table → Bool
-has_clean_names tables = list_all (λ t. is_clean t.schema && is_clean t.name && list_all (λ c. is_clean c.name) t.columns) tables
+has_clean_names tables = list_all (λ t. is_clean t.schema && is_clean t.name && list_all is_clean_column t.columns) tables

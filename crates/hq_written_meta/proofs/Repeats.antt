@@ -2,15 +2,15 @@
 use Rattle.std.proofs.Common.{◌≡◌, ◌∙◌, ℕ, ◌+◌, ◌&&◌, ◌++◌, List, [], ◌∷◌, map, filter, flat_map, Bool, true, false, cond, Ok, bytes_eq, codes, refl, sym, ap, ap₂, subst, append_assoc, append-nil}
 use Rattle.std.proofs.lemmas.Bool.{and_parts}
 use Rattle.std.proofs.lemmas.List.{take-append-drop}
-use Rattle.hq_base.specs.Due.{and_then, mapped}
+use Rattle.hq_base.specs.Due.{and_then}
 use Rattle.hq_base.specs.Lists.{Each, all_differ}
 use Rattle.hq_base.specs.Path.{member_path, item_path}
 use Rattle.hq_terms.specs.Meta.{TrackedTree, MetaTree}
 use Rattle.hq_terms.specs.Schema.{Schema}
-use Rattle.hq_terms.specs.SchemaNames.{fixed_types, fixed_inputs, types_of, roots_of, column_names_of, is_in_schema, rels_in_schema, rel_fields, fields_of, inputs_of, all_names_differ, names_differ}
+use Rattle.hq_terms.specs.SchemaNames.{fixed_types, fixed_inputs, types_of, roots_of, column_names_of, is_in_schema, rels_in_schema, rel_fields, fields_of, inputs_of, all_types, all_names_differ, scalars_differ, names_differ}
 use Rattle.hq_terms.specs.declared.meta.Rel.{Rel}
 use Rattle.hq_meta_names.specs.Added.{added}
-use Rattle.hq_meta_names.specs.Repeats.{with_rel, with_shown_rel, with_rels, object_count, objects_of, arrays_of, with_all_rels, with_columns, own_names, with_table, with_tables, names_due}
+use Rattle.hq_meta_names.specs.Repeats.{with_rel, with_shown_rel, with_rels, object_count, objects_of, arrays_of, with_all_rels, with_columns, own_names, with_table, with_tables, scalars_due, names_due}
 use Rattle.hq_meta_names.specs.declared.known.Own.{Own}
 use Rattle.hq_meta_names.specs.declared.known.Shared.{Shared}
 use Rattle.hq_written_catalog.proofs.Lists.{each_true, none_before}
@@ -141,11 +141,18 @@ tables_added s m path n shared (k ∷ ks) types roots own =
     rw (new_types, new_roots, own_added m here k own.0)
     (tables_added s m path (n + 1) more ks all_types all_roots own.1 ∙ rw (type_shape, root_shape) refl)
 
+-- no scalar is refused
+scalars_passed : (s : Schema) (types : List (List ℕ)) (path : List ℕ) (n : ℕ) (ks : List TrackedTree) → Each (λ k. scalars_differ s types k ≡ true) ks → scalars_due s types path n ks ≡ Ok tt
+scalars_passed s types path n [] h = refl
+scalars_passed s types path n (k ∷ ks) h = rw h.0 (scalars_passed s types path (n + 1) ks h.1)
+
 -- no name is refused
 pub no_repeat : (s : Schema) (m : MetaTree) (path : List ℕ) → names_differ s m ≡ true → names_due s m path ≡ Ok tt
 unfolding names_due
 no_repeat s m path h =
-    let p = and_parts _ _ h in
+    let last = and_parts _ _ h in
+    let p = and_parts _ _ last.0 in
     let q = and_parts _ _ p.0 in
     let first : Shared = record { types = fixed_types; roots = [] } in
-    ap (mapped (λ shared. tt)) (tables_added s m path 0 first m.tracked q.0 q.1 (each_true (λ (k : TrackedTree). all_names_differ (fields_of m k) && all_names_differ (inputs_of m k)) m.tracked p.1))
+    ap (and_then (λ (shared : Shared). scalars_due s shared.types path 0 m.tracked)) (tables_added s m path 0 first m.tracked q.0 q.1 (each_true (λ (k : TrackedTree). all_names_differ (fields_of m k) && all_names_differ (inputs_of m k)) m.tracked p.1))
+    ∙ scalars_passed s (all_types s m) path 0 m.tracked (each_true (scalars_differ s (all_types s m)) m.tracked last.1)

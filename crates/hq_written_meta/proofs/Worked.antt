@@ -17,7 +17,7 @@ abbrev authors : Table
 authors = record {
   schema = codes "public";
   name = codes "author";
-  columns = record { name = codes "id"; ty = Integer; nullable = false } ∷ record { name = codes "editor"; ty = Integer; nullable = true } ∷ [];
+  columns = record { name = codes "id"; ty = Integer; of = []; nullable = false } ∷ record { name = codes "editor"; ty = Integer; of = []; nullable = true } ∷ [];
   key = 0 ∷ [];
   foreign = [];
 }

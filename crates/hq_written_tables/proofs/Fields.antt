@@ -14,7 +14,7 @@ use Rattle.hq_base.specs.Due.{and_then, mapped}
 use Rattle.hq_base.specs.Refused.{text_of}
 use Rattle.hq_base.specs.Text.{has_zero}
 use Rattle.hq_base.specs.declared.value.Ty.{Ty}
-use Rattle.hq_base.specs.declared.value.Ty.TheVariants.{Integer, Bigint, Text, Boolean, Uuid}
+use Rattle.hq_base.specs.declared.value.Ty.TheVariants.{Integer, Bigint, Text, Boolean, Uuid, Opaque}
 use Rattle.hq_base.specs.declared.value.Val.{Val}
 use Rattle.hq_base.specs.declared.value.Val.TheVariants as val
 use Rattle.hq_terms.specs.Database.{int_fits, value_fits, row_fits, is_text_of, is_boolean}
@@ -35,6 +35,7 @@ small Bigint (negsuc n) h = ltb-true n (2 ^ 63) h
 small Text n h = cc
 small Boolean n h = cc
 small Uuid n h = cc
+small Opaque n h = cc
 
 -- digits hold no zero byte
 digits_clean : (ds : List ℕ) → AllDigits 10 ds → has_zero ds ≡ false
@@ -98,12 +99,14 @@ read_whole Bigint n h =
 read_whole Text n h = cc
 read_whole Boolean n h = cc
 read_whole Uuid n h = cc
+read_whole Opaque n h = cc
 
 -- ---- fields
 
 read_text : (ty : Ty) (s : List ℕ) → is_text_of ty s ≡ true → typed_due ty s ≡ Ok (val.Text s)
 read_text Text s h = refl
 read_text Uuid s h = rw h refl
+read_text Opaque s h = refl
 read_text Integer s h = cc
 read_text Bigint s h = cc
 read_text Boolean s h = cc
@@ -115,6 +118,7 @@ read_truth Integer b h = cc
 read_truth Bigint b h = cc
 read_truth Text b h = cc
 read_truth Uuid b h = cc
+read_truth Opaque b h = cc
 
 not_true : (b : Bool) → not b ≡ true → b ≡ false
 not_true true h = cc

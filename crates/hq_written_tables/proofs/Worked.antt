@@ -14,7 +14,7 @@ abbrev articles : Table
 articles = record {
   schema = codes "public";
   name = codes "article";
-  columns = record { name = codes "id"; ty = Integer; nullable = false } ∷ record { name = codes "title"; ty = Text; nullable = false } ∷ record { name = codes "hq_r1_to"; ty = Bigint; nullable = true } ∷ [];
+  columns = record { name = codes "id"; ty = Integer; of = []; nullable = false } ∷ record { name = codes "title"; ty = Text; of = []; nullable = false } ∷ record { name = codes "hq_r1_to"; ty = Bigint; of = []; nullable = true } ∷ [];
   key = 0 ∷ [];
   foreign = [];
 }
@@ -27,7 +27,7 @@ article_file = refl
 
 -- tags: one text column
 abbrev tags : Table
-tags = record { schema = codes "public"; name = codes "tag"; columns = record { name = codes "name"; ty = Text; nullable = false } ∷ []; key = 0 ∷ []; foreign = [] }
+tags = record { schema = codes "public"; name = codes "tag"; columns = record { name = codes "name"; ty = Text; of = []; nullable = false } ∷ []; key = 0 ∷ []; foreign = [] }
 
 -- an empty text that stands alone is written in quotes, since an empty line is passed over
 tag_file : file_of tags ((Words (codes "x") ∷ []) ∷ (Words [] ∷ []) ∷ []) ≡ codes "name\nx\n\"\"\n"

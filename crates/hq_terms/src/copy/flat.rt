@@ -57,6 +57,7 @@ impl TryCopy for Column {
         Ok(Column {
             name: self.name.copy(alloc)?,
             ty: self.ty,
+            of: self.of.copy(alloc)?,
             nullable: self.nullable,
         })
     }

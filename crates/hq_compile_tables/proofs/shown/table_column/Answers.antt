@@ -11,6 +11,6 @@ pub returns : goal.returns
 returns c =
     let shown = c.table_shown-shown.ensures in
     let look = shown_as c.table_shown-shown.result (table (context_schema c.args.context.now) c.args.t).columns c.args.number c.args.places.now shown.columns shown.number shown.places in
-    IfOk-weaker c.shown_at.result _ _
-    (λ e is. is ∙ ap (λ (at : Look). tree.column (at c.args.column).alias (at c.args.column).name c.args.collate) look)
-    c.shown_at.ensures
+    IfOk-weaker c.shown_in.result _ _
+    (λ e is. is ∙ ap (λ (at : Look). tree.column (at c.args.column).alias (at c.args.column).name c.args.form) look)
+    c.shown_in.ensures

@@ -1,22 +1,23 @@
-use Rattle.std.proofs.Common.{◌≡◌, ◌∙◌, ℕ, List, [], map, true, sym, ap}
+use Rattle.std.proofs.Common.{◌≡◌, true, Result, Ok, Err}
+use Rattle.std.specs.Prelude.{IfOk, OnOk}
 use Rattle.std.proofs.lemmas.Result.{IfOk-at_ok}
-use Rattle.hq_terms.specs.Meta.{TrackedTree, tracked_view, meta_view}
+use Rattle.hq_base.specs.Due.{Gives}
+use Rattle.hq_terms.specs.Meta.{meta_view}
 use Rattle.hq_terms.specs.Schema.{schema_of}
 use Rattle.hq_terms.specs.SchemaNames.{names_differ}
-use Rattle.hq_meta_names.specs.declared.known.Shared.{Shared}
-use Rattle.hq_meta_names.specs.Repeats.{with_tables}
-use Rattle.hq_meta_names.proofs.Grown.{tables-names_differ}
+use Rattle.hq_meta_names.specs.declared.refusal.NameRefusal.{NameRefusal}
+use Rattle.hq_meta_names.specs.declared.refusal.NameRefusal.TheVariants.{Memory}
+use Rattle.hq_meta_names.specs.Repeats.{names_due}
+use Rattle.hq_meta_names.proofs.Grown.{names_due-differ}
 use Rattle.hq_meta_names.proofs.check.check_names.Goals as goal
+
+-- what holds where nothing is due holds where nothing is answered
+answered : (P : Type 0) (due r : Result (Unit {0}) NameRefusal) → Gives (λ (done : Unit {0}). done) Memory due r → IfOk due (λ done. P) → OnOk r P
+answered P due (Ok done) g h = IfOk-at_ok (λ (done : Unit {0}). P) g h
+answered P due (Err e) g h = tt
 
 pub returns-clause-differ : goal.returns-clause-differ
 returns-clause-differ c =
     let m = meta_view c.args.meta.now in
     let s = schema_of c.args.catalog.now.tables m in
-    let path = c.args.path.now in
-    let with = λ (types roots : List (List ℕ)) (tracked : List TrackedTree). let known : Shared = record { types = types; roots = roots } in with_tables s m path 0 known tracked in
-    IfOk-at_ok (λ all. names_differ s m ≡ true)
-    (ap (λ types. with types [] m.tracked) (sym c.in_ok-fixed_types.ensures)
-    ∙ ap (λ roots. with c.in_ok-fixed_types.field-0 roots m.tracked) (sym c.new.ensures)
-    ∙ ap (λ tracked. with c.in_ok-fixed_types.field-0 c.new.result (map tracked_view tracked)) (sym c.as_slice.ensures)
-    ∙ c.in_ok-with_tables.ensures)
-    (tables-names_differ s m path)
+    answered (names_differ s m ≡ true) (names_due s m c.args.path.now) c.names_of.result c.names_of.ensures (names_due-differ s m c.args.path.now)

@@ -5,4 +5,4 @@ use Rattle.hq_role_schema.proofs.fields.column_fields.Given as goal
 
 abbrev pub invariant-loop-column : goal.invariant-loop-column
 invariant-loop-column l =
-    map field_view l.fields.items ++ column_fields l.p (drop l.column-index l.column-items) ≡ column_fields l.p l.column-items
+    map field_view l.fields.items ++ column_fields l.scalars l.p (drop l.column-index l.column-items) ≡ column_fields l.scalars l.p l.column-items

@@ -5,5 +5,5 @@ use Rattle.hq_role_schema.proofs.parts.push_parts.Given as goal
 
 abbrev pub invariant-loop-part : goal.invariant-loop-part
 invariant-loop-part l =
-    map type_view l.types.items ++ map (part_type l.placed l.links) (drop l.part-index l.parts)
-    ≡ map type_view l.initial.types.items ++ map (part_type l.placed l.links) l.parts
+    map type_view l.types.items ++ map (part_type l.scalars l.placed l.links) (drop l.part-index l.parts)
+    ≡ map type_view l.initial.types.items ++ map (part_type l.scalars l.placed l.links) l.parts

@@ -5,6 +5,6 @@ use Rattle.hq_role_schema.proofs.places.placed.Given as goal
 
 abbrev pub invariant-loop-shown : goal.invariant-loop-shown
 invariant-loop-shown l = record {
-  so_far : l.placed ≡ placed_from 20 l.yielded;
-  next : l.first ≡ count_of 20 l.yielded;
+  so_far : l.placed ≡ placed_from l.fn.first l.yielded;
+  next : l.next ≡ count_of l.fn.first l.yielded;
 }

@@ -6,5 +6,5 @@ use Rattle.hq_role_schema.proofs.role_schema.push_tables.Given as goal
 
 abbrev pub invariant-loop-placed : goal.invariant-loop-placed
 invariant-loop-placed l =
-    map type_view l.types.items ++ flat_map (table_types l.tables) (drop l.placed-index l.placed-items)
-    ≡ map type_view l.initial.types.items ++ flat_map (table_types l.tables) l.placed-items
+    map type_view l.types.items ++ flat_map (table_types l.scalars l.tables) (drop l.placed-index l.placed-items)
+    ≡ map type_view l.initial.types.items ++ flat_map (table_types l.scalars l.tables) l.placed-items

@@ -154,7 +154,7 @@ push_fields-loop-keyed-preserved t c =
     let new = c.push_field.new.row in
     let n = c.loop-keyed.next in
     let m = c.push_field.new.next in
-    let pair : PairTree = record { name = f.0; value = field_value f.1 look n } in
+    let pair : PairTree = record { name = f.0; value = field_value f.1 (table s u).columns look n } in
     let behind = sym c.in_ok-push_field.ensures.numbers in
     record {
       pairs = rest-more (λ (ks : List KeyedAskField). fields_values (fields_view ks) s g look u n) (λ (ks : List KeyedAskField). fields_values (fields_view ks) s g look u m) items i k

@@ -10,7 +10,7 @@ pub returns-then-eq-clause-value : goal.returns-then-eq-clause-value
 returns-then-eq-clause-value c =
     let alias = c.args.alias.now in
     let O = map out_view c.args.outs.now in
-    let is : expr_view c.args.value.now ≡ column c.in-Column.of c.in-Column.name c.in-Column.collate = search (rules, expr_lemmas) in
+    let is : expr_view c.args.value.now ≡ column c.in-Column.of c.in-Column.name c.in-Column.form = search (rules, expr_lemmas) in
     let here : bytes_eq alias c.in-Column.of ≡ true = search rules in
     subst (λ x. IfSome c.output_named.result (λ e. IsOutput alias O x (expr_view e.now))) (sym is)
-    (some_output (λ (e : Bor Expr). expr_view e.now) c.output_named.result alias c.in-Column.of c.in-Column.name c.in-Column.collate O here c.output_named.ensures.value)
+    (some_output (λ (e : Bor Expr). expr_view e.now) c.output_named.result alias c.in-Column.of c.in-Column.name c.in-Column.form O here c.output_named.ensures.value)
