@@ -1,7 +1,7 @@
 //! The answer that a statement means.
-ghost use Rattle.std.specs.Prelude.{◌≡◌, ◌<◌, ◌≤◌, ℕ, length, List as Items, [], true, cond, IfOk, slice_index_or};
+ghost use Rattle.std.specs.Prelude.{◌≡◌, ◌<◌, ◌≤◌, ℕ, length, List as Items, [], Some, true, cond, IfOk, slice_get, slice_index_or};
 ghost use Rattle.hq_answer.specs.Answers.{IsAnswer};
-ghost use Rattle.hq_terms.specs.Database.{Row};
+ghost use Rattle.hq_terms.specs.Database.{Row, are_rows};
 ghost use Rattle.hq_sql_tree.specs.View.{select_view};
 ghost use Rattle.hq_sql_tree.specs.Meaning.{meaning};
 ghost use Rattle.hq_sql_check.specs.Agree.{HasRows};
@@ -19,13 +19,21 @@ use hq_sql_rows::work::Work;
 use hq_sql_tree::Select;
 use hq_sql_write::answer;
 use hq_tables::{Rows, Tables};
-use hq_terms::TableId;
+use hq_terms::{Table, TableId};
 use std::alloc::Global;
 
 // The rows of a table, none where the statement takes no rows from it.
-fn stored_rows<T: Tables>(tables: &T, is_scanned: bool, at: usize) -> Option<&Rows>
-    requires { is_scanned ≡ true → T.is_pinned tables.now at ≡ true }
-    ensures { rows_lent result ≡ cond is_scanned (T.rows tables.now at) [] }
+#[tactic(auto, using(crate::proofs::Stored::valid_rows))]
+fn stored_rows<'d, T: Tables>(
+    tables: &'d T,
+    table: &Table,
+    is_scanned: bool,
+    at: usize,
+) -> Option<&'d Rows>
+    requires pinned { is_scanned ≡ true → T.is_pinned tables.now at ≡ true }
+    requires table { slice_get (T.tables tables.now) at ≡ Some table.now }
+    ensures rows { rows_lent result ≡ cond is_scanned (T.rows tables.now at) [] }
+    ensures valid { are_rows table.now (rows_lent result) ≡ true }
 {
     if is_scanned {
         return Some(tables.pinned(TableId::new(at)));
@@ -34,6 +42,7 @@ fn stored_rows<T: Tables>(tables: &T, is_scanned: bool, at: usize) -> Option<&Ro
 }
 
 // The tables of the catalog, each with its rows where the statement takes rows from it.
+#[tactic(auto, using(crate::proofs::Stored::table_at))]
 fn stored<'d, T: Tables>(
     alloc: Global,
     select: &Select,
@@ -47,7 +56,7 @@ fn stored<'d, T: Tables>(
     let marks = scanned(alloc, select, list)?;
     let mut world = Vec::with_capacity(alloc, list.len())?;
     for (at, table) in list.iter().enumerate() {
-        let rows = stored_rows(tables, marks[at], at);
+        let rows = stored_rows(tables, table, marks[at], at);
         world.push(Stored::of(alloc, table, rows, select)?)?;
     }
     Ok(world)

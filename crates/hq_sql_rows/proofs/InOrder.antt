@@ -1,8 +1,11 @@
 -- Rows in the order of an index, and what WHERE keeps of them, in the order of ORDER BY.
-use Rattle.std.proofs.Common.{◌≡◌, ◌∙◌, ◌==◌, ◌≤◌, refl, sym, ap, ap₂, ℕ, suc, List, [], ◌∷◌, ◌++◌, map, filter, flat_map, length, get_or, Bool, true, false, cond, not, Some, bytes_eq, arith}
+use Rattle.std.proofs.Common.{◌≡◌, ◌∙◌, ◌==◌, ◌≤◌, refl, sym, ap, ap₂, ℕ, suc, List, [], ◌∷◌, ◌++◌, map, filter, flat_map, length, reverse, get_or, Bool, true, false, cond, not, Some, Ordering, bytes_eq, arith}
 use Rattle.std.specs.List.{position}
-use Rattle.std.specs.Ordering.{nat_cmp, ordering_then}
+use Rattle.std.specs.Borrow.{Bor}
+use Rattle.std.specs.Cmp.{IsTotalOrder}
+use Rattle.std.specs.Ordering.{flip_args, nat_cmp, ordering_then}
 use Rattle.std.proofs.lemmas.Bool.{or_parts, ne_eqb, false≢true}
+use Rattle.std.proofs.lemmas.Cmp.{back_total}
 use Rattle.hq_base.specs.Cells.{CellTree, null, int, text, bool, json, cell_cmp, key_cmp, null_rank}
 use Rattle.hq_base.specs.Lists.{Each, put, sort}
 use Rattle.hq_base.proofs.Lists.{each_weaken, each_filter, filter_all}
@@ -11,8 +14,9 @@ use Rattle.hq_terms.specs.Database.{Row}
 use Rattle.hq_terms.specs.Logic.{null_test}
 use Rattle.hq_terms.specs.declared.table.Column.{Column}
 use Rattle.hq_index.specs.Indexes.{counted, key_at, by_key, columns_of, entries_of}
-use Rattle.hq_index.specs.Keys.{cell_in, key_in, has_null}
+use Rattle.hq_index.specs.Keys.{cell_in, key_in, keys_cmp, has_null}
 use Rattle.hq_index.specs.declared.index.Index.{Index}
+use Rattle.hq_sql_rows.proofs.Backward.{apart_counted, sort_turned}
 use Rattle.hq_index.proofs.Counted.{length-counted}
 use Rattle.hq_index.proofs.Sorted.{by_key_total}
 use Rattle.hq_sql_tree.specs.Tree.{OrderTree, JoinTrees}
@@ -21,8 +25,8 @@ use Rattle.hq_sql_tree.specs.declared.expr.Expr.{Expr}
 use Rattle.hq_sql_tree.specs.declared.expr.Order.{Order}
 use Rattle.hq_sql_tree.specs.Meaning.{NamedRow, Scope as Names, World, cell_named, with_alias, named_row, joined, order_cmp}
 use Rattle.hq_sql_rows.specs.Equations.{is_joined, is_column}
-use Rattle.hq_sql_rows.specs.Ordered.{IsKey, OrdersBy, HasOrder}
-use Rattle.hq_sql_rows.specs.Positions.{kept_of, arranged}
+use Rattle.hq_sql_rows.specs.Ordered.{IsKey, OrdersBy, HasOrder, towards, walked}
+use Rattle.hq_sql_rows.specs.Positions.{kept_of, arranged, positions_of}
 use Rattle.hq_sql_rows.proofs.Asked.{not_true, column_value, named_first}
 use Rattle.hq_sql_rows.proofs.Blocks.{sort_blocks}
 use Rattle.hq_sql_rows.proofs.Looked.{Keeps, joined_keeps, kept_cons, same_bytes, stored_rows}
@@ -37,33 +41,41 @@ null_rank_of nulls_first (text t) e = refl
 null_rank_of nulls_first (bool b) e = refl
 null_rank_of nulls_first (json j) e = refl
 
--- wherever NULLs stand, cells that are none are in the order of cells
-key_cells : (nulls_first : Bool) (a b : CellTree) → null_test a ≡ false → null_test b ≡ false → key_cmp false nulls_first a b ≡ cell_cmp a b
-key_cells nulls_first a b e f =
-    let same : (c : Bool) → ordering_then (nat_cmp (cond c 1 0) (cond c 1 0)) (cell_cmp a b) ≡ cell_cmp a b = elim [ true ↦ refl | false ↦ refl ] in
-    ap₂ (λ m n. ordering_then (nat_cmp m n) (cell_cmp a b)) (null_rank_of nulls_first a e) (null_rank_of nulls_first b f) ∙ same nulls_first
+-- wherever NULLs stand, cells that are none are in the order of cells, or in the one against it
+key_cells : (desc nulls_first : Bool) (a b : CellTree) → null_test a ≡ false → null_test b ≡ false → key_cmp desc nulls_first a b ≡ cond desc (flip_args cell_cmp) cell_cmp a b
+key_cells desc nulls_first a b e f =
+    let d = cond desc (flip_args cell_cmp) cell_cmp a b in
+    let same : (c : Bool) → ordering_then (nat_cmp (cond c 1 0) (cond c 1 0)) d ≡ d = elim [ true ↦ refl | false ↦ refl ] in
+    ap₂ (λ m n. ordering_then (nat_cmp m n) d) (null_rank_of nulls_first a e) (null_rank_of nulls_first b f) ∙ same nulls_first
+
+-- the first cells, and then the others
+towards_more : (desc : Bool) (a b : CellTree) (xs ys : List CellTree) → ordering_then (cond desc (flip_args cell_cmp) cell_cmp a b) (towards desc xs ys) ≡ towards desc (a ∷ xs) (b ∷ ys)
+towards_more true a b xs ys = refl
+towards_more false a b xs ys = refl
 
 -- the first column of a name is a sort key
-pub key_is : (columns : List Column) (at : ℕ) (alias name : List ℕ) (o : OrderTree) → o.desc ≡ false → position (λ c. bytes_eq c.name name) columns ≡ Some at → is_column alias name o.value ≡ true → IsKey columns alias at o
-key_is columns at alias name o ascends first is =
+pub key_is : (desc : Bool) (columns : List Column) (at : ℕ) (alias name : List ℕ) (o : OrderTree) → o.desc ≡ desc → position (λ c. bytes_eq c.name name) columns ≡ Some at → is_column alias name o.value ≡ true → IsKey desc columns alias at o
+key_is desc columns at alias name o directed first is =
     record {
-      ascends = ascends;
+      directed = directed;
       cell = λ row m here. column_value alias name o.value m is ∙ ap (λ r. cell_named r name) here ∙ named_first columns row name at first;
     }
 
-pub orders_none : (columns : List Column) (alias : List ℕ) → OrdersBy columns alias [] []
-orders_none columns alias = record { orders = λ row other m n here there whole all. refl }
+pub orders_none : (desc : Bool) (columns : List Column) (alias : List ℕ) → OrdersBy desc columns alias [] []
+orders_none true columns alias = record { orders = λ row other m n here there whole all. refl }
+orders_none false columns alias = record { orders = λ row other m n here there whole all. refl }
 
 -- one key more in front
-pub orders_more : (columns : List Column) (alias : List ℕ) (c : ℕ) (cs : List ℕ) (o : OrderTree) (os : List OrderTree) → IsKey columns alias c o → OrdersBy columns alias cs os → OrdersBy columns alias (c ∷ cs) (o ∷ os)
-orders_more columns alias c cs o os key rest =
+pub orders_more : (desc : Bool) (columns : List Column) (alias : List ℕ) (c : ℕ) (cs : List ℕ) (o : OrderTree) (os : List OrderTree) → IsKey desc columns alias c o → OrdersBy desc columns alias cs os → OrdersBy desc columns alias (c ∷ cs) (o ∷ os)
+orders_more desc columns alias c cs o os key rest =
     record {
       orders = λ row other m n here there whole all.
           let first = or_parts (null_test (cell_in row c)) (has_null (key_in cs row)) whole in
           let second = or_parts (null_test (cell_in other c)) (has_null (key_in cs other)) all in
           ap₂ ordering_then
-          (ap₂ (λ a b. key_cmp o.desc o.nulls_first a b) (key.cell row m here) (key.cell other n there) ∙ ap (λ d. key_cmp d o.nulls_first (cell_in row c) (cell_in other c)) key.ascends ∙ key_cells o.nulls_first (cell_in row c) (cell_in other c) first.0 second.0)
-          (rest.orders row other m n here there first.1 second.1);
+          (ap₂ (λ a b. key_cmp o.desc o.nulls_first a b) (key.cell row m here) (key.cell other n there) ∙ ap (λ d. key_cmp d o.nulls_first (cell_in row c) (cell_in other c)) key.directed ∙ key_cells desc o.nulls_first (cell_in row c) (cell_in other c) first.0 second.0)
+          (rest.orders row other m n here there first.1 second.1)
+          ∙ towards_more desc (cell_in row c) (cell_in other c) (key_in cs row) (key_in cs other);
     }
 
 -- ---- an index that leaves no row out
@@ -104,26 +116,40 @@ module _ (columns : List Column) (rows : List Row) (js : JoinTrees) (w : World) 
       each_filter (IsAt p) keeps (joined js w (with_alias n a r))
       (each_weaken (Keeps js (with_alias n a r)) (IsAt p) (λ m around. around a alone ∙ (ap (λ b. cond b r (n a)) (same_bytes a) ∙ sym (stored_row columns rows p))) (joined js w (with_alias n a r)) (joined_keeps js w (with_alias n a r)))
 
-  -- what WHERE keeps of the rows in the order of an index is what it keeps of all of them, sorted
-  pub ordered_is : (os : List OrderTree) (index : Index) → HasOrder columns rows a os index → is_joined js a ≡ false
-      → kept_of js w n a keeps (map (λ p. get_or (map (named_row columns) rows) p []) (entries_of index)) ≡ sort (order_cmp os) (kept_of js w n a keeps (map (named_row columns) rows))
-  ordered_is os index has alone =
+  -- what WHERE keeps of the rows in an order that ORDER BY agrees with is what it keeps of all of them, sorted
+  blocks_sorted : (os : List OrderTree) (S : ℕ → ℕ → Ordering) (Whole : ℕ → Type 0) → IsTotalOrder S → is_joined js a ≡ false → Each Whole (counted 0 (length rows))
+      → ((p r : ℕ) (x y : Names) → Whole p → Whole r → IsAt p x → IsAt r y → order_cmp os x y ≡ S p r)
+      → kept_of js w n a keeps (map (λ p. get_or (map (named_row columns) rows) p []) (sort S (counted 0 (length rows)))) ≡ sort (order_cmp os) (kept_of js w n a keeps (map (named_row columns) rows))
+  blocks_sorted os S Whole total alone whole agree =
+      let all = counted 0 (length rows) in
+      kept_blocks (sort S all) ∙ sort_blocks total (order_cmp os) block Whole IsAt (each_block alone) agree all whole
+      ∙ ap (sort (order_cmp os)) (sym (kept_blocks all) ∙ ap (kept_of js w n a keeps) (stored_rows columns rows))
+
+  -- what WHERE keeps of the rows in the order of an index, or against it, is what it keeps of all of them, sorted
+  pub ordered_is : (desc : Bool) (os : List OrderTree) (index : Bor Index) → HasOrder desc columns rows a os index.now → is_joined js a ≡ false
+      → kept_of js w n a keeps (map (λ p. get_or (map (named_row columns) rows) p []) (positions_of (walked desc index))) ≡ sort (order_cmp os) (kept_of js w n a keeps (map (named_row columns) rows))
+  ordered_is desc os index has alone =
       let f : ℕ → NamedRow = λ p. get_or (map (named_row columns) rows) p [] in
-      let cs = columns_of index in
+      let cs = columns_of index.now in
       let R = by_key cs rows in
       let all = counted 0 (length rows) in
       let q : ℕ → Bool = λ k. not (has_null (key_at cs rows k)) in
       let Whole : ℕ → Type 0 = λ k. has_null (key_in cs (get_or rows k [])) ≡ false in
-      let turned : entries_of index ≡ sort R (filter q all) = has.over.entries ∙ sort_filter (by_key_total cs rows) q all in
+      let turned : entries_of index.now ≡ sort R (filter q all) = has.over.entries ∙ sort_filter (by_key_total cs rows) q all in
       let many : length (filter q all) ≡ length all = sym (sort_length R (filter q all)) ∙ ap length (sym turned) ∙ has.whole ∙ sym (length-counted 0 (length rows)) in
       let each = each_left q all many in
-      let entries : entries_of index ≡ sort R all = turned ∙ ap (sort R) (filter_all q all each) in
+      let entries : entries_of index.now ≡ sort R all = turned ∙ ap (sort R) (filter_all q all each) in
       let whole : Each Whole all = each_weaken (λ k. q k ≡ true) Whole (λ k e. not_true (has_null (key_at cs rows k)) e) all each in
-      let agree : (p r : ℕ) (x y : Names) → Whole p → Whole r → IsAt p x → IsAt r y → order_cmp os x y ≡ R p r =
-      λ p r x y pp pr px py. has.orders.orders (get_or rows p []) (get_or rows r []) x y px py pp pr in
-      ap (λ ps. kept_of js w n a keeps (map f ps)) entries ∙ kept_blocks (sort R all)
-      ∙ sort_blocks (by_key_total cs rows) (order_cmp os) block Whole IsAt (each_block alone) agree all whole
-      ∙ ap (sort (order_cmp os)) (sym (kept_blocks all) ∙ ap (kept_of js w n a keeps) (stored_rows columns rows))
+      let walk : (d : Bool) → HasOrder d columns rows a os index.now → kept_of js w n a keeps (map f (positions_of (walked d index))) ≡ sort (order_cmp os) (kept_of js w n a keeps (map (named_row columns) rows)) =
+      elim [
+        | false ↦ λ h. ap (λ ps. kept_of js w n a keeps (map f ps)) entries
+            ∙ blocks_sorted os R Whole (by_key_total cs rows) alone whole (λ p r x y pp pr px py. h.orders.orders (get_or rows p []) (get_or rows r []) x y px py pp pr)
+        | true ↦ λ h.
+            (let apart = apart_counted R 0 (length rows) (λ i j less lt. h.unique refl i j less (omega (arith, lt))) in
+            ap (λ ps. kept_of js w n a keeps (map f (reverse ps))) entries ∙ ap (λ ps. kept_of js w n a keeps (map f ps)) (sym (sort_turned (by_key_total cs rows) all apart))
+            ∙ blocks_sorted os (flip_args R) Whole (back_total (by_key_total cs rows)) alone whole (λ p r x y pp pr px py. h.orders.orders (get_or rows p []) (get_or rows r []) x y px py pp pr))
+      ] in
+      walk desc has
 
 -- ---- without ORDER BY
 

@@ -4,6 +4,7 @@ pub mod Asked
 pub mod Looked
 pub mod Knowing
 pub mod Blocks
+pub mod Backward
 pub mod InOrder
 pub mod Enough
 pub mod Tops

@@ -1,10 +1,10 @@
 -- A scan that looks at the rows of a key keeps what one that looks at all rows keeps.
-use Rattle.std.proofs.Common.{◌≡◌, ◌<◌, ◌+◌, ℕ, zero, suc, List, [], ◌∷◌, ◌++◌, map, filter, flat_map, length, get_or, Bool, true, false, cond, bytes_eq, refl, sym, ap, ap₂, ◌∙◌, arith}
+use Rattle.std.proofs.Common.{◌≡◌, ◌<◌, ◌+◌, ◌-◌, ℕ, zero, suc, List, [], ◌∷◌, ◌++◌, map, filter, flat_map, length, reverse, get_or, Bool, true, false, cond, bytes_eq, refl, sym, ap, ap₂, ◌∙◌, arith}
 use Rattle.std.proofs.lemmas.Bool.{or_parts, false≢true}
 use Rattle.std.proofs.lemmas.Slice.Eq.{bytes_eq-Decides}
 use Rattle.std.proofs.lemmas.List.Concat.{flat_map-cons}
 use Rattle.std.proofs.lemmas.List.Elements.{filter-append}
-use Rattle.std.proofs.lemmas.List.{length-map}
+use Rattle.std.proofs.lemmas.List.{length-map, length-reverse, get_or-reverse}
 use Rattle.hq_base.specs.Cells.{CellTree}
 use Rattle.hq_base.specs.Lists.{Each}
 use Rattle.hq_base.proofs.Lists.{each_weaken}
@@ -34,6 +34,13 @@ length_positions n = sym (length-counted 0 n)
 
 pub position_all : (n at : ℕ) → at < length (counted 0 n) → at ≡ get_or (counted 0 n) at 0
 position_all n at lt = let long = length-counted 0 n in let e : 0 + at ≡ at = omega arith in sym (counted_at 0 n at 0 (omega (arith, long)) ∙ e)
+
+-- from the last one on
+pub length_backward : (xs : List ℕ) → length xs ≡ length (reverse xs)
+length_backward xs = sym (length-reverse xs)
+
+pub position_backward : (xs : List ℕ) (at : ℕ) → at < length (reverse xs) → get_or xs (length xs - 1 - at) 0 ≡ get_or (reverse xs) at 0
+position_backward xs at lt = let long = length-reverse xs in sym (get_or-reverse xs at 0 (omega (arith, lt, long)))
 
 counted_all : {A : Type 0} (xs : List A) (f : ℕ → A) (from : ℕ) (d : A) → ((i : ℕ) → i < length xs → f (from + i) ≡ get_or xs i d) → map f (counted from (length xs)) ≡ xs
 counted_all [] f from d h = refl

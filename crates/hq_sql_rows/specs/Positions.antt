@@ -1,12 +1,12 @@
 -- The places in a source at which a scan looks.
-use Rattle.std.specs.Prelude.{◌≡◌, ℕ, List, map, filter, flat_map, Bool}
+use Rattle.std.specs.Prelude.{◌≡◌, ℕ, List, map, filter, flat_map, reverse, Bool}
 use Rattle.hq_base.specs.Lists.{sort}
 use Rattle.hq_index.specs.Indexes.{counted, entries_of}
 use Rattle.hq_sql_tree.specs.Tree.{ExprTree, OrderTree, JoinTrees, FilterTree}
 use Rattle.hq_sql_tree.specs.Meaning.{NamedRow, Scope as Names, World, with_alias, joined, kept, order_cmp, distinct_on}
 use Rattle.hq_sql_rows.specs.View.{row_in, scope_of, source_view}
 use Rattle.hq_sql_rows.specs.declared.positions.Positions.{Positions}
-use Rattle.hq_sql_rows.specs.declared.positions.Positions.TheVariants.{All, Entries, Ordered}
+use Rattle.hq_sql_rows.specs.declared.positions.Positions.TheVariants.{All, Entries, Ordered, Backward}
 use Rattle.hq_sql_rows.specs.declared.scope.Scope.{Scope}
 use Rattle.hq_sql_rows.specs.declared.scope.Source.{Source}
 
@@ -15,6 +15,7 @@ abbrev pub positions_of : Positions → List ℕ
 positions_of (All n) = counted 0 n
 positions_of (Entries rows) = rows.now
 positions_of (Ordered index) = entries_of index.now
+positions_of (Backward index) = reverse (entries_of index.now)
 
 -- the rows there
 abbrev pub rows_at : Source → Positions → List NamedRow

@@ -2,12 +2,12 @@
 ghost use Rattle.std.specs.Prelude.{◌≡◌, ◌<◌, ℕ, [], true, false, map, length, IfOk, IfSome, slice_index_or};
 ghost use Rattle.hq_index.specs.Indexes.{IsOver, columns_of};
 ghost use Rattle.hq_index.specs.declared.index.Index.{Index};
+ghost use Rattle.hq_terms.specs.Database.{are_rows};
 ghost use Rattle.hq_sql_tree.specs.Tree.{FilterTree, joins_of};
 ghost use Rattle.hq_sql_tree.specs.View.{join_view, order_view};
 ghost use Rattle.hq_sql_rows.specs.Lent.{rows_lent};
-ghost use Rattle.hq_sql_rows.specs.Ordered.{IsKey, OrdersBy, HasOrder, Finds};
+ghost use Rattle.hq_sql_rows.specs.Ordered.{IsKey, OrdersBy, HasOrder, Finds, walked};
 ghost use Rattle.hq_sql_rows.specs.Positions.{rows_at, FindsArranged};
-ghost use Rattle.hq_sql_rows.specs.declared.positions.Positions.TheVariants.{Ordered};
 ghost use Rattle.hq_sql_rows.specs.declared.scope.Scope.{Scope as InScope};
 
 use crate::equations::{is_column, is_first, is_joined};
@@ -32,11 +32,17 @@ pub enum Looked<'d> {
     Unsorted(Positions<'d>),
 }
 
-// Whether a sort key is a column of the alias, ascending.
-fn is_key(table: &Table, column: ColId, alias: &Txt, key: &Order) -> bool
-    ensures { result ≡ true → IsKey table.now.columns alias.now column (order_view key.now) }
+fn are_alike(own: bool, asked: bool) -> bool
+    ensures { result ≡ true → own ≡ asked }
 {
-    if key.desc {
+    own == asked
+}
+
+// Whether a sort key is a column of the alias, and has this direction.
+fn is_key(table: &Table, column: ColId, alias: &Txt, key: &Order, desc: bool) -> bool
+    ensures { result ≡ true → IsKey desc table.now.columns alias.now column (order_view key.now) }
+{
+    if !are_alike(key.desc, desc) {
         return false;
     }
     let Some(named) = table.column(column) else {
@@ -48,39 +54,72 @@ fn is_key(table: &Table, column: ColId, alias: &Txt, key: &Order) -> bool
     is_column(&key.value, alias, &named.name)
 }
 
-// Whether sort keys are these columns of the alias, in their order.
+// Whether sort keys are these columns of the alias, in their order, and have this direction.
 #[tactic(auto, using(crate::proofs::InOrder::orders_none, crate::proofs::InOrder::orders_more))]
-fn are_keys(table: &Table, columns: &[ColId], alias: &Txt, order: &[Order]) -> bool
-    ensures { result ≡ true → OrdersBy table.now.columns alias.now columns.now (map order_view order.now) }
+fn are_keys(table: &Table, columns: &[ColId], alias: &Txt, order: &[Order], desc: bool) -> bool
+    ensures { result ≡ true → OrdersBy desc table.now.columns alias.now columns.now (map order_view order.now) }
 {
     match columns.split_first() {
         None => order.is_empty(),
         Some((column, columns)) => match order.split_first() {
             None => false,
             Some((key, order)) => {
-                is_key(table, *column, alias, key) && are_keys(table, columns, alias, order)
+                is_key(table, *column, alias, key, desc)
+                    && are_keys(table, columns, alias, order, desc)
             }
         },
     }
 }
 
-// Whether an index over the rows of a table has all of them in this order.
-fn has_order(table: &Table, rows: &Rows, index: &Index, alias: &Txt, order: &[Order]) -> bool
-    requires { IsOver rows.now index.now }
-    ensures { result ≡ true → HasOrder table.now.columns rows.now alias.now (map order_view order.now) index.now }
+// Whether these are the same columns, in one order.
+fn are_same(columns: &[ColId], others: &[ColId]) -> bool
+    ensures { result ≡ true → columns.now ≡ others.now }
+{
+    match columns.split_first() {
+        None => others.is_empty(),
+        Some((column, columns)) => match others.split_first() {
+            None => false,
+            Some((other, others)) => column.at() == other.at() && are_same(columns, others),
+        },
+    }
+}
+
+// Whether an index over the rows of a table has all of them in this order, or, over the primary key, in the one against it.
+#[tactic(auto, using(crate::proofs::Backward::keys_apart))]
+fn has_order(
+    table: &Table,
+    rows: &Rows,
+    index: &Index,
+    alias: &Txt,
+    order: &[Order],
+    desc: bool,
+) -> bool
+    requires over { IsOver rows.now index.now }
+    requires valid { are_rows table.now rows.now ≡ true }
+    ensures { result ≡ true → HasOrder desc table.now.columns rows.now alias.now (map order_view order.now) index.now }
 {
     if index.len() != rows.len() {
         return false;
     }
-    are_keys(table, index.columns(), alias, order)
+    if desc && !are_same(index.columns(), table.key.as_slice()) {
+        return false;
+    }
+    are_keys(table, index.columns(), alias, order, desc)
 }
 
-// The index that has all rows of a table in this order.
-fn index_of<'d>(table: &Table, rows: &'d Rows, alias: &Txt, order: &[Order]) -> Option<&'d Index>
-    ensures { IfSome result (λ index. HasOrder table.now.columns rows.now alias.now (map order_view order.now) index.now) }
+// The index that has all rows of a table in this order, or in the one against it.
+fn index_of<'d>(
+    table: &Table,
+    rows: &'d Rows,
+    alias: &Txt,
+    order: &[Order],
+    desc: bool,
+) -> Option<&'d Index>
+    requires { are_rows table.now rows.now ≡ true }
+    ensures { IfSome result (λ index. HasOrder desc table.now.columns rows.now alias.now (map order_view order.now) index.now) }
 {
     for index in rows.indexes() {
-        if has_order(table, rows, index, alias, order) {
+        if has_order(table, rows, index, alias, order, desc) {
             return Some(index);
         }
     }
@@ -88,34 +127,59 @@ fn index_of<'d>(table: &Table, rows: &'d Rows, alias: &Txt, order: &[Order]) -> 
 }
 
 // The same, where the rows of the table are lent.
-fn index_of_stored<'d>(stored: &'d Stored<'d>, alias: &Txt, order: &[Order]) -> Option<&'d Index>
-    ensures { IfSome result (λ index. HasOrder stored.now.table.now.columns (rows_lent stored.now.rows) alias.now (map order_view order.now) index.now) }
+fn index_of_stored<'d>(
+    stored: &'d Stored<'d>,
+    alias: &Txt,
+    order: &[Order],
+    desc: bool,
+) -> Option<&'d Index>
+    ensures { IfSome result (λ index. HasOrder desc stored.now.table.now.columns (rows_lent stored.now.rows) alias.now (map order_view order.now) index.now) }
 {
     match stored.rows {
-        Some(rows) => index_of(stored.table, rows, alias, order),
+        Some(rows) => index_of(stored.table, rows, alias, order, desc),
         None => None,
     }
 }
 
-// The index that has all rows of a source in this order, where no join hides its alias.
+// The index that has all rows of a source in this order, or in the one against it, where no join hides its alias.
 fn index_in_order<'s, 'd>(
     source: Source<'s, 'd>,
     alias: &Txt,
     joins: &[Join],
     order: &[Order],
+    desc: bool,
 ) -> Option<&'d Index>
-    ensures { IfSome result (λ index. (scope : InScope) (f : FilterTree) → FindsArranged (joins_of (map join_view joins.now)) scope alias.now f [] (map order_view order.now) source.entry (rows_at source.entry (Ordered index))) }
+    ensures { IfSome result (λ index. (scope : InScope) (f : FilterTree) → FindsArranged (joins_of (map join_view joins.now)) scope alias.now f [] (map order_view order.now) source.entry (rows_at source.entry (walked desc index))) }
 {
     if is_joined(joins, alias) {
         return None;
     }
     match source {
-        Source::Stored(stored) => index_of_stored(stored, alias, order),
+        Source::Stored(stored) => index_of_stored(stored, alias, order, desc),
         Source::Made(_) | Source::One => None,
     }
 }
 
-/// The places at which a scan looks, in the order of an index where ORDER BY asks for it and WHERE asks for no key.
+// The places of an index in its order, or from the last one on.
+fn walked(index: &Index, desc: bool) -> Positions<'_>
+    ensures { result ≡ walked desc index.entry }
+{
+    if desc {
+        Positions::Backward(index)
+    } else {
+        Positions::Ordered(index)
+    }
+}
+
+// Whether the first sort key descends.
+fn descends(order: &[Order]) -> bool {
+    match order.first() {
+        Some(key) => key.desc,
+        None => false,
+    }
+}
+
+/// The places at which a scan looks, in the order of an index, or against it, where ORDER BY asks for that and WHERE asks for no key.
 pub fn ordered_at<'s, 'd>(
     alloc: Global,
     source: Source<'s, 'd>,
@@ -135,8 +199,10 @@ pub fn ordered_at<'s, 'd>(
         return Ok(Looked::Arranged(positions));
     }
     if let Positions::All(_) = positions {
-        if let Some(index) = index_in_order(source, alias, joins, parts.order.as_slice()) {
-            return Ok(Looked::Arranged(Positions::Ordered(index)));
+        let order = parts.order.as_slice();
+        let desc = descends(order);
+        if let Some(index) = index_in_order(source, alias, joins, order, desc) {
+            return Ok(Looked::Arranged(walked(index, desc)));
         }
     }
     Ok(Looked::Unsorted(positions))

@@ -30,22 +30,24 @@ pub enum Positions<'d> {
     Entries(&'d [u32]),
     /// All of an index, in its order.
     Ordered(&'d Index),
+    /// The same, from the last one on.
+    Backward(&'d Index),
 }
 
 /// How many there are.
-#[tactic(auto, using(crate::proofs::Looked::length_positions))]
+#[tactic(auto, using(crate::proofs::Looked::length_positions, crate::proofs::Looked::length_backward))]
 pub fn number_of(positions: Positions<'_>) -> usize
     ensures { result ≡ length (positions_of positions.entry) }
 {
     match positions {
         Positions::All(number) => number,
         Positions::Entries(rows) => rows.len(),
-        Positions::Ordered(index) => index.len(),
+        Positions::Ordered(index) | Positions::Backward(index) => index.len(),
     }
 }
 
 /// The place of this number among them, counted from 0.
-#[tactic(auto, using(crate::proofs::Looked::position_all))]
+#[tactic(auto, using(crate::proofs::Looked::position_all, crate::proofs::Looked::position_backward, crate::proofs::Looked::length_backward))]
 pub fn position_at(positions: Positions<'_>, at: usize) -> usize
     requires { at < length (positions_of positions) }
     ensures { result ≡ slice_index_or (positions_of positions.entry) at 0 }
@@ -54,6 +56,7 @@ pub fn position_at(positions: Positions<'_>, at: usize) -> usize
         Positions::All(_) => at,
         Positions::Entries(rows) => rows[at] as usize,
         Positions::Ordered(index) => index.at(at),
+        Positions::Backward(index) => index.at(index.len() - 1 - at),
     }
 }
 

@@ -7,10 +7,9 @@ use Rattle.hq_sql_tree.specs.View.{join_view, order_view}
 use Rattle.hq_sql_tree.specs.Meaning.{kept}
 use Rattle.hq_sql_rows.specs.Equations.{is_joined}
 use Rattle.hq_sql_rows.specs.Lent.{rows_lent}
-use Rattle.hq_sql_rows.specs.Ordered.{HasOrder}
+use Rattle.hq_sql_rows.specs.Ordered.{HasOrder, walked}
 use Rattle.hq_sql_rows.specs.Positions.{rows_at, FindsArranged}
 use Rattle.hq_sql_rows.specs.View.{scope_of}
-use Rattle.hq_sql_rows.specs.declared.positions.Positions.TheVariants.{Ordered}
 use Rattle.hq_sql_rows.specs.declared.scope.Scope.{Scope as InScope}
 use Rattle.hq_sql_rows.specs.declared.scope.Source.TheVariants as source
 use Rattle.hq_sql_rows.proofs.InOrder.{ordered_is}
@@ -25,7 +24,7 @@ returns-in-Stored c =
     let js = joins_of (map join_view c.args.joins.now) in
     let os = map order_view c.args.order.now in
     let alone : is_joined js alias ≡ false = sym c.is_joined.ensures ∙ c.if-is_joined.false in
-    let orders : (o : Option (Bor Index)) → IfSome o (λ index. HasOrder columns rows alias os index.now)
-    → IfSome o (λ index. (scope : InScope) → (f : FilterTree) → FindsArranged js scope alias f [] os (source.Stored stored) (rows_at (source.Stored stored) (Ordered index))) =
-    elim [ None ↦ λ h. h | Some index ↦ λ h. λ scope f w. ordered_is columns rows js w (scope_of scope w) alias (kept f w) os index.now h alone ] in
+    let orders : (o : Option (Bor Index)) → IfSome o (λ index. HasOrder c.args.desc columns rows alias os index.now)
+    → IfSome o (λ index. (scope : InScope) → (f : FilterTree) → FindsArranged js scope alias f [] os (source.Stored stored) (rows_at (source.Stored stored) (walked c.args.desc index))) =
+    elim [ None ↦ λ h. h | Some index ↦ λ h. λ scope f w. ordered_is columns rows js w (scope_of scope w) alias (kept f w) c.args.desc os index h alone ] in
     rw c.in-Stored.is (orders c.index_of_stored.result c.index_of_stored.ensures)

@@ -1,4 +1,4 @@
-use Rattle.std.proofs.Common.{rules, ◌≡◌, ◌∙◌, Some, true, bytes_eq, ap, sym, subst}
+use Rattle.std.proofs.Common.{rules, ◌≡◌, ◌∙◌, Bool, true, false, Some, bytes_eq, ap, sym, subst}
 use Rattle.std.specs.List.{position}
 use Rattle.hq_sql_tree.specs.View.{expr_view, order_view}
 use Rattle.hq_sql_tree.specs.declared.expr.Order.{the_lemmas as order_lemmas}
@@ -18,4 +18,4 @@ returns c e =
     let value : expr_view key.value ≡ (order_view key).value = search (rules, order_lemmas) in
     let desc : (order_view key).desc ≡ key.desc = search (rules, order_lemmas) in
     let is : is_column alias name (expr_view key.value) ≡ true = sym c.is_column.ensures ∙ e in
-    key_is columns c.args.column alias name (order_view key) (desc ∙ c.if-key.false) first (subst (λ v. is_column alias name v ≡ true) value is)
+    key_is c.args.desc columns c.args.column alias name (order_view key) (desc ∙ c.are_alike.ensures c.if-not-are_alike.false) first (subst (λ v. is_column alias name v ≡ true) value is)
