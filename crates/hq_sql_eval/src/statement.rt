@@ -9,9 +9,11 @@ ghost use Rattle.hq_sql_check.specs.Scans.{scans};
 ghost use Rattle.hq_sql_rows.specs.Lent.{rows_lent};
 ghost use Rattle.hq_sql_rows.specs.Pins.{world_in};
 
+use crate::matchers::read_select;
 use crate::remember::remember;
 use hq_answer::Answer;
 use hq_base::Memory;
+use hq_like::Matcher;
 use hq_sql_check::{only_scanned_tables_matter, scanned};
 use hq_sql_rows::pinned::Pinned;
 use hq_sql_rows::stored::Stored;
@@ -68,10 +70,11 @@ fn eval_plainly<'d>(
     select: &'d Select,
     tables: &'d [Stored<'d>],
     work: &'d Work,
+    matchers: &'d [Matcher],
 ) -> Result<Answer, Memory>
     ensures { IfOk result (λ answer. IsAnswer answer (meaning (select_view select.now) (world_in tables.now))) }
 {
-    let world = Pinned::new(alloc, tables, work);
+    let world = Pinned::new(alloc, tables, work, matchers);
     answer(alloc, select, &world)
 }
 
@@ -81,10 +84,11 @@ fn eval_knowing<'d>(
     select: &'d Select,
     tables: &'d [Stored<'d>],
     work: &'d Work,
+    matchers: &'d [Matcher],
 ) -> Result<Answer, Memory>
     ensures { IfOk result (λ answer. IsAnswer answer (meaning (select_view select.now) (world_in tables.now))) }
 {
-    let mut world = Pinned::new(alloc, tables, work);
+    let mut world = Pinned::new(alloc, tables, work, matchers);
     remember(alloc, select, &mut world)?;
     answer(alloc, select, &world)
 }
@@ -95,28 +99,29 @@ fn eval_stored<'d>(
     select: &'d Select,
     tables: &'d [Stored<'d>],
     work: &'d Work,
+    matchers: &'d [Matcher],
 ) -> Result<Answer, Memory>
     ensures { IfOk result (λ answer. IsAnswer answer (meaning (select_view select.now) (world_in tables.now))) }
 {
-    match eval_plainly(alloc, select, tables, work) {
+    match eval_plainly(alloc, select, tables, work, matchers) {
         Ok(answer) => Ok(answer),
         Err(refusal) => {
             if !work.is_spent() {
                 return Err(refusal);
             }
             work.refill();
-            eval_knowing(alloc, select, tables, work)
+            eval_knowing(alloc, select, tables, work, matchers)
         }
     }
 }
 
-// How many rows EXISTS may try before it: two for each row that there is.
+// How many rows EXISTS may try before it: one for every eight rows that there are.
 fn rows_to_try(tables: &[Stored<'_>]) -> u64 {
     let mut rows = 128u64;
     for stored in tables {
         rows = rows.saturating_add(stored.number() as u64);
     }
-    rows.saturating_mul(2)
+    rows / 8
 }
 
 /// What a statement means over pinned tables: over each database in which the tables that it takes rows from have the rows
@@ -136,7 +141,9 @@ pub fn eval<T: Tables>(
     only_scanned_tables_matter();
     let stored = stored(alloc, select, tables)?;
     let work = Work::new(rows_to_try(&stored));
-    let answer = eval_stored(alloc, select, stored.as_slice(), &work);
+    let mut matchers = Vec::new(alloc);
+    read_select(alloc, select, &mut matchers)?;
+    let answer = eval_stored(alloc, select, stored.as_slice(), &work, matchers.as_slice());
     *looked = looked.saturating_add(work.looked.get());
     answer
 }

@@ -20,11 +20,11 @@ use Rattle.hq_sql_rows.specs.declared.place.Place.{Place}
 use Rattle.hq_sql_rows.specs.Joined.{put_off}
 use Rattle.hq_sql_rows.specs.Keys.{member_at, output_at, outputs_of}
 use Rattle.hq_sql_rows.specs.Single.{is_single}
-use Rattle.hq_sql_rows.specs.Positions.{kept_of}
+use Rattle.hq_sql_scans.specs.Positions.{kept_of}
 use Rattle.hq_sql_rows.specs.Sources.{alias_in, made_rows, rows_given, has_items}
-use Rattle.hq_sql_rows.specs.Pages.{is_enough, Suffices}
-use Rattle.hq_sql_rows.proofs.Enough.{bound_page}
-use Rattle.hq_sql_rows.proofs.Tops.{first_sorted, order_total}
+use Rattle.hq_sql_scans.specs.Pages.{is_enough, Suffices}
+use Rattle.hq_sql_scans.proofs.Enough.{bound_page}
+use Rattle.hq_sql_scans.proofs.Tops.{first_sorted, order_total}
 use Rattle.hq_sql_walk.proofs.JoinedRows.{beside_put_off, joined_single}
 
 -- the members of an object are a map over its pairs

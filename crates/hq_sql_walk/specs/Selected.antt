@@ -9,12 +9,12 @@ use Rattle.hq_sql_tree.specs.declared.select.Pred.{Pred}
 use Rattle.hq_sql_tree.specs.Meaning.{NamedRow, Scope as Names, with_alias, kept, offset_by, limited, outputs}
 use Rattle.hq_sql_tree.specs.View.{expr_view, filter_view, from_view, order_view, out_view}
 use Rattle.hq_sql_rows.specs.Keys.{keyed_at}
-use Rattle.hq_sql_rows.specs.Positions.{rows_at, kept_of, arranged}
+use Rattle.hq_sql_scans.specs.Positions.{rows_at, kept_of, arranged}
 use Rattle.hq_sql_rows.specs.Sources.{alias_in, rows_given}
 use Rattle.hq_sql_rows.specs.View.{made_view, names_at, names_of, world_of}
 use Rattle.hq_sql_rows.specs.declared.pinned.Pinned.{Pinned}
 use Rattle.hq_sql_rows.specs.declared.place.Place.{Place}
-use Rattle.hq_sql_rows.specs.declared.positions.Positions.{Positions}
+use Rattle.hq_sql_scans.specs.declared.positions.Positions.{Positions}
 use Rattle.hq_sql_rows.specs.declared.row.Made.{Made}
 use Rattle.hq_sql_rows.specs.declared.scope.Scope.{Scope}
 use Rattle.hq_sql_rows.specs.declared.scope.Source.{Source}

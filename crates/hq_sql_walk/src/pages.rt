@@ -2,8 +2,8 @@
 ghost use Rattle.std.specs.Prelude.{◌≡◌, [], Some, map, IfOk};
 ghost use Rattle.hq_sql_tree.specs.View.{expr_view, order_view};
 ghost use Rattle.hq_sql_rows.specs.Keys.{with_cells, taken_at};
-ghost use Rattle.hq_sql_rows.specs.Pages.{Suffices};
-ghost use Rattle.hq_sql_rows.specs.Positions.{rows_at};
+ghost use Rattle.hq_sql_scans.specs.Pages.{Suffices};
+ghost use Rattle.hq_sql_scans.specs.Positions.{rows_at};
 ghost use Rattle.hq_sql_rows.specs.View.{source_view, names_of};
 ghost use Rattle.hq_sql_walk.specs.Gathered.{names_joined};
 ghost use Rattle.hq_sql_walk.specs.Selected.{Arranges, Pages, PagesFront, keyed_in, scope_at};
@@ -12,14 +12,15 @@ use crate::scans::scan_from;
 use crate::values::{keys, values};
 use hq_base::{Memory, Txt};
 use hq_sql_cells::{Kept, paged};
+use hq_sql_constants::{left_of, with_left};
 use hq_sql_rows::cells::arranged;
-use hq_sql_rows::ordered::{Looked, ordered_at};
-use hq_sql_rows::pages::{enough, enough_sorted};
 use hq_sql_rows::pinned::Pinned;
 use hq_sql_rows::place::{Place, with_more};
-use hq_sql_rows::positions::{Positions, number_of};
 use hq_sql_rows::scope::{Scope, Source, row_at};
 use hq_sql_rows::stages::{Parts, Stage};
+use hq_sql_scans::ordered::{Looked, ordered_at};
+use hq_sql_scans::pages::{enough, enough_sorted};
+use hq_sql_scans::positions::{Positions, number_of};
 use hq_sql_tree::{ExprList, Join, OrderList, Pred};
 use std::alloc::Global;
 
@@ -52,7 +53,9 @@ pub fn page<'s, 'd>(
         &*scope,
     )?;
     let filter = parts.filter;
-    match looked {
+    let left = left_of(alloc, source, alias, joins, filter, looked)?;
+    let asked = with_left(looked, &left);
+    match asked {
         Looked::Arranged(at) => page_front(
             alloc, source, alias, joins, stages, filter, at, limit, offset, world, scope,
         ),
@@ -76,7 +79,7 @@ fn page_front<'s, 'd>(
     joins: &'d [Join],
     stages: &[Stage],
     filter: &'d Option<Pred>,
-    positions: Positions<'d>,
+    positions: Positions<'_>,
     limit: Option<u64>,
     offset: Option<u64>,
     world: &Pinned<'d>,
@@ -102,7 +105,7 @@ fn page_top<'s, 'd>(
     joins: &'d [Join],
     stages: &[Stage],
     parts: Parts<'d>,
-    positions: Positions<'d>,
+    positions: Positions<'_>,
     bound: usize,
     limit: Option<u64>,
     offset: Option<u64>,
@@ -150,7 +153,7 @@ pub fn page_sorted<'s, 'd>(
     joins: &'d [Join],
     stages: &[Stage],
     parts: Parts<'d>,
-    positions: Positions<'d>,
+    positions: Positions<'_>,
     limit: Option<u64>,
     offset: Option<u64>,
     world: &Pinned<'d>,

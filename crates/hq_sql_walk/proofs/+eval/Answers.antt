@@ -29,9 +29,10 @@ use Rattle.hq_sql_rows.proofs.Besides.{beside_filled, weight_before}
 use Rattle.hq_sql_walk.specs.Gathered.{names_joined}
 use Rattle.hq_sql_rows.specs.Keys.{with_json, json_at, outputs_of, output_at, key_values, member_at, with_cells, taken_at}
 use Rattle.hq_sql_rows.specs.Sources.{alias_in, rows_given, has_items}
-use Rattle.hq_sql_rows.specs.Positions.{positions_of, rows_at, kept_of, FindsAll, FindsArranged}
-use Rattle.hq_sql_rows.proofs.InOrder.{none_arranged}
-use Rattle.hq_sql_rows.proofs.Looked.{at_place}
+use Rattle.hq_sql_scans.specs.Positions.{positions_of, rows_at, kept_of, FindsAll, FindsArranged}
+use Rattle.hq_sql_constants.proofs.Chosen.{left_finds}
+use Rattle.hq_sql_scans.proofs.InOrder.{none_arranged}
+use Rattle.hq_sql_scans.proofs.Looked.{at_place}
 use Rattle.hq_sql_closed.specs.Conjuncts.{all_kept, lent_views, lent_weight}
 use Rattle.hq_sql_closed.specs.Weight.{total, expr_weight, pair_weight, order_weight, out_weight, join_weight, pred_weight}
 use Rattle.hq_sql_closed.proofs.Weights.{item_weight, pair_item, order_item, out_item, expr_item, pred_item}
@@ -386,7 +387,7 @@ pages::page-returns-in-Arranged t c =
     let js = joins_of (map join_view c.args.joins.now) in
     let D = map expr_view c.args.parts.distinct.now.items in
     let K = map order_view c.args.parts.order.now.items in
-    let finds : FindsArranged js c.args.scope.now c.args.alias.now (filter_view c.args.parts.filter.now) D K c.args.source (rows_at c.args.source c.in-Arranged.at) = rw c.in-Arranged.is at c.in_ok-looked.ensures in
+    let finds : FindsArranged js c.args.scope.now c.args.alias.now (filter_view c.args.parts.filter.now) D K c.args.source (rows_at c.args.source c.in-Arranged.at) = rw c.in-Arranged.is at (left_finds js c.args.scope.now c.args.alias.now c.args.parts c.args.source c.in_ok-looked.looked c.in_ok-left.left c.with_left-asked.result c.in_ok-looked.ensures c.in_ok-left.ensures c.with_left-asked.ensures) in
     IfOk-weaker c.page_front.result _ _ (λ places h. h ∙ ap (λ l. limited c.args.limit (offset_by c.args.offset l)) (finds (world_of c.args.world.now))) c.page_front.ensures
 
 pub pages::page-returns-in-Some : goal.pages::page-returns-in-Some
@@ -394,7 +395,7 @@ pages::page-returns-in-Some t c =
     let js = joins_of (map join_view c.args.joins.now) in
     let D = map expr_view c.args.parts.distinct.now.items in
     let K = map order_view c.args.parts.order.now.items in
-    let finds : FindsAll js c.args.scope.now c.args.alias.now (filter_view c.args.parts.filter.now) c.args.source (rows_at c.args.source c.in-Unsorted.at) = rw c.in-Unsorted.is at c.in_ok-looked.ensures in
+    let finds : FindsAll js c.args.scope.now c.args.alias.now (filter_view c.args.parts.filter.now) c.args.source (rows_at c.args.source c.in-Unsorted.at) = rw c.in-Unsorted.is at (left_finds js c.args.scope.now c.args.alias.now c.args.parts c.args.source c.in_ok-looked.looked c.in_ok-left.left c.with_left-asked.result c.in_ok-looked.ensures c.in_ok-left.ensures c.with_left-asked.ensures) in
     IfOk-weaker c.page_top.result _ _ (λ places h. h ∙ ap (λ l. limited c.args.limit (offset_by c.args.offset (distinct_on D (sort (order_cmp K) l)))) (finds (world_of c.args.world.now))) c.page_top.ensures
 
 pub pages::page-returns-in-None : goal.pages::page-returns-in-None
@@ -402,7 +403,7 @@ pages::page-returns-in-None t c =
     let js = joins_of (map join_view c.args.joins.now) in
     let D = map expr_view c.args.parts.distinct.now.items in
     let K = map order_view c.args.parts.order.now.items in
-    let finds : FindsAll js c.args.scope.now c.args.alias.now (filter_view c.args.parts.filter.now) c.args.source (rows_at c.args.source c.in-Unsorted.at) = rw c.in-Unsorted.is at c.in_ok-looked.ensures in
+    let finds : FindsAll js c.args.scope.now c.args.alias.now (filter_view c.args.parts.filter.now) c.args.source (rows_at c.args.source c.in-Unsorted.at) = rw c.in-Unsorted.is at (left_finds js c.args.scope.now c.args.alias.now c.args.parts c.args.source c.in_ok-looked.looked c.in_ok-left.left c.with_left-asked.result c.in_ok-looked.ensures c.in_ok-left.ensures c.with_left-asked.ensures) in
     IfOk-weaker c.page_sorted.result _ _ (λ places h. h ∙ ap (λ l. limited c.args.limit (offset_by c.args.offset (distinct_on D (sort (order_cmp K) l)))) (finds (world_of c.args.world.now))) c.page_sorted.ensures
 
 pub pages::page_front-returns : goal.pages::page_front-returns

@@ -11,7 +11,7 @@ use Rattle.hq_sql_rows.specs.View.{made_view, named_view, joined_view, world_of,
 use Rattle.hq_sql_rows.specs.Joined.{join_in}
 use Rattle.hq_sql_rows.specs.Keys.{expr_values, key_values, member_at, output_at, outputs_of, with_json, json_at, with_cells, taken_at}
 use Rattle.hq_sql_walk.specs.Costs.{all_at}
-use Rattle.hq_sql_rows.specs.Positions.{positions_of, rows_at, kept_of}
+use Rattle.hq_sql_scans.specs.Positions.{positions_of, rows_at, kept_of}
 use Rattle.hq_sql_closed.specs.Conjuncts.{all_kept, lent_views, lent_weight}
 use Rattle.hq_sql_closed.specs.Weight.{total, agg_weight, expr_weight, pair_weight, order_weight, out_weight, from_weight, select_weight, join_weight, pred_weight, filter_weight}
 use Rattle.hq_sql_rows.specs.Weight.{scope_weight}
