@@ -34,13 +34,14 @@ use Rattle.hq_sql_tree.specs.Tree as tree
 use Rattle.hq_sql_tree.specs.Tree.{FilterTree, JoinTrees, PredTree}
 use Rattle.hq_sql_tree.specs.View.{filter_view}
 use Rattle.hq_sql_constants.specs.Listed.{AsksOneOf, is_one_of}
-use Rattle.hq_sql_constants.specs.Sifted.{AreConstants, IsLeft, KeepsSame, has_constant, places_looked}
+use Rattle.hq_sql_constants.specs.Sifted.{AreConstants, IsLeft, KeepsSame, has_constant, places_looked, with_places}
 use Rattle.hq_sql_constants.specs.declared.marked.Constants.{Constants}
 use Rattle.hq_sql_scans.specs.Links.{has_cell}
 use Rattle.hq_sql_scans.specs.Ordered.{Finds}
 use Rattle.hq_sql_scans.specs.Positions.{kept_of, rows_at}
 use Rattle.hq_sql_scans.specs.declared.ordered.Looked.{Looked}
-use Rattle.hq_sql_scans.specs.declared.ordered.Looked.TheVariants.{Arranged, Unsorted}
+use Rattle.hq_sql_scans.specs.declared.positions.Positions.{Positions}
+use Rattle.hq_sql_scans.specs.declared.ordered.Looked.TheVariants.{Arranged, Sorted, Unsorted}
 use Rattle.hq_sql_scans.proofs.KeySets.{items_filter, items_map}
 use Rattle.hq_sql_scans.proofs.Linked.{and_true, equal_cell, equal_swapped, key_like}
 use Rattle.hq_sql_scans.proofs.Looked.{Keeps, counted_all, is_yes, joined_keeps, left_out, none_kept, same_bytes}
@@ -130,13 +131,20 @@ sifted_is columns rows js alias name p vs at s ps asked first are alone =
     (each_weaken (Keeps js (with_alias n alias (f k))) (λ m. kept (tree.filter p) w m ≡ true → ⊥) (λ m around. never w n k out m around) (joined js w (with_alias n alias (f k))) (joined_keeps js w (with_alias n alias (f k)))) in
     record { same = λ w n. left_out js w n alias (kept (tree.filter p) w) f q (none w n) ps }
 
+-- what a scan finds at its places it finds at others of which WHERE keeps the same
+still_finds : (js : JoinTrees) (scope : Scope) (alias : List ℕ) (parts : Parts) (source : Source) (looked : Looked) (positions : Positions) → Finds js scope alias parts source looked
+    → ((w : World) → kept_of js w (scope_of scope w) alias (kept (filter_view parts.filter.now) w) (rows_at source positions) ≡ kept_of js w (scope_of scope w) alias (kept (filter_view parts.filter.now) w) (rows_at source (places_looked looked)))
+    → Finds js scope alias parts source (with_places looked positions)
+still_finds js scope alias parts source (Arranged at) positions finds same = λ w. same w ∙ finds w
+still_finds js scope alias parts source (Sorted at) positions finds same = λ w. same w ∙ finds w
+still_finds js scope alias parts source (Unsorted at) positions finds same = λ w. same w ∙ finds w
+
 -- what a scan finds at its places it finds at those that are left
 pub left_finds : (js : JoinTrees) (scope : Scope) (alias : List ℕ) (parts : Parts) (source : Source) (looked : Looked) (left : Option (Vec ℕ)) (again : Looked) → Finds js scope alias parts source looked
     → IfSome left (λ places. KeepsSame js alias (filter_view parts.filter.now) (map (row_in source) places.items) (rows_at source (places_looked looked))) → IsLeft looked left again → Finds js scope alias parts source again
 left_finds js scope alias parts source looked None again finds keeps is = subst (Finds js scope alias parts source) (sym is) finds
-left_finds js scope alias parts source (Arranged at) (Some places) (Arranged left) finds keeps is =
-    λ w. ap (λ l. kept_of js w (scope_of scope w) alias (kept (filter_view parts.filter.now) w) (map (row_in source) l)) is ∙ keeps.same w (scope_of scope w) ∙ finds w
-left_finds js scope alias parts source (Unsorted at) (Some places) (Unsorted left) finds keeps is =
-    λ w. ap (λ l. kept_of js w (scope_of scope w) alias (kept (filter_view parts.filter.now) w) (map (row_in source) l)) is ∙ keeps.same w (scope_of scope w) ∙ finds w
-left_finds js scope alias parts source (Arranged at) (Some places) (Unsorted left) finds keeps is = absurd is
-left_finds js scope alias parts source (Unsorted at) (Some places) (Arranged left) finds keeps is = absurd is
+left_finds js scope alias parts source looked (Some places) again finds keeps is =
+    let positions = places_looked again in
+    let same : (w : World) → kept_of js w (scope_of scope w) alias (kept (filter_view parts.filter.now) w) (rows_at source positions) ≡ kept_of js w (scope_of scope w) alias (kept (filter_view parts.filter.now) w) (rows_at source (places_looked looked)) =
+    λ w. ap (λ l. kept_of js w (scope_of scope w) alias (kept (filter_view parts.filter.now) w) (map (row_in source) l)) is.1 ∙ keeps.same w (scope_of scope w) in
+    subst (Finds js scope alias parts source) (sym is.0) (still_finds js scope alias parts source looked positions finds same)

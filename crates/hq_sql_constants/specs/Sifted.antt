@@ -11,7 +11,7 @@ use Rattle.hq_sql_rows.specs.Sources.{has_items}
 use Rattle.hq_sql_constants.specs.declared.marked.Constants.{Constants}
 use Rattle.hq_sql_scans.specs.Positions.{kept_of, positions_of}
 use Rattle.hq_sql_scans.specs.declared.ordered.Looked.{Looked}
-use Rattle.hq_sql_scans.specs.declared.ordered.Looked.TheVariants.{Arranged, Unsorted}
+use Rattle.hq_sql_scans.specs.declared.ordered.Looked.TheVariants.{Arranged, Sorted, Unsorted}
 use Rattle.hq_sql_scans.specs.declared.positions.Positions.{Positions}
 
 -- WHERE keeps the same of these rows as of those, whatever is in scope
@@ -31,12 +31,16 @@ has_constant s c = has_items (rows_with (columns_of s.index) (c ∷ []) (rows_in
 -- the places at which a scan looks
 abbrev pub places_looked : Looked → Positions
 places_looked (Arranged positions) = positions
+places_looked (Sorted positions) = positions
 places_looked (Unsorted positions) = positions
+
+-- other places, which stand as those did
+abbrev pub with_places : Looked → Positions → Looked
+with_places (Arranged at) positions = Arranged positions
+with_places (Sorted at) positions = Sorted positions
+with_places (Unsorted at) positions = Unsorted positions
 
 -- the second places are those that are left of the first ones, in the same order
 abbrev pub IsLeft : Looked → Option (Vec ℕ) → Looked → Type 0
 IsLeft looked None again = again ≡ looked
-IsLeft (Arranged at) (Some places) (Arranged left) = positions_of left ≡ places.items
-IsLeft (Unsorted at) (Some places) (Unsorted left) = positions_of left ≡ places.items
-IsLeft (Arranged at) (Some places) (Unsorted left) = ⊥
-IsLeft (Unsorted at) (Some places) (Arranged left) = ⊥
+IsLeft looked (Some places) again = (again ≡ with_places looked (places_looked again)) × (positions_of (places_looked again) ≡ places.items)

@@ -111,7 +111,7 @@ pub fn left_of<'s, 'd>(
     ensures { IfOk result (λ found. IfSome found (λ places. KeepsSame (joins_of (map join_view joins.now)) alias.now (filter_view filter.now) (map (row_in source.entry) places.items) (rows_at source.entry (places_looked looked.entry)))) }
 {
     match looked {
-        Looked::Arranged(positions) | Looked::Unsorted(positions) => {
+        Looked::Arranged(positions) | Looked::Sorted(positions) | Looked::Unsorted(positions) => {
             sifted(alloc, source, alias, joins, filter, positions)
         }
     }
@@ -125,6 +125,7 @@ pub fn with_left<'p>(looked: Looked<'p>, left: &'p Option<Vec<u32>>) -> Looked<'
         None => looked,
         Some(places) => match looked {
             Looked::Arranged(_) => Looked::Arranged(Positions::Entries(places.as_slice())),
+            Looked::Sorted(_) => Looked::Sorted(Positions::Entries(places.as_slice())),
             Looked::Unsorted(_) => Looked::Unsorted(Positions::Entries(places.as_slice())),
         },
     }

@@ -20,13 +20,19 @@ use Rattle.hq_sql_scans.proofs.Backward.{apart_counted, each_counted, sort_turne
 use Rattle.hq_index.proofs.Counted.{length-counted}
 use Rattle.hq_index.proofs.Sorted.{by_key_total}
 use Rattle.hq_sql_tree.specs.Tree.{OrderTree, JoinTrees}
-use Rattle.hq_sql_tree.specs.View.{expr_view, order_view}
+use Rattle.hq_sql_tree.specs.View.{expr_view, filter_view, order_view}
 use Rattle.hq_sql_tree.specs.declared.expr.Expr.{Expr}
 use Rattle.hq_sql_tree.specs.declared.expr.Order.{Order}
-use Rattle.hq_sql_tree.specs.Meaning.{NamedRow, Scope as Names, World, cell_named, with_alias, named_row, joined, order_cmp}
+use Rattle.hq_sql_tree.specs.Meaning.{NamedRow, Scope as Names, World, cell_named, with_alias, named_row, joined, kept, order_cmp}
 use Rattle.hq_sql_rows.specs.Equations.{is_joined, is_column}
-use Rattle.hq_sql_scans.specs.Ordered.{IsKey, OrdersBy, HasOrder, towards, walked}
-use Rattle.hq_sql_scans.specs.Positions.{kept_of, arranged, positions_of}
+use Rattle.hq_sql_scans.specs.Ordered.{Finds, IsKey, OrdersBy, HasOrder, standing, towards, walked}
+use Rattle.hq_sql_scans.specs.Positions.{FindsArranged, kept_of, arranged, positions_of, rows_at}
+use Rattle.hq_sql_scans.specs.declared.positions.Positions.{Positions}
+use Rattle.hq_sql_scans.specs.declared.ordered.Looked.TheVariants.{Arranged, Sorted}
+use Rattle.hq_sql_rows.specs.View.{scope_of, source_view}
+use Rattle.hq_sql_rows.specs.declared.scope.Scope.{Scope as InScope}
+use Rattle.hq_sql_rows.specs.declared.scope.Source.{Source}
+use Rattle.hq_sql_rows.specs.declared.stages.Parts.{Parts}
 use Rattle.hq_sql_rows.proofs.Asked.{not_true, column_value, named_first}
 use Rattle.hq_sql_scans.proofs.Blocks.{sort_blocks}
 use Rattle.hq_sql_scans.proofs.Looked.{Keeps, joined_keeps, kept_cons, same_bytes, stored_rows}
@@ -167,8 +173,30 @@ sort_none : (xs : List Names) → sort (order_cmp []) xs ≡ xs
 sort_none [] = refl
 sort_none (x ∷ xs) = ap (put (order_cmp []) x) (sort_none xs) ∙ put_first x xs
 
+-- without ORDER BY the rows stay
+pub none_sorted : (os : List Order) (xs : List Names) → (length os == 0) ≡ true → xs ≡ sort (order_cmp (map order_view os)) xs
+none_sorted [] xs e = sym (sort_none xs)
+none_sorted (o ∷ os) xs e = absurd (false≢true (sym (ne_eqb (length (o ∷ os)) 0 (λ j. absurd (omega arith))) ∙ e))
+
 -- without ORDER BY and DISTINCT ON the rows stay
 pub none_arranged : (os : List Order) (es : List Expr) (xs : List Names) → (length os == 0) ≡ true → (length es == 0) ≡ true → xs ≡ arranged (map expr_view es) (map order_view os) xs
 none_arranged [] [] xs e k = sym (sort_none xs)
 none_arranged (o ∷ os) es xs e k = absurd (false≢true (sym (ne_eqb (length (o ∷ os)) 0 (λ j. absurd (omega arith))) ∙ e))
 none_arranged [] (x ∷ es) xs e k = absurd (false≢true (sym (ne_eqb (length (x ∷ es)) 0 (λ j. absurd (omega arith))) ∙ k))
+
+-- ---- what stands as ORDER BY leaves it
+
+-- without DISTINCT ON all is left
+pub standing_none : (es : List Expr) (n : ℕ) (positions : Positions) → n ≡ length es → (n == 0) ≡ true → Arranged positions ≡ standing es positions
+standing_none [] n positions long e = refl
+standing_none (x ∷ es) n positions long e = absurd (false≢true (sym (ne_eqb n 0 (λ j. absurd (omega (arith, j, long)))) ∙ e))
+
+pub standing_some : (es : List Expr) (n : ℕ) (positions : Positions) → n ≡ length es → (n == 0) ≡ false → Sorted positions ≡ standing es positions
+standing_some [] n positions long e = let none : n ≡ 0 = long in absurd (false≢true (sym e ∙ ap (λ k. k == 0) none))
+standing_some (x ∷ es) n positions long e = refl
+
+pub stands : (js : JoinTrees) (scope : InScope) (alias : List ℕ) (parts : Parts) (source : Source) (positions : Positions) (es : List Expr) → es ≡ parts.distinct.now.items
+    → FindsArranged js scope alias (filter_view parts.filter.now) [] (map order_view parts.order.now.items) source (rows_at source positions) → Finds js scope alias parts source (standing es positions)
+stands js scope alias parts source positions [] is finds =
+    λ w. finds w ∙ ap (λ ds. arranged (map expr_view ds) (map order_view parts.order.now.items) (kept_of js w (scope_of scope w) alias (kept (filter_view parts.filter.now) w) (source_view source))) is
+stands js scope alias parts source positions (e ∷ es) is finds = finds

@@ -1,5 +1,5 @@
 -- Indexes that have rows in the order that ORDER BY asks for (PostgreSQL, CREATE INDEX: indexes and ORDER BY).
-use Rattle.std.specs.Prelude.{◌≡◌, ◌<◌, ℕ, List, [], map, Bool, true, false, cond, length, bytes_eq, slice_index_or}
+use Rattle.std.specs.Prelude.{◌≡◌, ◌<◌, ℕ, List, [], ◌∷◌, map, Bool, true, false, cond, length, bytes_eq, slice_index_or}
 use Rattle.std.specs.declared.cmp.Ordering.{Ordering}
 use Rattle.std.specs.declared.cmp.Ordering.TheVariants.{Equal}
 use Rattle.std.specs.Ordering.{flip_args}
@@ -12,6 +12,7 @@ use Rattle.hq_index.specs.Repeats.{KeysDiffer}
 use Rattle.hq_index.specs.Keys.{cell_in, key_in, keys_cmp, has_null}
 use Rattle.hq_index.specs.declared.index.Index.{Index}
 use Rattle.hq_sql_tree.specs.Tree as tree
+use Rattle.hq_sql_tree.specs.declared.expr.Expr.{Expr}
 use Rattle.hq_sql_tree.specs.Tree.{ExprTree, JoinTrees, OrderTree}
 use Rattle.hq_sql_tree.specs.View.{expr_view, order_view, filter_view}
 use Rattle.hq_sql_tree.specs.Meaning.{Scope as Names, named_row, value, order_cmp}
@@ -19,7 +20,7 @@ use Rattle.hq_sql_scans.specs.Positions.{rows_at, FindsAll, FindsArranged}
 use Rattle.hq_sql_scans.specs.declared.positions.Positions.{Positions}
 use Rattle.hq_sql_scans.specs.declared.positions.Positions.TheVariants.{Ordered, Backward}
 use Rattle.hq_sql_scans.specs.declared.ordered.Looked.{Looked}
-use Rattle.hq_sql_scans.specs.declared.ordered.Looked.TheVariants.{Arranged, Unsorted}
+use Rattle.hq_sql_scans.specs.declared.ordered.Looked.TheVariants.{Arranged, Sorted, Unsorted}
 use Rattle.hq_sql_rows.specs.declared.scope.Scope.{Scope}
 use Rattle.hq_sql_rows.specs.declared.scope.Source.{Source}
 use Rattle.hq_sql_rows.specs.declared.stages.Parts.{Parts}
@@ -65,8 +66,15 @@ pub record HasOrder (desc : Bool) (columns : List Column) (rows : List Row) (ali
 abbrev pub walked : (desc : Bool) → Bor Index → Positions
 walked desc index = cond desc (Backward index) (Ordered index)
 
--- at these places WHERE keeps all that it keeps; where they are arranged, ORDER BY and DISTINCT ON leave that as it is found
+-- places that stand as ORDER BY leaves them, of which DISTINCT ON may leave some
+abbrev pub standing : List Expr → Positions → Looked
+standing [] positions = Arranged positions
+standing (e ∷ es) positions = Sorted positions
+
+-- at these places WHERE keeps all that it keeps; where they are arranged, ORDER BY and DISTINCT ON leave that as it is found, and where
+-- they are sorted, ORDER BY does
 abbrev pub Finds : JoinTrees → Scope → (alias : List ℕ) → Parts → Source → Looked → Type 0
 Finds js scope alias parts source (Arranged positions) =
     FindsArranged js scope alias (filter_view parts.filter.now) (map expr_view parts.distinct.now.items) (map order_view parts.order.now.items) source (rows_at source positions)
+Finds js scope alias parts source (Sorted positions) = FindsArranged js scope alias (filter_view parts.filter.now) [] (map order_view parts.order.now.items) source (rows_at source positions)
 Finds js scope alias parts source (Unsorted positions) = FindsAll js scope alias (filter_view parts.filter.now) source (rows_at source positions)

@@ -7,7 +7,7 @@ ghost use Rattle.hq_sql_tree.specs.Tree.{FilterTree, joins_of};
 ghost use Rattle.hq_sql_tree.specs.View.{expr_view, join_view, order_view};
 ghost use Rattle.hq_sql_rows.specs.Lent.{rows_lent};
 ghost use Rattle.hq_index.specs.Repeats.{KeysDiffer};
-ghost use Rattle.hq_sql_scans.specs.Ordered.{IsKey, OrdersBy, OrdersRows, TiesAt, HasOrder, Finds, is_own, walked};
+ghost use Rattle.hq_sql_scans.specs.Ordered.{IsKey, OrdersBy, OrdersRows, TiesAt, HasOrder, Finds, is_own, standing, walked};
 ghost use Rattle.hq_sql_scans.specs.Positions.{rows_at, FindsArranged};
 ghost use Rattle.hq_sql_rows.specs.declared.scope.Scope.{Scope as InScope};
 
@@ -18,7 +18,7 @@ use hq_sql_rows::equations::{is_column, is_first, is_joined};
 use hq_sql_rows::scope::{Scope, Source};
 use hq_sql_rows::stages::Parts;
 use hq_sql_rows::stored::Stored;
-use hq_sql_tree::{Expr, Join, Order};
+use hq_sql_tree::{Expr, ExprList, Join, Order};
 use hq_tables::Rows;
 use hq_terms::{ColId, Table};
 use std::alloc::Global;
@@ -29,6 +29,8 @@ use std::cell::Cell;
 pub enum Looked<'d> {
     /// What WHERE keeps there stands as ORDER BY and DISTINCT ON leave it.
     Arranged(Positions<'d>),
+    /// It stands as ORDER BY leaves it.
+    Sorted(Positions<'d>),
     /// It is in file order.
     Unsorted(Positions<'d>),
 }
@@ -251,6 +253,16 @@ fn descends(order: &[Order]) -> bool {
     }
 }
 
+// Places that stand as ORDER BY leaves them, and without DISTINCT ON as all is left.
+fn standing<'d>(distinct: &ExprList, positions: Positions<'d>) -> Looked<'d>
+    ensures { result ≡ standing distinct.now.items positions.entry }
+{
+    if distinct.is_empty() {
+        return Looked::Arranged(positions);
+    }
+    Looked::Sorted(positions)
+}
+
 /// The places at which a scan looks, in the order of an index, or against it, where ORDER BY asks for that and WHERE asks for no key.
 pub fn ordered_at<'s, 'd>(
     alloc: Global,
@@ -264,17 +276,14 @@ pub fn ordered_at<'s, 'd>(
     ensures { IfOk result (λ looked. Finds (joins_of (map join_view joins.now)) scope.now alias.now parts.entry source.entry looked) }
 {
     let positions = looked_at(alloc, source, alias, joins, parts.filter, looked, scope)?;
-    if !parts.distinct.is_empty() {
-        return Ok(Looked::Unsorted(positions));
-    }
     if parts.order.is_empty() {
-        return Ok(Looked::Arranged(positions));
+        return Ok(standing(parts.distinct, positions));
     }
     if let Positions::All(_) = positions {
         let order = parts.order.as_slice();
         let desc = descends(order);
         if let Some(index) = index_in_order(source, alias, joins, order, desc) {
-            return Ok(Looked::Arranged(walked(index, desc)));
+            return Ok(standing(parts.distinct, walked(index, desc)));
         }
     }
     Ok(Looked::Unsorted(positions))

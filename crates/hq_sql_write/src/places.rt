@@ -119,6 +119,10 @@ pub fn found_rows<'s, 'd>(
     )?;
     match looked {
         Looked::Arranged(positions) => Ok(Found::Arranged(positions)),
+        Looked::Sorted(_) => {
+            let places = places_of(alloc, rows, placed, world, scope)?;
+            Ok(Found::Places(places))
+        }
         Looked::Unsorted(positions) => {
             let places = sorted_at(alloc, rows, placed, positions, world, scope)?;
             Ok(Found::Places(places))
