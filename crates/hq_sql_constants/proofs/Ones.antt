@@ -1,5 +1,6 @@
 -- Conditions that ask a column to be one of constants.
-use Rattle.std.proofs.Common.{◌≡◌, ◌∙◌, ◌<◌, ◌+◌, ℕ, zero, suc, List, [], ◌∷◌, ◌++◌, map, length, get_or, take, Bool, true, false, ◌||◌, refl, sym, ap, ap₂, subst, add-one, arith}
+use Rattle.std.proofs.Common.{◌≡◌, ◌∙◌, ◌<◌, ◌+◌, ℕ, zero, suc, List, [], ◌∷◌, ◌++◌, map, length, get_or, take, Bool, true, false, ◌||◌, Option, None, Some, refl, sym, ap, ap₂, subst, add-one, arith}
+use Rattle.std.specs.Prelude.{IfSome}
 use Rattle.std.specs.List.{list_any}
 use Rattle.std.proofs.Math.Seq.{take-suc}
 use Rattle.std.proofs.lemmas.List.{map-append}
@@ -20,6 +21,7 @@ use Rattle.hq_sql_tree.specs.View.{expr_view, pred_view}
 use Rattle.hq_sql_tree.specs.declared.expr.Expr.{Expr}
 use Rattle.hq_sql_tree.specs.declared.select.Pred.{Pred}
 use Rattle.hq_sql_constants.specs.Listed.{AsksOneOf, IsOfOne, is_one_of}
+use Rattle.hq_sql_constants.specs.declared.listed.Listed.{Listed}
 
 -- ---- tests
 
@@ -76,6 +78,11 @@ test_asks own t es alias name vs one is known =
           let cell : cell_named (m alias) name ≡ c = sym (column_value alias name own m is) in
           ap (is_one_of vs) cell ∙ sym (any_map_of (λ d. is_true (equal c d)) cell_of vs) ∙ ap (list_any (λ d. is_true (equal c d))) (sym same) ∙ one.one c ds holds;
     }
+
+-- the constants of a column that are handed on
+pub listed_asks : (p : PredTree) (alias name : List ℕ) (vs : List Val) (o : Option Listed) → AsksOneOf p alias name vs → IfSome o (λ l. (l.name.now ≡ name) × (l.values.items ≡ vs)) → IfSome o (λ l. AsksOneOf p alias l.name.now l.values.items)
+listed_asks p alias name vs None asks h = h
+listed_asks p alias name vs (Some l) asks h = subst (λ n. AsksOneOf p alias n l.values.items) (sym h.0) (subst (AsksOneOf p alias name) (sym h.1) asks)
 
 -- ---- OR and AND
 

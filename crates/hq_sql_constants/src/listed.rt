@@ -32,7 +32,6 @@ fn constant(alloc: Global, expr: &Expr) -> Result<Option<Val>, Memory>
 }
 
 // The values of constants; None where one is none.
-#[tactic(auto, using(crate::proofs::Ones::constants_more))]
 fn constants(alloc: Global, exprs: &[Expr]) -> Result<Option<Vec<Val>>, Memory>
     ensures { IfOk result (λ found. IfSome found (λ vs. (m : Names) → map (λ e. value (expr_view e) [] m) exprs.now ≡ map cell_of vs.items)) }
 {
@@ -68,7 +67,10 @@ fn of_test(
 ) -> Result<Option<Vec<Val>>, Memory>
     ensures { IfOk result (λ found. IfSome found (λ vs. AsksOneOf (tested (expr_view own.now) test (map expr_view operands.now.items)) alias.now name.now vs.items)) }
 {
-    if !is_of_one(test) || !is_column(own, alias, name) {
+    if !is_of_one(test) {
+        return Ok(None);
+    }
+    if !is_column(own, alias, name) {
         return Ok(None);
     }
     constants(alloc, operands.as_slice())
@@ -147,20 +149,47 @@ fn first_name<'d>(preds: &'d PredList, alias: &Txt) -> Option<&'d Txt> {
     tested_name(preds.as_slice().first()?, alias)
 }
 
-// The column that a test or an OR of tests asks to be one of constants, with these.
-fn of_one<'d>(alloc: Global, pred: &'d Pred, alias: &Txt) -> Result<Option<Listed<'d>>, Memory>
+// The column that an OR of tests asks to be one of constants, with these.
+#[tactic(auto, using(crate::proofs::Ones::listed_asks))]
+fn of_or<'d>(alloc: Global, preds: &'d PredList, alias: &Txt) -> Result<Option<Listed<'d>>, Memory>
+    ensures { IfOk result (λ found. IfSome found (λ l. AsksOneOf (any_of (preds_of (map pred_view preds.now.items))) alias.now l.name.now l.values.items)) }
+{
+    let Some(name) = first_name(preds, alias) else {
+        return Ok(None);
+    };
+    match of_any(alloc, preds, alias, name)? {
+        Some(values) => Ok(listed_if(name, values)),
+        None => Ok(None),
+    }
+}
+
+// The same of a test.
+#[tactic(auto, using(crate::proofs::Ones::listed_asks))]
+fn of_alone<'d>(alloc: Global, pred: &'d Pred, alias: &Txt) -> Result<Option<Listed<'d>>, Memory>
     ensures { IfOk result (λ found. IfSome found (λ l. AsksOneOf (pred_view pred.now) alias.now l.name.now l.values.items)) }
 {
-    if let Pred::Or(preds) = pred {
-        let Some(name) = first_name(preds, alias) else {
-            return Ok(None);
-        };
-        return Ok(listed_if(name, of_any(alloc, preds, alias, name)?));
-    }
     let Some(name) = tested_name(pred, alias) else {
         return Ok(None);
     };
-    Ok(listed_if(name, of_pred(alloc, pred, alias, name)?))
+    match of_pred(alloc, pred, alias, name)? {
+        Some(values) => Ok(listed_if(name, values)),
+        None => Ok(None),
+    }
+}
+
+// The same of a test or an OR of tests.
+fn of_one<'d>(alloc: Global, pred: &'d Pred, alias: &Txt) -> Result<Option<Listed<'d>>, Memory>
+    ensures { IfOk result (λ found. IfSome found (λ l. AsksOneOf (pred_view pred.now) alias.now l.name.now l.values.items)) }
+{
+    match pred {
+        Pred::Or(preds) => of_or(alloc, preds, alias),
+        Pred::True
+        | Pred::False
+        | Pred::Test { .. }
+        | Pred::Not(_)
+        | Pred::And(_)
+        | Pred::Exists(_) => of_alone(alloc, pred, alias),
+    }
 }
 
 // Fewer constants are not worth to be looked at before WHERE is tried.
@@ -175,18 +204,14 @@ pub(crate) fn is_many(pred: &Pred) -> bool {
     }
 }
 
-fn listed_if<'d>(name: &'d Txt, values: Option<Vec<Val>>) -> Option<Listed<'d>>
-    ensures { IfSome result (λ l. (l.name.now ≡ name.now) × (values.entry ≡ Some l.values)) }
+// The column of this name with these constants, where they are many.
+fn listed_if<'d>(name: &'d Txt, values: Vec<Val>) -> Option<Listed<'d>>
+    ensures { IfSome result (λ l. (l.name.now ≡ name.now) × (l.values.items ≡ values.entry.items)) }
 {
-    match values {
-        Some(values) => {
-            if values.len() < FEW {
-                return None;
-            }
-            Some(Listed { name, values })
-        }
-        None => None,
+    if values.len() < FEW {
+        return None;
     }
+    Some(Listed { name, values })
 }
 
 // The same of one of the members of an AND.

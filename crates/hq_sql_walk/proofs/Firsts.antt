@@ -28,7 +28,7 @@ module _ {A : Type 0} (same : A → A → Bool) where
 
   -- the first items of a front, and those of the rest whose groups are new
   pub firsts_append : (xs ys : List A) → firsts same (xs ++ ys) ≡ firsts same xs ++ filter (new_to xs) (firsts same ys)
-  firsts_append [] ys = sym (filter_all (new_to []) (firsts same ys) (each_all (λ y. new_to [] y ≡ true) (λ y. refl) (firsts same ys)))
+  firsts_append [] ys = sym (filter_all (new_to []) (firsts same ys) (each_all (λ (y : A). new_to [] y ≡ true) (λ y. refl) (firsts same ys)))
   firsts_append (x ∷ xs) ys =
       let other : A → Bool = λ y. not (same x y) in
       let F = firsts same xs in
