@@ -131,6 +131,15 @@ sifted_is columns rows js alias name p vs at s ps asked first are alone =
     (each_weaken (Keeps js (with_alias n alias (f k))) (λ m. kept (tree.filter p) w m ≡ true → ⊥) (λ m around. never w n k out m around) (joined js w (with_alias n alias (f k))) (joined_keeps js w (with_alias n alias (f k)))) in
     record { same = λ w n. left_out js w n alias (kept (tree.filter p) w) f q (none w n) ps }
 
+-- the same of rows that are lent
+pub sifted_at : (columns : List Column) (rows lent : List Row) (js : JoinTrees) (alias name : List ℕ) (p : PredTree) (vs : List Val) (at : ℕ) (s : Constants) (ps places : List ℕ) → lent ≡ rows → AsksOneOf p alias name vs → position (λ c. bytes_eq c.name name) columns ≡ Some at → AreConstants vs s → is_joined js alias ≡ false
+    → places ≡ filter (λ k. has_constant s (cell_in (get_or rows k []) at)) ps
+    → KeepsSame js alias (tree.filter p) (map (λ q. get_or (map (named_row columns) lent) q []) places) (map (λ q. get_or (map (named_row columns) lent) q []) ps)
+sifted_at columns rows lent js alias name p vs at s ps places same asked first are alone chosen =
+    subst (λ rs. KeepsSame js alias (tree.filter p) (map (λ q. get_or (map (named_row columns) rs) q []) places) (map (λ q. get_or (map (named_row columns) rs) q []) ps)) (sym same)
+    (subst (λ qs. KeepsSame js alias (tree.filter p) (map (λ q. get_or (map (named_row columns) rows) q []) qs) (map (λ q. get_or (map (named_row columns) rows) q []) ps)) (sym chosen)
+    (sifted_is columns rows js alias name p vs at s ps asked first are alone))
+
 -- what a scan finds at its places it finds at others of which WHERE keeps the same
 still_finds : (js : JoinTrees) (scope : Scope) (alias : List ℕ) (parts : Parts) (source : Source) (looked : Looked) (positions : Positions) → Finds js scope alias parts source looked
     → ((w : World) → kept_of js w (scope_of scope w) alias (kept (filter_view parts.filter.now) w) (rows_at source positions) ≡ kept_of js w (scope_of scope w) alias (kept (filter_view parts.filter.now) w) (rows_at source (places_looked looked)))

@@ -1,5 +1,5 @@
 //! The constants of which a condition asks a column to be one.
-ghost use Rattle.std.specs.Prelude.{◌≡◌, true, map, IfOk, IfSome};
+ghost use Rattle.std.specs.Prelude.{◌≡◌, ◌++◌, [], true, map, IfOk, IfSome};
 ghost use Rattle.hq_base.specs.Cells.{cell_of};
 ghost use Rattle.hq_sql_tree.specs.Meaning.{Scope as Names, value};
 ghost use Rattle.hq_sql_tree.specs.Tree.{all_of, any_of, preds_of, test as tested};

@@ -1,5 +1,5 @@
 //! The places of the rows that have one of many constants in a column.
-ghost use Rattle.std.specs.Prelude.{◌≡◌, ◌<◌, ◌^◌, [], ◌∷◌, true, filter, length, map, IfOk, OnOk, slice_index_or};
+ghost use Rattle.std.specs.Prelude.{◌≡◌, ◌<◌, ◌^◌, ◌++◌, [], ◌∷◌, filter, length, map, IfOk, OnOk, slice_index_or};
 ghost use Rattle.hq_base.specs.Cells.{cell_of};
 ghost use Rattle.hq_index.specs.Grids.{rows_in};
 ghost use Rattle.hq_index.specs.Indexes.{IsOver};
@@ -31,7 +31,7 @@ fn first_column(alloc: Global) -> Result<Vec<ColId>, Memory>
 }
 
 /// These values as constants.
-#[tactic(auto, using(crate::proofs::Chosen::ones_whole, crate::proofs::Chosen::ones_few, crate::proofs::Chosen::constants_are))]
+#[tactic(auto, using(crate::proofs::Chosen::ones_few, crate::proofs::Chosen::constants_are))]
 pub(crate) fn constants_of(alloc: Global, values: Vec<Val>) -> Result<Constants, Memory>
     requires { length values.items < 2 ^ 31 }
     ensures { IfOk result (AreConstants values.entry.items) }
@@ -94,7 +94,7 @@ fn add_place(
 }
 
 /// Those of the places whose rows have one of the constants in a column.
-#[tactic(auto, using(crate::proofs::Chosen::places_none, crate::proofs::Chosen::places_more, crate::proofs::Chosen::places_end))]
+#[tactic(auto, using(crate::proofs::Chosen::places_more, crate::proofs::Chosen::places_end))]
 pub(crate) fn places_with(
     alloc: Global,
     rows: &Rows,
