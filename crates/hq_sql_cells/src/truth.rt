@@ -59,7 +59,8 @@ fn among(items: &[Cell<'_>], value: &Cell<'_>) -> Truth
 fn text_matched(alloc: Global, fold: bool, text: &Txt, pattern: &Txt) -> Result<bool, Memory>
     ensures { IfOk result (λ b. b ≡ like fold pattern.now text.now) }
 {
-    Ok(Matcher::new(alloc, pattern, fold)?.matches(text))
+    let matcher = Matcher::new(alloc, pattern, fold)?;
+    Ok(matcher.matches(text))
 }
 
 // LIKE, and ILIKE where `fold`: Unknown where one side is NULL.
