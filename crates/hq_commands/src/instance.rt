@@ -8,7 +8,7 @@ use hq_db::SqlDb;
 use hq_engine::Engine;
 use hq_link::Database;
 use hq_tables::{MemTables, RowsList, Tables};
-use hq_terms::{Catalog, Meta};
+use hq_terms::{Catalog, Meta, Role, Session};
 use std::alloc::Global;
 
 /// An engine, and a database of its catalog.
@@ -28,6 +28,22 @@ pub fn engine_over(alloc: Global, catalog: &Catalog, meta: Meta) -> Result<Engin
     Engine::new(alloc, copy, meta)
 }
 
+// The same for few requests, of the role of this session.
+fn engine_for(
+    alloc: Global,
+    catalog: &Catalog,
+    meta: Meta,
+    session: &Session,
+) -> Result<Engine, Memory>
+    requires { fits catalog.now.tables (meta_view meta) ≡ true }
+    ensures catalog { IfOk result (λ engine. engine.catalog.tables ≡ catalog.now.tables) }
+    ensures meta { IfOk result (λ engine. meta_view engine.meta ≡ meta_view meta) }
+{
+    let role = Role::of(alloc, session)?;
+    let copy = catalog.copy(alloc)?;
+    Engine::of_role(alloc, copy, meta, role)
+}
+
 impl Instance<MemTables> {
     /// An engine for this catalog and a metadata that fits it, and a database in memory of the catalog with these rows.
     pub fn over(alloc: Global, catalog: Catalog, meta: Meta, rows: RowsList) -> Result<Self, Memory>
@@ -39,6 +55,28 @@ impl Instance<MemTables> {
         ensures rows { IfOk result (λ made. ⟦<SqlDb<MemTables> as Database>⟧.database made.db ≡ Some rows) }
     {
         let engine = engine_over(alloc, &catalog, meta)?;
+        Ok(Instance {
+            engine,
+            db: SqlDb::new(MemTables::new(catalog, rows)),
+        })
+    }
+
+    /// The same for few requests, of the role of this session.
+    pub fn for_session(
+        alloc: Global,
+        catalog: Catalog,
+        meta: Meta,
+        rows: RowsList,
+        session: &Session,
+    ) -> Result<Self, Memory>
+        requires database { is_database catalog.tables rows ≡ true }
+        requires fits { fits catalog.tables (meta_view meta) ≡ true }
+        ensures catalog { IfOk result (λ made. made.engine.catalog.tables ≡ catalog.tables) }
+        ensures meta { IfOk result (λ made. meta_view made.engine.meta ≡ meta_view meta) }
+        ensures tables { IfOk result (λ made. ⟦<SqlDb<MemTables> as Database>⟧.tables made.db ≡ catalog.tables) }
+        ensures rows { IfOk result (λ made. ⟦<SqlDb<MemTables> as Database>⟧.database made.db ≡ Some rows) }
+    {
+        let engine = engine_for(alloc, &catalog, meta, session)?;
         Ok(Instance {
             engine,
             db: SqlDb::new(MemTables::new(catalog, rows)),

@@ -111,7 +111,7 @@ fn respond<S: Source, K: Sink>(
         meta,
         rows,
     } = loaded;
-    let mut instance = Instance::over(alloc, catalog, meta, rows)?;
+    let mut instance = Instance::for_session(alloc, catalog, meta, rows, session)?;
     reply_to(
         alloc,
         &instance.engine,

@@ -14,7 +14,7 @@ use hq_engine::{Engine, Stated};
 use hq_loading::{Description, load_description, write_both};
 use hq_outside::{Files, Sink, Source, read_all, write_all};
 use hq_session::Headers;
-use hq_terms::Session;
+use hq_terms::{Role, Session};
 use std::alloc::Global;
 
 // Writes a text as a line.
@@ -109,7 +109,8 @@ fn state<S: Source, K: Sink>(
     ensures out_later { K.faults out.old ≤ K.faults out.new }
 {
     let Description { catalog, meta } = description;
-    let engine = Engine::new(alloc, catalog, meta)?;
+    let role = Role::of(alloc, session)?;
+    let engine = Engine::of_role(alloc, catalog, meta, role)?;
     state_to(alloc, &engine, session, input, out)
 }
 

@@ -1,3 +1,4 @@
+pub mod Kept
 pub mod Replies
 pub mod Asking
 pub mod Failures

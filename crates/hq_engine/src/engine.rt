@@ -1,8 +1,9 @@
 ghost use Rattle.std.specs.Prelude.{◌≡◌, true};
 ghost use Rattle.hq_terms.specs.Fits.{fits};
 ghost use Rattle.hq_terms.specs.Meta.{meta_view};
-ghost use Rattle.hq_roles.specs.Roles.{AreRoleSchemas};
+ghost use Rattle.hq_engine.specs.Kept.{AreOfRoles};
 
+use crate::schemas::{FoundSchema, Schemas};
 use crate::statement::{ask, statement_text};
 use crate::{EngineRefusal, Stated, replies_agree};
 use hq_answer::Answer;
@@ -13,8 +14,8 @@ use hq_link::Database;
 use hq_reply::{data_reply, fault_reply, tables_are_resolved};
 use hq_request::{RequestRefusal, request};
 use hq_request_laws::requests_are_formed;
+use hq_role_schema::derive;
 use hq_roles::RoleSchemas;
-use hq_schema::Schema;
 use hq_terms::{Catalog, Meta, Role, Session};
 use std::alloc::Global;
 
@@ -23,9 +24,9 @@ use std::alloc::Global;
 pub struct Engine {
     pub catalog: Catalog,
     pub meta: Meta,
-    schemas: RoleSchemas,
+    schemas: Schemas,
     ghost meta_fits: { fits catalog.tables (meta_view meta) ≡ true },
-    ghost each_role: { ∥ AreRoleSchemas catalog.tables (meta_view meta) schemas ∥₁ },
+    ghost each_role: { ∥ AreOfRoles catalog.tables (meta_view meta) schemas ∥₁ },
 }
 
 impl Engine {
@@ -51,11 +52,12 @@ impl Engine {
     ghost use Rattle.hq_engine.specs.Asking.{Asks, statement_text};
     ghost use Rattle.hq_engine.specs.Engines.{FaultsOfBuilding, IsDueOverEach, engine_agree, engine_fault, engine_reply, engine_request, engine_text};
     ghost use Rattle.hq_engine.specs.Failures.{TellsDatabase};
+    ghost use Rattle.hq_engine.specs.Kept.{found_schema};
     ghost use Rattle.hq_engine.specs.Replies.{IsOverEach, due_object};
     ghost use Rattle.hq_engine.specs.Statements.{HasStatement};
     ghost use Rattle.hq_engine.specs.Stating.{States};
 
-    /// An engine for this catalog and a metadata that fits it. The schema of each role is derived here, once.
+    /// An engine for this catalog and a metadata that fits it. The schema of each role is derived here, once: for many requests.
     pub fn new(alloc: Global, catalog: Catalog, meta: Meta) -> Result<Engine, Memory>
         requires { fits catalog.tables (meta_view meta) ≡ true }
         ensures { IfOk result (λ engine. (engine.catalog.tables ≡ catalog.tables) × (meta_view engine.meta ≡ meta_view meta)) }
@@ -64,15 +66,34 @@ impl Engine {
         Ok(Engine {
             catalog,
             meta,
-            schemas,
+            schemas: Schemas::Each(schemas),
         })
     }
 
-    /// The schema of a role, which is found by its name. Takes no memory.
-    pub fn schema(&self, role: &Role) -> &Schema
-        ensures { schema_view result.now ≡ role_schema self.now.catalog.tables (meta_view self.now.meta) role.now }
+    /// The same engine for few requests, of this role: its schema alone is derived here. That of another role is derived anew
+    /// for each request.
+    pub fn of_role(
+        alloc: Global,
+        catalog: Catalog,
+        meta: Meta,
+        role: Role,
+    ) -> Result<Engine, Memory>
+        requires { fits catalog.tables (meta_view meta) ≡ true }
+        ensures { IfOk result (λ engine. (engine.catalog.tables ≡ catalog.tables) × (meta_view engine.meta ≡ meta_view meta)) }
     {
-        self.schemas.find(role)
+        let schema = derive(alloc, &catalog, &meta, &role)?;
+        Ok(Engine {
+            catalog,
+            meta,
+            schemas: Schemas::One(role, schema),
+        })
+    }
+
+    /// The schema of a role.
+    pub fn schema(&self, alloc: Global, role: &Role) -> Result<FoundSchema<'_>, Memory>
+        ensures { IfOk result (λ found. schema_view (found_schema found) ≡ role_schema self.now.catalog.tables (meta_view self.now.meta) role.now) }
+    {
+        self.schemas.find(alloc, &self.catalog, &self.meta, role)
     }
 
     // The typed request that a body makes for a session, or why it makes none.
@@ -82,8 +103,8 @@ impl Engine {
     {
         requests_are_formed();
         let role = Role::of(alloc, session)?;
-        let schema = self.schema(&role);
-        request(alloc, schema, &self.catalog, &self.meta, session, body)
+        let found = self.schema(alloc, &role)?;
+        request(alloc, found.get(), &self.catalog, &self.meta, session, body)
     }
 
     // The object of the root fields that start at a table. Nothing is asked where there is none.
@@ -128,7 +149,8 @@ impl Engine {
         ensures kind { IfOk result (λ reply. tells_fault reply.body ≡ false) }
     {
         let role = Role::of(alloc, session)?;
-        data_reply(alloc, self.schema(&role), &request.fields, tables)
+        let schema = self.schema(alloc, &role)?;
+        data_reply(alloc, schema.get(), &request.fields, tables)
     }
 
     // The reply to a request of a session.

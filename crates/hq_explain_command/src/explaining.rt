@@ -88,7 +88,8 @@ fn explain_over<K: Sink>(
     ensures later { K.faults out.old ≤ K.faults out.new }
 {
     let role = Role::of(alloc, session)?;
-    let schema = engine.schema(&role);
+    let found = engine.schema(alloc, &role)?;
+    let schema = found.get();
     match request(alloc, schema, &engine.catalog, &engine.meta, session, body) {
         Ok(ask) => write_accepted(alloc, engine, session, body, &ask, out),
         Err(RequestRefusal::Fault(fault)) => write_fault(alloc, schema, session, body, &fault, out),
@@ -137,7 +138,8 @@ fn explain_loaded<S: Source, K: Sink>(
     ensures out_later { K.faults out.old ≤ K.faults out.new }
 {
     let Loaded { catalog, meta, .. } = loaded;
-    let engine = Engine::new(alloc, catalog, meta)?;
+    let role = Role::of(alloc, session)?;
+    let engine = Engine::of_role(alloc, catalog, meta, role)?;
     explain_to(alloc, &engine, session, input, out)
 }
 

@@ -10,7 +10,8 @@ ghost use Rattle.hq_sql_cells.specs.View.{cell_view};
 
 use crate::Cell;
 use crate::order::order_between;
-use hq_base::{Memory, Pattern, PatternRefusal, Txt};
+use hq_base::{Memory, Txt};
+use hq_like::Matcher;
 use hq_terms::{Op, Test, Truth};
 use std::alloc::Global;
 use std::cmp::Ordering;
@@ -58,11 +59,8 @@ fn among(items: &[Cell<'_>], value: &Cell<'_>) -> Truth
 fn text_matched(alloc: Global, fold: bool, text: &Txt, pattern: &Txt) -> Result<bool, Memory>
     ensures { IfOk result (λ b. b ≡ like fold pattern.now text.now) }
 {
-    match Pattern::new(alloc, pattern) {
-        Ok(pattern) => Ok(pattern.matches(text, fold)),
-        Err(PatternRefusal::EndsInEscape) => Ok(false),
-        Err(PatternRefusal::Memory) => Err(Memory),
-    }
+    let matcher = Matcher::new(alloc, pattern, fold)?;
+    Ok(matcher.matches(text))
 }
 
 // LIKE, and ILIKE where `fold`: Unknown where one side is NULL.

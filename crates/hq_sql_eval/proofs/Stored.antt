@@ -1,8 +1,9 @@
 -- The tables of a catalog with the rows that are pinned.
 use Rattle.std.proofs.Common.{◌≡◌, ℕ, zero, suc, ◌+◌, ◌<◌, List, [], ◌∷◌, ◌++◌, length, Bool, true, cond, ⊎_elim, refl, sym, ap, subst, ◌∙◌, arith}
-use Rattle.std.specs.Prelude.{slice_index_or}
+use Rattle.std.specs.Prelude.{IfSome, Some, slice_get, slice_index_or}
 use Rattle.std.proofs.lemmas.Bool.{cases_lt}
-use Rattle.hq_terms.specs.Database.{Row}
+use Rattle.std.proofs.lemmas.Option.{slice_get_read}
+use Rattle.hq_terms.specs.Database.{Row, are_rows}
 use Rattle.hq_terms.specs.declared.table.Table.{Table}
 use Rattle.hq_sql_tree.specs.Meaning.{meaning}
 use Rattle.hq_sql_tree.specs.Tree.{SelectTree}
@@ -36,3 +37,11 @@ rows_grow s tables rows so_far mark at long marked before t lt is =
 pub means_pinned : (s : SelectTree) (tables : List Table) (rows : ℕ → List Row) (own d : List (List Row)) → MeansAlike s tables → HasRows s tables rows own → HasRows s tables rows d
     → meaning s (record { tables = tables; database = own }) ≡ meaning s (record { tables = tables; database = d })
 means_pinned s tables rows own d law has_own has = law own d (λ t is. has_own t is ∙ sym (has t is))
+
+-- the rows that are pinned of a table are valid for it
+pub valid_rows : (tables : List Table) (at : ℕ) (table : Table) (rows : List Row) → slice_get tables at ≡ Some table → IfSome (slice_get tables at) (λ t. are_rows t rows ≡ true) → are_rows table rows ≡ true
+valid_rows tables at table rows e h = rw e at h
+
+-- a table of the catalog stands at its place
+pub table_at : (tables list : List Table) (at : ℕ) (table : Table) → list ≡ tables → at < length list → table ≡ slice_index_or list at table → slice_get tables at ≡ Some table
+table_at tables list at table same lt is = ap (λ l. slice_get l at) (sym same) ∙ slice_get_read list (length list) at table refl lt is

@@ -1,23 +1,33 @@
 //! What is learned of conditions before a statement is walked.
-ghost use Rattle.std.specs.Prelude.{◌≡◌, ◌+◌, ◌≤◌, ◌&&◌, [], map, length, IfOk, IfSome};
+ghost use Rattle.std.specs.Prelude.{◌≡◌, ◌+◌, ◌≤◌, ◌&&◌, [], true, map, length, IfOk, IfSome};
+ghost use Rattle.hq_index.specs.Grids.{rows_in};
+ghost use Rattle.hq_index.specs.Indexes.{IsOver};
 ghost use Rattle.hq_sql_closed.specs.Conjuncts.{all_kept, lent_views, lent_weight};
 ghost use Rattle.hq_sql_closed.specs.Split.{kept_one};
 ghost use Rattle.hq_sql_closed.specs.Weight.{filter_weight};
 ghost use Rattle.hq_sql_tree.specs.Meaning.{has_rows, nothing, rows_of, with_alias};
-ghost use Rattle.hq_sql_tree.specs.Tree.{joins_of};
+ghost use Rattle.hq_sql_tree.specs.Tree.{exists, joins_of};
 ghost use Rattle.hq_sql_tree.specs.View.{filter_view, from_view, join_view, pred_view, select_view};
+ghost use Rattle.hq_sql_rows.specs.KeySets.{IsKeySet, keeps_key};
 ghost use Rattle.hq_sql_rows.specs.Known.{IsKnown, IsRight};
+ghost use Rattle.hq_sql_rows.specs.Lent.{rows_lent};
+ghost use Rattle.hq_sql_eval.specs.Filtered.{Filters};
 ghost use Rattle.hq_sql_eval.specs.Narrowed.{narrowed, keeps_one};
 ghost use Rattle.hq_sql_rows.specs.Sources.{alias_in, rows_given};
 ghost use Rattle.hq_sql_rows.specs.View.{names_of, source_view, world_of};
 
 use hq_base::{Memory, Txt};
+use hq_index::Index;
 use hq_sql_closed::{Names, split};
 use hq_sql_rows::known::known_of;
-use hq_sql_rows::pinned::{Known, Pinned};
+use hq_sql_rows::pinned::{KeySet, Known, Pinned};
 use hq_sql_rows::scope::{Scope, Source, alias_of, count, row_at, source_of};
-use hq_sql_tree::{From, Join, Pred, Select};
+use hq_sql_rows::stored::Stored;
+use hq_sql_scans::key_set::{has_row, key_set, key_set_of};
+use hq_sql_scans::links::{LinkList, links_of};
+use hq_sql_tree::{From, Join, JoinList, Pred, Select};
 use hq_sql_walk::{any_row, truth};
+use hq_tables::Rows;
 use std::alloc::Global;
 
 // Whether a condition is true too, where others were before.
@@ -162,8 +172,53 @@ fn narrowed_by<'s, 'd>(
     Ok(Some(truths))
 }
 
-// The same of any condition.
-fn narrowed<'s, 'd>(
+// Whether one of the keys that are known of an EXISTS is that of a scope too; None where that is not known without evaluating a join.
+fn keyed<'d>(
+    alloc: Global,
+    before: bool,
+    set: &KeySet<'d>,
+    world: &Pinned<'d>,
+    scope: &Scope<'_, 'd>,
+) -> Result<Option<bool>, Memory>
+    requires { IsOver (rows_in set.now.grid) set.now.index }
+    ensures { IfOk result (λ found. IfSome found (λ b. b ≡ (before && keeps_key set.now (names_of scope.now world.now)))) }
+{
+    if !before {
+        return Ok(Some(false));
+    }
+    has_row(alloc, set, &world.work.looked, scope)
+}
+
+// The same of an EXISTS of which keys are known.
+fn narrowed_keyed<'s, 'd>(
+    alloc: Global,
+    before: &[bool],
+    source: Source<'s, 'd>,
+    alias: &'d Txt,
+    set: &KeySet<'d>,
+    world: &Pinned<'d>,
+) -> Result<Option<Vec<bool>>, Memory>
+    requires long { length before.now ≡ length (source_view source) }
+    requires over { IsOver (rows_in set.now.grid) set.now.index }
+    ensures { IfOk result (λ found. IfSome found (λ truths. truths.items ≡ narrowed before.now (map (λ row. keeps_key set.now (with_alias nothing alias.now row)) (source_view source.entry)))) }
+{
+    let mut truths = Vec::with_capacity(alloc, before.len())?;
+    for position in 0..before.len() {
+        let at = Scope::Bound {
+            alias,
+            row: row_at(source, position),
+            outer: &Scope::Nothing,
+        };
+        match keyed(alloc, before[position], set, world, &at)? {
+            Some(truth) => truths.push(truth)?,
+            None => return Ok(None),
+        }
+    }
+    Ok(Some(truths))
+}
+
+// The same of a condition of which no keys are known.
+fn narrowed_plainly<'s, 'd>(
     alloc: Global,
     before: &[bool],
     source: Source<'s, 'd>,
@@ -180,6 +235,27 @@ fn narrowed<'s, 'd>(
         }
     }
     narrowed_each(alloc, before, source, alias, pred, world)
+}
+
+// The same of any condition.
+#[tactic(auto, using(crate::proofs::Keyed::keyed_rows))]
+fn narrowed<'s, 'd>(
+    alloc: Global,
+    before: &[bool],
+    source: Source<'s, 'd>,
+    alias: &'d Txt,
+    pred: &'d Pred,
+    world: &Pinned<'d>,
+) -> Result<Vec<bool>, Memory>
+    requires { length before.now ≡ length (source_view source) }
+    ensures { IfOk result (λ truths. truths.items ≡ narrowed before.now (map (λ row. kept_one (pred_view pred.now) (world_of world.now) (with_alias nothing alias.now row)) (source_view source.entry))) }
+{
+    if let Some(set) = key_set_of(world, pred) {
+        if let Some(truths) = narrowed_keyed(alloc, before, source, alias, set, world)? {
+            return Ok(truths);
+        }
+    }
+    narrowed_plainly(alloc, before, source, alias, pred, world)
 }
 
 // At which rows these are all true, whatever else is in scope.
@@ -227,4 +303,133 @@ pub fn learned<'d>(
         truths,
         rest,
     }))
+}
+
+// Whether an index is over the one column of these links.
+fn is_over(index: &Index, links: &LinkList<'_>) -> bool {
+    match (index.columns(), links.columns.as_slice()) {
+        ([own], [column]) => own.at() == column.at(),
+        _ => false,
+    }
+}
+
+// Whether an index over the rows finds those that have the key of these links.
+fn has_index(stored: &Stored<'_>, rows: &Rows, links: &LinkList<'_>) -> bool {
+    for index in rows.indexes() {
+        if is_over(index, links) {
+            return true;
+        }
+    }
+    for index in &stored.more {
+        if is_over(index, links) {
+            return true;
+        }
+    }
+    false
+}
+
+// The keys of a condition that is true exactly where this WHERE keeps one of these rows; None where it asks more of what is around them
+// than that columns equal it, or an index finds the row that it asks for.
+fn keys_over<'d>(
+    alloc: Global,
+    pred: &'d Pred,
+    stored: &'d Stored<'d>,
+    rows: &Rows,
+    alias: &'d Txt,
+    filter: &'d Pred,
+    world: &Pinned<'d>,
+) -> Result<Option<KeySet<'d>>, Memory>
+    requires lent { rows_lent stored.now.rows ≡ rows.now }
+    requires filters { Filters (world_of world.now) (pred_view pred.now) stored.now.table.now.columns rows.now alias.now (pred_view filter.now) }
+    ensures { IfOk result (λ found. IfSome found (λ s. IsKeySet (world_of world.now) (pred_view s.pred.now) s)) }
+{
+    let outer = Names::Nothing;
+    let names = Names::Named {
+        alias,
+        outer: &outer,
+    };
+    let mut closed = Vec::new(alloc);
+    let mut rest = Vec::new(alloc);
+    split(filter, &names, &mut closed, &mut rest)?;
+    let Some(links) = links_of(alloc, &rest, stored.table.columns.as_slice(), alias)? else {
+        return Ok(None);
+    };
+    if closed.is_empty() && has_index(stored, rows, &links) {
+        return Ok(None);
+    }
+    let truths = truths_over(alloc, Source::Stored(stored), alias, &closed, world)?;
+    if truths.len() != rows.len() {
+        return Ok(None);
+    }
+    let set = key_set(
+        alloc,
+        pred,
+        rows,
+        &truths,
+        &links.columns,
+        links.exprs,
+        world,
+    )?;
+    Ok(Some(set))
+}
+
+fn has_no_join(joins: &JoinList) -> bool
+    ensures { result ≡ true → joins.now.items ≡ [] }
+{
+    joins.is_empty()
+}
+
+// The keys of the rows of a select, where a condition says that it has one.
+fn keys_of<'d>(
+    alloc: Global,
+    pred: &'d Pred,
+    select: &'d Select,
+    world: &Pinned<'d>,
+) -> Result<Option<KeySet<'d>>, Memory>
+    requires { pred_view pred.now ≡ exists (select_view select.now) }
+    ensures { IfOk result (λ found. IfSome found (λ s. IsKeySet (world_of world.now) (pred_view s.pred.now) s)) }
+{
+    let Select::Rows {
+        from,
+        joins,
+        filter,
+        limit: None,
+        offset: None,
+        ..
+    } = select
+    else {
+        return Ok(None);
+    };
+    let Some(filter) = filter else {
+        return Ok(None);
+    };
+    let From::Table { alias, .. } = from else {
+        return Ok(None);
+    };
+    if !has_no_join(joins) {
+        return Ok(None);
+    }
+    let Source::Stored(stored) = source_of(world, from, &[]) else {
+        return Ok(None);
+    };
+    match stored.rows {
+        Some(rows) => keys_over(alloc, pred, stored, rows, alias, filter, world),
+        None => Ok(None),
+    }
+}
+
+/// The keys of the rows of an EXISTS; None of another one than of rows of a table without joins and pages, whose WHERE asks no more of
+/// what is around it than that columns equal it.
+pub fn learned_keys<'d>(
+    alloc: Global,
+    pred: &'d Pred,
+    world: &Pinned<'d>,
+) -> Result<Option<KeySet<'d>>, Memory>
+    ensures { IfOk result (λ found. IfSome found (λ s. IsKeySet (world_of world.now) (pred_view s.pred.now) s)) }
+{
+    match pred {
+        Pred::Exists(select) => keys_of(alloc, pred, select, world),
+        Pred::True | Pred::False | Pred::Test { .. } | Pred::Not(_) | Pred::And(_) | Pred::Or(_) =>
+            Ok(None),
+    }
 }

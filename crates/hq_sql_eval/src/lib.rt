@@ -2,6 +2,7 @@
 #![tactic(auto)]
 
 mod learn;
+mod matchers;
 mod remember;
 mod statement;
 

@@ -1,8 +1,8 @@
-//! What is worth knowing before a statement is walked: of each EXISTS in whose WHERE another one stands, the inner ones first. Whatever
-//! is learned, the answer is the meaning.
+//! What is worth knowing before a statement is walked: the keys of the rows of each EXISTS, the inner ones first, and where these can't
+//! be had, what its WHERE is at each row, if another EXISTS stands in it. Whatever is learned, the answer is the meaning.
 ghost use Rattle.std.specs.Prelude.{◌≡◌};
 
-use crate::learn::learned;
+use crate::learn::{learned, learned_keys};
 use hq_base::Memory;
 use hq_sql_rows::pinned::Pinned;
 use hq_sql_tree::{From, JoinList, Pred, PredList, Select};
@@ -92,7 +92,7 @@ fn remember_pred<'d>(alloc: Global, pred: &'d Pred, world: &mut Pinned<'d>) -> R
         Pred::And(preds) | Pred::Or(preds) => remember_preds(alloc, preds, world),
         Pred::Exists(select) => {
             remember(alloc, select, world)?;
-            learn(alloc, select, world)
+            learn(alloc, pred, select, world)
         }
         Pred::True | Pred::False | Pred::Test { .. } => Ok(()),
     }
@@ -112,8 +112,23 @@ fn remember_preds<'d>(
     Ok(())
 }
 
+// Learns the keys of an EXISTS, or of its WHERE.
+fn learn<'d>(
+    alloc: Global,
+    pred: &'d Pred,
+    select: &'d Select,
+    world: &mut Pinned<'d>,
+) -> Result<(), Memory>
+    ensures { world.new.tables ≡ world.old.tables }
+{
+    match learned_keys(alloc, pred, &*world)? {
+        Some(set) => world.add_set(set),
+        None => learn_filter(alloc, select, world),
+    }
+}
+
 // Learns of the WHERE of an EXISTS, where another one stands in it.
-fn learn<'d>(alloc: Global, select: &'d Select, world: &mut Pinned<'d>) -> Result<(), Memory>
+fn learn_filter<'d>(alloc: Global, select: &'d Select, world: &mut Pinned<'d>) -> Result<(), Memory>
     ensures { world.new.tables ≡ world.old.tables }
 {
     let Select::Rows {

@@ -1,7 +1,7 @@
 //! The answer that a statement means.
-ghost use Rattle.std.specs.Prelude.{◌≡◌, ◌<◌, ◌≤◌, ℕ, length, List as Items, [], true, cond, IfOk, slice_index_or};
+ghost use Rattle.std.specs.Prelude.{◌≡◌, ◌<◌, ◌≤◌, ℕ, length, List as Items, [], Some, true, cond, IfOk, slice_get, slice_index_or};
 ghost use Rattle.hq_answer.specs.Answers.{IsAnswer};
-ghost use Rattle.hq_terms.specs.Database.{Row};
+ghost use Rattle.hq_terms.specs.Database.{Row, are_rows};
 ghost use Rattle.hq_sql_tree.specs.View.{select_view};
 ghost use Rattle.hq_sql_tree.specs.Meaning.{meaning};
 ghost use Rattle.hq_sql_check.specs.Agree.{HasRows};
@@ -9,9 +9,11 @@ ghost use Rattle.hq_sql_check.specs.Scans.{scans};
 ghost use Rattle.hq_sql_rows.specs.Lent.{rows_lent};
 ghost use Rattle.hq_sql_rows.specs.Pins.{world_in};
 
+use crate::matchers::read_select;
 use crate::remember::remember;
 use hq_answer::Answer;
 use hq_base::Memory;
+use hq_like::Matcher;
 use hq_sql_check::{only_scanned_tables_matter, scanned};
 use hq_sql_rows::pinned::Pinned;
 use hq_sql_rows::stored::Stored;
@@ -19,13 +21,21 @@ use hq_sql_rows::work::Work;
 use hq_sql_tree::Select;
 use hq_sql_write::answer;
 use hq_tables::{Rows, Tables};
-use hq_terms::TableId;
+use hq_terms::{Table, TableId};
 use std::alloc::Global;
 
 // The rows of a table, none where the statement takes no rows from it.
-fn stored_rows<T: Tables>(tables: &T, is_scanned: bool, at: usize) -> Option<&Rows>
-    requires { is_scanned ≡ true → T.is_pinned tables.now at ≡ true }
-    ensures { rows_lent result ≡ cond is_scanned (T.rows tables.now at) [] }
+#[tactic(auto, using(crate::proofs::Stored::valid_rows))]
+fn stored_rows<'d, T: Tables>(
+    tables: &'d T,
+    table: &Table,
+    is_scanned: bool,
+    at: usize,
+) -> Option<&'d Rows>
+    requires pinned { is_scanned ≡ true → T.is_pinned tables.now at ≡ true }
+    requires table { slice_get (T.tables tables.now) at ≡ Some table.now }
+    ensures rows { rows_lent result ≡ cond is_scanned (T.rows tables.now at) [] }
+    ensures valid { are_rows table.now (rows_lent result) ≡ true }
 {
     if is_scanned {
         return Some(tables.pinned(TableId::new(at)));
@@ -34,6 +44,7 @@ fn stored_rows<T: Tables>(tables: &T, is_scanned: bool, at: usize) -> Option<&Ro
 }
 
 // The tables of the catalog, each with its rows where the statement takes rows from it.
+#[tactic(auto, using(crate::proofs::Stored::table_at))]
 fn stored<'d, T: Tables>(
     alloc: Global,
     select: &Select,
@@ -47,7 +58,7 @@ fn stored<'d, T: Tables>(
     let marks = scanned(alloc, select, list)?;
     let mut world = Vec::with_capacity(alloc, list.len())?;
     for (at, table) in list.iter().enumerate() {
-        let rows = stored_rows(tables, marks[at], at);
+        let rows = stored_rows(tables, table, marks[at], at);
         world.push(Stored::of(alloc, table, rows, select)?)?;
     }
     Ok(world)
@@ -59,10 +70,11 @@ fn eval_plainly<'d>(
     select: &'d Select,
     tables: &'d [Stored<'d>],
     work: &'d Work,
+    matchers: &'d [Matcher],
 ) -> Result<Answer, Memory>
     ensures { IfOk result (λ answer. IsAnswer answer (meaning (select_view select.now) (world_in tables.now))) }
 {
-    let world = Pinned::new(alloc, tables, work);
+    let world = Pinned::new(alloc, tables, work, matchers);
     answer(alloc, select, &world)
 }
 
@@ -72,10 +84,11 @@ fn eval_knowing<'d>(
     select: &'d Select,
     tables: &'d [Stored<'d>],
     work: &'d Work,
+    matchers: &'d [Matcher],
 ) -> Result<Answer, Memory>
     ensures { IfOk result (λ answer. IsAnswer answer (meaning (select_view select.now) (world_in tables.now))) }
 {
-    let mut world = Pinned::new(alloc, tables, work);
+    let mut world = Pinned::new(alloc, tables, work, matchers);
     remember(alloc, select, &mut world)?;
     answer(alloc, select, &world)
 }
@@ -86,28 +99,29 @@ fn eval_stored<'d>(
     select: &'d Select,
     tables: &'d [Stored<'d>],
     work: &'d Work,
+    matchers: &'d [Matcher],
 ) -> Result<Answer, Memory>
     ensures { IfOk result (λ answer. IsAnswer answer (meaning (select_view select.now) (world_in tables.now))) }
 {
-    match eval_plainly(alloc, select, tables, work) {
+    match eval_plainly(alloc, select, tables, work, matchers) {
         Ok(answer) => Ok(answer),
         Err(refusal) => {
             if !work.is_spent() {
                 return Err(refusal);
             }
             work.refill();
-            eval_knowing(alloc, select, tables, work)
+            eval_knowing(alloc, select, tables, work, matchers)
         }
     }
 }
 
-// How many rows EXISTS may try before it: two for each row that there is.
+// How many rows EXISTS may try before it: one for every eight rows that there are.
 fn rows_to_try(tables: &[Stored<'_>]) -> u64 {
     let mut rows = 128u64;
     for stored in tables {
         rows = rows.saturating_add(stored.number() as u64);
     }
-    rows.saturating_mul(2)
+    rows / 8
 }
 
 /// What a statement means over pinned tables: over each database in which the tables that it takes rows from have the rows
@@ -127,7 +141,9 @@ pub fn eval<T: Tables>(
     only_scanned_tables_matter();
     let stored = stored(alloc, select, tables)?;
     let work = Work::new(rows_to_try(&stored));
-    let answer = eval_stored(alloc, select, stored.as_slice(), &work);
+    let mut matchers = Vec::new(alloc);
+    read_select(alloc, select, &mut matchers)?;
+    let answer = eval_stored(alloc, select, stored.as_slice(), &work, matchers.as_slice());
     *looked = looked.saturating_add(work.looked.get());
     answer
 }

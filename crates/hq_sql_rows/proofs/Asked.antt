@@ -35,7 +35,7 @@ truth_is : (b : Bool) → truth_of b ≡ Yes → b ≡ true
 truth_is true e = refl
 truth_is false e = cc
 
-equal_turn : (a b : CellTree) → equal a b ≡ Yes → equal b a ≡ Yes
+pub equal_turn : (a b : CellTree) → equal a b ≡ Yes → equal b a ≡ Yes
 equal_turn (int m) (int n) e = let back = tied_back int_cmp_total m n ((Equal-is (int_cmp m n)).0 (truth_is (is_eq (int_cmp m n)) e)) in rw back refl
 equal_turn (text s) (text t) e = let back = tied_back nat_list_cmp_total s t ((Equal-is (slice_cmp nat_cmp s t)).0 (truth_is (is_eq (slice_cmp nat_cmp s t)) e)) in rw back refl
 equal_turn (bool x) (bool y) e = let back = tied_back bool_cmp_total x y ((Equal-is (bool_cmp x y)).0 (truth_is (is_eq (bool_cmp x y)) e)) in rw back refl
@@ -57,7 +57,8 @@ and_yes Unknown Yes e = cc
 and_yes Unknown No e = cc
 and_yes Unknown Unknown e = cc
 
-all_member : (ps : List Pred) (i : ℕ) (d : Pred) (w : World) (m : Names) → i < length ps → all_true (preds_of (map pred_view ps)) w m ≡ Yes → truth_at (pred_view (get_or ps i d)) w m ≡ Yes
+-- where an And is true, each member is
+pub all_member : (ps : List Pred) (i : ℕ) (d : Pred) (w : World) (m : Names) → i < length ps → all_true (preds_of (map pred_view ps)) w m ≡ Yes → truth_at (pred_view (get_or ps i d)) w m ≡ Yes
 all_member [] i d w m lt e = absurd (omega arith)
 all_member (p ∷ ps) zero d w m lt e = (and_yes (truth_at (pred_view p) w m) (all_true (preds_of (map pred_view ps)) w m) e).0
 all_member (p ∷ ps) (suc i) d w m lt e = all_member ps i d w m (omega arith) (and_yes (truth_at (pred_view p) w m) (all_true (preds_of (map pred_view ps)) w m) e).1
@@ -66,7 +67,7 @@ all_member (p ∷ ps) (suc i) d w m lt e = all_member ps i d w m (omega arith) (
 pub forces_member : (ps : List Pred) (i : ℕ) (p : Pred) (alias name : List ℕ) (e : ExprTree) → i < length ps → p ≡ get_or ps i p → Forces (pred_view p) alias name e → Forces (tree.all_of (preds_of (map pred_view ps))) alias name e
 forces_member ps i p alias name e lt is forces = record { equals = λ w m holds. forces.equals w m (ap (λ q. truth_at (pred_view q) w m) is ∙ all_member ps i p w m lt holds) }
 
-same_name : (a b : List ℕ) → bytes_eq a b ≡ true → a ≡ b
+pub same_name : (a b : List ℕ) → bytes_eq a b ≡ true → a ≡ b
 same_name a b e = (bytes_eq-Decides a b).0 e
 
 -- the value of the column of an alias
@@ -103,7 +104,7 @@ not_true true e = cc
 not_true false e = refl
 
 -- an outer expression has at a row the value that it has around it
-outer_value : (alias : List ℕ) (js : JoinTrees) (e : ExprTree) (m n : Names) → is_outer alias js e ≡ true → IsAround m n alias js → value e [] m ≡ value e [] n
+pub outer_value : (alias : List ℕ) (js : JoinTrees) (e : ExprTree) (m n : Names) → is_outer alias js e ≡ true → IsAround m n alias js → value e [] m ≡ value e [] n
 outer_value alias js (tree.column a name form) m n is around =
     let both = and_parts (not (bytes_eq alias a)) (not (is_joined js a)) is in
     ap (λ row. cell_named row name) (around a (not_true (bytes_eq alias a) both.0) (not_true (is_joined js a) both.1))

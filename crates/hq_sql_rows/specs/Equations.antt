@@ -1,7 +1,6 @@
 -- What a WHERE asks the cells of a scanned row to equal, whatever else is in scope.
 use Rattle.std.specs.Prelude.{◌≡◌, ℕ, List, [], ◌∷◌, Bool, true, false, not, ◌&&◌, ◌||◌, bytes_eq}
 use Rattle.std.specs.Ordering.{is_eq}
-use Rattle.hq_base.specs.Cells as cell
 use Rattle.hq_base.specs.Cells.{CellTree, cell_cmp}
 use Rattle.hq_terms.specs.Database.{Row}
 use Rattle.hq_terms.specs.Logic.{equal, null_test}
@@ -13,6 +12,7 @@ use Rattle.hq_terms.specs.declared.table.Column.{Column}
 use Rattle.hq_index.specs.Keys.{cell_in, has_key}
 use Rattle.hq_sql_tree.specs.Tree.{ExprTree, column, int, text, uuid, bool, object, aggregate, JoinTrees, no_join, join, PredTree}
 use Rattle.hq_sql_tree.specs.Meaning.{Scope as Names, World, cell_named, named_row, value, truth_at}
+pub use Rattle.hq_sql_rows.specs.KeyCells.{key_cell}
 use Rattle.hq_sql_rows.specs.View.{scope_of}
 use Rattle.hq_sql_rows.specs.declared.scope.Scope.{Scope}
 
@@ -44,11 +44,6 @@ pub record IsEquation (t : Test) (operands : List ExprTree) (e : ExprTree) : Typ
 -- where the condition is true, the cell of this name of the alias equals the expression
 pub record Forces (p : PredTree) (alias name : List ℕ) (e : ExprTree) : Type 0 where
   pub equals : (w : World) (m : Names) → truth_at p w m ≡ Yes → equal (cell_named (m alias) name) (value e [] m) ≡ Yes
-
--- the cell that a key has for a cell: no row has JSON as a key
-abbrev pub key_cell : CellTree → CellTree
-key_cell (cell.json j) = cell.null
-key_cell c = c
 
 -- what is in scope at a row of the alias and its joins is around it as it was
 abbrev pub IsAround : Names → Names → (alias : List ℕ) → JoinTrees → Type 0

@@ -8,7 +8,6 @@ pub mod Keys
 pub mod Weight
 pub mod Resolved
 pub mod Equations
-pub mod Positions
-pub mod Ordered
+pub mod KeyCells
+pub mod KeySets
 pub mod Known
-pub mod Pages

@@ -69,7 +69,21 @@ pub fn sorted<'d, T: Drop>(
     rows_of(alloc, by_keys(alloc, order, kept)?)
 }
 
-/// The rows of kept ones, by their keys, and of these with DISTINCT ON the first of each group.
+/// The rows of kept ones, and of these with DISTINCT ON the first of each group.
+pub fn grouped<'d, T: Drop>(
+    alloc: Global,
+    distinct: &ExprList,
+    kept: Vec<Kept<'d, T>>,
+) -> Result<Vec<T>, Memory>
+    ensures { IfOk result (λ rows. rows.items ≡ map row_of (distinct_kept (map expr_view distinct.now.items) kept.entry.items)) }
+{
+    if distinct.is_empty() {
+        return rows_of(alloc, kept);
+    }
+    rows_of(alloc, first_kept(alloc, kept)?)
+}
+
+/// The same of the rows by their keys.
 pub fn arranged<'d, T: Drop>(
     alloc: Global,
     order: &OrderList,
@@ -78,9 +92,5 @@ pub fn arranged<'d, T: Drop>(
 ) -> Result<Vec<T>, Memory>
     ensures { IfOk result (λ rows. rows.items ≡ map row_of (distinct_kept (map expr_view distinct.now.items) (sort (by_keys (map order_view order.now.items)) kept.entry.items))) }
 {
-    let kept = by_keys(alloc, order, kept)?;
-    if distinct.is_empty() {
-        return rows_of(alloc, kept);
-    }
-    rows_of(alloc, first_kept(alloc, kept)?)
+    grouped(alloc, distinct, by_keys(alloc, order, kept)?)
 }

@@ -32,7 +32,7 @@ pub fn is_joined(joins: &[Join], alias: &Txt) -> bool
 }
 
 /// Whether an expression is the column of an alias.
-pub(crate) fn is_column(expr: &Expr, alias: &Txt, name: &Txt) -> bool
+pub fn is_column(expr: &Expr, alias: &Txt, name: &Txt) -> bool
     ensures { result ≡ is_column alias.now name.now (expr_view expr.now) }
 {
     match expr {
@@ -50,8 +50,8 @@ pub(crate) fn is_column(expr: &Expr, alias: &Txt, name: &Txt) -> bool
     }
 }
 
-// Whether an expression is a column of an alias around the scan, or a literal.
-fn is_outer(expr: &Expr, alias: &Txt, joins: &[Join]) -> bool
+/// Whether an expression is a column of an alias around the scan, or a literal.
+pub fn is_outer(expr: &Expr, alias: &Txt, joins: &[Join]) -> bool
     ensures { result ≡ is_outer alias.now (joins_of (map join_view joins.now)) (expr_view expr.now) }
 {
     match expr {
@@ -61,8 +61,8 @@ fn is_outer(expr: &Expr, alias: &Txt, joins: &[Join]) -> bool
     }
 }
 
-// What a test asks its value to equal.
-fn equal_to<'d>(test: Test, operands: &'d ExprList) -> Option<&'d Expr>
+/// What a test asks its value to equal.
+pub fn equal_to<'d>(test: Test, operands: &'d ExprList) -> Option<&'d Expr>
     ensures { IfSome result (λ e. IsEquation test (map expr_view operands.now.items) (expr_view e.now)) }
 {
     match (test, operands.as_slice()) {
@@ -142,8 +142,8 @@ fn key_cell<'d>(cell: Cell<'d>) -> KeyCell<'d>
     }
 }
 
-// The cell of an expression, as one of a key, where it is known without evaluating a join.
-fn outer_cell<'d>(
+/// The cell of an expression, as one of a key, where it is known without evaluating a join.
+pub fn outer_cell<'d>(
     alloc: Global,
     expr: &'d Expr,
     scope: &Scope<'_, 'd>,
@@ -162,15 +162,15 @@ fn outer_cell<'d>(
     }
 }
 
-// The place of the first column of this name.
-fn first_named(columns: &[Column], name: &Txt) -> Option<usize>
+/// The place of the first column of this name.
+pub fn first_named(columns: &[Column], name: &Txt) -> Option<usize>
     ensures { result ≡ position (λ c. bytes_eq c.name name.now) columns.now }
 {
     columns.iter().position(|column| column.name == *name)
 }
 
 /// Whether the column is the first one of its name.
-pub(crate) fn is_first(columns: &[Column], at: usize, name: &Txt) -> bool
+pub fn is_first(columns: &[Column], at: usize, name: &Txt) -> bool
     ensures { result ≡ true → position (λ c. bytes_eq c.name name.now) columns.now ≡ Some at }
 {
     match first_named(columns, name) {

@@ -1,16 +1,13 @@
-//! What a statement is evaluated on: rows, scopes, the tables that are pinned with what is known of them, and the places at which a
-//! scan looks.
+//! What a statement is evaluated on: rows, scopes, the tables that are pinned with what is known of them, and what a WHERE asks the
+//! columns of a scanned table to equal.
 #![tactic(auto)]
 
 pub mod cells;
-mod equations;
+pub mod equations;
 pub mod known;
 mod mentions;
-pub mod ordered;
-pub mod pages;
 pub mod pinned;
 pub mod place;
-pub mod positions;
 pub mod resolved;
 pub mod row;
 pub mod scope;

@@ -1,7 +1,8 @@
 //! Tables with their rows, and indexes over these that a statement wants.
-ghost use Rattle.std.specs.Prelude.{◌≡◌, ◌^◌, ◌<◌, ℕ, IfOk, length, slice_index_or};
+ghost use Rattle.std.specs.Prelude.{◌≡◌, ◌^◌, ◌<◌, ℕ, true, IfOk, length, slice_index_or};
 ghost use Rattle.hq_index.specs.Indexes.{IsOver};
 ghost use Rattle.hq_index.specs.declared.index.Index.{Index};
+ghost use Rattle.hq_terms.specs.Database.{are_rows};
 ghost use Rattle.hq_sql_rows.specs.Lent.{rows_lent};
 
 use crate::wanted::wanted_columns;
@@ -18,6 +19,7 @@ pub struct Stored<'d> {
     pub table: &'d Table,
     pub rows: Option<&'d Rows>,
     pub more: Vec<Index>,
+    ghost valid: { are_rows table.now (rows_lent rows) ≡ true },
     ghost over: { (i : ℕ) (d : Index) → i < length more.items → IsOver (rows_lent rows) (slice_index_or more.items i d) },
 }
 
@@ -67,13 +69,14 @@ fn more(
 }
 
 impl<'d> Stored<'d> {
-    /// A table with its rows, and the indexes that a statement wants over them.
+    /// A table with its rows, which are valid for it, and the indexes that a statement wants over them.
     pub fn of(
         alloc: Global,
         table: &'d Table,
         rows: Option<&'d Rows>,
         select: &Select,
     ) -> Result<Stored<'d>, Memory>
+        requires { are_rows table.now (rows_lent rows) ≡ true }
         ensures table { IfOk result (λ s. s.table ≡ table.entry) }
         ensures rows { IfOk result (λ s. s.rows ≡ rows.entry) }
     {

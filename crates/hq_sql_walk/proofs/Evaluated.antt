@@ -20,11 +20,12 @@ use Rattle.hq_sql_rows.specs.declared.place.Place.{Place}
 use Rattle.hq_sql_rows.specs.Joined.{put_off}
 use Rattle.hq_sql_rows.specs.Keys.{member_at, output_at, outputs_of}
 use Rattle.hq_sql_rows.specs.Single.{is_single}
-use Rattle.hq_sql_rows.specs.Positions.{kept_of}
+use Rattle.hq_sql_scans.specs.Positions.{kept_of}
 use Rattle.hq_sql_rows.specs.Sources.{alias_in, made_rows, rows_given, has_items}
-use Rattle.hq_sql_rows.specs.Pages.{is_enough, Suffices}
-use Rattle.hq_sql_rows.proofs.Enough.{bound_page}
-use Rattle.hq_sql_rows.proofs.Tops.{first_sorted, order_total}
+use Rattle.hq_sql_scans.specs.Pages.{is_enough, Suffices}
+use Rattle.hq_sql_scans.proofs.Enough.{bound_page}
+use Rattle.hq_sql_scans.proofs.Tops.{first_sorted, order_total}
+use Rattle.hq_sql_walk.proofs.Firsts.{distinct_again, distinct_append, distinct_rest}
 use Rattle.hq_sql_walk.proofs.JoinedRows.{beside_put_off, joined_single}
 
 -- the members of an object are a map over its pairs
@@ -150,6 +151,28 @@ module _ (js : JoinTrees) (w : World) (n : Scope) (a : List ℕ) (keeps : Scope 
         | false ↦ λ e. ap page (scan_all rs next end found k (whole e) all)
       ] in
       go (is_enough bound count) refl
+
+  -- what DISTINCT ON leaves, behind one more stretch
+  pub group_step : (D : List ExprTree) (next more : ℕ) (rs : List NamedRow) (firsts found left : List Scope) → firsts ≡ distinct_on D (kept_here (take next rs)) → kept_here (take next rs) ++ found ≡ kept_here (take more rs)
+      → left ≡ distinct_on D (firsts ++ found) → left ≡ distinct_on D (kept_here (take more rs))
+  group_step D next more rs firsts found left t f s = s ∙ ap (λ l. distinct_on D (l ++ found)) t ∙ distinct_again D (kept_here (take next rs)) found ∙ ap (distinct_on D) f
+
+  -- its page, where that is enough
+  pub group_page : (D : List ExprTree) (limit offset bound : Option ℕ) (next : ℕ) (rs : List NamedRow) (firsts : List Scope) (count : ℕ) → Suffices limit offset bound → firsts ≡ distinct_on D (kept_here (take next rs)) → count ≡ length firsts → is_enough bound count ≡ true
+      → limited limit (offset_by offset firsts) ≡ limited limit (offset_by offset (distinct_on D (kept_here rs)))
+  group_page D limit offset bound next rs firsts count suffices t long e =
+      let page : List Scope → List Scope = λ l. limited limit (offset_by offset l) in
+      let front = kept_here (take next rs) in
+      let behind = kept_here (drop next rs) in
+      let rest = distinct_rest D front behind in
+      let parts : front ++ behind ≡ kept_here rs = sym (kept_append (take next rs) (drop next rs)) ∙ ap kept_here (take-append-drop next rs) in
+      sym (suffices firsts rest (ap (is_enough bound) (sym long) ∙ e)) ∙ ap page (ap (λ l. l ++ rest) t ∙ sym (distinct_append D front behind) ∙ ap (distinct_on D) parts)
+
+  -- its page behind all
+  pub group_all : (D : List ExprTree) (limit offset : Option ℕ) (next end : ℕ) (rs : List NamedRow) (firsts : List Scope) → firsts ≡ distinct_on D (kept_here (take next rs)) → end ≤ next → end ≡ length rs
+      → limited limit (offset_by offset firsts) ≡ limited limit (offset_by offset (distinct_on D (kept_here rs)))
+  group_all D limit offset next end rs firsts t past all =
+      ap (λ l. limited limit (offset_by offset l)) (t ∙ ap (λ l. distinct_on D (kept_here l)) (take_all next rs (omega (arith, past, all))))
 
 pub no_images : {A B C : Type 0} (f : B → C) (g : A → B) (xs : List A) → (length xs == 0) ≡ true → map f (map g xs) ≡ []
 no_images f g [] e = refl

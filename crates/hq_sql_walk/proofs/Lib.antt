@@ -1,5 +1,6 @@
 pub mod JoinedRows
 pub mod Ordered
+pub mod Firsts
 pub mod Evaluated
 pub mod Told
 pub mod Conjunctions

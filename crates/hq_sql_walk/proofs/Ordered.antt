@@ -67,6 +67,15 @@ module _ {T : Type 0} (P : T → Scope) (K : List OrderTree) where
       let grouped = firsts_alike with_cells (taken_at P K D) E _ _ sorted in
       ap (map P) (rows_alike D _ _ grouped) ∙ grouped_is D _ ∙ ap (firsts (same_values D)) (sorted_is ts)
 
+  -- the rows of the kept ones, grouped, are those of the scopes, grouped
+  pub groups_are : (D : List ExprTree) (ks : List (Kept T)) (ts : List T) → map with_cells ks ≡ map (taken_at P K D) ts → map P (map row_of (distinct_kept D ks)) ≡ distinct_on D (map P ts)
+  groups_are [] ks ts e = ap (map P) (rows_alike [] ks ts e)
+  groups_are (d ∷ ds) ks ts e =
+      let D = d ∷ ds in
+      let E : (List CellTree × List CellTree) × T → (List CellTree × List CellTree) × T → Bool = λ u v. same_cells u.0.1 v.0.1 in
+      let grouped = firsts_alike with_cells (taken_at P K D) E ks ts e in
+      ap (map P) (rows_alike D _ _ grouped) ∙ grouped_is D ts
+
 -- the elements of an aggregate's list, sorted
 pub elements_are : (e : ExprTree) (os : List OrderTree) (ks : List (Kept Json)) (ns : List Scope) → map with_json ks ≡ map (json_at e os) ns → map json_view (map row_of (sort (by_keys os) ks)) ≡ map (λ n. json_of (value e [] n)) (sort (orders_cmp (orders_of os)) ns)
 elements_are e os ks ns h =

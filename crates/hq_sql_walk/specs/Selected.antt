@@ -6,15 +6,15 @@ use Rattle.hq_sql_tree.specs.declared.expr.Order.{Order}
 use Rattle.hq_sql_tree.specs.declared.select.From.{From}
 use Rattle.hq_sql_tree.specs.declared.select.Join.{Join}
 use Rattle.hq_sql_tree.specs.declared.select.Pred.{Pred}
-use Rattle.hq_sql_tree.specs.Meaning.{NamedRow, Scope as Names, with_alias, kept, offset_by, limited, outputs}
+use Rattle.hq_sql_tree.specs.Meaning.{NamedRow, Scope as Names, with_alias, kept, distinct_on, offset_by, limited, outputs}
 use Rattle.hq_sql_tree.specs.View.{expr_view, filter_view, from_view, order_view, out_view}
 use Rattle.hq_sql_rows.specs.Keys.{keyed_at}
-use Rattle.hq_sql_rows.specs.Positions.{rows_at, kept_of, arranged}
+use Rattle.hq_sql_scans.specs.Positions.{rows_at, kept_of, arranged}
 use Rattle.hq_sql_rows.specs.Sources.{alias_in, rows_given}
 use Rattle.hq_sql_rows.specs.View.{made_view, names_at, names_of, world_of}
 use Rattle.hq_sql_rows.specs.declared.pinned.Pinned.{Pinned}
 use Rattle.hq_sql_rows.specs.declared.place.Place.{Place}
-use Rattle.hq_sql_rows.specs.declared.positions.Positions.{Positions}
+use Rattle.hq_sql_scans.specs.declared.positions.Positions.{Positions}
 use Rattle.hq_sql_rows.specs.declared.row.Made.{Made}
 use Rattle.hq_sql_rows.specs.declared.scope.Scope.{Scope}
 use Rattle.hq_sql_rows.specs.declared.scope.Source.{Source}
@@ -44,6 +44,10 @@ arranged_by es os names = arranged (map expr_view es) (map order_view os) names
 abbrev pub Arranges : (Place → Names) → List Expr → List Order → (places sorted : List Place) → Type 0
 Arranges at es os places sorted = map at sorted ≡ arranged_by es os (map at places)
 
+-- the second places are those of the first ones that DISTINCT ON leaves
+abbrev pub Groups : (Place → Names) → List Expr → (places left : List Place) → Type 0
+Groups at es places left = map at left ≡ distinct_on (map expr_view es) (map at places)
+
 -- a place with its sort keys and its values of DISTINCT ON, in this scope
 abbrev pub keyed_in : List Order → List Expr → Names → Place → (List CellTree × List CellTree) × Place
 keyed_in os es names place = keyed_at names (map order_view os) (map expr_view es) place
@@ -65,6 +69,12 @@ Pages rows source alias js parts limit offset world scope places = map (scope_at
 abbrev pub PagesFront : List NamedRow → Source → (alias : List ℕ) → List Join → Option Pred → (limit offset : Option ℕ) → Pinned → Scope → List Place → Type 0
 PagesFront rows source alias js f limit offset world scope places =
     map (scope_at source alias js world scope) places ≡ limited limit (offset_by offset (kept_from rows alias js f world scope))
+
+-- the same, where DISTINCT ON alone is left to do
+abbrev pub PagesGroups : List NamedRow → Source → (alias : List ℕ) → List Join → Parts → (limit offset : Option ℕ) → Pinned → Scope → List Place → Type 0
+PagesGroups rows source alias js parts limit offset world scope places =
+    map (scope_at source alias js world scope) places
+    ≡ limited limit (offset_by offset (distinct_on (map expr_view parts.distinct.now.items) (kept_from rows alias js parts.filter.now world scope)))
 
 -- the outputs of a select whose FROM gives these rows of a sub-select
 abbrev pub selected : Parts → From → List Join → (limit offset : Option ℕ) → List Made → Pinned → Scope → List NamedRow

@@ -2,24 +2,25 @@
 ghost use Rattle.std.specs.Prelude.{◌≡◌, [], Some, map, IfOk};
 ghost use Rattle.hq_sql_tree.specs.View.{expr_view, order_view};
 ghost use Rattle.hq_sql_rows.specs.Keys.{with_cells, taken_at};
-ghost use Rattle.hq_sql_rows.specs.Pages.{Suffices};
-ghost use Rattle.hq_sql_rows.specs.Positions.{rows_at};
+ghost use Rattle.hq_sql_scans.specs.Pages.{Suffices};
+ghost use Rattle.hq_sql_scans.specs.Positions.{rows_at};
 ghost use Rattle.hq_sql_rows.specs.View.{source_view, names_of};
 ghost use Rattle.hq_sql_walk.specs.Gathered.{names_joined};
-ghost use Rattle.hq_sql_walk.specs.Selected.{Arranges, Pages, PagesFront, keyed_in, scope_at};
+ghost use Rattle.hq_sql_walk.specs.Selected.{Arranges, Groups, Pages, PagesFront, PagesGroups, keyed_in, scope_at};
 
 use crate::scans::scan_from;
 use crate::values::{keys, values};
 use hq_base::{Memory, Txt};
 use hq_sql_cells::{Kept, paged};
-use hq_sql_rows::cells::arranged;
-use hq_sql_rows::ordered::{Looked, ordered_at};
-use hq_sql_rows::pages::{enough, enough_sorted};
+use hq_sql_constants::{left_of, with_left};
+use hq_sql_rows::cells::{arranged, grouped};
 use hq_sql_rows::pinned::Pinned;
 use hq_sql_rows::place::{Place, with_more};
-use hq_sql_rows::positions::{Positions, number_of};
 use hq_sql_rows::scope::{Scope, Source, row_at};
 use hq_sql_rows::stages::{Parts, Stage};
+use hq_sql_scans::ordered::{Looked, ordered_at};
+use hq_sql_scans::pages::{enough, enough_sorted, has_enough};
+use hq_sql_scans::positions::{Positions, number_of};
 use hq_sql_tree::{ExprList, Join, OrderList, Pred};
 use std::alloc::Global;
 
@@ -52,9 +53,14 @@ pub fn page<'s, 'd>(
         &*scope,
     )?;
     let filter = parts.filter;
-    match looked {
+    let left = left_of(alloc, source, alias, joins, filter, looked)?;
+    let asked = with_left(looked, &left);
+    match asked {
         Looked::Arranged(at) => page_front(
             alloc, source, alias, joins, stages, filter, at, limit, offset, world, scope,
+        ),
+        Looked::Sorted(at) => page_grouped(
+            alloc, source, alias, joins, stages, parts, at, limit, offset, world, scope,
         ),
         Looked::Unsorted(at) => match enough_sorted(parts.distinct, limit, offset) {
             Some(bound) => page_top(
@@ -76,7 +82,7 @@ fn page_front<'s, 'd>(
     joins: &'d [Join],
     stages: &[Stage],
     filter: &'d Option<Pred>,
-    positions: Positions<'d>,
+    positions: Positions<'_>,
     limit: Option<u64>,
     offset: Option<u64>,
     world: &Pinned<'d>,
@@ -92,6 +98,64 @@ fn page_front<'s, 'd>(
     Ok(page)
 }
 
+// How many rows are found before they are grouped.
+fn stretch_of(bound: Option<usize>) -> Option<usize> {
+    match bound {
+        Some(bound) => Some(bound.saturating_add(STRETCH)),
+        None => None,
+    }
+}
+
+// The same, where it stands as ORDER BY leaves it: the scan ends where DISTINCT ON leaves enough for OFFSET and LIMIT.
+#[cycle(eval)]
+fn page_grouped<'s, 'd>(
+    alloc: Global,
+    source: Source<'s, 'd>,
+    alias: &'d Txt,
+    joins: &'d [Join],
+    stages: &[Stage],
+    parts: Parts<'d>,
+    positions: Positions<'_>,
+    limit: Option<u64>,
+    offset: Option<u64>,
+    world: &Pinned<'d>,
+    scope: &'s Scope<'s, 'd>,
+) -> Result<Vec<Place<'d>>, Memory>
+    ensures { IfOk result (λ places. PagesGroups (rows_at source.entry positions.entry) source.entry alias.now joins.now parts.entry limit offset world.now scope.now places.items) }
+{
+    let bound = enough(limit, offset);
+    let end = number_of(positions);
+    let stretch = stretch_of(bound);
+    let filter = parts.filter;
+    let mut firsts = Vec::new(alloc);
+    let mut next = 0;
+    while next < end {
+        if has_enough(bound, firsts.len()) {
+            let page = paged(firsts, offset, limit);
+            return Ok(page);
+        }
+        let found = scan_from(
+            alloc, source, alias, joins, stages, filter, positions, next, stretch, world, scope,
+        )?;
+        next = found.next;
+        let all = with_more(firsts, found.places)?;
+        let left = in_groups(
+            alloc,
+            source,
+            alias,
+            joins,
+            parts.distinct,
+            parts.order,
+            all,
+            world,
+            scope,
+        )?;
+        firsts = left;
+    }
+    let page = paged(firsts, offset, limit);
+    Ok(page)
+}
+
 // The same under LIMIT, where it is to be sorted: behind each stretch of the scan those rows are left out that the page does not
 // need.
 #[cycle(eval)]
@@ -102,7 +166,7 @@ fn page_top<'s, 'd>(
     joins: &'d [Join],
     stages: &[Stage],
     parts: Parts<'d>,
-    positions: Positions<'d>,
+    positions: Positions<'_>,
     bound: usize,
     limit: Option<u64>,
     offset: Option<u64>,
@@ -150,7 +214,7 @@ pub fn page_sorted<'s, 'd>(
     joins: &'d [Join],
     stages: &[Stage],
     parts: Parts<'d>,
-    positions: Positions<'d>,
+    positions: Positions<'_>,
     limit: Option<u64>,
     offset: Option<u64>,
     world: &Pinned<'d>,
@@ -208,6 +272,27 @@ fn in_order<'s, 'd>(
         alloc, source, alias, joins, distinct, order, places, world, scope,
     )?;
     arranged(alloc, order, distinct, kept)
+}
+
+// Those of the rows that DISTINCT ON leaves.
+#[cycle(eval)]
+fn in_groups<'s, 'd>(
+    alloc: Global,
+    source: Source<'s, 'd>,
+    alias: &'d Txt,
+    joins: &'d [Join],
+    distinct: &'d ExprList,
+    order: &'d OrderList,
+    places: Vec<Place<'d>>,
+    world: &Pinned<'d>,
+    scope: &'s Scope<'s, 'd>,
+) -> Result<Vec<Place<'d>>, Memory>
+    ensures { IfOk result (λ left. Groups (scope_at source.entry alias.now joins.now world.now scope.now) distinct.now.items places.entry.items left.items) }
+{
+    let kept = keyed(
+        alloc, source, alias, joins, distinct, order, places, world, scope,
+    )?;
+    grouped(alloc, distinct, kept)
 }
 
 // The rows beside their sort keys and their values of DISTINCT ON.

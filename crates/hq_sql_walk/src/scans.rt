@@ -5,8 +5,8 @@ ghost use Rattle.hq_sql_closed.specs.Weight.{filter_weight};
 ghost use Rattle.hq_sql_tree.specs.Tree.{no_join};
 ghost use Rattle.hq_sql_tree.specs.View.{filter_view};
 ghost use Rattle.hq_sql_rows.specs.Known.{IsKnown, Tells};
-ghost use Rattle.hq_sql_rows.specs.Pages.{is_enough};
-ghost use Rattle.hq_sql_rows.specs.Positions.{positions_of};
+ghost use Rattle.hq_sql_scans.specs.Pages.{is_enough};
+ghost use Rattle.hq_sql_scans.specs.Positions.{positions_of};
 ghost use Rattle.hq_sql_rows.specs.Sources.{has_items};
 ghost use Rattle.hq_sql_rows.specs.View.{source_view, world_of, names_of};
 ghost use Rattle.hq_sql_walk.specs.Gathered.{joins_view, kept_joins};
@@ -15,12 +15,12 @@ ghost use Rattle.hq_sql_walk.specs.Selected.{Continues, kept_from};
 use crate::joins::gather;
 use crate::truths::all_hold;
 use hq_base::{Memory, Txt};
-use hq_sql_rows::pages::has_enough;
 use hq_sql_rows::pinned::{Known, Pinned};
 use hq_sql_rows::place::{Place, add_places};
-use hq_sql_rows::positions::{Positions, looked_at, number_of, position_at};
 use hq_sql_rows::scope::{Scope, Source, row_at};
 use hq_sql_rows::stages::Stage;
+use hq_sql_scans::pages::has_enough;
+use hq_sql_scans::positions::{Positions, looked_at, number_of, position_at};
 use hq_sql_tree::{Join, Pred};
 use std::alloc::Global;
 
@@ -41,7 +41,7 @@ pub fn scan_from<'s, 'd>(
     joins: &'d [Join],
     stages: &[Stage],
     filter: &'d Option<Pred>,
-    positions: Positions<'d>,
+    positions: Positions<'_>,
     from: usize,
     enough: Option<usize>,
     world: &Pinned<'d>,
@@ -117,6 +117,9 @@ pub fn any_row<'s, 'd>(
     requires lighter { IfSome known (λ k. 1 + lent_weight k.now.rest.items ≤ filter_weight filter.now) }
     ensures { IfOk result (λ b. b ≡ has_items (kept_from (source_view source.entry) alias.now joins.now filter.now world.now scope.now)) }
 {
+    if !world.work.step() {
+        return Err(Memory);
+    }
     let looked = looked_at(
         alloc,
         source,

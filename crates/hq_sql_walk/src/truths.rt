@@ -19,6 +19,8 @@ use hq_sql_rows::pinned::Pinned;
 use hq_sql_rows::scope::{Group, Scope, alias_of, source_of};
 use hq_sql_rows::single::is_whole;
 use hq_sql_rows::stages::{Parts, stages};
+use hq_sql_scans::key_set::known_row;
+use hq_sql_scans::likes::known_like;
 use hq_sql_tree::{Expr, ExprList, Pred, PredList, Select};
 use hq_terms::{Test, Truth};
 use std::alloc::Global;
@@ -40,7 +42,7 @@ pub fn kept<'d>(
     }
 }
 
-/// The truth of a condition. Of an AND what costs little is tried first.
+/// The truth of a condition. Of an AND what costs little is tried first, and of an EXISTS keys tell it, where they are known.
 #[cycle(eval)]
 pub fn truth<'d>(
     alloc: Global,
@@ -65,11 +67,14 @@ pub fn truth<'d>(
             all_true(alloc, preds, Cost::Rows, nested, world, scope)
         }
         Pred::Or(preds) => any_true(alloc, preds, world, scope),
-        Pred::Exists(select) => Ok(Truth::of(exists(alloc, select, world, scope)?)),
+        Pred::Exists(select) => match known_row(alloc, pred, world, scope)? {
+            Some(has) => Ok(Truth::of(has)),
+            None => Ok(Truth::of(exists(alloc, select, world, scope)?)),
+        },
     }
 }
 
-// What a test says of an expression. A single operand is put into no list.
+// What a test says of an expression. A single operand is put into no list, and the pattern of LIKE is read before.
 #[cycle(eval)]
 fn tested<'d>(
     alloc: Global,
@@ -83,6 +88,9 @@ fn tested<'d>(
 {
     let cell = value(alloc, expr, world, Group::Alone, scope)?;
     if let [operand] = operands.as_slice() {
+        if let Some(truth) = known_like(world.matchers, test, &cell, operand) {
+            return Ok(truth);
+        }
         let operand = value(alloc, operand, world, Group::Alone, scope)?;
         return test_truth(alloc, test, &cell, slice::from_ref(&operand));
     }

@@ -4,10 +4,10 @@ use Rattle.hq_sql_tree.specs.Tree.{joins_of}
 use Rattle.hq_sql_tree.specs.View.{join_view, filter_view}
 use Rattle.hq_sql_tree.specs.Meaning.{NamedRow, Scope as Names, World, with_alias, kept}
 use Rattle.hq_sql_tree.specs.declared.select.Pred.{Pred}
-use Rattle.hq_sql_rows.specs.Positions.{rows_at, kept_of}
+use Rattle.hq_sql_scans.specs.Positions.{rows_at, kept_of}
 use Rattle.hq_sql_rows.specs.View.{names_at, names_of, source_view, world_of}
 use Rattle.hq_sql_rows.specs.declared.pinned.Pinned.{Pinned}
-use Rattle.hq_sql_rows.specs.declared.positions.Positions.{Positions}
+use Rattle.hq_sql_scans.specs.declared.positions.Positions.{Positions}
 use Rattle.hq_sql_rows.specs.declared.scope.Scope.{Scope}
 use Rattle.hq_sql_rows.specs.declared.place.Place.{Place}
 use Rattle.hq_sql_rows.specs.declared.stages.Parts.{Parts}

@@ -2,7 +2,7 @@
 ghost use Rattle.std.specs.Prelude.{◌≡◌, ◌<◌, ◌≤◌, ◌||◌, length, map, IfOk};
 ghost use Rattle.hq_sql_tree.specs.Meaning.{Scope as Names, scopes_of};
 ghost use Rattle.hq_sql_tree.specs.View.{from_view};
-ghost use Rattle.hq_sql_rows.specs.Positions.{positions_of};
+ghost use Rattle.hq_sql_scans.specs.Positions.{positions_of};
 ghost use Rattle.hq_sql_rows.specs.Sources.{made_rows, has_items};
 ghost use Rattle.hq_sql_rows.specs.View.{made_view, world_of};
 ghost use Rattle.hq_sql_write.specs.Placed.{AreSorted, Continues, names_there, from_in, found_at};
@@ -10,13 +10,14 @@ ghost use Rattle.hq_sql_write.specs.Selected.{page_at};
 
 use crate::listed::Rows;
 use hq_base::{Memory, Txt};
-use hq_sql_rows::ordered::{Looked, ordered_at};
+use hq_sql_constants::has_many;
 use hq_sql_rows::pinned::Pinned;
 use hq_sql_rows::place::Place;
-use hq_sql_rows::positions::Positions;
 use hq_sql_rows::row::Made;
 use hq_sql_rows::scope::{Scope, Source, alias_of, source_of};
 use hq_sql_rows::stages::Stage;
+use hq_sql_scans::ordered::{Looked, ordered_at};
+use hq_sql_scans::positions::Positions;
 use hq_sql_tree::{Join, Pred};
 use hq_sql_walk::{Piece, page, page_sorted, scan_from};
 use std::alloc::Global;
@@ -91,7 +92,8 @@ pub enum Found<'d> {
     Places(Vec<Place<'d>>),
 }
 
-/// Where the rows of a select are. Those that stand in order, and have no OFFSET and LIMIT, are left where they stand.
+/// Where the rows of a select are. Those that stand in order, and have no OFFSET and LIMIT, are left where they stand, unless WHERE
+/// asks for one of many constants.
 pub fn found_rows<'s, 'd>(
     alloc: Global,
     rows: &Rows<'d>,
@@ -102,7 +104,7 @@ pub fn found_rows<'s, 'd>(
     requires { placed.now.joins ≡ rows.now.joins }
     ensures { IfOk result (λ found. found_at found placed.now rows.now.parts.filter.now world.now scope.now ≡ page_at rows.now placed.now world.now scope.now) }
 {
-    if rows.limit.is_some() || rows.offset.is_some() {
+    if rows.limit.is_some() || rows.offset.is_some() || has_many(rows.parts.filter) {
         let places = places_of(alloc, rows, placed, world, scope)?;
         return Ok(Found::Places(places));
     }
@@ -117,6 +119,10 @@ pub fn found_rows<'s, 'd>(
     )?;
     match looked {
         Looked::Arranged(positions) => Ok(Found::Arranged(positions)),
+        Looked::Sorted(_) => {
+            let places = places_of(alloc, rows, placed, world, scope)?;
+            Ok(Found::Places(places))
+        }
         Looked::Unsorted(positions) => {
             let places = sorted_at(alloc, rows, placed, positions, world, scope)?;
             Ok(Found::Places(places))

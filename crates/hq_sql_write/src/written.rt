@@ -17,11 +17,11 @@ use crate::places::{
 use hq_base::{Bytes, Memory, Txt, put_quoted};
 use hq_sql_rows::pinned::Pinned;
 use hq_sql_rows::place::Place;
-use hq_sql_rows::positions::{Positions, number_of};
 use hq_sql_rows::resolved::{Resolved, resolve};
 use hq_sql_rows::row::{Made, cell_at};
 use hq_sql_rows::scope::{Group, Scope, row_at};
 use hq_sql_rows::stages::{Parts, has_due, stages};
+use hq_sql_scans::positions::{Positions, number_of};
 use hq_sql_tree::{Expr, ExprPairList, Join, Pred, Select};
 use hq_sql_walk::{made_of, value, with_due};
 use std::alloc::Global;

@@ -29,9 +29,10 @@ use Rattle.hq_sql_rows.proofs.Besides.{beside_filled, weight_before}
 use Rattle.hq_sql_walk.specs.Gathered.{names_joined}
 use Rattle.hq_sql_rows.specs.Keys.{with_json, json_at, outputs_of, output_at, key_values, member_at, with_cells, taken_at}
 use Rattle.hq_sql_rows.specs.Sources.{alias_in, rows_given, has_items}
-use Rattle.hq_sql_rows.specs.Positions.{positions_of, rows_at, kept_of, FindsAll, FindsArranged}
-use Rattle.hq_sql_rows.proofs.InOrder.{none_arranged}
-use Rattle.hq_sql_rows.proofs.Looked.{at_place}
+use Rattle.hq_sql_scans.specs.Positions.{positions_of, rows_at, kept_of, FindsAll, FindsArranged}
+use Rattle.hq_sql_constants.proofs.Chosen.{left_finds}
+use Rattle.hq_sql_scans.proofs.InOrder.{none_arranged}
+use Rattle.hq_sql_scans.proofs.Looked.{at_place}
 use Rattle.hq_sql_closed.specs.Conjuncts.{all_kept, lent_views, lent_weight}
 use Rattle.hq_sql_closed.specs.Weight.{total, expr_weight, pair_weight, order_weight, out_weight, join_weight, pred_weight}
 use Rattle.hq_sql_closed.proofs.Weights.{item_weight, pair_item, order_item, out_item, expr_item, pred_item}
@@ -39,8 +40,9 @@ use Rattle.hq_sql_walk.specs.Selected.{keyed_in}
 use Rattle.hq_sql_walk.specs.Costs.{all_at, part_at}
 use Rattle.hq_sql_walk.specs.declared.costs.Cost.TheVariants.{Nested, Rows}
 use Rattle.hq_sql_walk.proofs.Conjunctions.{and3_yes, all_is, all_more}
-use Rattle.hq_sql_walk.proofs.Ordered.{elements_are, arranged_is}
-use Rattle.hq_sql_walk.proofs.Evaluated.{members_mapped, outputs_all, later_is, keys_is, spread_step, any_found, any_passed, scan_step, rows_are, exists_is, paged_map, scan_all, page_front, top_step, top_page}
+use Rattle.hq_sql_walk.proofs.Firsts.{distinct_none}
+use Rattle.hq_sql_walk.proofs.Ordered.{elements_are, arranged_is, groups_are}
+use Rattle.hq_sql_walk.proofs.Evaluated.{members_mapped, outputs_all, later_is, keys_is, spread_step, any_found, any_passed, scan_step, rows_are, exists_is, paged_map, scan_all, page_front, top_step, top_page, group_step, group_page, group_all}
 use Rattle.hq_sql_walk.proofs.Loops.{map_more, scope_more, value_more, holds_next, next_item, view_pair, view_key}
 use Rattle.hq_sql_walk.proofs.Told.{none_in, tells_at}
 use Rattle.hq_terms.specs.declared.truth.Truth.TheVariants.{Yes}
@@ -386,15 +388,30 @@ pages::page-returns-in-Arranged t c =
     let js = joins_of (map join_view c.args.joins.now) in
     let D = map expr_view c.args.parts.distinct.now.items in
     let K = map order_view c.args.parts.order.now.items in
-    let finds : FindsArranged js c.args.scope.now c.args.alias.now (filter_view c.args.parts.filter.now) D K c.args.source (rows_at c.args.source c.in-Arranged.at) = rw c.in-Arranged.is at c.in_ok-looked.ensures in
+    let finds : FindsArranged js c.args.scope.now c.args.alias.now (filter_view c.args.parts.filter.now) D K c.args.source (rows_at c.args.source c.in-Arranged.at) = rw c.in-Arranged.is at (left_finds js c.args.scope.now c.args.alias.now c.args.parts c.args.source c.in_ok-looked.looked c.in_ok-left.left c.with_left-asked.result c.in_ok-looked.ensures c.in_ok-left.ensures c.with_left-asked.ensures) in
     IfOk-weaker c.page_front.result _ _ (λ places h. h ∙ ap (λ l. limited c.args.limit (offset_by c.args.offset l)) (finds (world_of c.args.world.now))) c.page_front.ensures
+
+pub pages::page-returns-in-Sorted : goal.pages::page-returns-in-Sorted
+pages::page-returns-in-Sorted t c =
+    let js = joins_of (map join_view c.args.joins.now) in
+    let D = map expr_view c.args.parts.distinct.now.items in
+    let K = map order_view c.args.parts.order.now.items in
+    let finds : FindsArranged js c.args.scope.now c.args.alias.now (filter_view c.args.parts.filter.now) [] K c.args.source (rows_at c.args.source c.in-Sorted.at) = rw c.in-Sorted.is at (left_finds js c.args.scope.now c.args.alias.now c.args.parts c.args.source c.in_ok-looked.looked c.in_ok-left.left c.with_left-asked.result c.in_ok-looked.ensures c.in_ok-left.ensures c.with_left-asked.ensures) in
+    IfOk-weaker c.page_grouped.result _ _ (λ places h. h ∙ ap (λ l. limited c.args.limit (offset_by c.args.offset (distinct_on D l))) (finds (world_of c.args.world.now))) c.page_grouped.ensures
+
+pub pages::in_groups-returns : goal.pages::in_groups-returns
+pages::in_groups-returns t c =
+    let P = names_at c.args.source c.args.alias.now (joins_of (map join_view c.args.joins.now)) (world_of c.args.world.now) (names_of c.args.scope.now c.args.world.now) in
+    let K = map order_view c.args.order.now.items in
+    let D = map expr_view c.args.distinct.now.items in
+    IfOk-weaker c.grouped.result _ _ (λ left h. ap (map P) h ∙ groups_are P K D c.in_ok-kept.kept.items c.args.places.items c.in_ok-kept.ensures) c.grouped.ensures
 
 pub pages::page-returns-in-Some : goal.pages::page-returns-in-Some
 pages::page-returns-in-Some t c =
     let js = joins_of (map join_view c.args.joins.now) in
     let D = map expr_view c.args.parts.distinct.now.items in
     let K = map order_view c.args.parts.order.now.items in
-    let finds : FindsAll js c.args.scope.now c.args.alias.now (filter_view c.args.parts.filter.now) c.args.source (rows_at c.args.source c.in-Unsorted.at) = rw c.in-Unsorted.is at c.in_ok-looked.ensures in
+    let finds : FindsAll js c.args.scope.now c.args.alias.now (filter_view c.args.parts.filter.now) c.args.source (rows_at c.args.source c.in-Unsorted.at) = rw c.in-Unsorted.is at (left_finds js c.args.scope.now c.args.alias.now c.args.parts c.args.source c.in_ok-looked.looked c.in_ok-left.left c.with_left-asked.result c.in_ok-looked.ensures c.in_ok-left.ensures c.with_left-asked.ensures) in
     IfOk-weaker c.page_top.result _ _ (λ places h. h ∙ ap (λ l. limited c.args.limit (offset_by c.args.offset (distinct_on D (sort (order_cmp K) l)))) (finds (world_of c.args.world.now))) c.page_top.ensures
 
 pub pages::page-returns-in-None : goal.pages::page-returns-in-None
@@ -402,7 +419,7 @@ pages::page-returns-in-None t c =
     let js = joins_of (map join_view c.args.joins.now) in
     let D = map expr_view c.args.parts.distinct.now.items in
     let K = map order_view c.args.parts.order.now.items in
-    let finds : FindsAll js c.args.scope.now c.args.alias.now (filter_view c.args.parts.filter.now) c.args.source (rows_at c.args.source c.in-Unsorted.at) = rw c.in-Unsorted.is at c.in_ok-looked.ensures in
+    let finds : FindsAll js c.args.scope.now c.args.alias.now (filter_view c.args.parts.filter.now) c.args.source (rows_at c.args.source c.in-Unsorted.at) = rw c.in-Unsorted.is at (left_finds js c.args.scope.now c.args.alias.now c.args.parts c.args.source c.in_ok-looked.looked c.in_ok-left.left c.with_left-asked.result c.in_ok-looked.ensures c.in_ok-left.ensures c.with_left-asked.ensures) in
     IfOk-weaker c.page_sorted.result _ _ (λ places h. h ∙ ap (λ l. limited c.args.limit (offset_by c.args.offset (distinct_on D (sort (order_cmp K) l)))) (finds (world_of c.args.world.now))) c.page_sorted.ensures
 
 pub pages::page_front-returns : goal.pages::page_front-returns
@@ -459,6 +476,63 @@ pages::page_top-returns t c =
     ap (map P) c.paged-page.ensures ∙ paged_map P c.args.limit c.args.offset c.loop-next.top.items
     ∙ top_page js w n a keeps K c.args.limit c.args.offset c.args.bound c.loop-next.next (length ps) rs (map P c.loop-next.top.items) c.requires.suffices c.loop-next.invariant.top past long
     ∙ ap (λ xs. limited c.args.limit (offset_by c.args.offset (distinct_on (map expr_view xs) (sort (order_cmp K) (kept_of js w n a keeps rs))))) (sym c.requires.alone)
+
+pub pages::page_grouped-loop-next-init : goal.pages::page_grouped-loop-next-init
+pages::page_grouped-loop-next-init t c =
+    let P = names_at c.args.source c.args.alias.now (joins_of (map join_view c.args.joins.now)) (world_of c.args.world.now) (names_of c.args.scope.now c.args.world.now) in
+    record {
+      within = omega arith;
+      firsts = ap (map P) c.new-firsts.ensures.items ∙ distinct_none (map expr_view c.args.parts.distinct.now.items);
+    }
+
+pub pages::page_grouped-loop-next-preserved : goal.pages::page_grouped-loop-next-preserved
+pages::page_grouped-loop-next-preserved t c =
+    let js = joins_of (map join_view c.args.joins.now) in
+    let w = world_of c.args.world.now in
+    let n = names_of c.args.scope.now c.args.world.now in
+    let a = c.args.alias.now in
+    let keeps = kept (filter_view c.args.parts.filter.now) w in
+    let D = map expr_view c.args.parts.distinct.now.items in
+    let P = names_at c.args.source a js w n in
+    let rs = rows_at c.args.source c.args.positions in
+    let old = c.loop-next.firsts.items in
+    let found = c.in_ok-found.found.places.items in
+    let left : map P c.in_ok-left.left.items ≡ distinct_on D (map P old ++ map P found) = c.in_ok-left.ensures ∙ ap (distinct_on D) (ap (map P) c.in_ok-all.ensures ∙ map-append P old found) in
+    record {
+      within = c.in_ok-found.ensures.within;
+      firsts = group_step js w n a keeps D c.loop-next.next c.in_ok-found.found.next rs (map P old) (map P found) (map P c.in_ok-left.left.items) c.loop-next.invariant.firsts c.in_ok-found.ensures.places left;
+    }
+
+pub pages::page_grouped-returns-then-has_enough : goal.pages::page_grouped-returns-then-has_enough
+pages::page_grouped-returns-then-has_enough t c =
+    let js = joins_of (map join_view c.args.joins.now) in
+    let w = world_of c.args.world.now in
+    let n = names_of c.args.scope.now c.args.world.now in
+    let a = c.args.alias.now in
+    let keeps = kept (filter_view c.args.parts.filter.now) w in
+    let D = map expr_view c.args.parts.distinct.now.items in
+    let P = names_at c.args.source a js w n in
+    let rs = rows_at c.args.source c.args.positions in
+    let firsts = c.loop-next.firsts.items in
+    ap (map P) c.paged-page.ensures ∙ paged_map P c.args.limit c.args.offset firsts
+    ∙ group_page js w n a keeps D c.args.limit c.args.offset c.enough-bound.result c.loop-next.next rs (map P firsts) c.len.result c.enough-bound.ensures c.loop-next.invariant.firsts (c.len.ensures ∙ sym (length-map firsts P)) (sym c.has_enough.ensures ∙ c.if-has_enough.true)
+
+pub pages::page_grouped-returns : goal.pages::page_grouped-returns
+pages::page_grouped-returns t c =
+    let js = joins_of (map join_view c.args.joins.now) in
+    let w = world_of c.args.world.now in
+    let n = names_of c.args.scope.now c.args.world.now in
+    let a = c.args.alias.now in
+    let keeps = kept (filter_view c.args.parts.filter.now) w in
+    let D = map expr_view c.args.parts.distinct.now.items in
+    let P = names_at c.args.source a js w n in
+    let ps = positions_of c.args.positions in
+    let rs = rows_at c.args.source c.args.positions in
+    let firsts = c.loop-next.firsts.items in
+    let long : length ps ≡ length rs = sym (length-map ps (row_in c.args.source)) in
+    let past : length ps ≤ c.loop-next.next = omega (arith, c.loop-next-test.false, c.number_of-end.ensures) in
+    ap (map P) c.paged-page-2.ensures ∙ paged_map P c.args.limit c.args.offset firsts
+    ∙ group_all js w n a keeps D c.args.limit c.args.offset c.loop-next.next (length ps) rs (map P firsts) c.loop-next.invariant.firsts past long
 
 pub pages::page_sorted-returns : goal.pages::page_sorted-returns
 pages::page_sorted-returns t c =

@@ -6,12 +6,12 @@ use Rattle.hq_terms.specs.Logic.{and3, or3}
 use Rattle.hq_sql_cells.specs.View.{cell_view}
 use Rattle.hq_sql_tree.specs.Tree.{joins_of, preds_of}
 use Rattle.hq_sql_tree.specs.View.{expr_view, pair_view, order_view, out_view, join_view, pred_view, filter_view}
-use Rattle.hq_sql_tree.specs.Meaning.{value, with_alias, joined, kept, any_true, order_cmp}
+use Rattle.hq_sql_tree.specs.Meaning.{value, with_alias, joined, kept, any_true, distinct_on, order_cmp}
 use Rattle.hq_sql_rows.specs.View.{made_view, named_view, joined_view, world_of, names_of, names_at, group_of, beside}
 use Rattle.hq_sql_rows.specs.Joined.{join_in}
 use Rattle.hq_sql_rows.specs.Keys.{expr_values, key_values, member_at, output_at, outputs_of, with_json, json_at, with_cells, taken_at}
 use Rattle.hq_sql_walk.specs.Costs.{all_at}
-use Rattle.hq_sql_rows.specs.Positions.{positions_of, rows_at, kept_of}
+use Rattle.hq_sql_scans.specs.Positions.{positions_of, rows_at, kept_of}
 use Rattle.hq_sql_closed.specs.Conjuncts.{all_kept, lent_views, lent_weight}
 use Rattle.hq_sql_closed.specs.Weight.{total, agg_weight, expr_weight, pair_weight, order_weight, out_weight, from_weight, select_weight, join_weight, pred_weight, filter_weight}
 use Rattle.hq_sql_rows.specs.Weight.{scope_weight}
@@ -73,6 +73,17 @@ invariant-pages::page_top-loop-next l =
 
 abbrev pub decreases-pages::page_top-loop-next : goal.decreases-pages::page_top-loop-next
 decreases-pages::page_top-loop-next l = l.end - l.next
+
+abbrev pub invariant-pages::page_grouped-loop-next : goal.invariant-pages::page_grouped-loop-next
+invariant-pages::page_grouped-loop-next l =
+    record {
+      within : l.next ≤ length (positions_of l.positions);
+      firsts : map (scope_at l.source l.alias l.joins l.world l.scope) l.firsts.items
+          ≡ distinct_on (map expr_view l.parts.distinct.now.items) (kept_from (take l.next (rows_at l.source l.positions)) l.alias l.joins l.parts.filter.now l.world l.scope);
+    }
+
+abbrev pub decreases-pages::page_grouped-loop-next : goal.decreases-pages::page_grouped-loop-next
+decreases-pages::page_grouped-loop-next l = l.end - l.next
 
 abbrev pub invariant-scans::any_row-loop-turn : goal.invariant-scans::any_row-loop-turn
 invariant-scans::any_row-loop-turn l =
@@ -199,6 +210,9 @@ decreases-pages::page_front l = 6 + (total (map join_weight l.joins.now) + (filt
 abbrev pub decreases-pages::page_top : goal.decreases-pages::page_top
 decreases-pages::page_top l = 7 + (total (map join_weight l.joins.now) + (filter_weight l.parts.filter.now + (total (map order_weight l.parts.order.now.items) + (total (map expr_weight l.parts.distinct.now.items) + scope_weight l.scope.now))))
 
+abbrev pub decreases-pages::page_grouped : goal.decreases-pages::page_grouped
+decreases-pages::page_grouped l = 7 + (total (map join_weight l.joins.now) + (filter_weight l.parts.filter.now + (total (map order_weight l.parts.order.now.items) + (total (map expr_weight l.parts.distinct.now.items) + scope_weight l.scope.now))))
+
 abbrev pub decreases-pages::page_sorted : goal.decreases-pages::page_sorted
 decreases-pages::page_sorted l = 7 + (total (map join_weight l.joins.now) + (filter_weight l.parts.filter.now + (total (map order_weight l.parts.order.now.items) + (total (map expr_weight l.parts.distinct.now.items) + scope_weight l.scope.now))))
 
@@ -213,6 +227,9 @@ decreases-scans::any_row l = 6 + (total (map join_weight l.joins.now) + (filter_
 
 abbrev pub decreases-pages::in_order : goal.decreases-pages::in_order
 decreases-pages::in_order l = 6 + (total (map order_weight l.order.now.items) + (total (map expr_weight l.distinct.now.items) + (total (map join_weight l.joins.now) + scope_weight l.scope.now)))
+
+abbrev pub decreases-pages::in_groups : goal.decreases-pages::in_groups
+decreases-pages::in_groups l = 6 + (total (map order_weight l.order.now.items) + (total (map expr_weight l.distinct.now.items) + (total (map join_weight l.joins.now) + scope_weight l.scope.now)))
 
 abbrev pub decreases-pages::keyed : goal.decreases-pages::keyed
 decreases-pages::keyed l = 5 + (total (map order_weight l.order.now.items) + (total (map expr_weight l.distinct.now.items) + (total (map join_weight l.joins.now) + scope_weight l.scope.now)))

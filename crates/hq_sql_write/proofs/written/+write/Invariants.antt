@@ -1,7 +1,7 @@
 use Rattle.std.proofs.Common.{◌≡◌, ◌≤◌, ◌+◌, ◌-◌, ◌++◌, [], map, length, take}
 use Rattle.hq_sql_tree.specs.View.{expr_view, pair_view}
 use Rattle.hq_sql_closed.specs.Weight.{total, expr_weight, pair_weight, select_weight, join_weight}
-use Rattle.hq_sql_rows.specs.Positions.{positions_of}
+use Rattle.hq_sql_scans.specs.Positions.{positions_of}
 use Rattle.hq_sql_rows.specs.Sources.{has_items}
 use Rattle.hq_sql_rows.specs.View.{world_of, names_of}
 use Rattle.hq_sql_rows.specs.Weight.{scope_weight}

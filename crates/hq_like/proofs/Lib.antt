@@ -1,0 +1,5 @@
+pub mod AsRead
+pub mod Steps
+pub mod Letters
+pub mod Searches
+pub mod Parted

@@ -1,0 +1,159 @@
+-- Places at whose rows a column is one of constants.
+use Rattle.std.proofs.Common.{◌≡◌, ◌∙◌, ◌<◌, ◌+◌, ◌*◌, ◌^◌, ◌≤◌, ℕ, zero, suc, List, [], ◌∷◌, ◌++◌, map, filter, flat_map, length, get_or, take, Bool, true, false, ◌||◌, ◌&&◌, cond, Option, None, Some, bytes_eq, refl, sym, ap, ap₂, subst, add-one, arith}
+use Rattle.std.specs.List.{list_any, position}
+use Rattle.std.specs.Global.{Vec}
+use Rattle.std.specs.Prelude.{IfSome}
+use Rattle.std.proofs.Math.Seq.{take-suc}
+use Rattle.std.proofs.lemmas.Bool.{false≢true}
+use Rattle.std.proofs.lemmas.List.{length-map, take_all}
+use Rattle.std.proofs.lemmas.List.Concat.{flat_map-cons}
+use Rattle.std.proofs.lemmas.List.Elements.{filter-append}
+use Rattle.hq_base.specs.Cells.{CellTree, cell_of}
+use Rattle.hq_base.specs.Lists.{Each}
+use Rattle.hq_base.specs.declared.value.Val.{Val}
+use Rattle.hq_base.specs.declared.value.Val.TheVariants as val
+use Rattle.hq_base.proofs.Lists.{any_map_of, each_weaken, filter_map_of}
+use Rattle.hq_index.proofs.Chunked.{chunked_flat, length-chunked}
+use Rattle.hq_index.specs.Chunks.{chunked}
+use Rattle.hq_index.specs.Grids.{rows_in}
+use Rattle.hq_index.specs.Indexes.{IsOver, columns_of, counted, rows_with}
+use Rattle.hq_index.specs.Keys.{cell_in, has_key}
+use Rattle.hq_terms.specs.Database.{Row}
+use Rattle.hq_terms.specs.Logic.{equal, is_true}
+use Rattle.hq_terms.specs.declared.table.Column.{Column}
+use Rattle.hq_sql_rows.specs.Equations.{is_joined, key_cell}
+use Rattle.hq_sql_rows.specs.Sources.{has_items}
+use Rattle.hq_sql_rows.specs.View.{row_in, scope_of}
+use Rattle.hq_sql_rows.specs.declared.scope.Scope.{Scope}
+use Rattle.hq_sql_rows.specs.declared.stages.Parts.{Parts}
+use Rattle.hq_sql_rows.specs.declared.scope.Source.{Source}
+use Rattle.hq_sql_rows.proofs.Asked.{named_first}
+use Rattle.hq_sql_rows.proofs.NamedCells.{stored_row}
+use Rattle.hq_sql_tree.specs.Meaning.{NamedRow, Scope as Names, World, cell_named, joined, kept, named_row, truth_at, with_alias}
+use Rattle.hq_sql_tree.specs.Tree as tree
+use Rattle.hq_sql_tree.specs.Tree.{FilterTree, JoinTrees, PredTree}
+use Rattle.hq_sql_tree.specs.View.{filter_view}
+use Rattle.hq_sql_constants.specs.Listed.{AsksOneOf, is_one_of}
+use Rattle.hq_sql_constants.specs.Sifted.{AreConstants, IsLeft, KeepsSame, has_constant, places_looked, with_places}
+use Rattle.hq_sql_constants.specs.declared.marked.Constants.{Constants}
+use Rattle.hq_sql_scans.specs.Links.{has_cell}
+use Rattle.hq_sql_scans.specs.Ordered.{Finds}
+use Rattle.hq_sql_scans.specs.Positions.{kept_of, rows_at}
+use Rattle.hq_sql_scans.specs.declared.ordered.Looked.{Looked}
+use Rattle.hq_sql_scans.specs.declared.positions.Positions.{Positions}
+use Rattle.hq_sql_scans.specs.declared.ordered.Looked.TheVariants.{Arranged, Sorted, Unsorted}
+use Rattle.hq_sql_scans.proofs.KeySets.{items_filter, items_map}
+use Rattle.hq_sql_scans.proofs.Linked.{and_true, equal_cell, equal_swapped, key_like}
+use Rattle.hq_sql_scans.proofs.Looked.{Keeps, counted_all, is_yes, joined_keeps, left_out, none_kept, same_bytes}
+
+-- ---- constants as the rows of a grid
+
+abbrev one_each : List Val → List (List Val)
+one_each vs = map (λ v. v ∷ []) vs
+
+each_one : (vs : List Val) → Each (λ row. length row ≡ 1) (one_each vs)
+each_one [] = tt
+each_one (v ∷ vs) = (refl, each_one vs)
+
+flat_one : (vs : List Val) → flat_map (λ (row : List Val). row) (one_each vs) ≡ vs
+flat_one [] = refl
+flat_one (v ∷ vs) = flat_map-cons (λ (row : List Val). row) (v ∷ []) (one_each vs) ∙ ap (λ l. v ∷ l) (flat_one vs)
+
+chunked_one : (vs : List Val) → chunked 1 (length vs) vs ≡ one_each vs
+chunked_one vs = ap₂ (chunked 1) (sym (length-map vs (λ v. v ∷ []))) (sym (flat_one vs)) ∙ chunked_flat 1 (one_each vs) (each_one vs)
+
+pub ones_few : (n count : ℕ) (vs : List Val) (g : List (List Val)) → count ≡ n → n < 2 ^ 31 → g ≡ chunked 1 count vs → length g < 2 ^ 32
+ones_few n count vs g e lt is = let long = ap length is ∙ length-chunked 1 count vs in omega (arith, long, lt, e)
+
+pub constants_are : (vs : List Val) (count : ℕ) (s : Constants) → count ≡ length vs → rows_in s.grid ≡ chunked 1 count vs → IsOver (rows_in s.grid) s.index → columns_of s.index ≡ 0 ∷ [] → AreConstants vs s
+constants_are vs count s e is over own = record { over = over; columns = own; rows = is ∙ ap (λ n. chunked 1 n vs) e ∙ chunked_one vs }
+
+-- ---- a look-up among them
+
+-- rows have a key where the numbers of those that have it are some
+pub items_with : (cs : List ℕ) (key : List CellTree) (rows : List (List Val)) → has_items (rows_with cs key rows) ≡ list_any (has_key cs key) rows
+items_with cs key rows =
+    let f : ℕ → List Val = λ n. get_or rows n [] in
+    let ns = counted 0 (length rows) in
+    let every : map f ns ≡ rows = counted_all rows f 0 [] (λ i lt. let e : 0 + i ≡ i = omega arith in ap f e) in
+    sym (items_map f (rows_with cs key rows)) ∙ ap has_items (sym (filter_map_of (has_key cs key) f ns)) ∙ ap (λ l. has_items (filter (has_key cs key) l)) every ∙ items_filter (has_key cs key) rows
+
+key_of_value : (x : Val) → key_cell (cell_of x) ≡ cell_of x
+key_of_value val.Null = refl
+key_of_value (val.Int n) = refl
+key_of_value (val.Text t) = refl
+key_of_value (val.Bool b) = refl
+
+-- a value equals a constant exactly where the constant's row has it as its key
+one_key : (x v : Val) → is_true (equal (cell_of x) (cell_of v)) ≡ has_key (0 ∷ []) (cell_of x ∷ []) (v ∷ [])
+one_key x v =
+    equal_swapped (cell_of x) (cell_of v) ∙ equal_cell v (cell_of x) ∙ ap (has_cell (cell_of v)) (key_of_value x)
+    ∙ sym (and_true (has_cell (cell_of v) (cell_of x))) ∙ sym (key_like (0 ∷ []) (cell_of x ∷ []) (v ∷ []) refl)
+
+any_same : {A : Type 0} (p q : A → Bool) (xs : List A) → ((x : A) → p x ≡ q x) → list_any p xs ≡ list_any q xs
+any_same p q [] h = refl
+any_same p q (x ∷ xs) h = ap₂ (λ a b. a || b) (h x) (any_same p q xs h)
+
+has_one : (vs : List Val) (s : Constants) (x : Val) → AreConstants vs s → is_one_of vs (cell_of x) ≡ has_constant s (cell_of x)
+has_one vs s x are =
+    let key = cell_of x ∷ [] in
+    any_same (λ v. is_true (equal (cell_of x) (cell_of v))) (λ v. has_key (0 ∷ []) key (v ∷ [])) vs (one_key x)
+    ∙ sym (any_map_of (has_key (0 ∷ []) key) (λ v. v ∷ []) vs)
+    ∙ sym (items_with (0 ∷ []) key (one_each vs))
+    ∙ ap₂ (λ cs g. has_items (rows_with cs key g)) (sym are.columns) (sym are.rows)
+
+-- ---- the places, one after the other
+
+pub places_more : (q : ℕ → Bool) (ps : List ℕ) (i p : ℕ) (places more : List ℕ) → i < length ps → p ≡ get_or ps i 0 → places ≡ filter q (take i ps) → more ≡ places ++ filter q (p ∷ []) → more ≡ filter q (take (i + 1) ps)
+places_more q ps i p places more lt is so_far grown =
+    let longer : take (i + 1) ps ≡ take i ps ++ p ∷ [] = ap (λ n. take n ps) (add-one i) ∙ take-suc ps i 0 lt ∙ ap (λ d. take i ps ++ d ∷ []) (sym is) in
+    grown ∙ ap (λ l. l ++ filter q (p ∷ [])) so_far ∙ sym (filter-append q (take i ps) (p ∷ [])) ∙ ap (filter q) (sym longer)
+
+pub places_end : (q : ℕ → Bool) (ps : List ℕ) (i : ℕ) (places : List ℕ) → length ps ≤ i → places ≡ filter q (take i ps) → places ≡ filter q ps
+places_end q ps i places le so_far = so_far ∙ ap (filter q) (take_all i ps le)
+
+-- ---- what WHERE keeps
+
+-- places at whose rows a column is none of the constants that a condition asks it to be may be left out
+pub sifted_is : (columns : List Column) (rows : List Row) (js : JoinTrees) (alias name : List ℕ) (p : PredTree) (vs : List Val) (at : ℕ) (s : Constants) (ps : List ℕ) → AsksOneOf p alias name vs → position (λ c. bytes_eq c.name name) columns ≡ Some at → AreConstants vs s → is_joined js alias ≡ false
+    → KeepsSame js alias (tree.filter p) (map (λ q. get_or (map (named_row columns) rows) q []) (filter (λ k. has_constant s (cell_in (get_or rows k []) at)) ps)) (map (λ q. get_or (map (named_row columns) rows) q []) ps)
+sifted_is columns rows js alias name p vs at s ps asked first are alone =
+    let f : ℕ → NamedRow = λ q. get_or (map (named_row columns) rows) q [] in
+    let q : ℕ → Bool = λ k. has_constant s (cell_in (get_or rows k []) at) in
+    let never : (w : World) (n : Names) (k : ℕ) → q k ≡ false → (m : Names) → Keeps js (with_alias n alias (f k)) m → kept (tree.filter p) w m ≡ true → ⊥ =
+    λ w n k out m around e.
+    let here : m alias ≡ named_row columns (get_or rows k []) = around alias alone ∙ (ap (λ b. cond b (f k) (n alias)) (same_bytes alias) ∙ sym (stored_row columns rows k)) in
+    let cell : cell_named (m alias) name ≡ cell_in (get_or rows k []) at = ap (λ r. cell_named r name) here ∙ named_first columns (get_or rows k []) name at first in
+    let one = asked.asks w m (is_yes (truth_at p w m) e) in
+    false≢true (sym out ∙ sym (has_one vs s (get_or (get_or rows k []) at val.Null) are) ∙ ap (is_one_of vs) (sym cell) ∙ one) in
+    let none : (w : World) (n : Names) (k : ℕ) → q k ≡ false → filter (kept (tree.filter p) w) (joined js w (with_alias n alias (f k))) ≡ [] =
+    λ w n k out. none_kept (kept (tree.filter p) w) (joined js w (with_alias n alias (f k)))
+    (each_weaken (Keeps js (with_alias n alias (f k))) (λ m. kept (tree.filter p) w m ≡ true → ⊥) (λ m around. never w n k out m around) (joined js w (with_alias n alias (f k))) (joined_keeps js w (with_alias n alias (f k)))) in
+    record { same = λ w n. left_out js w n alias (kept (tree.filter p) w) f q (none w n) ps }
+
+-- the same of rows that are lent
+pub sifted_at : (columns : List Column) (rows lent : List Row) (js : JoinTrees) (alias name : List ℕ) (p : PredTree) (vs : List Val) (at : ℕ) (s : Constants) (ps places : List ℕ) → lent ≡ rows → AsksOneOf p alias name vs → position (λ c. bytes_eq c.name name) columns ≡ Some at → AreConstants vs s → is_joined js alias ≡ false
+    → places ≡ filter (λ k. has_constant s (cell_in (get_or rows k []) at)) ps
+    → KeepsSame js alias (tree.filter p) (map (λ q. get_or (map (named_row columns) lent) q []) places) (map (λ q. get_or (map (named_row columns) lent) q []) ps)
+sifted_at columns rows lent js alias name p vs at s ps places same asked first are alone chosen =
+    subst (λ rs. KeepsSame js alias (tree.filter p) (map (λ q. get_or (map (named_row columns) rs) q []) places) (map (λ q. get_or (map (named_row columns) rs) q []) ps)) (sym same)
+    (subst (λ qs. KeepsSame js alias (tree.filter p) (map (λ q. get_or (map (named_row columns) rows) q []) qs) (map (λ q. get_or (map (named_row columns) rows) q []) ps)) (sym chosen)
+    (sifted_is columns rows js alias name p vs at s ps asked first are alone))
+
+-- what a scan finds at its places it finds at others of which WHERE keeps the same
+still_finds : (js : JoinTrees) (scope : Scope) (alias : List ℕ) (parts : Parts) (source : Source) (looked : Looked) (positions : Positions) → Finds js scope alias parts source looked
+    → ((w : World) → kept_of js w (scope_of scope w) alias (kept (filter_view parts.filter.now) w) (rows_at source positions) ≡ kept_of js w (scope_of scope w) alias (kept (filter_view parts.filter.now) w) (rows_at source (places_looked looked)))
+    → Finds js scope alias parts source (with_places looked positions)
+still_finds js scope alias parts source (Arranged at) positions finds same = λ w. same w ∙ finds w
+still_finds js scope alias parts source (Sorted at) positions finds same = λ w. same w ∙ finds w
+still_finds js scope alias parts source (Unsorted at) positions finds same = λ w. same w ∙ finds w
+
+-- what a scan finds at its places it finds at those that are left
+pub left_finds : (js : JoinTrees) (scope : Scope) (alias : List ℕ) (parts : Parts) (source : Source) (looked : Looked) (left : Option (Vec ℕ)) (again : Looked) → Finds js scope alias parts source looked
+    → IfSome left (λ places. KeepsSame js alias (filter_view parts.filter.now) (map (row_in source) places.items) (rows_at source (places_looked looked))) → IsLeft looked left again → Finds js scope alias parts source again
+left_finds js scope alias parts source looked None again finds keeps is = subst (Finds js scope alias parts source) (sym is) finds
+left_finds js scope alias parts source looked (Some places) again finds keeps is =
+    let positions = places_looked again in
+    let same : (w : World) → kept_of js w (scope_of scope w) alias (kept (filter_view parts.filter.now) w) (rows_at source positions) ≡ kept_of js w (scope_of scope w) alias (kept (filter_view parts.filter.now) w) (rows_at source (places_looked looked)) =
+    λ w. ap (λ l. kept_of js w (scope_of scope w) alias (kept (filter_view parts.filter.now) w) (map (row_in source) l)) is.1 ∙ keeps.same w (scope_of scope w) in
+    subst (Finds js scope alias parts source) (sym is.0) (still_finds js scope alias parts source looked positions finds same)

@@ -1,0 +1,9 @@
+use Rattle.std.proofs.Common.{◌≡◌, [], filter, get_or, take}
+use Rattle.hq_index.specs.Keys.{cell_in}
+use Rattle.hq_sql_constants.specs.Sifted.{has_constant}
+use Rattle.hq_sql_scans.specs.Positions.{positions_of}
+use Rattle.hq_sql_constants.proofs.marked.places_with.Given as goal
+
+-- those of the places so far
+abbrev pub invariant-loop-turn : goal.invariant-loop-turn
+invariant-loop-turn l = l.places.items ≡ filter (λ p. has_constant l.constants (cell_in (get_or l.rows p []) l.column)) (take l.turn (positions_of l.positions))

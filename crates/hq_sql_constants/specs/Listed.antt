@@ -1,0 +1,22 @@
+-- The constants of which a condition asks a column to be one (PostgreSQL, IN, and OR of equations).
+use Rattle.std.specs.Prelude.{◌≡◌, List, map, Bool, true, ℕ}
+use Rattle.std.specs.List.{list_any}
+use Rattle.hq_base.specs.Cells.{CellTree, cell_of}
+use Rattle.hq_base.specs.declared.value.Val.{Val}
+use Rattle.hq_terms.specs.Logic.{equal, is_true}
+use Rattle.hq_terms.specs.Tests.{Test, test_truth}
+use Rattle.hq_terms.specs.declared.truth.Truth.TheVariants.{Yes}
+use Rattle.hq_sql_tree.specs.Meaning.{Scope as Names, World, cell_named, truth_at}
+use Rattle.hq_sql_tree.specs.Tree.{PredTree}
+
+-- a test is true only of a cell that equals one of its operands
+pub record IsOfOne (t : Test) : Type 0 where
+  pub one : (c : CellTree) (ds : List CellTree) → test_truth t c ds ≡ Yes → list_any (λ d. is_true (equal c d)) ds ≡ true
+
+-- a cell equals one of these values
+abbrev pub is_one_of : List Val → CellTree → Bool
+is_one_of vs c = list_any (λ v. is_true (equal c (cell_of v))) vs
+
+-- where the condition is true, the cell of this name of the alias equals one of these values
+pub record AsksOneOf (p : PredTree) (alias name : List ℕ) (vs : List Val) : Type 0 where
+  pub asks : (w : World) (m : Names) → truth_at p w m ≡ Yes → is_one_of vs (cell_named (m alias) name) ≡ true

@@ -1,0 +1,46 @@
+-- Places without which WHERE keeps what it keeps with them.
+use Rattle.std.specs.Prelude.{◌≡◌, ℕ, List, [], ◌∷◌, map, Bool, Option, Some, None}
+use Rattle.std.specs.Global.{Vec}
+use Rattle.hq_base.specs.Cells.{CellTree}
+use Rattle.hq_base.specs.declared.value.Val.{Val}
+use Rattle.hq_index.specs.Grids.{rows_in}
+use Rattle.hq_index.specs.Indexes.{IsOver, columns_of, rows_with}
+use Rattle.hq_sql_tree.specs.Meaning.{NamedRow, Scope as Names, World, kept}
+use Rattle.hq_sql_tree.specs.Tree.{FilterTree, JoinTrees}
+use Rattle.hq_sql_rows.specs.Sources.{has_items}
+use Rattle.hq_sql_constants.specs.declared.marked.Constants.{Constants}
+use Rattle.hq_sql_scans.specs.Positions.{kept_of, positions_of}
+use Rattle.hq_sql_scans.specs.declared.ordered.Looked.{Looked}
+use Rattle.hq_sql_scans.specs.declared.ordered.Looked.TheVariants.{Arranged, Sorted, Unsorted}
+use Rattle.hq_sql_scans.specs.declared.positions.Positions.{Positions}
+
+-- WHERE keeps the same of these rows as of those, whatever is in scope
+pub record KeepsSame (js : JoinTrees) (alias : List ℕ) (f : FilterTree) (rows others : List NamedRow) : Type 0 where
+  pub same : (w : World) (n : Names) → kept_of js w n alias (kept f w) rows ≡ kept_of js w n alias (kept f w) others
+
+-- these are the constants, each a row of one value
+pub record AreConstants (vs : List Val) (s : Constants) : Type 0 where
+  pub over : IsOver (rows_in s.grid) s.index
+  pub columns : columns_of s.index ≡ 0 ∷ []
+  pub rows : rows_in s.grid ≡ map (λ v. v ∷ []) vs
+
+-- whether a cell is one of the constants, as a look-up tells it
+abbrev pub has_constant : Constants → CellTree → Bool
+has_constant s c = has_items (rows_with (columns_of s.index) (c ∷ []) (rows_in s.grid))
+
+-- the places at which a scan looks
+abbrev pub places_looked : Looked → Positions
+places_looked (Arranged positions) = positions
+places_looked (Sorted positions) = positions
+places_looked (Unsorted positions) = positions
+
+-- other places, which stand as those did
+abbrev pub with_places : Looked → Positions → Looked
+with_places (Arranged at) positions = Arranged positions
+with_places (Sorted at) positions = Sorted positions
+with_places (Unsorted at) positions = Unsorted positions
+
+-- the second places are those that are left of the first ones, in the same order
+abbrev pub IsLeft : Looked → Option (Vec ℕ) → Looked → Type 0
+IsLeft looked None again = again ≡ looked
+IsLeft looked (Some places) again = (again ≡ with_places looked (places_looked again)) × (positions_of (places_looked again) ≡ places.items)

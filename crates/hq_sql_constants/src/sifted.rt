@@ -1,0 +1,141 @@
+//! Scans without the places at whose rows WHERE is not true.
+ghost use Rattle.std.specs.Prelude.{◌≡◌, map, IfOk, IfSome, false};
+ghost use Rattle.hq_sql_constants.specs.Listed.{AsksOneOf};
+ghost use Rattle.hq_sql_constants.specs.Sifted.{IsLeft, KeepsSame, places_looked};
+ghost use Rattle.hq_sql_rows.specs.Equations.{is_joined};
+ghost use Rattle.hq_sql_rows.specs.Lent.{rows_lent};
+ghost use Rattle.hq_sql_rows.specs.View.{row_in};
+ghost use Rattle.hq_sql_rows.specs.declared.scope.Source.TheVariants as source;
+ghost use Rattle.hq_sql_scans.specs.Positions.{rows_at};
+ghost use Rattle.hq_sql_tree.specs.Tree.{filter as filtered, joins_of};
+ghost use Rattle.hq_sql_tree.specs.View.{filter_view, join_view, pred_view};
+
+use crate::listed::{Listed, is_many, listed};
+use crate::marked::{constants_of, places_with};
+use hq_base::{Memory, Txt};
+use hq_sql_rows::equations::{first_named, is_joined};
+use hq_sql_rows::scope::Source;
+use hq_sql_rows::stored::Stored;
+use hq_sql_scans::ordered::Looked;
+use hq_sql_scans::positions::{Positions, number_of};
+use hq_sql_tree::{Join, Pred};
+use hq_tables::Rows;
+use hq_terms::ColId;
+use std::alloc::Global;
+
+// Of fewer places none is worth to be left out.
+const FEW: usize = 64;
+
+// So many constants are too many to be looked up.
+const MOST: usize = 1 << 24;
+
+// Those of the places whose rows have one of the constants that a condition asks for.
+fn sifted_by<'d>(
+    alloc: Global,
+    stored: &'d Stored<'d>,
+    rows: &Rows,
+    alias: &Txt,
+    joins: &[Join],
+    pred: &Pred,
+    asked: Listed<'_>,
+    positions: Positions<'_>,
+) -> Result<Option<Vec<u32>>, Memory>
+    requires joined { is_joined (joins_of (map join_view joins.now)) alias.now ≡ false }
+    requires rows { rows_lent stored.now.rows ≡ rows.now }
+    requires asks { AsksOneOf (pred_view pred.now) alias.now asked.name.now asked.values.items }
+    ensures { IfOk result (λ found. IfSome found (λ places. KeepsSame (joins_of (map join_view joins.now)) alias.now (filtered (pred_view pred.now)) (map (row_in (source.Stored stored.entry)) places.items) (rows_at (source.Stored stored.entry) positions.entry))) }
+{
+    let Some(at) = first_named(stored.table.columns.as_slice(), asked.name) else {
+        return Ok(None);
+    };
+    if asked.values.len() >= MOST {
+        return Ok(None);
+    }
+    let constants = constants_of(alloc, asked.values)?;
+    let places = places_with(alloc, rows, positions, ColId::new(at), &constants)?;
+    Ok(Some(places))
+}
+
+// The same of a condition, where it asks a column to be one of many constants.
+fn sifted_rows<'d>(
+    alloc: Global,
+    stored: &'d Stored<'d>,
+    alias: &Txt,
+    joins: &[Join],
+    pred: &Pred,
+    positions: Positions<'_>,
+) -> Result<Option<Vec<u32>>, Memory>
+    requires { is_joined (joins_of (map join_view joins.now)) alias.now ≡ false }
+    ensures { IfOk result (λ found. IfSome found (λ places. KeepsSame (joins_of (map join_view joins.now)) alias.now (filtered (pred_view pred.now)) (map (row_in (source.Stored stored.entry)) places.items) (rows_at (source.Stored stored.entry) positions.entry))) }
+{
+    let Some(rows) = stored.rows else {
+        return Ok(None);
+    };
+    match listed(alloc, pred, alias)? {
+        Some(asked) => sifted_by(alloc, stored, rows, alias, joins, pred, asked, positions),
+        None => Ok(None),
+    }
+}
+
+// Those of the places of a scan at which WHERE may keep a row, where it asks a column to be one of many constants; None where all
+// are to be tried.
+fn sifted<'s, 'd>(
+    alloc: Global,
+    source: Source<'s, 'd>,
+    alias: &Txt,
+    joins: &[Join],
+    filter: &Option<Pred>,
+    positions: Positions<'_>,
+) -> Result<Option<Vec<u32>>, Memory>
+    ensures { IfOk result (λ found. IfSome found (λ places. KeepsSame (joins_of (map join_view joins.now)) alias.now (filter_view filter.now) (map (row_in source.entry) places.items) (rows_at source.entry positions.entry))) }
+{
+    let (Source::Stored(stored), Some(pred)) = (source, filter) else {
+        return Ok(None);
+    };
+    if number_of(positions) < FEW || is_joined(joins, alias) {
+        return Ok(None);
+    }
+    sifted_rows(alloc, stored, alias, joins, pred, positions)
+}
+
+/// Those of the places at which a scan looks that WHERE may keep a row at, where it asks a column to be one of many constants; None
+/// where all are to be tried.
+pub fn left_of<'s, 'd>(
+    alloc: Global,
+    source: Source<'s, 'd>,
+    alias: &Txt,
+    joins: &[Join],
+    filter: &Option<Pred>,
+    looked: Looked<'_>,
+) -> Result<Option<Vec<u32>>, Memory>
+    ensures { IfOk result (λ found. IfSome found (λ places. KeepsSame (joins_of (map join_view joins.now)) alias.now (filter_view filter.now) (map (row_in source.entry) places.items) (rows_at source.entry (places_looked looked.entry)))) }
+{
+    match looked {
+        Looked::Arranged(positions) | Looked::Sorted(positions) | Looked::Unsorted(positions) => {
+            sifted(alloc, source, alias, joins, filter, positions)
+        }
+    }
+}
+
+/// The places at which a scan looks, or those that are left of them.
+pub fn with_left<'p>(looked: Looked<'p>, left: &'p Option<Vec<u32>>) -> Looked<'p>
+    ensures { IsLeft looked.entry left.now result }
+{
+    match left {
+        None => looked,
+        Some(places) => match looked {
+            Looked::Arranged(_) => Looked::Arranged(Positions::Entries(places.as_slice())),
+            Looked::Sorted(_) => Looked::Sorted(Positions::Entries(places.as_slice())),
+            Looked::Unsorted(_) => Looked::Unsorted(Positions::Entries(places.as_slice())),
+        },
+    }
+}
+
+/// Whether a condition, or a part of an AND, has many operands or conditions.
+pub fn has_many(filter: &Option<Pred>) -> bool {
+    match filter {
+        Some(Pred::And(preds)) => preds.as_slice().iter().any(is_many),
+        Some(pred) => is_many(pred),
+        None => false,
+    }
+}

@@ -1,0 +1,55 @@
+//! LIKE and ILIKE with patterns that are read once a statement.
+ghost use Rattle.std.specs.Prelude.{◌≡◌, ◌∷◌, [], IfSome};
+ghost use Rattle.hq_base.specs.Cells as cell;
+ghost use Rattle.hq_terms.specs.Logic.{matched};
+ghost use Rattle.hq_terms.specs.Tests.{test_truth};
+ghost use Rattle.hq_sql_cells.specs.View.{cell_view};
+ghost use Rattle.hq_sql_tree.specs.Meaning.{Scope as Names, value};
+ghost use Rattle.hq_sql_tree.specs.View.{expr_view};
+
+use hq_base::Txt;
+use hq_like::Matcher;
+use hq_sql_cells::Cell;
+use hq_sql_tree::Expr;
+use hq_terms::{Test, Truth};
+
+// The matcher of a pattern.
+fn matcher_of<'m>(matchers: &'m [Matcher], pattern: &Txt, fold: bool) -> Option<&'m Matcher>
+    ensures { IfSome result (λ m. m.now ≡ (pattern.now, fold)) }
+{
+    for matcher in matchers {
+        if matcher.is_of(pattern, fold) {
+            return Some(matcher);
+        }
+    }
+    None
+}
+
+// What LIKE says of a cell: Unknown of one that is no text.
+fn like_truth(matcher: &Matcher, cell: &Cell<'_>) -> Truth
+    ensures { result ≡ matched matcher.now.1 (cell_view cell.now) (cell.text matcher.now.0) }
+{
+    match cell {
+        Cell::Text(text) => Truth::of(matcher.matches(text)),
+        Cell::Null | Cell::Int(_) | Cell::Bool(_) | Cell::Json(_) => Truth::Unknown,
+    }
+}
+
+/// What LIKE says of a cell, where the operand is a text that one of the matchers is of.
+pub fn known_like(
+    matchers: &[Matcher],
+    test: Test,
+    cell: &Cell<'_>,
+    operand: &Expr,
+) -> Option<Truth>
+    ensures { IfSome result (λ t. (n : Names) → t ≡ test_truth test (cell_view cell.now) (value (expr_view operand.now) [] n ∷ [])) }
+{
+    let Test::Like { fold } = test else {
+        return None;
+    };
+    let Expr::Text(pattern) = operand else {
+        return None;
+    };
+    let matcher = matcher_of(matchers, pattern, fold)?;
+    Some(like_truth(matcher, cell))
+}
