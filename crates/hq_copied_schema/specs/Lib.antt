@@ -1,0 +1,2 @@
+pub mod SchemaOver
+pub mod Laws
