@@ -18,7 +18,7 @@ use Rattle.hq_coerce.specs.Due.{given_members, given_value, checked_value, value
 use Rattle.hq_coerce.specs.Required.{required_of, required_names, required_at, is_required_in, is_required}
 use Rattle.hq_coerce.specs.Variables.{VarTree}
 use Rattle.hq_coerce.specs.declared.refusal.CoerceRefusal.{CoerceRefusal}
-use Rattle.hq_blank_schemas.specs.Blank.{blank_origin, blank_arg, blank_type, blank}
+use Rattle.hq_schema_origins.specs.Blank.{blank_origin, blank_arg, blank_type, blank}
 use Rattle.hq_blank_schemas.proofs.Lists.{any_map, filter_map_map, map_twice, and_same, and_alike}
 use Rattle.hq_blank_schemas.proofs.Looks.{blank_at, blank_input_of, blank_enum}
 use Rattle.hq_blank_schemas.proofs.Known.{same_input, same_resolved}

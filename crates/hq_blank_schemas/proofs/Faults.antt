@@ -14,7 +14,7 @@ use Rattle.hq_rules_doc.specs.declared.rules.NodeRule.TheVariants as rule
 use Rattle.hq_rules_fields.specs.First as fields
 use Rattle.hq_rules_fields.specs.First.{selection_fault, argument_fault, value_fault, first_field_fault}
 use Rattle.hq_rules_fields.specs.declared.rules.NodeRule.TheVariants as field_rule
-use Rattle.hq_blank_schemas.specs.Blank.{blank}
+use Rattle.hq_schema_origins.specs.Blank.{blank}
 use Rattle.hq_blank_schemas.proofs.Nodes.{blank_part, blank_parts}
 use Rattle.hq_blank_schemas.proofs.Rules.{same_graph, same_unused_fragments, same_uses, same_positions, same_rule}
 use Rattle.hq_blank_schemas.proofs.Values as values

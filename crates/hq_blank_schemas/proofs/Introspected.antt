@@ -21,7 +21,7 @@ use Rattle.hq_introspect.specs.declared.field_name.FieldName.{FieldName}
 use Rattle.hq_introspect.specs.declared.field_name.FieldName.TheVariants as name
 use Rattle.hq_introspect.specs.declared.type_kind.TypeKind.{TypeKind}
 use Rattle.hq_introspect.specs.declared.type_kind.TypeKind.TheVariants as wrapper
-use Rattle.hq_blank_schemas.specs.Blank.{blank_arg, blank_field, blank_type, blank}
+use Rattle.hq_schema_origins.specs.Blank.{blank_arg, blank_field, blank_type, blank}
 use Rattle.hq_blank_schemas.proofs.Lists.{map_twice, and_alike, and_over}
 use Rattle.hq_blank_schemas.proofs.Looks.{blank_at, blank_named}
 

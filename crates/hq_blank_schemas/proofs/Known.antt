@@ -10,7 +10,7 @@ use Rattle.hq_gql_tree.specs.Types.{TypeTree}
 use Rattle.hq_gql_tree.specs.Types as written
 use Rattle.hq_gql_nodes.specs.Known.{PlaceTree, place_of_arg, is_object, is_input, object_at, input_at, input_of, member_place, arg_place, meta_field, known_field, args_of_field, below_field, is_condition, args_of_directive, object_named, root_of, resolved, is_input_type, default_place}
 use Rattle.hq_gql_nodes.specs.Nodes.{below_inline}
-use Rattle.hq_blank_schemas.specs.Blank.{blank_arg, blank_field, blank_type, blank}
+use Rattle.hq_schema_origins.specs.Blank.{blank_arg, blank_field, blank_type, blank}
 use Rattle.hq_blank_schemas.proofs.Lists.{and_map, and_same, and_alike, and_over, maps_alike, map_or_same, or_map, cond_map}
 use Rattle.hq_blank_schemas.proofs.Looks.{blank_named, blank_at, blank_arg_in, blank_field_in, blank_field_of, blank_input_of}
 

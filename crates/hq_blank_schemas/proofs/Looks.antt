@@ -2,7 +2,7 @@
 use Rattle.std.proofs.Common.{◌≡◌, ◌∙◌, ℕ, List, map, Option, option_map, option_and_then, position, bytes_eq, refl, ap}
 use Rattle.hq_schema.specs.Look.{type_named, type_at, arg_in, field_in, field_of, input_field_of, enum_value_of}
 use Rattle.hq_schema.specs.Schema.{ArgTree, FieldTree, TypeTree, SchemaTree}
-use Rattle.hq_blank_schemas.specs.Blank.{blank_arg, blank_field, blank_type, blank}
+use Rattle.hq_schema_origins.specs.Blank.{blank_arg, blank_field, blank_type, blank}
 use Rattle.hq_blank_schemas.proofs.Lists.{slice_get_map, find_map, position_map, and_map, and_same}
 
 pub blank_named : (s : SchemaTree) (name : List ℕ) → type_named (blank s) name ≡ type_named s name

@@ -9,7 +9,7 @@ use Rattle.hq_gql_nodes.specs.Known.{PlaceTree, element_place, input_of, member_
 use Rattle.hq_gql_nodes.specs.Nodes.{NodeTree, variable_node, condition_node, field_node, spread_node, inline_node, directives_node, directive_node, argument_node, value_node, member_node, nodes_in_value, elements_nodes, members_nodes, value_nodes, argument_nodes, arguments_nodes, directive_nodes, each_directive, directives_nodes, condition_nodes, below_inline, field_head_nodes, inline_head_nodes, selection_nodes, selections_nodes, default_nodes, variable_nodes, variables_nodes, location_of, definition_nodes, PartTree, part_of, document_parts}
 use Rattle.hq_gql_nodes.specs.declared.node.Location.{Location}
 use Rattle.hq_gql_nodes.specs.declared.node.Location.TheVariants as location
-use Rattle.hq_blank_schemas.specs.Blank.{blank_arg, blank}
+use Rattle.hq_schema_origins.specs.Blank.{blank_arg, blank}
 use Rattle.hq_blank_schemas.proofs.Lists.{map_append}
 use Rattle.hq_blank_schemas.proofs.Known.{blank_args, same_input_of, same_member, same_arg, blank_args_of, same_below, blank_args_of_directive, same_object_named, same_inline, same_root, same_resolved, same_default}
 

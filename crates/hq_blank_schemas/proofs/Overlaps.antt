@@ -10,7 +10,7 @@ use Rattle.hq_gql_nodes.specs.Nodes.{below_inline}
 use Rattle.hq_overlap_sets.specs.Places.{overlap_in, overlap_place}
 use Rattle.hq_overlap_sets.specs.Sets.{FieldTree, SetTree, response_key, label_of, seen_field, field_count, field_count_of, own_fields_of, own_fields, own_spreads, set_of, inner_sets_of, inner_sets, parent_of, selections_of_definition, roots, below_roots, document_sets}
 use Rattle.hq_overlap_sets.specs.Shapes.{ShapeTree, leaf, object, list_of, non_null, shape_of}
-use Rattle.hq_blank_schemas.specs.Blank.{blank_field, blank}
+use Rattle.hq_schema_origins.specs.Blank.{blank_field, blank}
 use Rattle.hq_blank_schemas.proofs.Lists.{and_alike, maps_alike}
 use Rattle.hq_blank_schemas.proofs.Known.{same_object, blank_known, same_below, same_inline, same_root, same_object_named}
 

@@ -17,7 +17,7 @@ use Rattle.hq_rules_reach.specs.Variables.{variable_named, has_default, is_wrong
 use Rattle.hq_rules_doc.specs.NodeRules.{known_type_names, fragments_on_composite_types, type_of_condition, type_of_fragment, condition_of, are_other, possible_fragment_spreads, variables_are_input_types, node_place, rule_place}
 use Rattle.hq_rules_doc.specs.declared.rules.NodeRule.{NodeRule}
 use Rattle.hq_rules_doc.specs.declared.rules.NodeRule.TheVariants as rule
-use Rattle.hq_blank_schemas.specs.Blank.{blank}
+use Rattle.hq_schema_origins.specs.Blank.{blank}
 use Rattle.hq_blank_schemas.proofs.Lists.{any_map, filter_map_map, map_twice, least_map, least_alike, and_alike, map_or_alike}
 use Rattle.hq_blank_schemas.proofs.Looks.{blank_named}
 use Rattle.hq_blank_schemas.proofs.Known.{blank_args, same_object_named, same_resolved, same_input_type}

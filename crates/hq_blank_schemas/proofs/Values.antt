@@ -14,7 +14,7 @@ use Rattle.hq_rules_fields.specs.Literals.{scalar_takes, enum_takes, leaf_by, le
 use Rattle.hq_rules_fields.specs.NodeRules.{fields_on_correct_type, has_selections, is_wrong_leaf, scalar_leafs, known_argument_names, lacks, lacks_any, provided_required_arguments, is_wrong_value, values_of_correct_type, known_input_fields, object_members, inputs_in, lacks_input, lacks_at, required_input_fields, unique_argument_names, unique_input_fields, node_place, rule_place}
 use Rattle.hq_rules_fields.specs.declared.rules.NodeRule.{NodeRule}
 use Rattle.hq_rules_fields.specs.declared.rules.NodeRule.TheVariants as rule
-use Rattle.hq_blank_schemas.specs.Blank.{blank_origin, blank_arg, blank_field, blank_type, blank}
+use Rattle.hq_schema_origins.specs.Blank.{blank_origin, blank_arg, blank_field, blank_type, blank}
 use Rattle.hq_blank_schemas.proofs.Lists.{any_map, least_map, map_or_same, map_or_alike}
 use Rattle.hq_blank_schemas.proofs.Looks.{blank_at, blank_arg_in, blank_input_of, blank_enum}
 use Rattle.hq_blank_schemas.proofs.Known.{blank_args, same_object, same_input, same_input_of, blank_known, blank_args_of, blank_args_of_directive}

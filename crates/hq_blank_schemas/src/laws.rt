@@ -8,7 +8,7 @@ ghost use Rattle.hq_rules_doc.specs.First.{first_doc_fault};
 ghost use Rattle.hq_rules_fields.specs.First.{first_field_fault};
 ghost use Rattle.hq_coerce.specs.Due.{variables_due};
 ghost use Rattle.hq_introspect.specs.Answers.{answered};
-ghost use Rattle.hq_blank_schemas.specs.Blank.{blank};
+ghost use Rattle.hq_schema_origins.specs.Blank.{blank};
 
 /// The first rule that a document violates, and its place, are the same in a schema without origins.
 pub fn origins_change_no_fault()

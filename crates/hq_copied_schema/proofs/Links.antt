@@ -25,7 +25,7 @@ use Rattle.hq_copied.specs.Metadata.{reader, copied_rel, copied_meta}
 use Rattle.hq_copied.specs.Sources.{sources, table_place, place_in, kept_relationships, keeps_key, has_mask, Source}
 use Rattle.hq_copied.specs.Tables.{copied_tables}
 use Rattle.hq_copies.proofs.Numbers.{one_to_one}
-use Rattle.hq_copied_schema.specs.SchemaOver.{type_over, schema_over}
+use Rattle.hq_schema_origins.specs.SchemaOver.{type_over, schema_over}
 use Rattle.hq_copied_schema.proofs.Shown.{n, rels_over, IsSeen, shown_seen, tables_are}
 use Rattle.hq_copied_schema.proofs.Types.{link_over, placed_over, placed_same, types_over, fixed_types_over}
 use Rattle.hq_copies_fit.proofs.Held.{Held}
@@ -181,7 +181,7 @@ module _ (tables : List Table) (m : MetaTree) (role : Role) (fit : fits tables m
       let xs : List ShownTable = shown_tables tables m role in
       let ps : List PlacedTable = placed xs in
       ap (λ l. schema_with (placed l)) (tables_are tables m role fit unmasked)
-      ∙ ap schema_with (placed_same (n tables m role fit) (rels_over tables m role fit) 18 xs)
+      ∙ ap schema_with (placed_same (n tables m role fit) (rels_over tables m role fit) 20 xs)
       ∙ ap (λ types. record {
         types = types;
         query = (schema_with ps).query;
@@ -190,4 +190,4 @@ module _ (tables : List Table) (m : MetaTree) (role : Role) (fit : fits tables m
         conditions =
             (schema_with ps).conditions;
       })
-      (all_types_over ps (each_placed 18 xs (shown_seen tables m role fit)))
+      (all_types_over ps (each_placed 20 xs (shown_seen tables m role fit)))

@@ -34,7 +34,7 @@ use Rattle.hq_terms.specs.Operators.{all_operators}
 use Rattle.hq_terms.specs.declared.meta.Rel.{Rel}
 use Rattle.hq_terms.specs.declared.operator.Operator.{Operator}
 use Rattle.hq_renumbered.specs.Renumbering.{Renumbering}
-use Rattle.hq_copied_schema.specs.SchemaOver.{arg_over, field_over, type_table, type_origin_over, type_over}
+use Rattle.hq_schema_origins.specs.SchemaOver.{arg_over, field_over, type_table, type_origin_over, type_over}
 
 -- ---- lists
 

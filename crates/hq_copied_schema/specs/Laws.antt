@@ -11,7 +11,7 @@ use Rattle.hq_terms.specs.declared.session.Session.{Session}
 use Rattle.hq_terms.specs.declared.table.Table.{Table}
 use Rattle.hq_copied.specs.Copied.{Copied, copied}
 use Rattle.hq_copied.specs.Metadata.{reader}
-use Rattle.hq_copied_schema.specs.SchemaOver.{schema_over}
+use Rattle.hq_schema_origins.specs.SchemaOver.{schema_over}
 use Rattle.hq_copies.specs.Laws.{numbers}
 
 -- names, kinds, types, arguments and their order are the same; what they stand for is renumbered
