@@ -1,4 +1,4 @@
-mod Steps
+pub mod Steps
 mod Items
 mod Found
 mod Given

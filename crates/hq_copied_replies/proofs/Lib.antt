@@ -1,0 +1,6 @@
+mod Shown
+mod OfRole
+mod Alike
+mod Bound
+mod Requests
+mod Replies
