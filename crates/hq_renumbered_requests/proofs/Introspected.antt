@@ -41,16 +41,16 @@ module _ (s z : Schema) (n : Renumbering) (a : Access) (r : SchemaTree) (of_role
   PlainAt place = option_map_or (λ (x : TypeTree). is_plain x.origin) (slice_get r.types place) false ≡ true
 
   record Plain (place : ℕ) : Type 0 where
-    origin : TypeOrigin
-    here : At r.types place origin
-    plain : is_plain origin ≡ true
+    meaning : TypeOrigin
+    here : At r.types place meaning
+    plain : is_plain meaning ≡ true
 
   plain_is : (place : ℕ) → PlainAt place → Plain place
   plain_is place at = go (slice_get r.types place) refl at
     where
       go : (x : Option TypeTree) → slice_get r.types place ≡ x → option_map_or (λ (x : TypeTree). is_plain x.origin) x false ≡ true → Plain place
       go None is e = cc
-      go (Some x) is e = record { origin = x.origin; here = ap (option_map (λ (x : TypeTree). x.origin)) is; plain = e }
+      go (Some x) is e = record { meaning = x.origin; here = ap (option_map (λ (x : TypeTree). x.origin)) is; plain = e }
 
   module _ (h : FieldHead) (below : CollectedTrees) (inner : (place t u : ℕ) → PlainAt place → looks_due d place u below ≡ looks_due c place t below) (t u : ℕ) where
     -- what follows a field with its arguments
@@ -85,7 +85,7 @@ module _ (s z : Schema) (n : Renumbering) (a : Access) (r : SchemaTree) (of_role
   looks_over (collected key h below others) place t u at =
       let p = plain_is place at in
       let one : (known_due d place u h (is_empty below) >>= look_of h (λ k. looks_due d (leads_to k) u below)) ≡ (known_due c place t h (is_empty below) >>= look_of h (λ k. looks_due c (leads_to k) t below)) =
-      known_over s z n a r of_role vars (λ x. x) place p.origin p.here t u h (is_empty below) (look_of h (λ k. looks_due c (leads_to k) t below)) (look_of h (λ k. looks_due d (leads_to k) u below))
-      (one_look h below (λ q x y at. looks_over below q x y at) t u place p.origin p.here p.plain)
+      known_over s z n a r of_role vars (λ x. x) place p.meaning p.here t u h (is_empty below) (look_of h (λ k. looks_due c (leads_to k) t below)) (look_of h (λ k. looks_due d (leads_to k) u below))
+      (one_look h below (λ q x y at. looks_over below q x y at) t u place p.meaning p.here p.plain)
       ∙ mapped_itself (known_due c place t h (is_empty below) >>= look_of h (λ k. looks_due c (leads_to k) t below)) in
       ap₂ (λ x more. x >>= λ f. mapped (looks key f) more) one (looks_over others place t u at)

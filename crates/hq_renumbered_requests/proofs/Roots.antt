@@ -14,7 +14,8 @@ use Rattle.hq_roles.specs.Access.{Access}
 use Rattle.hq_roles.specs.Leads.{to, where_holds, Reaches, ArgFits, list_target, key_target, root_target, root_args}
 use Rattle.hq_arguments.specs.Context.{Context}
 use Rattle.hq_arguments.specs.Due.{at_field, by_origin}
-use Rattle.hq_arguments.specs.FieldArguments.{FieldArguments, key, type_name}
+use Rattle.hq_arguments.specs.FieldArguments.{FieldArguments}
+use Rattle.hq_arguments.specs.FieldArguments as given
 use Rattle.hq_arguments.specs.Keys.{key_due}
 use Rattle.hq_arguments.specs.Plain.{text_due}
 use Rattle.hq_arguments.specs.Reading.{given_named}
@@ -59,7 +60,7 @@ module _ (s z : Schema) (n : Renumbering) (a : Access) (r : SchemaTree) (of_role
     key_root : (u : ℕ) → a.seen u ≡ true → LooksUp s a (origin.RowByKey u) → At types (base f.ty) (type.Rows u) → Each (ArgFits types (key_target a u)) f.args → v ≡ u
         → asked d r.query there h below g (map (arg_over n v) f.args) (origin.RowByKey (n.table u)) ≡ mapped over (asked c r.query root h below f f.args (origin.RowByKey u))
     key_root u seen keyed at args is =
-        argued over h.at key key (λ x. x) (key_due c f.args h.args u) (key_due d (map (arg_over n v) f.args) h.args (n.table u))
+        argued over h.at given.key given.key (λ x. x) (key_due c f.args h.args u) (key_due d (map (arg_over n v) f.args) h.args (n.table u))
         (λ y. and_then (with_below h (below_at c root below f)) (head_by c r.query root h (f, y) (origin.RowByKey u)))
         (λ y. and_then (with_below h (below_at d there below g)) (head_by d r.query there h (g, y) (origin.RowByKey (n.table u))))
         (ap (λ w. key_due d (map (arg_over n w) f.args) h.args (n.table u)) is ∙ key_over s z n a r of_role alike vars u seen keyed f.args args h.args ∙ sym (mapped_itself (key_due c f.args h.args u)))
@@ -98,7 +99,7 @@ module _ (s z : Schema) (n : Renumbering) (a : Access) (r : SchemaTree) (of_role
   type_root : (h : FieldHead) (below : CollectedTrees) (v : ℕ)
       → asked d r.query there h below type_field (map (arg_over n v) type_field.args) origin.«Type» ≡ mapped over (asked c r.query root h below type_field type_field.args origin.«Type»)
   type_root h below v =
-      argued over h.at type_name type_name (λ x. x) (text_due (given_named c type_field.args h.args (codes "name"))) (text_due (given_named d (map (arg_over n v) type_field.args) h.args (codes "name")))
+      argued over h.at given.type_name given.type_name (λ x. x) (text_due (given_named c type_field.args h.args (codes "name"))) (text_due (given_named d (map (arg_over n v) type_field.args) h.args (codes "name")))
       (λ y. and_then (with_below h (below_at c root below type_field)) (head_by c r.query root h (type_field, y) origin.«Type»))
       (λ y. and_then (with_below h (below_at d there below type_field)) (head_by d r.query there h (type_field, y) origin.«Type»))
       (ap text_due (named_given n vars r (schema_over n r) s z v type_field.args h.args (codes "name")) ∙ text_over n v (given_named c type_field.args h.args (codes "name"))

@@ -39,7 +39,7 @@ module _ (s z : Schema) (n : Renumbering) (a : Access) (r : SchemaTree) (of_role
   types = r.types
 
   -- a column at the end of no relationship is permitted
-  abbrev EndPermitted : (through : List ℕ) → (table column : ℕ) → Type 0
+  abbrev pub EndPermitted : (through : List ℕ) → (table column : ℕ) → Type 0
   EndPermitted [] t col = a.column t col ≡ true
   EndPermitted (q ∷ qs) t col = Unit {0}
 

@@ -14,7 +14,8 @@ use Rattle.hq_roles.specs.Access.{Access}
 use Rattle.hq_roles.specs.Leads.{Reaches, ArgFits, column_target, over_target, over_args}
 use Rattle.hq_arguments.specs.Context.{Context}
 use Rattle.hq_arguments.specs.Due.{at_field, by_origin, count_due, arguments_due}
-use Rattle.hq_arguments.specs.FieldArguments.{FieldArguments, rows, key, count, type_name, deprecated, nothing}
+use Rattle.hq_arguments.specs.FieldArguments.{FieldArguments}
+use Rattle.hq_arguments.specs.FieldArguments as given
 use Rattle.hq_ask.specs.Known.{Due, Known, known_due, leads_to, type_name_due}
 use Rattle.hq_ask.specs.Summaries.{taken_by, with_taken, taken_due, summary_by, with_summary, summaries_due}
 use Rattle.hq_ask_tree.specs.declared.aggregate.AggCol.{AggCol}
@@ -90,12 +91,12 @@ module _ (s z : Schema) (n : Renumbering) (a : Access) (r : SchemaTree) (of_role
 
     counted : (f g : FieldTree) (x : FieldArguments) → summary_by d place h (g, count_over n u x) (taken_due d (base g.ty) (n.table u) below) origin.Count
         ≡ mapped (summary_over n u) (summary_by c place h (f, x) (taken_due c (base f.ty) u below) origin.Count)
-    counted f g (count col distinct) = refl
-    counted f g (rows x) = refl
-    counted f g (key x) = refl
-    counted f g (type_name x) = refl
-    counted f g (deprecated x) = refl
-    counted f g nothing = refl
+    counted f g (given.count col distinct) = refl
+    counted f g (given.rows x) = refl
+    counted f g (given.key x) = refl
+    counted f g (given.type_name x) = refl
+    counted f g (given.deprecated x) = refl
+    counted f g given.nothing = refl
 
     own_summed : (f g : FieldTree) (v : ℕ) → g.ty ≡ f.ty → (o : FieldOrigin) → Reaches r.types f.ty (over_target u o) → Each (ArgFits r.types (over_args u o)) f.args → Summed f g f.args (map (arg_over n v) f.args) o (field_origin_over n u o)
     own_summed f g v ty origin.Count at args =
