@@ -24,8 +24,13 @@ use Rattle.hq_blank_schemas.proofs.Overlaps.{same_overlap}
 
 same_fragment : (s : SchemaTree) (d : DocumentTree) (places : Places) (parts : List PartTree) (g : Graph) → fragment_fault (blank s) d places (map blank_part parts) g ≡ fragment_fault s d places parts g
 same_fragment s d places parts g =
-    rw (same_rule rule.KnownTypeNames s d places parts, same_rule rule.FragmentsOnCompositeTypes s d places parts, same_unused_fragments d parts,
-    same_rule rule.KnownFragmentNames s d places parts, same_rule rule.PossibleFragmentSpreads s d places parts) refl
+    rw (
+      same_rule rule.KnownTypeNames s d places parts,
+      same_rule rule.FragmentsOnCompositeTypes s d places parts,
+      same_unused_fragments d parts,
+      same_rule rule.KnownFragmentNames s d places parts,
+      same_rule rule.PossibleFragmentSpreads s d places parts,
+    ) refl
 
 same_directive : (s : SchemaTree) (d : DocumentTree) (places : Places) (parts : List PartTree) → directive_fault (blank s) d places (map blank_part parts) ≡ directive_fault s d places parts
 same_directive s d places parts = rw (same_rule rule.KnownDirectives s d places parts, same_rule rule.DirectivesInLocations s d places parts, same_rule rule.UniqueDirectives s d places parts) refl

@@ -14,17 +14,14 @@ ghost use Rattle.hq_schema_origins.specs.Blank.{blank};
 pub fn origins_change_no_fault()
     ensures documents { (s : SchemaTree) (d : DocumentTree) → first_doc_fault (blank s) d ≡ first_doc_fault s d }
     ensures fields { (s : SchemaTree) (d : DocumentTree) → first_field_fault (blank s) d ≡ first_field_fault s d }
-{
-}
+{}
 
 /// The coerced variables of an operation, or the fault of one, are the same in a schema without origins.
 pub fn origins_change_no_variable()
     ensures { (s : SchemaTree) (d : DocumentTree) (operation : ℕ) (given : Maybe JsonTree) → variables_due (blank s) d operation given ≡ variables_due s d operation given }
-{
-}
+{}
 
 /// What a field of introspection answers is the same in a schema without origins.
 pub fn origins_change_no_introspection()
     ensures { (s : SchemaTree) (field : IntrospectionTree) → answered (blank s) field ≡ answered s field }
-{
-}
+{}

@@ -3,4 +3,6 @@
 
 mod laws;
 
-pub use laws::{origins_change_no_fault, origins_change_no_introspection, origins_change_no_variable};
+pub use laws::{
+    origins_change_no_fault, origins_change_no_introspection, origins_change_no_variable,
+};

@@ -7,7 +7,9 @@ ghost use Rattle.hq_terms.specs.Meta.{MetaTree};
 ghost use Rattle.hq_terms.specs.declared.session.Session.{Session as Caller};
 ghost use Rattle.hq_terms.specs.declared.table.Table.{Table as CatalogTable};
 
-use hq_blank_schemas::{origins_change_no_fault, origins_change_no_introspection, origins_change_no_variable};
+use hq_blank_schemas::{
+    origins_change_no_fault, origins_change_no_introspection, origins_change_no_variable,
+};
 use hq_copied_schema::copied_schema_is_renumbered;
 use hq_copies::copies_answer;
 use hq_renumbered_requests::fields_are_renumbered;

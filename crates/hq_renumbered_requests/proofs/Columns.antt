@@ -3,6 +3,7 @@ use Rattle.std.proofs.Common.{◌≡◌, ◌∙◌, refl, sym, ap, ap₂, subst,
 use Rattle.std.specs.Prelude.{nat_le}
 use Rattle.std.specs.List.{list_all, list_any}
 use Rattle.std.proofs.lemmas.Bool.{and_parts}
+use Rattle.std.proofs.lemmas.List.{length-map, take-map}
 use Rattle.hq_base.specs.Due.{mapped, and_then}
 use Rattle.hq_base.specs.Json.{JsonTree}
 use Rattle.hq_base.specs.Lists.{Each, firsts}
@@ -29,7 +30,7 @@ use Rattle.hq_renumbered_requests.specs.Alike.{TablesAlike}
 use Rattle.hq_renumbered_requests.specs.OfRole.{At, IsOfRole}
 use Rattle.hq_renumbered_requests.proofs.Found.{column_over, column_found}
 use Rattle.hq_renumbered_requests.proofs.Given.{given_over, context}
-use Rattle.hq_renumbered_requests.proofs.Items.{slice_get_map, map_length, take_map, each_at, each_take, option_some, firsts_map, same_test, any_same, all_same}
+use Rattle.hq_renumbered_requests.proofs.Items.{each_at, each_take, option_some, firsts_map, same_test, any_same, all_same}
 use Rattle.hq_renumbered_requests.proofs.Sorting.{PlainPermitted}
 use Rattle.hq_renumbered_requests.proofs.Steps.{then_over, each_over, each_ok, then_ok}
 
@@ -139,9 +140,9 @@ module _ (s z : Schema) (n : Renumbering) (a : Access) (r : SchemaTree) (of_role
     distinct_fits cs h [] q = refl
     distinct_fits cs h (k ∷ ks) q =
         let m : ℕ = length (firsts (λ x y. x == y) cs) in
-        let fewer : length (firsts (λ x y. x == y) (map f cs)) ≡ m = ap length (firsts_map P f apart cs h) ∙ map_length f (firsts (λ x y. x == y) cs) in
+        let fewer : length (firsts (λ x y. x == y) (map f cs)) ≡ m = ap length (firsts_map P f apart cs h) ∙ length-map (firsts (λ x y. x == y) cs) f in
         ap (λ i. nat_le i (length (map sorted (k ∷ ks))) && are_sorts_of (map f cs) (take i (map sorted (k ∷ ks)))) fewer
-        ∙ ap₂ (λ l rows. nat_le m l && are_sorts_of (map f cs) rows) (map_length sorted (k ∷ ks)) (take_map sorted m (k ∷ ks))
+        ∙ ap₂ (λ l rows. nat_le m l && are_sorts_of (map f cs) rows) (length-map (k ∷ ks) sorted) (take-map sorted m (k ∷ ks))
         ∙ ap (λ b. nat_le m (length (k ∷ ks)) && b) (sorts_of_over cs h (take m (k ∷ ks)) (each_take (PlainPermitted s z n a r of_role alike vars t) m (k ∷ ks) q))
 
     matched_over : (cs : List ℕ) → Each P cs → (ks : List SortKey) → Each (PlainPermitted s z n a r of_role alike vars t) ks → matched (map sorted ks) (map f cs) ≡ mapped (map f) (matched ks cs)

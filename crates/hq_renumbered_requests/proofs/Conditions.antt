@@ -1,5 +1,6 @@
 -- The conditions that `where` writes over a table, in other numbers.
 use Rattle.std.proofs.Common.{◌≡◌, ◌∙◌, refl, sym, ap, ap₂, subst, ℕ, List, [], ◌∷◌, map, Bool, true, false, not, cond, Option, Some, None, Ok, Err, option_map, option_and_then, slice_get, bytes_eq}
+use Rattle.std.proofs.lemmas.Option.{slice_get-map}
 use Rattle.hq_base.specs.Due.{mapped}
 use Rattle.hq_base.specs.Json.{JsonTree, null, bool, int, str, arr, obj, ElementTrees, no_element, element, MemberTrees, no_member, member}
 use Rattle.hq_base.specs.Look.{member_list}
@@ -34,7 +35,7 @@ use Rattle.hq_renumbered_requests.specs.Alike.{TablesAlike}
 use Rattle.hq_renumbered_requests.specs.OfRole.{At, IsOfRole}
 use Rattle.hq_renumbered_requests.proofs.Found.{input_over, input_found, type_seen}
 use Rattle.hq_renumbered_requests.proofs.Given.{given_over, context}
-use Rattle.hq_renumbered_requests.proofs.Items.{slice_get_map, find_map}
+use Rattle.hq_renumbered_requests.proofs.Items.{find_map}
 use Rattle.hq_renumbered_requests.proofs.Steps.{then_over, mapped_over, mapped_same, each_over}
 
 module _ (s z : Schema) (n : Renumbering) (a : Access) (r : SchemaTree) (of_role : IsOfRole s a r) (alike : TablesAlike s z n a) (vars : List VarTree) where
@@ -88,7 +89,7 @@ module _ (s z : Schema) (n : Renumbering) (a : Access) (r : SchemaTree) (of_role
 
     named_same : (p : ℕ) (name : List ℕ) → operator_named d p name ≡ operator_named c p name
     named_same p name =
-        ap (λ o. option_and_then (λ (x : ArgTree). operator_of x.origin) (option_and_then (λ (q : TypeTree). arg_in q.inputs name) o)) (slice_get_map (type_over n) r.types p) ∙ go (slice_get r.types p)
+        ap (λ o. option_and_then (λ (x : ArgTree). operator_of x.origin) (option_and_then (λ (q : TypeTree). arg_in q.inputs name) o)) (slice_get-map (type_over n) r.types p) ∙ go (slice_get r.types p)
       where
         one : (u : ℕ) (o : Option ArgTree) → option_and_then (λ (x : ArgTree). operator_of x.origin) (option_map (arg_over n u) o) ≡ option_and_then (λ (x : ArgTree). operator_of x.origin) o
         one u None = refl

@@ -2,6 +2,7 @@
 use Rattle.std.proofs.Common.{◌≡◌, ◌∙◌, refl, sym, ap, subst, ℕ, ◌==◌, ◌||◌, List, [], ◌∷◌, map, Bool, true, false, cond, Option, Some, None, Ok, is_some, option_map, option_and_then, slice_get, position, bytes_eq, codes}
 use Rattle.std.specs.Option.{option_or, option_map_or}
 use Rattle.std.proofs.lemmas.Bool.{eqb-true, false≢true}
+use Rattle.std.proofs.lemmas.Option.{slice_get-map}
 use Rattle.hq_base.specs.Lists.{Each}
 use Rattle.hq_terms.specs.Schema.{Schema}
 use Rattle.hq_gql_nodes.specs.Known.{is_object, object_at, known_field, meta_field}
@@ -17,7 +18,7 @@ use Rattle.hq_ask.specs.Known.{is_complete, name_of_type, type_name_due}
 use Rattle.hq_renumbered.specs.Renumbering.{Renumbering}
 use Rattle.hq_schema_origins.specs.SchemaOver.{arg_over, field_over, type_table, type_over, schema_over}
 use Rattle.hq_renumbered_requests.specs.OfRole.{At, IsOfSeen, LooksUp, LeadsToPlain, Introspects, IsOfRole}
-use Rattle.hq_renumbered_requests.proofs.Items.{slice_get_map, find_map, each_at, found_each, option_some}
+use Rattle.hq_renumbered_requests.proofs.Items.{find_map, each_at, found_each, option_some}
 
 -- fields that stand in no type's list
 module _ (s : Schema) (a : Access) (r : SchemaTree) (of_role : IsOfRole s a r) where
@@ -32,14 +33,14 @@ module _ (n : Renumbering) (r : SchemaTree) where
   -- ---- types
 
   pub name_over : (place : ℕ) (h : FieldHead) → type_name_due (schema_over n r) place h ≡ type_name_due r place h
-  name_over place h = ap (name_of_type h) (slice_get_map (type_over n) r.types place) ∙ go (slice_get r.types place)
+  name_over place h = ap (name_of_type h) (slice_get-map (type_over n) r.types place) ∙ go (slice_get r.types place)
     where
       go : (o : Option TypeTree) → name_of_type h (option_map (type_over n) o) ≡ name_of_type h o
       go None = refl
       go (Some d) = refl
 
   object_over : (place : ℕ) → object_at (schema_over n r) place ≡ object_at r place
-  object_over place = ap (option_and_then (λ (d : TypeTree). cond (is_object d.kind) (Some place) None)) (slice_get_map (type_over n) r.types place) ∙ go (slice_get r.types place)
+  object_over place = ap (option_and_then (λ (d : TypeTree). cond (is_object d.kind) (Some place) None)) (slice_get-map (type_over n) r.types place) ∙ go (slice_get r.types place)
     where
       go : (o : Option TypeTree) → option_and_then (λ (d : TypeTree). cond (is_object d.kind) (Some place) None) (option_map (type_over n) o) ≡ option_and_then (λ (d : TypeTree). cond (is_object d.kind) (Some place) None) o
       go None = refl
@@ -51,7 +52,7 @@ module _ (n : Renumbering) (r : SchemaTree) where
   -- ---- inputs and values
 
   pub input_over : (place : ℕ) (o : TypeOrigin) → At r.types place o → (name : List ℕ) → input_field_of (schema_over n r) place name ≡ option_map (arg_over n (type_table o)) (input_field_of r place name)
-  input_over place o at name = ap (option_and_then (λ (d : TypeTree). arg_in d.inputs name)) (slice_get_map (type_over n) r.types place) ∙ go (slice_get r.types place) at
+  input_over place o at name = ap (option_and_then (λ (d : TypeTree). arg_in d.inputs name)) (slice_get-map (type_over n) r.types place) ∙ go (slice_get r.types place) at
     where
       go : (x : Option TypeTree) → option_map (λ (d : TypeTree). d.origin) x ≡ Some o
           → option_and_then (λ (d : TypeTree). arg_in d.inputs name) (option_map (type_over n) x) ≡ option_map (arg_over n (type_table o)) (option_and_then (λ (d : TypeTree). arg_in d.inputs name) x)
@@ -62,11 +63,11 @@ module _ (n : Renumbering) (r : SchemaTree) where
 
   pub column_over : (place t : ℕ) → At r.types place (type.Columns t) → (name : List ℕ) → enum_column_of (schema_over n r) place name ≡ option_map (n.column t) (enum_column_of r place name)
   column_over place t at name =
-      ap (option_and_then (λ (d : TypeTree). option_and_then (slice_get d.columns) (position (λ v. bytes_eq v name) d.values))) (slice_get_map (type_over n) r.types place) ∙ go (slice_get r.types place) at
+      ap (option_and_then (λ (d : TypeTree). option_and_then (slice_get d.columns) (position (λ v. bytes_eq v name) d.values))) (slice_get-map (type_over n) r.types place) ∙ go (slice_get r.types place) at
     where
       value : (d : TypeTree) (u : ℕ) (o : Option ℕ) → option_and_then (slice_get (map (n.column u) d.columns)) o ≡ option_map (n.column u) (option_and_then (slice_get d.columns) o)
       value d u None = refl
-      value d u (Some i) = slice_get_map (n.column u) d.columns i
+      value d u (Some i) = slice_get-map (n.column u) d.columns i
 
       go : (x : Option TypeTree) → option_map (λ (d : TypeTree). d.origin) x ≡ Some (type.Columns t)
           → option_and_then (λ (d : TypeTree). option_and_then (slice_get d.columns) (position (λ v. bytes_eq v name) d.values)) (option_map (type_over n) x)
@@ -80,7 +81,7 @@ module _ (n : Renumbering) (r : SchemaTree) where
   -- ---- fields
 
   own_field_over : (place : ℕ) (o : TypeOrigin) → At r.types place o → (name : List ℕ) → field_of (schema_over n r) place name ≡ option_map (field_over n (type_table o)) (field_of r place name)
-  own_field_over place o at name = ap (option_and_then (λ (d : TypeTree). field_in d.fields name)) (slice_get_map (type_over n) r.types place) ∙ go (slice_get r.types place) at
+  own_field_over place o at name = ap (option_and_then (λ (d : TypeTree). field_in d.fields name)) (slice_get-map (type_over n) r.types place) ∙ go (slice_get r.types place) at
     where
       go : (x : Option TypeTree) → option_map (λ (d : TypeTree). d.origin) x ≡ Some o
           → option_and_then (λ (d : TypeTree). field_in d.fields name) (option_map (type_over n) x) ≡ option_map (field_over n (type_table o)) (option_and_then (λ (d : TypeTree). field_in d.fields name) x)

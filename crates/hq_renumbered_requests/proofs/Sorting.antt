@@ -1,5 +1,6 @@
 -- The sorts that `order_by` writes over a table, in other numbers; those of the table itself are by permitted columns.
 use Rattle.std.proofs.Common.{◌≡◌, ◌∙◌, refl, sym, ap, ap₂, subst, ℕ, List, [], ◌∷◌, ◌++◌, map, length, nat_lt, Bool, true, false, not, cond, Option, Some, None, Ok, Err, option_map}
+use Rattle.std.proofs.lemmas.List.{map-append, length-map}
 use Rattle.hq_base.specs.Due.{mapped, and_then}
 use Rattle.hq_base.specs.Json.{JsonTree, null, bool, int, str, arr, obj, MemberTrees, no_member, member}
 use Rattle.hq_base.specs.Lists.{Each}
@@ -25,7 +26,7 @@ use Rattle.hq_renumbered_requests.specs.Alike.{TablesAlike}
 use Rattle.hq_renumbered_requests.specs.OfRole.{At, IsOfRole}
 use Rattle.hq_renumbered_requests.proofs.Found.{input_over, input_found, type_seen}
 use Rattle.hq_renumbered_requests.proofs.Given.{given_over, context}
-use Rattle.hq_renumbered_requests.proofs.Items.{map_append, map_length, each_append}
+use Rattle.hq_renumbered_requests.proofs.Items.{each_append}
 use Rattle.hq_renumbered_requests.proofs.Steps.{then_over, mapped_over, mapped_same, mapped_ok, then_ok}
 
 module _ (s z : Schema) (n : Renumbering) (a : Access) (r : SchemaTree) (of_role : IsOfRole s a r) (alike : TablesAlike s z n a) (vars : List VarTree) where
@@ -60,7 +61,7 @@ module _ (s z : Schema) (n : Renumbering) (a : Access) (r : SchemaTree) (of_role
   both_read t y x more_y more_x h k = record {
     over =
         then_over (map (sort_over s n t)) (map (sort_over s n t)) (λ here. mapped (λ more. here ++ more) more_x) (λ here. mapped (λ more. here ++ more) more_y) x y h.over
-        (λ here e. mapped_over (map (sort_over s n t)) (map (sort_over s n t)) (λ more. here ++ more) (λ more. map (sort_over s n t) here ++ more) (λ more. sym (map_append (sort_over s n t) here more)) more_x more_y k.over);
+        (λ here e. mapped_over (map (sort_over s n t)) (map (sort_over s n t)) (λ more. here ++ more) (λ more. map (sort_over s n t) here ++ more) (λ more. sym (map-append (sort_over s n t) here more)) more_x more_y k.over);
     used = λ ks e.
         let one = then_ok (λ here. mapped (λ more. here ++ more) more_x) x ks e in
         let two = mapped_ok (λ more. one.0 ++ more) more_x ks one.2 in
@@ -166,7 +167,7 @@ module _ (s z : Schema) (n : Renumbering) (a : Access) (r : SchemaTree) (of_role
   }
     where
       few : (ks : List SortKey) → within_limit (map (sort_over s n t) ks) ≡ mapped (map (sort_over s n t)) (within_limit ks)
-      few ks = ap (λ l. cond (nat_lt 100 l) (Err (Rule SortEntries)) (Ok (map (sort_over s n t) ks))) (map_length (sort_over s n t) ks) ∙ go (nat_lt 100 (length ks))
+      few ks = ap (λ l. cond (nat_lt 100 l) (Err (Rule SortEntries)) (Ok (map (sort_over s n t) ks))) (length-map ks (sort_over s n t)) ∙ go (nat_lt 100 (length ks))
         where
           go : (b : Bool) → cond b (Err (Rule SortEntries)) (Ok (map (sort_over s n t) ks)) ≡ mapped (map (sort_over s n t)) (cond b (Err (Rule SortEntries)) (Ok ks))
           go true = refl
