@@ -5,7 +5,7 @@ use Rattle.hq_base.specs.Due.{mapped, and_then}
 use Rattle.hq_base.specs.Lists.{Each}
 use Rattle.hq_ask_tree.specs.Request.{BoundTree}
 use Rattle.hq_bound.specs.Bound.{of_table, bound_of, bound_due, bounds_due}
-use Rattle.hq_terms.specs.Bexp.{or_of, no_bexp}
+use Rattle.hq_terms.specs.Bexp.{always, or_of, no_bexp}
 use Rattle.hq_terms.specs.Binding.{bound_permission}
 use Rattle.hq_terms.specs.Fits.{fits}
 use Rattle.hq_terms.specs.Meta.{MetaTree, TrackedTree, tracked_table}
@@ -15,7 +15,7 @@ use Rattle.hq_terms.specs.declared.role.Role.{Role}
 use Rattle.hq_terms.specs.declared.role.Role.TheVariants.{Named}
 use Rattle.hq_terms.specs.declared.session.Var.{Var}
 use Rattle.hq_terms.specs.declared.table.Table.{Table}
-use Rattle.hq_copied.specs.Metadata.{reader, copied_entry, copied_meta}
+use Rattle.hq_copied.specs.Metadata.{reader, places, copied_entry, copied_meta}
 use Rattle.hq_copied.specs.Refusals.{filter_refusal}
 use Rattle.hq_copied.specs.Sources.{Source, sources, table_place}
 use Rattle.hq_copied.proofs.BySource.{IsSource, by_source}
@@ -76,7 +76,8 @@ module _ (tables : List Table) (m : MetaTree) (role : Role) (fit : fits tables m
       of_source o at =
           let held : Held tables m role o = each_at (Held tables m role) (sources role m) t o (all_held tables m role fit) at in
           let sees = reader_sees role m s o held.is.columns t at in
-          (of_table t _, ap (λ w. bound_of w (copied_schema role m s) vars t) sees)
+          let p : Permission = record { columns = places 0 o.permission.columns; filter = always; limit = o.permission.limit; aggregations = o.permission.aggregations; masks = [] } in
+          (of_table t p, ap (λ w. bound_of w (copied_schema role m s) vars t) sees)
 
       of_entry : (w : Option TrackedTree) → tracked_table (copied_meta role m s) t ≡ w → (p : Permission) → option_and_then (permission_in (Named reader) []) w ≡ Some p
           → Binds (Named reader) (copied_meta role m s) (copied_schema role m s) vars t

@@ -62,6 +62,8 @@ module _ (R Q : SchemaTree) (answers : (f : IntrospectionTree) → answered Q f 
       → root_members Q (of_database z h e) (fields_over fs s n (length s)) ≡ root_members R (of_database s g d) fs
   members_same no_field same = refl
   members_same (field key f fs) same =
+      let both : member key (resolved_here f) (resolve_all fs s (limits g) (seen_by s g d) (length s) [])
+      ≡ member key (resolved_there f) (resolve_all (fields_over fs s n (length s)) z (limits h) (seen_by z h e) (length z) []) = same in
       let first : resolved_here f ≡ resolved_there f = cc in
       let rest : resolve_all fs s (limits g) (seen_by s g d) (length s) [] ≡ resolve_all (fields_over fs s n (length s)) z (limits h) (seen_by z h e) (length z) [] = cc in
       ap₂ (member key) (value_same f first) (members_same fs rest)
@@ -73,50 +75,53 @@ module _ (R Q : SchemaTree) (answers : (f : IntrospectionTree) → answered Q f 
 
 -- ---- the law, where those of its parts hold
 
-pub replies_alike : (tables : List Table) (m : MetaTree) (session : Session) (d : List (List Row)) (c : Copied) (body : List ℕ)
-    → RequestsRenumbered tables m session d c body
-    → ((a : AskTree) → MakesFormed tables m session body a)
-    → ((a : AskTree) → CopyAnswers tables m session d a c)
-    → SchemaRenumbered tables m session (session_view tables m session d) c
-    → ((q : SchemaTree) → blank (schema_over (numbers (role_of session.role) m (schema_of tables m)) q) ≡ blank q)
-    → ((q : SchemaTree) (f : IntrospectionTree) → answered (blank q) f ≡ answered q f)
-    → RepliesAlike tables m session d c body
-replies_alike tables m session d c body asked formed copied schema same answers catalog fit done =
-    go (request_due tables m session body) (request_due c.tables c.meta reader_session body) refl (asked fit done)
-  where
-    role : Role
-    role = role_of session.role
+module _ (tables : List Table) (m : MetaTree) (session : Session) (d : List (List Row)) (c : Copied) (body : List ℕ) where
+  abbrev role : Role
+  role = role_of session.role
 
-    s : Schema
-    s = schema_of tables m
+  abbrev s : Schema
+  s = schema_of tables m
 
-    n : Renumbering
-    n = numbers role m s
+  abbrev z : Schema
+  z = schema_of c.tables c.meta
 
-    R : SchemaTree
-    R = role_schema tables m role
+  abbrev n : Renumbering
+  n = numbers role m s
 
-    Q : SchemaTree
-    Q = role_schema c.tables c.meta (Named reader)
+  abbrev R : SchemaTree
+  R = role_schema tables m role
 
-    looked : (f : IntrospectionTree) → answered Q f ≡ answered R f
-    looked f = ap (λ q. answered q f) (schema fit done) ∙ sym (answers (schema_over n R) f) ∙ ap (λ q. answered q f) (same R) ∙ answers R f
+  abbrev Q : SchemaTree
+  Q = role_schema c.tables c.meta (Named reader)
 
-    long : length s ≡ length tables
-    long = schema_long m 0 tables
+  looked : Q ≡ schema_over n R → ((q : SchemaTree) → blank (schema_over n q) ≡ blank q) → ((q : SchemaTree) (f : IntrospectionTree) → answered (blank q) f ≡ answered q f)
+      → (f : IntrospectionTree) → answered Q f ≡ answered R f
+  looked schema same answers f = ap (λ q. answered q f) schema ∙ sym (answers (schema_over n R) f) ∙ ap (λ q. answered q f) (same R) ∙ answers R f
 
-    object_alike : (a b : AskTree) → request_due tables m session body ≡ Ok a → b.fields ≡ fields_over a.fields s n (length tables) → due_object c.tables c.meta reader_session c.rows b ≡ due_object tables m session d a
-    object_alike a b made fields =
-        let is = formed a catalog fit made in
-        ap (root_object Q (schema_of c.tables c.meta) (reader_grants c) c.rows) (fields ∙ ap (fields_over a.fields s n) (sym long))
-        ∙ object_same R Q looked s (schema_of c.tables c.meta) n (grants_of session tables m) (reader_grants c) d c.rows a.fields (copied a fit done is.granted.role is.formed)
+  object_alike : ((f : IntrospectionTree) → answered Q f ≡ answered R f) → (a b : AskTree) → b.fields ≡ fields_over a.fields s n (length tables)
+      → resolved a.fields s (grants_of session tables m) d ≡ resolved (fields_over a.fields s n (length s)) z (reader_grants c) c.rows
+      → due_object c.tables c.meta reader_session c.rows b ≡ due_object tables m session d a
+  object_alike answers a b fields same =
+      let long : length tables ≡ length s = sym (schema_long m 0 tables) in
+      ap (root_object Q z (reader_grants c) c.rows) (fields ∙ ap (fields_over a.fields s n) long)
+      ∙ object_same R Q answers s z n (grants_of session tables m) (reader_grants c) d c.rows a.fields same
 
-    go : (x y : Result AskTree RequestRefusal) → request_due tables m session body ≡ x → mapped (λ (a : AskTree). a.fields) y ≡ mapped (λ (a : AskTree). fields_over a.fields s n (length tables)) x
-        → reply_to c.tables c.meta reader_session c.rows y ≡ reply_to tables m session d x
-    go (Ok a) (Ok b) made e = let fields : b.fields ≡ fields_over a.fields s n (length tables) = cc in ap (λ w. Some (data_text w)) (object_alike a b made fields)
-    go (Ok a) (Err f) made e = cc
-    go (Err f) (Ok b) made e = cc
-    go (Err (Fault f)) (Err (Fault g)) made e = let one : Fault g ≡ Fault f = cc in let two : g ≡ f = cc in ap (λ w. Some (fault_text w)) two
-    go (Err (Fault f)) (Err Memory) made e = let one : Memory ≡ Fault f = cc in cc
-    go (Err Memory) (Err (Fault g)) made e = let one : Fault g ≡ Memory = cc in cc
-    go (Err Memory) (Err Memory) made e = refl
+  told_alike : (x y : Result AskTree RequestRefusal) → mapped (λ (a : AskTree). a.fields) y ≡ mapped (λ (a : AskTree). fields_over a.fields s n (length tables)) x
+      → ((a b : AskTree) → x ≡ Ok a → b.fields ≡ fields_over a.fields s n (length tables) → due_object c.tables c.meta reader_session c.rows b ≡ due_object tables m session d a)
+      → reply_to c.tables c.meta reader_session c.rows y ≡ reply_to tables m session d x
+  told_alike (Ok a) (Ok b) e same = let fields : b.fields ≡ fields_over a.fields s n (length tables) = cc in ap (λ w. Some (data_text w)) (same a b refl fields)
+  told_alike (Ok a) (Err f) e same = cc
+  told_alike (Err f) (Ok b) e same = cc
+  told_alike (Err (Fault f)) (Err (Fault g)) e same = let one : Fault g ≡ Fault f = cc in let two : g ≡ f = cc in ap (λ w. Some (fault_text w)) two
+  told_alike (Err (Fault f)) (Err Memory) e same = cc
+  told_alike (Err Memory) (Err (Fault g)) e same = cc
+  told_alike (Err Memory) (Err Memory) e same = refl
+
+  pub replies_alike : RequestsRenumbered tables m session d c body → ((a : AskTree) → MakesFormed tables m session body a) → ((a : AskTree) → CopyAnswers tables m session d a c)
+      → SchemaRenumbered tables m session (session_view tables m session d) c → ((q : SchemaTree) → blank (schema_over n q) ≡ blank q)
+      → ((q : SchemaTree) (f : IntrospectionTree) → answered (blank q) f ≡ answered q f) → RepliesAlike tables m session d c body
+  replies_alike asked formed alike schema same answers catalog fit done =
+      told_alike (request_due tables m session body) (request_due c.tables c.meta reader_session body) (asked fit done)
+      (λ a b made fields.
+      let is = formed a catalog fit made in
+      object_alike (looked (schema fit done) same answers) a b fields (alike a fit done is.granted.role is.formed))

@@ -52,10 +52,7 @@ module _ (tables : List Table) (m : MetaTree) (role : Role) where
   each_shown [] = tt
   each_shown (k ∷ ks) = go (slice_get tables k.table) (permission role m k.table) refl refl
     where
-      rest : List ShownTable
-      rest = filter_map (shown_entry tables m role) ks
-
-      go : (o : Option Table) (q : Option Permission) → slice_get tables k.table ≡ o → permission role m k.table ≡ q → Each IsShown (cons_option (option_and_then (λ x. option_map (shown_table k x) q) o) rest)
+      go : (o : Option Table) (q : Option Permission) → slice_get tables k.table ≡ o → permission role m k.table ≡ q → Each IsShown (cons_option (option_and_then (λ x. option_map (shown_table k x) q) o) (filter_map (shown_entry tables m role) ks))
       go None q here is = each_shown ks
       go (Some x) None here is = each_shown ks
       go (Some x) (Some p) here is = (table_shown k x p here is, each_shown ks)
