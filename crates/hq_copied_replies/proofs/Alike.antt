@@ -1,5 +1,5 @@
 -- The tables of a copy hold what the role may see of the database's, in the numbers of the copy.
-use Rattle.std.proofs.Common.{◌≡◌, ◌∙◌, refl, sym, ap, ℕ, List, [], ◌∷◌, map, slice_index_or, Bool, true, false, ◌&&◌, ◌==◌, Option, Some, None, is_some, option_map, option_and_then, slice_get}
+use Rattle.std.proofs.Common.{◌≡◌, ◌∙◌, refl, sym, ap, ℕ, List, [], ◌∷◌, map, slice_index_or, true, false, ◌==◌, Option, Some, None, is_some, option_map, option_and_then, slice_get}
 use Rattle.std.specs.List.{list_any}
 use Rattle.std.specs.Option.{option_map_or}
 use Rattle.std.proofs.lemmas.Bool.{and_from, false≢true}
@@ -21,7 +21,7 @@ use Rattle.hq_terms.specs.declared.table.Table.{Table}
 use Rattle.hq_terms.proofs.Places.{present}
 use Rattle.hq_copied.specs.Extras.{extras_of, extra_column}
 use Rattle.hq_copied.specs.Sources.{Source, sources, table_place, place_in}
-use Rattle.hq_copied.specs.Tables.{copied_column, copied_columns, copied_table}
+use Rattle.hq_copied.specs.Tables.{copied_column, copied_columns}
 use Rattle.hq_copied.proofs.BySource.{IsSource, by_source}
 use Rattle.hq_copied.proofs.Found.{copied_schema, table_at}
 use Rattle.hq_copied.proofs.Lists.{each_at, got_front, got_map}
@@ -34,7 +34,6 @@ use Rattle.hq_copies_fit.proofs.Entries.{rels_are}
 use Rattle.hq_copies_fit.proofs.Held.{Held, all_held}
 use Rattle.hq_renumbered.specs.Renumbering.{Renumbering}
 use Rattle.hq_renumbered_requests.specs.Alike.{TablesAlike}
-use Rattle.hq_renumbered_requests.specs.OfRole.{IsKeyed}
 use Rattle.hq_copied_replies.specs.Laws.{session_view}
 
 module _ (tables : List Table) (m : MetaTree) (session : Session) (d : List (List Row)) (fit : fits tables m ≡ true)

@@ -1,5 +1,5 @@
 -- Where a copy is made, each permission binds: the session's on the tables of the database, and the reader's on those of the copy.
-use Rattle.std.proofs.Common.{◌≡◌, ◌∙◌, refl, sym, ap, ap₂, subst, ℕ, suc, ◌+◌, arith, List, [], ◌∷◌, Bool, true, false, cond, ◌==◌, Option, Some, None, is_some, Ok, find, option_and_then, slice_get}
+use Rattle.std.proofs.Common.{◌≡◌, ◌∙◌, refl, ap, ap₂, subst, ℕ, suc, ◌+◌, arith, List, [], ◌∷◌, Bool, true, false, cond, ◌==◌, Option, Some, None, is_some, Ok, find, option_and_then, slice_get}
 use Rattle.std.proofs.lemmas.Bool.{eqb-true}
 use Rattle.hq_base.specs.Due.{mapped, and_then}
 use Rattle.hq_base.specs.Lists.{Each}

@@ -1,5 +1,5 @@
 -- The schema of a role stands for what the role may see.
-use Rattle.std.proofs.Common.{◌≡◌, ◌∙◌, refl, sym, ap, subst, ℕ, List, [], ◌∷◌, ◌++◌, map, Bool, true, false, cond, Option, Some, None, slice_get, option_map}
+use Rattle.std.proofs.Common.{◌≡◌, refl, ℕ, List, [], ◌∷◌, Bool, true, false, cond, Option, Some, None}
 use Rattle.std.specs.Prelude.{flat_map}
 use Rattle.hq_base.specs.Lists.{Each}
 use Rattle.hq_schema.specs.Fixed.{all_fixed, fixed_origin}
@@ -18,7 +18,7 @@ use Rattle.hq_role_schema.specs.FixedTypes.{fixed_type, fixed_types, fixed_field
 use Rattle.hq_role_schema.specs.Introspection.{introspection_fields}
 use Rattle.hq_role_schema.specs.Placed.{parts_of, placed, links_from}
 use Rattle.hq_role_schema.specs.RoleSchema.{part_type, table_types, role_schema}
-use Rattle.hq_role_schema.specs.Root.{key_field, key_fields, aggregate_root, root_fields, query_fields}
+use Rattle.hq_role_schema.specs.Root.{key_fields, aggregate_root, root_fields, query_fields}
 use Rattle.hq_role_schema.specs.Shown.{shown_tables}
 use Rattle.hq_role_schema.specs.declared.shown.Link.{Link}
 use Rattle.hq_role_schema.specs.declared.shown.PlacedTable.{PlacedTable}

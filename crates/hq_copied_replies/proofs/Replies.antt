@@ -1,18 +1,17 @@
 -- Replies to requests that are alike are the same.
-use Rattle.std.proofs.Common.{◌≡◌, ◌∙◌, refl, sym, ap, ap₂, subst, ℕ, List, [], length, Result, Ok, Err, Option, Some, None}
-use Rattle.std.specs.Prelude.{unwrap_or}
+use Rattle.std.proofs.Common.{◌≡◌, ◌∙◌, refl, sym, ap, ap₂, ℕ, List, [], length, Result, Ok, Err, Some}
 use Rattle.hq_ask_tree.specs.Fields.{FieldTrees, no_field, field, FieldTree, column, typename, no_queries, object, list, by_key, aggregate, introspect}
 use Rattle.hq_ask_tree.specs.Introspection.{IntrospectionTree}
 use Rattle.hq_ask_tree.specs.Request.{AskTree}
-use Rattle.hq_ask_tree.specs.Resolve.{resolve_all, resolve, resolved}
+use Rattle.hq_ask_tree.specs.Resolve.{resolve_all, resolved}
 use Rattle.hq_base.specs.Due.{mapped}
-use Rattle.hq_base.specs.Json.{JsonTree, obj, MemberTrees, no_member, member}
+use Rattle.hq_base.specs.Json.{JsonTree, obj, member}
 use Rattle.hq_copied.specs.Copied.{Copied}
 use Rattle.hq_copied.specs.Metadata.{reader}
 use Rattle.hq_copied.proofs.Found.{schema_long}
 use Rattle.hq_copied_schema.specs.Laws.{SchemaRenumbered}
 use Rattle.hq_copies.specs.Laws.{numbers, reader_session, reader_grants, CopyAnswers}
-use Rattle.hq_engine.specs.Replies.{due_object, reply_to, due_reply}
+use Rattle.hq_engine.specs.Replies.{due_object, reply_to}
 use Rattle.hq_faults.specs.FaultTexts.{fault_text}
 use Rattle.hq_introspect.specs.Answers.{answered}
 use Rattle.hq_renumbered.specs.Renumbering.{Renumbering, fields_over, field_over}

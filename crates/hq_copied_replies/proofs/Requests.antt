@@ -1,6 +1,5 @@
 -- What a body makes for a copy's reader is what it makes for the session, in the numbers of the copy.
-use Rattle.std.proofs.Common.{◌≡◌, ◌∙◌, refl, sym, ap, ap₂, subst, ℕ, List, length, Result, Ok, Err, true, ◌&&◌}
-use Rattle.std.proofs.lemmas.Bool.{and_parts}
+use Rattle.std.proofs.Common.{◌≡◌, ◌∙◌, refl, sym, ap, ap₂, subst, ℕ, List, length, Result, Ok, Err}
 use Rattle.hq_base.specs.Due.{mapped, and_then, ◌>>=◌}
 use Rattle.hq_base.specs.Json.{JsonTree}
 use Rattle.hq_base.specs.Lists.{Each}
@@ -15,10 +14,10 @@ use Rattle.hq_coerce.specs.Choice.{operation_at}
 use Rattle.hq_coerce.specs.Due.{variables_due}
 use Rattle.hq_coerce.specs.Variables.{VarTree}
 use Rattle.hq_collect.specs.Tree.{CollectedTrees}
-use Rattle.hq_gql_tree.specs.Documents.{OperationTree, DocumentTree}
+use Rattle.hq_gql_tree.specs.Documents.{DocumentTree}
 use Rattle.hq_request.specs.Operation.{of_coerce, operation_due, values_due, ask_due, operation_ask}
 use Rattle.hq_request.specs.Reading.{refused_as, json_due, query_due, document_due}
-use Rattle.hq_request.specs.Request.{request_by, request_due}
+use Rattle.hq_request.specs.Request.{request_by}
 use Rattle.hq_request.specs.Validation.{earlier, unless_fault, valid_due}
 use Rattle.hq_request.specs.declared.refusal.RequestRefusal.{RequestRefusal}
 use Rattle.hq_role_schema.specs.RoleSchema.{role_schema}
@@ -32,7 +31,6 @@ use Rattle.hq_schema.specs.Schema.{SchemaTree}
 use Rattle.hq_schema_origins.specs.Blank.{blank}
 use Rattle.hq_schema_origins.specs.SchemaOver.{schema_over}
 use Rattle.hq_terms.specs.Database.{Row}
-use Rattle.hq_terms.specs.Fits.{fits}
 use Rattle.hq_terms.specs.Meta.{MetaTree}
 use Rattle.hq_terms.specs.Permission.{role_of}
 use Rattle.hq_terms.specs.Schema.{Schema, schema_of}

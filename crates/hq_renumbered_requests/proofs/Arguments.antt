@@ -1,6 +1,6 @@
 -- The arguments of a list and of `count`, in other numbers.
-use Rattle.std.proofs.Common.{◌≡◌, ◌∙◌, refl, ap, ap₂, ℕ, List, [], ◌∷◌, map, Bool, Option, Some, None, Ok, option_map, codes}
-use Rattle.hq_base.specs.Due.{mapped, and_then, ◌>>=◌}
+use Rattle.std.proofs.Common.{◌≡◌, ◌∙◌, refl, ap, ℕ, List, [], ◌∷◌, map, Option, Some, Ok, option_map, codes}
+use Rattle.hq_base.specs.Due.{mapped, ◌>>=◌}
 use Rattle.hq_base.specs.Lists.{Each}
 use Rattle.hq_terms.specs.Bexp.{BexpTree}
 use Rattle.hq_terms.specs.Schema.{Schema}
@@ -12,7 +12,7 @@ use Rattle.hq_roles.specs.Leads.{ArgFits, list_target, count_target}
 use Rattle.hq_arguments.specs.Columns.{distinct_due, counted_due}
 use Rattle.hq_arguments.specs.Context.{Context}
 use Rattle.hq_arguments.specs.Due.{list_due, count_due, introspection_due}
-use Rattle.hq_arguments.specs.FieldArguments.{FieldArguments, rows, key, count, type_name, deprecated, nothing}
+use Rattle.hq_arguments.specs.FieldArguments.{FieldArguments, count, deprecated}
 use Rattle.hq_arguments.specs.Page.{rows_due}
 use Rattle.hq_arguments.specs.Plain.{flag_due}
 use Rattle.hq_arguments.specs.Reading.{Read, Given, given_named}

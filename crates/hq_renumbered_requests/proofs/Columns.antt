@@ -1,10 +1,10 @@
 -- Columns of a table by the names of its enum, in other numbers: those of `distinct_on`, and the one that is counted.
-use Rattle.std.proofs.Common.{◌≡◌, ◌∙◌, refl, sym, ap, ap₂, subst, ℕ, List, [], ◌∷◌, map, length, take, Bool, true, false, cond, ◌&&◌, ◌||◌, ◌==◌, Option, Some, None, Ok, Err, ok_or, option_map, option_and_then, slice_get}
+use Rattle.std.proofs.Common.{◌≡◌, ◌∙◌, refl, ap, ap₂, subst, ℕ, List, [], ◌∷◌, map, length, take, Bool, true, false, cond, ◌&&◌, ◌||◌, ◌==◌, Option, Some, None, Ok, Err, ok_or, option_map, option_and_then}
 use Rattle.std.specs.Prelude.{nat_le}
 use Rattle.std.specs.List.{list_all, list_any}
 use Rattle.std.proofs.lemmas.Bool.{and_parts}
 use Rattle.std.proofs.lemmas.List.{length-map, take-map}
-use Rattle.hq_base.specs.Due.{mapped, and_then}
+use Rattle.hq_base.specs.Due.{mapped}
 use Rattle.hq_base.specs.Json.{JsonTree}
 use Rattle.hq_base.specs.Lists.{Each, firsts}
 use Rattle.hq_base.specs.Look.{str_in}
@@ -19,20 +19,20 @@ use Rattle.hq_schema.specs.declared.origin.TypeOrigin.TheVariants as type
 use Rattle.hq_roles.specs.Access.{Access}
 use Rattle.hq_roles.specs.Leads.{Reaches, ArgFits, list_target, count_target}
 use Rattle.hq_ask_tree.specs.Conditions.{is_plain_sort, are_sorts_of, fits_distinct}
-use Rattle.hq_arguments.specs.Columns.{column_due, columns_due, matched, by_distinct, distinct_columns, distinct_due, same_as, one_column, by_columns, counted_due}
+use Rattle.hq_arguments.specs.Columns.{column_due, columns_due, matched, by_distinct, distinct_due, one_column, by_columns, counted_due}
 use Rattle.hq_arguments.specs.Context.{Context}
-use Rattle.hq_arguments.specs.Reading.{each, items_in, Given}
+use Rattle.hq_arguments.specs.Reading.{items_in, Given}
 use Rattle.hq_arguments.specs.declared.refusal.ArgRefusal.TheVariants.{Rule}
 use Rattle.hq_coerce.specs.Variables.{VarTree}
-use Rattle.hq_renumbered.specs.Renumbering.{Renumbering, path_over, path_end, sort_over, sorts_over, columns_over}
+use Rattle.hq_renumbered.specs.Renumbering.{Renumbering, path_end, sort_over, sorts_over}
 use Rattle.hq_schema_origins.specs.SchemaOver.{arg_origin_over, schema_over}
 use Rattle.hq_renumbered_requests.specs.Alike.{TablesAlike}
 use Rattle.hq_renumbered_requests.specs.OfRole.{At, IsOfRole}
 use Rattle.hq_renumbered_requests.proofs.Found.{column_over, column_found}
 use Rattle.hq_renumbered_requests.proofs.Given.{given_over, context}
-use Rattle.hq_renumbered_requests.proofs.Items.{each_at, each_take, option_some, firsts_map, same_test, any_same, all_same}
+use Rattle.hq_renumbered_requests.proofs.Items.{each_take, firsts_map, same_test, any_same, all_same}
 use Rattle.hq_renumbered_requests.proofs.Sorting.{PlainPermitted}
-use Rattle.hq_renumbered_requests.proofs.Steps.{then_over, each_over, each_ok, then_ok}
+use Rattle.hq_renumbered_requests.proofs.Steps.{then_over, each_over, each_ok}
 
 module _ (s z : Schema) (n : Renumbering) (a : Access) (r : SchemaTree) (of_role : IsOfRole s a r) (alike : TablesAlike s z n a) (vars : List VarTree) where
   abbrev c : Context

@@ -1,7 +1,7 @@
 -- What is found in a schema in other numbers is what is found in the schema, in those numbers.
-use Rattle.std.proofs.Common.{◌≡◌, ◌∙◌, refl, sym, ap, subst, ℕ, ◌==◌, ◌||◌, List, [], ◌∷◌, map, Bool, true, false, cond, Option, Some, None, Ok, is_some, option_map, option_and_then, slice_get, position, bytes_eq, codes}
-use Rattle.std.specs.Option.{option_or, option_map_or}
-use Rattle.std.proofs.lemmas.Bool.{eqb-true, false≢true}
+use Rattle.std.proofs.Common.{◌≡◌, ◌∙◌, refl, sym, ap, subst, ℕ, ◌==◌, ◌||◌, List, [], ◌∷◌, map, Bool, true, false, cond, Option, Some, None, is_some, option_map, option_and_then, slice_get, position, bytes_eq, codes}
+use Rattle.std.specs.Option.{option_or}
+use Rattle.std.proofs.lemmas.Bool.{eqb-true}
 use Rattle.std.proofs.lemmas.Option.{slice_get-map}
 use Rattle.hq_base.specs.Lists.{Each}
 use Rattle.hq_terms.specs.Schema.{Schema}

@@ -1,5 +1,5 @@
 -- Arguments that are given under a schema in other numbers.
-use Rattle.std.proofs.Common.{◌≡◌, ◌∙◌, refl, ap, subst, ℕ, List, map, Bool, Option, Some, None, option_map, option_and_then, find, bytes_eq}
+use Rattle.std.proofs.Common.{◌≡◌, ◌∙◌, refl, ap, subst, ℕ, List, map, Option, Some, None, option_map, option_and_then, bytes_eq}
 use Rattle.hq_base.specs.Json.{JsonTree}
 use Rattle.hq_base.specs.Lists.{Each}
 use Rattle.hq_arguments.specs.Context.{Context}
@@ -12,7 +12,7 @@ use Rattle.hq_gql_tree.specs.Values.{ArgumentTree}
 use Rattle.hq_renumbered.specs.Renumbering.{Renumbering}
 use Rattle.hq_schema.specs.Look.{arg_in}
 use Rattle.hq_schema.specs.Schema.{ArgTree, SchemaTree}
-use Rattle.hq_schema_origins.specs.SchemaOver.{arg_over, schema_over}
+use Rattle.hq_schema_origins.specs.SchemaOver.{arg_over}
 use Rattle.hq_terms.specs.Schema.{Schema}
 use Rattle.hq_renumbered_requests.proofs.Items.{find_map, found_each}
 

@@ -1,5 +1,5 @@
 -- Fields of introspection are the same in other numbers.
-use Rattle.std.proofs.Common.{◌≡◌, ◌∙◌, refl, sym, ap, ap₂, subst, ℕ, List, map, Bool, true, false, Option, Some, None, Ok, slice_get, option_map}
+use Rattle.std.proofs.Common.{◌≡◌, ◌∙◌, refl, sym, ap, ap₂, subst, ℕ, List, map, true, false, Option, Some, None, slice_get, option_map}
 use Rattle.std.specs.Option.{option_map_or}
 use Rattle.hq_base.specs.Due.{mapped, and_then, ◌>>=◌}
 use Rattle.hq_terms.specs.Schema.{Schema}
@@ -14,7 +14,7 @@ use Rattle.hq_roles.specs.Access.{Access}
 use Rattle.hq_roles.specs.Leads.{Reaches, introspection_target}
 use Rattle.hq_arguments.specs.Context.{Context}
 use Rattle.hq_arguments.specs.Due.{introspection_due, arguments_due}
-use Rattle.hq_ask.specs.Known.{Due, Known, known_due, leads_to, deprecated_of}
+use Rattle.hq_ask.specs.Known.{known_due, leads_to, deprecated_of}
 use Rattle.hq_ask.specs.Looks.{look_of, looks_due}
 use Rattle.hq_ask_tree.specs.Introspection.{look, looks}
 use Rattle.hq_coerce.specs.Variables.{VarTree}
@@ -24,7 +24,7 @@ use Rattle.hq_schema_origins.specs.SchemaOver.{arg_over, field_origin_over, fiel
 use Rattle.hq_renumbered_requests.specs.Alike.{TablesAlike}
 use Rattle.hq_renumbered_requests.specs.OfRole.{At, is_plain, LeadsToPlain, IsOfRole}
 use Rattle.hq_renumbered_requests.proofs.Arguments.{introspection_over}
-use Rattle.hq_renumbered_requests.proofs.Found.{Found, IsField, own, of_type_name, of_schema, of_type, root_is}
+use Rattle.hq_renumbered_requests.proofs.Found.{Found, own, of_type_name, of_schema, of_type, root_is}
 use Rattle.hq_renumbered_requests.proofs.Given.{context}
 use Rattle.hq_renumbered_requests.proofs.Known.{argued_by, known_over}
 use Rattle.hq_renumbered_requests.proofs.Steps.{mapped_itself, mapped_same}

@@ -1,11 +1,11 @@
 -- The values of a key by which a row is looked up are the same in other numbers.
-use Rattle.std.proofs.Common.{◌≡◌, ◌∙◌, refl, sym, ap, ap₂, ℕ, List, [], ◌∷◌, map, Bool, true, false, cond, ◌==◌, Option, Some, None, Ok, ok_or, option_map, option_and_then, find}
+use Rattle.std.proofs.Common.{◌≡◌, ◌∙◌, refl, ap, ap₂, ℕ, List, [], ◌∷◌, map, Bool, true, false, cond, ◌==◌, Option, Some, None, ok_or, option_map, option_and_then}
 use Rattle.hq_base.specs.Due.{and_then}
 use Rattle.hq_base.specs.Lists.{Each}
 use Rattle.hq_terms.specs.Schema.{Schema, table, column}
 use Rattle.hq_gql_tree.specs.Values.{ArgumentTree}
 use Rattle.hq_gql_tree.specs.declared.rule.RuleId.TheVariants.{RequiredArguments}
-use Rattle.hq_schema.specs.Schema.{ArgTree, TypeTree, TypeRefTree, SchemaTree}
+use Rattle.hq_schema.specs.Schema.{ArgTree, TypeRefTree, SchemaTree}
 use Rattle.hq_schema.specs.declared.origin.ArgOrigin.{ArgOrigin}
 use Rattle.hq_schema.specs.declared.origin.ArgOrigin.TheVariants as stands
 use Rattle.hq_roles.specs.Access.{Access}
@@ -20,7 +20,7 @@ use Rattle.hq_schema_origins.specs.SchemaOver.{arg_origin_over, arg_over, schema
 use Rattle.hq_renumbered_requests.specs.Alike.{TablesAlike}
 use Rattle.hq_renumbered_requests.specs.OfRole.{IsKeyed, IsOfRole}
 use Rattle.hq_renumbered_requests.proofs.Given.{given_over, context, one_given}
-use Rattle.hq_renumbered_requests.proofs.Items.{find_map, same_test}
+use Rattle.hq_renumbered_requests.proofs.Items.{same_test}
 use Rattle.hq_renumbered_requests.proofs.Steps.{each_images}
 
 module _ (s z : Schema) (n : Renumbering) (a : Access) (r : SchemaTree) (of_role : IsOfRole s a r) (alike : TablesAlike s z n a) (vars : List VarTree) (u : ℕ) (seen : a.seen u ≡ true) where

@@ -1,20 +1,18 @@
 -- Root fields, in other numbers: they stand at no table.
-use Rattle.std.proofs.Common.{◌≡◌, ◌∙◌, refl, sym, ap, subst, ℕ, List, [], map, Bool, true, false, codes, Option, Some, None, Ok, Err}
+use Rattle.std.proofs.Common.{◌≡◌, ◌∙◌, refl, sym, ap, subst, ℕ, List, [], map, Bool, true, false, codes, Some, None}
 use Rattle.hq_base.specs.Due.{mapped, and_then, ◌>>=◌}
 use Rattle.hq_base.specs.Lists.{Each}
 use Rattle.hq_terms.specs.Schema.{Schema}
 use Rattle.hq_gql_tree.specs.Selections.{FieldHead}
-use Rattle.hq_schema.specs.Schema.{base, ArgTree, TypeTree, SchemaTree}
+use Rattle.hq_schema.specs.Schema.{base, TypeTree, SchemaTree}
 use Rattle.hq_schema.specs.Schema as schema
 use Rattle.hq_schema.specs.declared.origin.FieldOrigin.{FieldOrigin}
 use Rattle.hq_schema.specs.declared.origin.FieldOrigin.TheVariants as origin
 use Rattle.hq_schema.specs.declared.origin.TypeOrigin.TheVariants as type
 use Rattle.hq_role_schema.specs.Root.{type_name_field, schema_field, type_field}
 use Rattle.hq_roles.specs.Access.{Access}
-use Rattle.hq_roles.specs.Leads.{to, where_holds, Reaches, ArgFits, list_target, key_target, root_target, root_args}
+use Rattle.hq_roles.specs.Leads.{to, where_holds, Reaches, ArgFits, key_target, root_target, root_args}
 use Rattle.hq_arguments.specs.Context.{Context}
-use Rattle.hq_arguments.specs.Due.{at_field, by_origin}
-use Rattle.hq_arguments.specs.FieldArguments.{FieldArguments}
 use Rattle.hq_arguments.specs.FieldArguments as given
 use Rattle.hq_arguments.specs.Keys.{key_due}
 use Rattle.hq_arguments.specs.Plain.{text_due}
@@ -32,7 +30,7 @@ use Rattle.hq_renumbered.specs.Renumbering.{Renumbering, fields_over, field_over
 use Rattle.hq_schema_origins.specs.SchemaOver.{arg_over, field_origin_over, field_over, keyed_table, schema_over}
 use Rattle.hq_renumbered_requests.specs.Alike.{TablesAlike}
 use Rattle.hq_renumbered_requests.specs.OfRole.{At, LooksUp, IsOfRole}
-use Rattle.hq_renumbered_requests.proofs.Found.{type_seen, Found, own, of_type_name, of_schema, of_type}
+use Rattle.hq_renumbered_requests.proofs.Found.{Found, own, of_type_name, of_schema, of_type}
 use Rattle.hq_renumbered_requests.proofs.Given.{context, named_given, text_over}
 use Rattle.hq_renumbered_requests.proofs.Introspected.{looks_over}
 use Rattle.hq_renumbered_requests.proofs.Keys.{key_over}

@@ -3,14 +3,12 @@ use Rattle.std.proofs.Common.{◌≡◌, ◌∙◌, refl, sym, ap, ap₂, subst,
 use Rattle.hq_base.specs.Due.{mapped, and_then, ◌>>=◌}
 use Rattle.hq_base.specs.Lists.{Each}
 use Rattle.hq_terms.specs.Schema.{Schema, rel}
-use Rattle.hq_terms.specs.Selected.{ListArguments}
 use Rattle.hq_terms.specs.declared.meta.Rel.{Rel}
 use Rattle.hq_gql_tree.specs.Selections.{FieldHead}
 use Rattle.hq_schema.specs.Schema.{base, ArgTree, TypeTree, TypeRefTree, SchemaTree}
 use Rattle.hq_schema.specs.Schema as schema
 use Rattle.hq_schema.specs.declared.origin.FieldOrigin.{FieldOrigin}
 use Rattle.hq_schema.specs.declared.origin.FieldOrigin.TheVariants as origin
-use Rattle.hq_schema.specs.declared.origin.TypeOrigin.{TypeOrigin}
 use Rattle.hq_schema.specs.declared.origin.TypeOrigin.TheVariants as type
 use Rattle.hq_role_schema.specs.Root.{type_name_field}
 use Rattle.hq_roles.specs.Access.{Access}
@@ -20,16 +18,16 @@ use Rattle.hq_arguments.specs.Due.{at_field, by_origin, list_due}
 use Rattle.hq_arguments.specs.FieldArguments.{FieldArguments, rows}
 use Rattle.hq_ask.specs.Asked.{with_below, field_of, part_by, fields_due, parts_due}
 use Rattle.hq_ask.specs.Asked as due
-use Rattle.hq_ask.specs.Heads.{Head, leaf, list_head, aggregate_head, list_head_due, aggregate_head_due, head_by}
+use Rattle.hq_ask.specs.Heads.{leaf, list_head_due, aggregate_head_due, head_by}
 use Rattle.hq_ask.specs.Known.{Due, Known, known_due, leads_to, type_name_due}
 use Rattle.hq_ask.specs.Looks.{looks_due}
 use Rattle.hq_ask.specs.Summaries.{summaries_due}
-use Rattle.hq_ask_tree.specs.Fields.{Origin, origin_of, along, FieldTrees, no_field, field, FieldTree, typename, object, list, aggregate, PartTrees, no_part, part, PartTree, summary, nodes, part_typename}
+use Rattle.hq_ask_tree.specs.Fields.{origin_of, field, FieldTree, typename, object, list, aggregate, part, PartTree, summary, nodes, part_typename}
 use Rattle.hq_ask_tree.specs.Resolve.{origin_table}
 use Rattle.hq_coerce.specs.Variables.{VarTree}
 use Rattle.hq_collect.specs.Tree.{CollectedTrees, no_collected, collected, is_empty}
 use Rattle.hq_renumbered.specs.Renumbering.{Renumbering, arguments_over, origin_over, fields_over, field_over as asked_over, parts_over, part_over, keyed_summary_over}
-use Rattle.hq_schema_origins.specs.SchemaOver.{arg_over, field_origin_over, field_over, keyed_table, type_table, schema_over}
+use Rattle.hq_schema_origins.specs.SchemaOver.{arg_over, field_origin_over, field_over, keyed_table, schema_over}
 use Rattle.hq_renumbered_requests.specs.Alike.{TablesAlike}
 use Rattle.hq_renumbered_requests.specs.OfRole.{At, IsOfRole}
 use Rattle.hq_renumbered_requests.proofs.Arguments.{list_due_over}
@@ -72,7 +70,7 @@ module _ (s z : Schema) (n : Renumbering) (a : Access) (r : SchemaTree) (of_role
     over x = asked_over x s n t
 
     -- the fields below, at rows of table u
-    rows_below : (u : ℕ) → At types (base f.ty) (type.Rows u) → fields_due d (base g.ty) (n.table u) below ≡ mapped (λ fs. fields_over fs s n u) (fields_due c (base f.ty) u below)
+    pub rows_below : (u : ℕ) → At types (base f.ty) (type.Rows u) → fields_due d (base g.ty) (n.table u) below ≡ mapped (λ fs. fields_over fs s n u) (fields_due c (base f.ty) u below)
     rows_below u at = ap (λ (w : TypeRefTree). fields_due d (base w) (n.table u) below) same ∙ inner.rows (base f.ty) u at
 
     parts_below : (u : ℕ) → At types (base f.ty) (type.Aggregate u) → parts_due d (base g.ty) (n.table u) below ≡ mapped (λ ps. parts_over ps s n u) (parts_due c (base f.ty) u below)

@@ -20,7 +20,7 @@ use Rattle.hq_arguments.specs.Reading.{Read, items_in, fitting, Given}
 use Rattle.hq_arguments.specs.Sorts.{direction_in, sort_by, column_sort, by_origin, member_due, entry_due, members_due, entries_due, within_limit, by_sorts, order_by_due}
 use Rattle.hq_arguments.specs.declared.refusal.ArgRefusal.TheVariants.{Rule}
 use Rattle.hq_coerce.specs.Variables.{VarTree}
-use Rattle.hq_renumbered.specs.Renumbering.{Renumbering, path_over, path_end, sort_over, sorts_over}
+use Rattle.hq_renumbered.specs.Renumbering.{Renumbering, path_over, path_end, sort_over}
 use Rattle.hq_schema_origins.specs.SchemaOver.{arg_origin_over, arg_over, schema_over}
 use Rattle.hq_renumbered_requests.specs.Alike.{TablesAlike}
 use Rattle.hq_renumbered_requests.specs.OfRole.{At, IsOfRole}

@@ -1,35 +1,30 @@
 -- The fields of aggregates, in other numbers.
-use Rattle.std.proofs.Common.{◌≡◌, ◌∙◌, refl, sym, ap, subst, ℕ, List, [], ◌∷◌, map, Bool, true, false, Option, Some, None, Result, Ok, Err}
+use Rattle.std.proofs.Common.{◌≡◌, ◌∙◌, refl, sym, ap, subst, ℕ, List, [], map, Ok, Err}
 use Rattle.hq_base.specs.Due.{mapped, and_then, ◌>>=◌}
 use Rattle.hq_base.specs.Lists.{Each}
 use Rattle.hq_terms.specs.Schema.{Schema}
 use Rattle.hq_gql_tree.specs.Selections.{FieldHead}
-use Rattle.hq_schema.specs.Schema.{base, ArgTree, FieldTree, TypeTree, TypeRefTree, SchemaTree}
+use Rattle.hq_schema.specs.Schema.{base, ArgTree, FieldTree, TypeRefTree, SchemaTree}
 use Rattle.hq_schema.specs.declared.origin.FieldOrigin.{FieldOrigin}
 use Rattle.hq_schema.specs.declared.origin.FieldOrigin.TheVariants as origin
-use Rattle.hq_schema.specs.declared.origin.TypeOrigin.{TypeOrigin}
 use Rattle.hq_schema.specs.declared.origin.TypeOrigin.TheVariants as type
 use Rattle.hq_role_schema.specs.Root.{type_name_field}
 use Rattle.hq_roles.specs.Access.{Access}
 use Rattle.hq_roles.specs.Leads.{Reaches, ArgFits, column_target, over_target, over_args}
 use Rattle.hq_arguments.specs.Context.{Context}
-use Rattle.hq_arguments.specs.Due.{at_field, by_origin, count_due, arguments_due}
+use Rattle.hq_arguments.specs.Due.{at_field, by_origin, count_due}
 use Rattle.hq_arguments.specs.FieldArguments.{FieldArguments}
 use Rattle.hq_arguments.specs.FieldArguments as given
 use Rattle.hq_ask.specs.Known.{Due, Known, known_due, leads_to, type_name_due}
 use Rattle.hq_ask.specs.Summaries.{taken_by, with_taken, taken_due, summary_by, with_summary, summaries_due}
-use Rattle.hq_ask_tree.specs.declared.aggregate.AggCol.{AggCol}
 use Rattle.hq_ask_tree.specs.declared.aggregate.AggCol.TheVariants as of
 use Rattle.hq_ask_tree.specs.declared.aggregate.AggField.{AggField}
 use Rattle.hq_ask_tree.specs.declared.aggregate.AggField.TheVariants as take
-use Rattle.hq_ask_tree.specs.declared.aggregate.KeyedAggCol.{KeyedAggCol}
-use Rattle.hq_ask_tree.specs.declared.aggregate.KeyedAggField.{KeyedAggField}
 use Rattle.hq_base.specs.declared.aggregate.Aggregate.{Aggregate}
 use Rattle.hq_coerce.specs.Variables.{VarTree}
-use Rattle.hq_coerce.specs.declared.refusal.CoerceRefusal.{CoerceRefusal}
 use Rattle.hq_collect.specs.Tree.{CollectedTrees, no_collected, collected, is_empty}
 use Rattle.hq_renumbered.specs.Renumbering.{Renumbering, taken_over, keyed_taken_over, summary_over, keyed_summary_over}
-use Rattle.hq_schema_origins.specs.SchemaOver.{arg_over, field_origin_over, field_over, keyed_table, type_table, schema_over}
+use Rattle.hq_schema_origins.specs.SchemaOver.{arg_over, field_origin_over, field_over, keyed_table, schema_over}
 use Rattle.hq_renumbered_requests.specs.Alike.{TablesAlike}
 use Rattle.hq_renumbered_requests.specs.OfRole.{At, IsOfRole}
 use Rattle.hq_renumbered_requests.proofs.Arguments.{count_over, count_due_over}
