@@ -1,14 +1,14 @@
 -- Columns of a table by the names of its enum, in other numbers: those of `distinct_on`, and the one that is counted.
-use Rattle.std.proofs.Common.{◌≡◌, ◌∙◌, refl, ap, ap₂, subst, ℕ, List, [], ◌∷◌, map, length, take, Bool, true, false, cond, ◌&&◌, ◌||◌, ◌==◌, Option, Some, None, Ok, Err, ok_or, option_map, option_and_then}
+use Rattle.std.proofs.Common.{◌≡◌, ◌∙◌, refl, ap, ap₂, subst, ℕ, List, [], ◌∷◌, map, length, take, Bool, true, false, cond, ◌&&◌, ◌||◌, ◌==◌, Option, Some, None, Ok, Err, ok_or, option_map, option_and_then, sym, arith}
 use Rattle.std.specs.Prelude.{nat_le}
 use Rattle.std.specs.List.{list_all, list_any}
-use Rattle.std.proofs.lemmas.Bool.{and_parts}
+use Rattle.std.proofs.lemmas.Bool.{and_parts, ne_eqb, false≢true}
 use Rattle.std.proofs.lemmas.List.{length-map, take-map}
 use Rattle.hq_base.specs.Due.{mapped}
 use Rattle.hq_base.specs.Json.{JsonTree}
 use Rattle.hq_base.specs.Lists.{Each, firsts}
 use Rattle.hq_base.specs.Look.{str_in}
-use Rattle.hq_terms.specs.Schema.{Schema}
+use Rattle.hq_terms.specs.Schema.{Schema, rel}
 use Rattle.hq_terms.specs.Selected.{SortKey}
 use Rattle.hq_gql_tree.specs.declared.rule.RuleId.TheVariants.{CountColumns, DistinctOrder, ValuesOfCorrectType}
 use Rattle.hq_schema.specs.Look.{enum_column_of}
@@ -24,7 +24,7 @@ use Rattle.hq_arguments.specs.Context.{Context}
 use Rattle.hq_arguments.specs.Reading.{items_in, Given}
 use Rattle.hq_arguments.specs.declared.refusal.ArgRefusal.TheVariants.{Rule}
 use Rattle.hq_coerce.specs.Variables.{VarTree}
-use Rattle.hq_renumbered.specs.Renumbering.{Renumbering, path_end, sort_over, sorts_over}
+use Rattle.hq_renumbered.specs.Renumbering.{Renumbering, path_over, path_end, sort_over, sorts_over}
 use Rattle.hq_schema_origins.specs.SchemaOver.{arg_origin_over, schema_over}
 use Rattle.hq_renumbered_requests.specs.Alike.{TablesAlike}
 use Rattle.hq_renumbered_requests.specs.OfRole.{At, IsOfRole}
@@ -33,6 +33,10 @@ use Rattle.hq_renumbered_requests.proofs.Given.{given_over, context}
 use Rattle.hq_renumbered_requests.proofs.Items.{each_take, firsts_map, same_test, any_same, all_same}
 use Rattle.hq_renumbered_requests.proofs.Sorting.{PlainPermitted}
 use Rattle.hq_renumbered_requests.proofs.Steps.{then_over, each_over, each_ok}
+
+-- a path of some relationships is not empty
+is_long : (x : ℕ) (xs : List ℕ) → (length (x ∷ xs) == 0) ≡ false
+is_long x xs = ne_eqb (length (x ∷ xs)) 0 (omega arith)
 
 module _ (s z : Schema) (n : Renumbering) (a : Access) (r : SchemaTree) (of_role : IsOfRole s a r) (alike : TablesAlike s z n a) (vars : List VarTree) where
   abbrev c : Context
@@ -101,7 +105,9 @@ module _ (s z : Schema) (n : Renumbering) (a : Access) (r : SchemaTree) (of_role
         → PlainPermitted s z n a r of_role alike vars t (record { through = through; column = col; desc = desc; nulls_first = nulls_first })
         → is_among (map f cs) (sorted (record { through = through; column = col; desc = desc; nulls_first = nulls_first })) ≡ is_among cs (record { through = through; column = col; desc = desc; nulls_first = nulls_first })
     among_over cs h [] col desc nulls_first p = any_same P f apart col p cs h
-    among_over cs h (q ∷ qs) col desc nulls_first p = refl
+    among_over cs h (q ∷ qs) col desc nulls_first p =
+        ap (λ b. b && list_any (λ e. e == n.column (path_end (q ∷ qs) s t) col) (map f cs)) (is_long (n.relationship t q) (path_over qs s n (rel s t q).remote))
+        ∙ sym (ap (λ b. b && list_any (λ e. e == col) cs) (is_long q qs))
 
     all_among : (cs : List ℕ) → Each P cs → (ks : List SortKey) → Each (PlainPermitted s z n a r of_role alike vars t) ks → list_all (is_among (map f cs)) (map sorted ks) ≡ list_all (is_among cs) ks
     all_among cs h [] p = refl
@@ -113,7 +119,8 @@ module _ (s z : Schema) (n : Renumbering) (a : Access) (r : SchemaTree) (of_role
         → is_among cs (record { through = through; column = col; desc = desc; nulls_first = nulls_first }) ≡ true
         → (n.column (path_end through s t) col == f e) ≡ (col == e)
     sorted_by cs e p [] col desc nulls_first q h = same_test P f apart col e q p
-    sorted_by cs e p (x ∷ xs) col desc nulls_first q h = cc
+    sorted_by cs e p (x ∷ xs) col desc nulls_first q h =
+        let wrong : false ≡ true = sym (ap (λ b. b && list_any (λ i. i == col) cs) (is_long x xs)) ∙ h in absurd (false≢true wrong)
 
     one_sorted : (cs : List ℕ) (e : ℕ) → P e → (ks : List SortKey) → Each (PlainPermitted s z n a r of_role alike vars t) ks → list_all (is_among cs) ks ≡ true
         → list_any (λ (k : SortKey). k.column == f e) (map sorted ks) ≡ list_any (λ (k : SortKey). k.column == e) ks

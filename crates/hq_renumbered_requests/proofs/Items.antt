@@ -21,11 +21,11 @@ each_at P (y ∷ ys) (suc i) x e h = each_at P ys i x e h.1
 -- an item that is found passes the test
 pub found_each : {A : Type 0} (P : A → Type 0) (p : A → Bool) (xs : List A) (x : A) → find p xs ≡ Some x → Each P xs → P x × (p x ≡ true)
 found_each P p [] x e h = cc
-found_each P p (y ∷ ys) x e h = go (p y) refl e
+found_each P p (y ∷ ys) x e h = go (p y) refl e (λ later. found_each P p ys x later h.1)
   where
-    go : (b : Bool) → p y ≡ b → cond b (Some y) (find p ys) ≡ Some x → P x × (p x ≡ true)
-    go true is e = let same : y ≡ x = cc in (subst P same h.0, subst (λ z. p z ≡ true) same is)
-    go false is e = found_each P p ys x e h.1
+    go : (b : Bool) → p y ≡ b → cond b (Some y) (find p ys) ≡ Some x → (find p ys ≡ Some x → P x × (p x ≡ true)) → P x × (p x ≡ true)
+    go true is e rest = let same : y ≡ x = cc in (subst P same h.0, subst (λ z. p z ≡ true) same is)
+    go false is e rest = rest e
 
 pub each_append : {A : Type 0} (P : A → Type 0) (xs ys : List A) → Each P xs → Each P ys → Each P (xs ++ ys)
 each_append P [] ys h k = k
@@ -39,14 +39,11 @@ each_take P (suc n) (x ∷ xs) h = (h.0, each_take P n xs h.1)
 
 each_kept : {A : Type 0} (P : A → Type 0) (q : A → Bool) (xs : List A) → Each P xs → Each P (filter q xs)
 each_kept P q [] h = tt
-each_kept P q (x ∷ xs) h = go (q x)
+each_kept P q (x ∷ xs) h = go (q x) (each_kept P q xs h.1)
   where
-    later : Each P (filter q xs)
-    later = each_kept P q xs h.1
-
-    go : (b : Bool) → Each P (cond b (x ∷ filter q xs) (filter q xs))
-    go true = (h.0, later)
-    go false = later
+    go : (b : Bool) → Each P (filter q xs) → Each P (cond b (x ∷ filter q xs) (filter q xs))
+    go true rest = (h.0, rest)
+    go false rest = rest
 
 -- the step from an option to a value
 pub option_some : {X Y : Type 0} (f : X → Option Y) (o : Option X) (y : Y) → option_and_then f o ≡ Some y → (x : X) × (o ≡ Some x) × (f x ≡ Some y)
