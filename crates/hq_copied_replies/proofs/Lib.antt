@@ -1,6 +1,1 @@
-mod Shown
-mod OfRole
-mod Alike
-mod Bound
-mod Requests
 mod Replies

@@ -35,7 +35,8 @@ use Rattle.hq_terms.specs.declared.role.Role.{Role}
 use Rattle.hq_terms.specs.declared.role.Role.TheVariants.{Named}
 use Rattle.hq_terms.specs.declared.session.Session.{Session}
 use Rattle.hq_terms.specs.declared.table.Table.{Table}
-use Rattle.hq_copied_replies.specs.Laws.{session_view, RequestsRenumbered, RepliesAlike}
+use Rattle.hq_copied_requests.specs.Laws.{session_view, RequestsRenumbered}
+use Rattle.hq_copied_replies.specs.Laws.{RepliesAlike}
 
 -- ---- the object of root fields
 

@@ -3,4 +3,4 @@
 
 mod laws;
 
-pub use laws::{copied_requests_are_renumbered, copies_answer_each_body};
+pub use laws::copies_answer_each_body;

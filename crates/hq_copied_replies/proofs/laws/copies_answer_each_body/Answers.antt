@@ -1,4 +1,4 @@
-use Rattle.hq_copied_replies.specs.Laws.{session_view}
+use Rattle.hq_copied_requests.specs.Laws.{session_view}
 use Rattle.hq_copied_replies.proofs.Replies.{replies_alike}
 use Rattle.hq_copies.specs.Laws.{numbers}
 use Rattle.hq_terms.specs.Permission.{role_of}

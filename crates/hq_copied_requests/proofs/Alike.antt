@@ -34,7 +34,7 @@ use Rattle.hq_copies_fit.proofs.Entries.{rels_are}
 use Rattle.hq_copies_fit.proofs.Held.{Held, all_held}
 use Rattle.hq_renumbered.specs.Renumbering.{Renumbering}
 use Rattle.hq_renumbered_requests.specs.Alike.{TablesAlike}
-use Rattle.hq_copied_replies.specs.Laws.{session_view}
+use Rattle.hq_copied_requests.specs.Laws.{session_view}
 
 module _ (tables : List Table) (m : MetaTree) (session : Session) (d : List (List Row)) (fit : fits tables m ≡ true)
     (none : NotRefused (role_of session.role) m (schema_of tables m) session.vars (seen_in (session_view tables m session d))) where

@@ -47,10 +47,10 @@ use Rattle.hq_copies.proofs.Refused.{given, causes_absent}
 use Rattle.hq_renumbered.specs.Renumbering.{Renumbering, fields_over}
 use Rattle.hq_renumbered_requests.specs.Alike.{TablesAlike}
 use Rattle.hq_renumbered_requests.specs.Laws.{FieldsRenumbered}
-use Rattle.hq_copied_replies.specs.Laws.{session_view, RequestsRenumbered}
-use Rattle.hq_copied_replies.proofs.Alike.{alike}
-use Rattle.hq_copied_replies.proofs.Bound.{all_bind, session_binds, reader_binds}
-use Rattle.hq_copied_replies.proofs.OfRole.{of_role}
+use Rattle.hq_copied_requests.specs.Laws.{session_view, RequestsRenumbered}
+use Rattle.hq_copied_requests.proofs.Alike.{alike}
+use Rattle.hq_copied_requests.proofs.Bound.{all_bind, session_binds, reader_binds}
+use Rattle.hq_copied_requests.proofs.OfRole.{of_role}
 
 -- a step that gives the same on both sides
 same_step : {X Y V W E : Type 0} (F : Y → W) (G : V → W) (f : X → Result Y E) (k : X → Result V E) (x y : Result X E) → y ≡ x → ((v : X) → mapped G (k v) ≡ mapped F (f v))

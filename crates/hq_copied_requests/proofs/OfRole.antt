@@ -31,7 +31,7 @@ use Rattle.hq_terms.specs.declared.role.Role.{Role}
 use Rattle.hq_terms.specs.declared.table.Table.{Table}
 use Rattle.hq_copied.proofs.Lists.{each_append, each_map, each_made, each_both}
 use Rattle.hq_renumbered_requests.specs.OfRole.{IsOfSeen, LooksUp, LeadsToPlain, Introspects, IsOfRole}
-use Rattle.hq_copied_replies.proofs.Shown.{KeyIs, IsShown, all_shown}
+use Rattle.hq_copied_requests.proofs.Shown.{KeyIs, IsShown, all_shown}
 
 each_all : {A : Type 0} (P : A → Type 0) → ((x : A) → P x) → (xs : List A) → Each P xs
 each_all P h [] = tt

@@ -1,12 +1,12 @@
 use Rattle.std.proofs.lemmas.Bool.{and_parts}
 use Rattle.hq_terms.specs.Permission.{role_of}
 use Rattle.hq_terms.specs.Schema.{schema_of}
-use Rattle.hq_copied_replies.specs.Laws.{session_view}
+use Rattle.hq_copied_requests.specs.Laws.{session_view}
 use Rattle.hq_copies.specs.Laws.{numbers}
 use Rattle.hq_role_schema.specs.RoleSchema.{role_schema}
 use Rattle.hq_roles.specs.Access.{access_of}
-use Rattle.hq_copied_replies.proofs.Requests.{renumbered}
-use Rattle.hq_copied_replies.proofs.laws.copied_requests_are_renumbered.Goals as goal
+use Rattle.hq_copied_requests.proofs.Requests.{renumbered}
+use Rattle.hq_copied_requests.proofs.laws.copied_requests_are_renumbered.Goals as goal
 
 pub returns : goal.returns
 returns c = λ tables m session d k body fit done.
