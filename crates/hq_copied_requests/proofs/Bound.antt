@@ -58,12 +58,13 @@ session_binds role m s vars none t = go (permission role m t) refl
 entry_of : (role : Role) (m : MetaTree) (s : Schema) (k : ℕ) (os : List Source) (u : ℕ) (e : TrackedTree) → find (λ (x : TrackedTree). x.table == u) (numbered (copied_entry role m s) k os) ≡ Some e
     → (j : ℕ) × (o : Source) × (slice_get os j ≡ Some o) × (u ≡ k + j)
 entry_of role m s k [] u e h = absurd cc
-entry_of role m s k (o ∷ os) u e h = go (k == u) refl h
+entry_of role m s k (o ∷ os) u e h = go (k == u) refl h (λ later. entry_of role m s (suc k) os u e later)
   where
     go : (b : Bool) → (k == u) ≡ b → cond b (Some (copied_entry role m s k o)) (find (λ (x : TrackedTree). x.table == u) (numbered (copied_entry role m s) (suc k) os)) ≡ Some e
+        → (find (λ (x : TrackedTree). x.table == u) (numbered (copied_entry role m s) (suc k) os) ≡ Some e → (j : ℕ) × (w : Source) × (slice_get os j ≡ Some w) × (u ≡ suc k + j))
         → (j : ℕ) × (w : Source) × (slice_get (o ∷ os) j ≡ Some w) × (u ≡ k + j)
-    go true is h = let same = eqb-true k u is in let zeroth : u ≡ k + 0 = omega (arith, same) in (0, o, refl, zeroth)
-    go false is h = let later = entry_of role m s (suc k) os u e h in let place = later.3 in let next : u ≡ k + suc later.0 = omega (arith, place) in (suc later.0, later.1, later.2, next)
+    go true is h rest = let same : k ≡ u = eqb-true k u is in let zeroth : u ≡ k + 0 = omega (arith, same) in (0, o, refl, zeroth)
+    go false is h rest = let later = rest h in let place : u ≡ suc k + later.0 = later.3 in let next : u ≡ k + suc later.0 = omega (arith, place) in (suc later.0, later.1, later.2, next)
 
 module _ (tables : List Table) (m : MetaTree) (role : Role) (fit : fits tables m ≡ true) (vars : List Var) where
   abbrev s : Schema
@@ -84,7 +85,7 @@ module _ (tables : List Table) (m : MetaTree) (role : Role) (fit : fits tables m
       of_entry None is p h = absurd cc
       of_entry (Some e) is p h =
           let found = entry_of role m s 0 (sources role m) t e is in
-          let place = found.3 in
+          let place : t ≡ 0 + found.0 = found.3 in
           let same : found.0 ≡ t = omega (arith, place) in
           of_source found.1 (subst (λ j. slice_get (sources role m) j ≡ Some found.1) same found.2)
 

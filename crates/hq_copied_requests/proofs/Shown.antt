@@ -50,12 +50,13 @@ module _ (tables : List Table) (m : MetaTree) (role : Role) where
 
   each_shown : (ks : List TrackedTree) → Each IsShown (filter_map (shown_entry tables m role) ks)
   each_shown [] = tt
-  each_shown (k ∷ ks) = go (slice_get tables k.table) (permission role m k.table) refl refl
+  each_shown (k ∷ ks) = go (slice_get tables k.table) (permission role m k.table) refl refl (each_shown ks)
     where
-      go : (o : Option Table) (q : Option Permission) → slice_get tables k.table ≡ o → permission role m k.table ≡ q → Each IsShown (cons_option (option_and_then (λ x. option_map (shown_table k x) q) o) (filter_map (shown_entry tables m role) ks))
-      go None q here is = each_shown ks
-      go (Some x) None here is = each_shown ks
-      go (Some x) (Some p) here is = (table_shown k x p here is, each_shown ks)
+      go : (o : Option Table) (q : Option Permission) → slice_get tables k.table ≡ o → permission role m k.table ≡ q → Each IsShown (filter_map (shown_entry tables m role) ks)
+          → Each IsShown (cons_option (option_and_then (λ x. option_map (shown_table k x) q) o) (filter_map (shown_entry tables m role) ks))
+      go None q here is rest = rest
+      go (Some x) None here is rest = rest
+      go (Some x) (Some p) here is rest = (table_shown k x p here is, rest)
 
   -- they are placed one after the other
   placed_shown : (first : ℕ) (xs : List ShownTable) → Each IsShown xs → Each (λ (p : PlacedTable). IsShown p.shown) (placed_from first xs)
