@@ -110,6 +110,9 @@ blank_input_value s a name.DefaultValue = blank_default a.default_false
 blank_input_value s a _ = refl
 
 blank_enum_value : (v : List ℕ) (f : FieldName) → enum_value v f ≡ blank_resolved (enum_value v f)
+blank_enum_value v name.Typename = refl
+blank_enum_value v name.Name = refl
+blank_enum_value v name.IsDeprecated = refl
 blank_enum_value v _ = refl
 
 blank_directive_value : (s : SchemaTree) (d : Directive) (f : FieldName) → directive_value (blank s) d f ≡ blank_resolved (directive_value s d f)
