@@ -1,0 +1,10 @@
+mod Lists
+mod Looks
+mod Known
+mod Nodes
+mod Rules
+mod Values
+mod Overlaps
+mod Faults
+mod Coerced
+mod Introspected

@@ -1,0 +1,5 @@
+mod Shown
+mod OfRole
+mod Alike
+mod Bound
+mod Requests

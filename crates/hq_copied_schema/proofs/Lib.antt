@@ -1,0 +1,4 @@
+mod Types
+mod Shown
+mod Links
+mod Answers

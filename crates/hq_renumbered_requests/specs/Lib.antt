@@ -1,0 +1,3 @@
+pub mod OfRole
+pub mod Alike
+pub mod Laws
