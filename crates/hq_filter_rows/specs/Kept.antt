@@ -1,0 +1,18 @@
+-- Rows that a filter keeps, over all of a database.
+use Rattle.std.specs.Prelude.{◌≡◌, ℕ, List, [], map, filter, Bool, ◌&&◌}
+use Rattle.std.specs.List.{list_any}
+use Rattle.hq_terms.specs.Bexp.{BexpTree}
+use Rattle.hq_terms.specs.Database.{Row}
+use Rattle.hq_terms.specs.Logic.{is_true}
+use Rattle.hq_terms.specs.Schema.{Schema}
+use Rattle.hq_terms.specs.Seen.{all_of, linked_by, table_rows}
+use Rattle.hq_terms.specs.Truth.{keeps, truth}
+use Rattle.hq_terms.specs.declared.meta.Pair.{Pair}
+
+-- some row of a table that is linked to a row by these pairs meets an expression
+abbrev pub some_kept : BexpTree → Schema → List (List Row) → ℕ → List Pair → Row → Bool
+some_kept b s d u ps row = list_any (λ far. linked_by ps row far && is_true (truth b s (all_of s d) u far)) (table_rows d u)
+
+-- those of some rows of a table that meet an expression
+abbrev pub kept_rows : BexpTree → Schema → List (List Row) → ℕ → List Row → List Row
+kept_rows b s d t rows = filter (keeps b s (all_of s d) t) rows

@@ -1,0 +1,5 @@
+pub mod Refused
+pub mod Granted
+pub mod Files
+pub mod Direct
+pub mod Lists
