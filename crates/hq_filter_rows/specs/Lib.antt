@@ -1,3 +1,4 @@
 pub mod Lent
 pub mod Kept
 pub mod Pinned
+pub mod Equal

@@ -1,5 +1,7 @@
 //! Cells of rows.
 ghost use Rattle.std.specs.Prelude.{◌≡◌};
+ghost use Rattle.hq_base.specs.Cells.{cell_of};
+ghost use Rattle.hq_filter_rows.specs.Equal.{is_equal};
 ghost use Rattle.hq_sql_cells.specs.View.{cell_view};
 ghost use Rattle.hq_terms.specs.Logic.{is_true, equal};
 ghost use Rattle.hq_terms.specs.Seen.{row_cell, linked_by};
@@ -19,13 +21,33 @@ pub(crate) fn cell_at(row: &[Val], column: ColId) -> Cell<'_>
     }
 }
 
-// Whether the cells of a pair are equal, and so not NULL.
-fn are_equal(row: &[Val], far: &[Val], pair: &Pair) -> bool
-    ensures { result ≡ is_true (equal (row_cell far.now pair.now.remote) (row_cell row.now pair.now.own)) }
+// Whether two values were found equal.
+fn is_equal(order: Option<Ordering>) -> bool
+    ensures { result ≡ is_equal order }
 {
-    match (far.get(pair.remote.at()), row.get(pair.own.at())) {
-        (Some(far), Some(own)) => compare(far, own) == Some(Ordering::Equal),
-        _ => false,
+    match order {
+        Some(order) => order == Ordering::Equal,
+        None => false,
+    }
+}
+
+// Whether a value equals the cell of a row, and so is not NULL.
+fn equals_cell(value: &Val, row: &[Val], column: ColId) -> bool
+    ensures { result ≡ is_true (equal (cell_of value.now) (row_cell row.now column)) }
+{
+    match row.get(column.at()) {
+        Some(own) => is_equal(compare(value, own)),
+        None => false,
+    }
+}
+
+// Whether the cells of a pair are equal.
+fn are_equal(row: &[Val], far: &[Val], pair: Pair) -> bool
+    ensures { result ≡ is_true (equal (row_cell far.now pair.remote) (row_cell row.now pair.own)) }
+{
+    match far.get(pair.remote.at()) {
+        Some(value) => equals_cell(value, row, pair.own),
+        None => false,
     }
 }
 
@@ -34,7 +56,7 @@ pub fn are_linked(pairs: &[Pair], row: &[Val], far: &[Val]) -> bool
     ensures { result ≡ linked_by pairs.now row.now far.now }
 {
     for pair in pairs {
-        if !are_equal(row, far, pair) {
+        if !are_equal(row, far, *pair) {
             return false;
         }
     }

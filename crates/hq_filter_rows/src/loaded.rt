@@ -1,13 +1,24 @@
 //! Pinning all tables of a store, and their rows.
 ghost use Rattle.std.specs.Prelude.{◌≡◌, ◌≤◌, ◌<◌, ℕ, true, length, IfErr, IfOk, IfSome, OnOk};
-ghost use Rattle.hq_filter_rows.specs.Lent.{database_of};
+ghost use Rattle.hq_filter_rows.specs.Lent.{database_of, rows_lent};
 ghost use Rattle.hq_filter_rows.specs.Pinned.{RoseFor};
 ghost use Rattle.hq_terms.specs.Database.{is_database};
+ghost use Rattle.hq_terms.specs.Seen.{table_rows};
 
 use hq_base::Memory;
 use hq_tables::{Rows, StoreRefusal, Tables};
 use hq_terms::TableId;
 use std::alloc::Global;
+
+/// The rows of a table, where there is one.
+pub(crate) fn rows_at<'d>(tables: &[&'d Rows], t: TableId) -> Option<&'d Rows>
+    ensures { rows_lent result ≡ table_rows (database_of tables.now) t }
+{
+    match tables.get(t.at()) {
+        Some(rows) => Some(*rows),
+        None => None,
+    }
+}
 
 /// Pins all tables, in ascending order, up to the first that fails to be read.
 pub fn pin_all<T: Tables>(alloc: Global, tables: &mut T) -> Result<(), StoreRefusal>

@@ -1,8 +1,7 @@
 //! The rows of a table that a permission lets through, and the values that it shows of them.
-ghost use Rattle.std.specs.Prelude.{◌≡◌, IfOk, OnOk, cond, map};
-ghost use Rattle.hq_base.specs.Cells.{cell_of, null};
+ghost use Rattle.std.specs.Prelude.{◌≡◌, IfOk, OnOk, map};
+ghost use Rattle.hq_base.specs.Cells.{cell_of};
 ghost use Rattle.hq_base.specs.Lists.{sort};
-ghost use Rattle.std.specs.Ordering.{on};
 ghost use Rattle.hq_filter_rows.specs.Kept.{kept_rows};
 ghost use Rattle.hq_filter_rows.specs.Lent.{database_of, rows_of};
 ghost use Rattle.hq_terms.specs.Bexp.{bexp_view};
@@ -10,10 +9,10 @@ ghost use Rattle.hq_terms.specs.PermView.{mask_view, permission_view};
 ghost use Rattle.hq_terms.specs.Permitted.{columns_cmp, mask_of, permitted_under, shown_under};
 ghost use Rattle.hq_terms.specs.Schema.{table};
 ghost use Rattle.hq_terms.specs.Scope.{scope_schema};
-ghost use Rattle.hq_terms.specs.Seen.{all_of, row_cell};
-ghost use Rattle.hq_terms.specs.Seen.{table_rows as rows_in};
+ghost use Rattle.hq_terms.specs.Seen.{all_of, row_cell, table_rows};
 ghost use Rattle.hq_terms.specs.Truth.{keeps};
 
+use crate::loaded::rows_at;
 use crate::order::columns_cmp;
 use crate::truths::truth;
 use hq_base::{Memory, Val};
@@ -36,10 +35,10 @@ fn listed<'d>(alloc: Global, rows: &'d Rows) -> Result<RowRefs<'d>, Memory>
 }
 
 // The rows of a table, in file order.
-fn rows_at<'d>(alloc: Global, tables: &[&'d Rows], t: TableId) -> Result<RowRefs<'d>, Memory>
-    ensures { IfOk result (λ all. rows_of all.items ≡ rows_in (database_of tables.now) t) }
+fn table_rows<'d>(alloc: Global, tables: &[&'d Rows], t: TableId) -> Result<RowRefs<'d>, Memory>
+    ensures { IfOk result (λ all. rows_of all.items ≡ table_rows (database_of tables.now) t) }
 {
-    match tables.get(t.at()) {
+    match rows_at(tables, t) {
         Some(rows) => listed(alloc, rows),
         None => Ok(Vec::new(alloc)),
     }
@@ -70,14 +69,14 @@ fn kept<'d>(
     scope: &Scope<'_>,
     tables: &[&Rows],
     t: TableId,
-    rows: RowRefs<'d>,
+    rows: &[&'d [Val]],
 ) -> Result<RowRefs<'d>, Memory>
-    ensures { IfOk result (λ kept. rows_of kept.items ≡ kept_rows (bexp_view filter.now) (scope_schema scope.now) (database_of tables.now) t (rows_of rows.items)) }
+    ensures { IfOk result (λ kept. rows_of kept.items ≡ kept_rows (bexp_view filter.now) (scope_schema scope.now) (database_of tables.now) t (rows_of rows.now)) }
 {
     let mut kept = Vec::new(alloc);
     for row in rows {
         if truth(alloc, filter, scope, tables, t, row)?.is_yes() {
-            kept.push(row)?;
+            kept.push(*row)?;
         }
     }
     Ok(kept)
@@ -93,9 +92,9 @@ pub fn permitted_rows<'d>(
 ) -> Result<Vec<&'d [Val]>, Memory>
     ensures { IfOk result (λ rows. rows_of rows.items ≡ permitted_under (permission_view permission.now) (scope_schema scope.now) (database_of tables.now) t) }
 {
-    let mut rows = rows_at(alloc, tables, t)?;
+    let mut rows = table_rows(alloc, tables, t)?;
     sort_rows(key_of(scope, t), &mut rows)?;
-    kept(alloc, &permission.filter, scope, tables, t, rows)
+    kept(alloc, &permission.filter, scope, tables, t, &rows)
 }
 
 // Whether a row's cell of a column shows: it has no mask, or this is true at the row.

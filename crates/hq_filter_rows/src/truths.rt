@@ -12,6 +12,7 @@ ghost use Rattle.hq_terms.specs.Tests.{test_truth};
 ghost use Rattle.hq_terms.specs.Truth.{operand_cell, truth, truth_of_all, truth_of_any};
 
 use crate::cells::{are_linked, cell_at};
+use crate::loaded::rows_at;
 use hq_base::{Memory, Val};
 use hq_sql_cells::{Cell, test_truth};
 use hq_tables::Rows;
@@ -187,7 +188,7 @@ fn some_row(
 ) -> Result<Truth, Memory>
     ensures { IfOk result (λ found. found ≡ truth_of (some_kept (bexp_view bexp.now) (scope_schema scope.now) (database_of tables.now) u pairs.now row.now)) }
 {
-    let Some(rows) = tables.get(u.at()) else {
+    let Some(rows) = rows_at(tables, u) else {
         return Ok(Truth::No);
     };
     for at in 0..rows.len() {

@@ -1,5 +1,5 @@
 -- The rows of a copy, made of the permitted rows themselves.
-use Rattle.std.specs.Prelude.{ℕ, suc, pos, List, [], map, ◌++◌, slice_index_or}
+use Rattle.std.specs.Prelude.{ℕ, suc, pos, List, [], ◌∷◌, map, ◌++◌, slice_index_or}
 use Rattle.hq_base.specs.declared.value.Val.{Val}
 use Rattle.hq_base.specs.declared.value.Val.TheVariants as val
 use Rattle.hq_copied.specs.Extras.{Extra, from_end, to_end, row_position, extras_of}
@@ -32,6 +32,16 @@ shown_values p s d o x = map (λ c. value_of (shown_under p s d o.entry.table x 
 abbrev pub direct_row : Role → MetaTree → Schema → List (List Row) → Permission → (P : ℕ → List Row) → Source → ℕ → Row → Row
 direct_row role m s d p P o i x = shown_values p s d o x ++ map (direct_value s P i x) (extras_of role m s o)
 
--- the copy of the rows of a table
-abbrev pub direct_rows : Role → MetaTree → Schema → List (List Row) → Permission → (P : ℕ → List Row) → Source → List Row
-direct_rows role m s d p P o = numbered (direct_row role m s d p P o) 0 (permitted_under p s d o.entry.table)
+-- the copies of the rows of each table, where lists has the permitted rows of each
+abbrev pub direct_lists : Role → MetaTree → Schema → List (List Row) → (P : ℕ → List Row) → List Source → List Permission → (lists : List (List Row)) → List (List Row)
+direct_lists role m s d P (o ∷ os) (p ∷ ps) (rows ∷ lists) = numbered (direct_row role m s d p P o) 0 rows ∷ direct_lists role m s d P os ps lists
+direct_lists role m s d P _ _ _ = []
+
+-- the permitted rows of each table of the copy, under what is granted of it
+abbrev pub permitted_lists : Schema → List (List Row) → List Source → List Permission → List (List Row)
+permitted_lists s d (o ∷ os) (p ∷ ps) = permitted_under p s d o.entry.table ∷ permitted_lists s d os ps
+permitted_lists s d _ _ = []
+
+-- their copies
+abbrev pub lists_due : Role → MetaTree → Schema → List (List Row) → List Source → List Permission → List (List Row)
+lists_due role m s d os ps = direct_lists role m s d (rows_for os (permitted_lists s d os ps)) os ps (permitted_lists s d os ps)

@@ -3,3 +3,5 @@ pub mod Granted
 pub mod Files
 pub mod Direct
 pub mod Lists
+pub mod Redacting
+pub mod Plans

@@ -2,7 +2,7 @@
 ghost use Rattle.std.specs.Prelude.{◌≡◌, IfOk, map, length};
 ghost use Rattle.hq_copy_tables.specs.Views.{meta_in, role_in, schema_in, source_view};
 ghost use Rattle.hq_filter_rows.specs.Lent.{database_of};
-ghost use Rattle.hq_redact.specs.Direct.{direct_lists, permitted_lists};
+ghost use Rattle.hq_redact.specs.Direct.{direct_lists, lists_due, permitted_lists, rows_for};
 ghost use Rattle.hq_redact.specs.Lists.{lists_of};
 ghost use Rattle.hq_terms.specs.PermView.{permission_view};
 
@@ -45,7 +45,8 @@ fn copied(
 ) -> Result<Vec<RowList>, Memory>
     requires grants { length grants.now ≡ length world.now.original.sources.now }
     requires permitted { length world.now.permitted.now ≡ length world.now.original.sources.now }
-    ensures { IfOk result (λ all. all.items ≡ direct_lists (role_in world.now.original) (meta_in world.now.original) (schema_in world.now.original) (database_of world.now.tables.now) (lists_of world.now.permitted.now) (map source_view world.now.original.sources.now) (map permission_view grants.now)) }
+    ensures { IfOk result (λ all. all.items ≡ direct_lists (role_in world.now.original) (meta_in world.now.original) (schema_in world.now.original) (database_of world.now.tables.now)
+        (rows_for (map source_view world.now.original.sources.now) (lists_of world.now.permitted.now)) (map source_view world.now.original.sources.now) (map permission_view grants.now) (lists_of world.now.permitted.now)) }
 {
     let mut all = Vec::new(alloc);
     for (at, source) in world.original.sources.iter().enumerate() {

@@ -1,19 +1,18 @@
 //! The rows of a table of a copy.
-ghost use Rattle.std.specs.Prelude.{◌≡◌, ◌++◌, ◌<◌, ◌^◌, IfOk, OnOk, map, length, pos, suc};
-ghost use Rattle.hq_copied.specs.Extras.{extras_of};
-ghost use Rattle.hq_copied.specs.Sources.{sources};
+ghost use Rattle.std.specs.Prelude.{◌≡◌, ◌++◌, IfOk, OnOk, map};
 ghost use Rattle.hq_copy_tables.specs.Views.{extra_view, meta_in, role_in, schema_in, source_view};
 ghost use Rattle.hq_filter_rows.specs.Lent.{database_of, rows_of};
-ghost use Rattle.hq_redact.specs.Direct.{direct_row, direct_value, direct_rows, rows_for, shown_values};
+ghost use Rattle.hq_redact.specs.Direct.{direct_row, direct_value, rows_for, shown_values};
 ghost use Rattle.hq_redact.specs.Lists.{lists_of};
 ghost use Rattle.hq_terms.specs.PermView.{permission_view};
+ghost use Rattle.hq_terms.specs.Schema.{numbered, rel};
 
 use crate::numbers::{from_number, number_value, to_number};
 use hq_base::{List, Memory, Val};
 use hq_copy_tables::{Extra, Link, Original, Source, extras_of, link_remote, table_place};
 use hq_filter_rows::shown_value;
 use hq_tables::{RowList, Rows, ValList};
-use hq_terms::{Pair, PermView};
+use hq_terms::{Pair, PermView, TableId};
 use std::alloc::Global;
 
 /// Permitted rows of a table, lent.

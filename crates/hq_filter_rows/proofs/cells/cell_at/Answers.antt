@@ -1,0 +1,9 @@
+use Rattle.std.proofs.Common.{◌∙◌, sym}
+use Rattle.hq_filter_rows.proofs.Cells.{cell_there, cell_beyond}
+use Rattle.hq_filter_rows.proofs.cells.cell_at.Goals as goal
+
+pub returns-in-Some : goal.returns-in-Some
+returns-in-Some c = c.of.ensures ∙ sym (cell_there c.args.row.now c.args.column c.in-Some.value.now (sym c.in-Some.ensures))
+
+pub returns-in-None : goal.returns-in-None
+returns-in-None c = sym (cell_beyond c.args.row.now c.args.column (sym c.in-None.ensures))

@@ -1,0 +1,4 @@
+mod Links
+mod Rows
+pub mod Bridge
+pub mod Causes
