@@ -29,10 +29,11 @@ fn push_links(
 ) -> Result<(), Memory>
     ensures { OnOk result (map link_view links.new.items ≡ map link_view links.old.items ++ links_at role.now (meta_view scope.now.meta.now) (scope_schema scope.now) t) }
 {
-    for relationship in kept_relationships(alloc, scope, role, t)? {
+    let kept = kept_relationships(alloc, scope, role, t)?;
+    for relationship in &kept {
         links.push(Link {
             table: t,
-            relationship,
+            relationship: *relationship,
         })?;
     }
     Ok(())

@@ -1,9 +1,9 @@
 //! The tables that a copy holds.
-ghost use Rattle.std.specs.Prelude.{◌≡◌, ◌==◌, IfOk, map};
+ghost use Rattle.std.specs.Prelude.{◌≡◌, ◌==◌, ◌++◌, [], IfOk, OnOk, map, option_map};
 ghost use Rattle.std.specs.List.{list_all, list_any};
-ghost use Rattle.hq_copied.specs.Sources.{has_mask, keeps_key, sources};
+ghost use Rattle.hq_copied.specs.Sources.{has_mask, keeps_key, sources, with_source};
 ghost use Rattle.hq_copy_tables.specs.Views.{source_view};
-ghost use Rattle.hq_terms.specs.Meta.{meta_view};
+ghost use Rattle.hq_terms.specs.Meta.{meta_view, tracked_view};
 ghost use Rattle.hq_terms.specs.PermView.{permission_view};
 
 use hq_base::Memory;
@@ -17,15 +17,28 @@ pub struct Source<'a> {
     pub permission: PermView,
 }
 
+// A table of which the role may see something, behind others.
+fn push_source<'a>(
+    entry: &'a Tracked,
+    permission: Option<PermView>,
+    all: &mut Vec<Source<'a>>,
+) -> Result<(), Memory>
+    ensures { OnOk result (map source_view all.new.items ≡ map source_view all.old.items ++ with_source (tracked_view entry.now) (option_map permission_view permission) []) }
+{
+    match permission {
+        Some(permission) => all.push(Source { entry, permission })?,
+        None => {}
+    }
+    Ok(())
+}
+
 /// The tables of the copy: those of which the role may see something, in tracked order.
 pub fn sources<'a>(alloc: Global, meta: &'a Meta, role: &Role) -> Result<Vec<Source<'a>>, Memory>
     ensures { IfOk result (λ all. map source_view all.items ≡ sources role.now (meta_view meta.now)) }
 {
     let mut all = Vec::new(alloc);
     for entry in meta.tracked.as_slice() {
-        if let Some(permission) = meta.perm(alloc, role, entry.table)? {
-            all.push(Source { entry, permission })?;
-        }
+        push_source(entry, meta.perm(alloc, role, entry.table)?, &mut all)?;
     }
     Ok(all)
 }
