@@ -13,6 +13,7 @@ use crate::{Observed, Ran, World};
 use hq_base::Txt;
 use hq_commands::{Done, Refusal, check, generate_and_answer, query, reply_to, show, sql, tell};
 use hq_confine_command::confine;
+use hq_copy_command::copy;
 use hq_db::SqlDb;
 use hq_engine::Engine;
 use hq_explain_command::explain;
@@ -179,6 +180,11 @@ fn obey<F: Files, D: Door, X: Disk, S: Source, K: Sink, E: Sink, H: Hall>(
         Command::Confine { dir, headers } => {
             let (files, input, out) = (&mut world.files, &mut world.input, &mut world.out);
             let answer = confine(alloc, &dir, &headers, files, input, out);
+            Ended { answer, world }
+        }
+        Command::Copy { dir, part, headers } => {
+            let (files, out) = (&mut world.files, &mut world.out);
+            let answer = copy(alloc, &dir, &part, &headers, files, out);
             Ended { answer, world }
         }
         Command::Check { dir } => {
