@@ -3,7 +3,7 @@ use Rattle.std.specs.Prelude.{◌≡◌, ◌≢◌, ◌⊎◌, ◌||◌, ℕ, Bo
 use Rattle.hq_outside.specs.Causes.{Rose}
 use Rattle.hq_words.specs.declared.command.Command.{Command}
 use Rattle.hq_words.specs.declared.command.Command.TheVariants.{Query, Sql, Explain, Confine, Copy, Check, Serve, Live, Gen, Show}
-use Rattle.hq_commands.specs.Ending.{Answer, Ends, NotDatabase, status_of, told_line}
+use Rattle.hq_commands.specs.Ending.{Answer, Ends, NotDatabase, Silent, status_of, told_line}
 use Rattle.hq_explain_command.specs.Explaining.{Explains, explain_output}
 use Rattle.hq_confine_command.specs.Confining.{Confines}
 use Rattle.hq_copy_command.specs.Copying.{copy_output}
@@ -55,7 +55,8 @@ uses_disk command = false
 
 -- The answer is the due one, as far as it says what was due: of a query, of `sql`, `explain` and `confine` over told files and a told input,
 -- of a copy and a check over told files, of `serve` and `live` over what the directory holds, of `gen`, and of a page. With tables on a disk it is the same where
--- this tells its bytes. A copy, a check and a page tell no fault. Words that ask for no command are bad, unless memory is wanted.
+-- this tells its bytes. A copy, a check and a page tell no fault, and where no part of a copy is
+-- written, nothing is. Words that ask for no command are bad, unless memory is wanted.
 abbrev pub Runs : {L T : Type 0} → Option Command → (before after : Outside L T) → Answer → Type 0
 Runs None before after answer = (answer ≡ Err BadWords) ⊎ (answer ≡ Err Memory)
 Runs (Some (Query dir headers true)) before after answer =
@@ -71,6 +72,7 @@ Runs (Some (Confine dir headers)) before after answer =
     IfSome before.files.told (λ files. IfSome before.input.told (λ text. Confines dir headers files text before.out.told after.out.told answer))
 Runs (Some (Copy dir part headers)) before after answer =
     IfSome before.files.told (λ files. Ends before.out.told after.out.told (copy_output dir part headers files) answer) × (answer ≢ Ok Faulty)
+    × Silent before.out.told after.out.told answer
 Runs (Some (Check dir)) before after answer =
     IfSome before.files.told (λ files. Ends before.out.told after.out.told (check_output dir files) answer) × (answer ≢ Ok Faulty)
 Runs (Some (Serve dir port connections secret unauthorized true)) before after answer =

@@ -21,6 +21,7 @@ pub enum About {
     Runs,
     Explain,
     Confine,
+    Copy,
     Serving,
     Live,
     Statements,
@@ -29,7 +30,7 @@ pub enum About {
 
 impl About {
     /// Each subject, in the order of its line.
-    pub const ALL: [About; 20] = [
+    pub const ALL: [About; 22] = [
         About::Worked,
         About::Blog,
         About::Shop,
@@ -47,6 +48,7 @@ impl About {
         About::Runs,
         About::Explain,
         About::Confine,
+        About::Copy,
         About::Serving,
         About::Live,
         About::Statements,
@@ -74,6 +76,7 @@ impl Subject for About {
             About::Runs => "runs",
             About::Explain => "explain",
             About::Confine => "confine",
+            About::Copy => "copy",
             About::Serving => "serving",
             About::Live => "live",
             About::Statements => "statements",
