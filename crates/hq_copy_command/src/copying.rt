@@ -10,7 +10,7 @@ ghost use Rattle.hq_loading.specs.Loading.{loaded_view};
 ghost use Rattle.hq_redact.specs.Redacting.{Redacts, copy_due, redacted_view};
 
 use crate::causes::{copy_cause, part_cause};
-use hq_base::{Bytes, Memory, Txt};
+use hq_base::{Bytes, Txt};
 use hq_commands::{Done, Refusal, caller};
 use hq_copied::CopyRefusal;
 use hq_copy_text::{PartRefusal, part};
@@ -28,7 +28,7 @@ fn not_copied(alloc: Global, refusal: &CopyRefusal) -> Refusal
 {
     match copy_cause(alloc, refusal) {
         Ok(cause) => Refusal::NotCopied { cause },
-        Err(Memory) => Refusal::Memory,
+        Err(_) => Refusal::Memory,
     }
 }
 
@@ -38,7 +38,7 @@ fn no_part(alloc: Global, refusal: PartRefusal) -> Refusal
 {
     match part_cause(alloc, refusal) {
         Ok(cause) => Refusal::NotCopied { cause },
-        Err(Memory) => Refusal::Memory,
+        Err(_) => Refusal::Memory,
     }
 }
 

@@ -9,7 +9,7 @@ use crate::{Link, Source};
 use hq_terms::{Role, Scope};
 
 /// A database's catalog and metadata, and of them what a role may see: the tables, and the links between them.
-#[derive(Clone, Copy)]
+#[derive(Drop)]
 pub struct Original<'a> {
     pub scope: Scope<'a>,
     pub role: &'a Role,

@@ -1,12 +1,14 @@
 //! A catalog as a JSON value.
-ghost use Rattle.std.specs.Prelude.{◌≡◌, IfOk, map, slice_get};
+ghost use Rattle.std.specs.Prelude.{◌≡◌, ◌∷◌, [], IfOk, map, slice_get};
 ghost use Rattle.hq_base.specs.Json.{json_view, str};
 ghost use Rattle.hq_base.specs.Types.{catalog_name};
+ghost use Rattle.hq_catalog_read.specs.Field.{field_name};
+ghost use Rattle.hq_catalog_read.specs.declared.field.Field.TheVariants as field;
 ghost use Rattle.hq_written_catalog.specs.Written.{catalog_json, column_json, foreign_json, table_json, table_ref};
-ghost use Rattle.hq_written_json.specs.Building.{list};
+ghost use Rattle.hq_written_json.specs.Building.{list, object};
 
 use crate::building::{array, object, push_member, push_text, single, text};
-use crate::columns::{columns_of, names_json};
+use crate::columns::{columns_of, names_json as column_names};
 use hq_base::{Json, Memory, Txt, Ty};
 use hq_terms::{Column, ForeignKey, Table, TableId};
 use std::alloc::Global;
@@ -19,6 +21,7 @@ fn type_json(alloc: Global, ty: Ty) -> Result<Json, Memory>
 }
 
 // A column: its name, its type and whether it may hold NULL.
+#[tactic(auto, unfolding(hq_catalog_read::specs::Field::field_name))]
 fn column_json(alloc: Global, column: &Column) -> Result<Json, Memory>
     ensures { IfOk result (λ json. json_view json ≡ column_json column.now) }
 {
@@ -40,22 +43,32 @@ fn columns_json(alloc: Global, columns: &[Column]) -> Result<Json, Memory>
     Ok(array(all))
 }
 
-// The table that a foreign key refers to: its schema and its name.
-fn ref_json(alloc: Global, tables: &[Table], t: TableId) -> Result<Json, Memory>
-    ensures { IfOk result (λ json. json_view json ≡ table_ref (slice_get tables.now t)) }
+// A schema's name and a table's.
+#[tactic(auto, unfolding(hq_catalog_read::specs::Field::field_name))]
+fn names_json(alloc: Global, schema: &Txt, name: &Txt) -> Result<Json, Memory>
+    ensures { IfOk result (λ json. json_view json ≡ object ((field_name field.Schema, str schema.now) ∷ (field_name field.Name, str name.now) ∷ [])) }
 {
-    let none = Txt::new(alloc);
-    let (schema, name) = match tables.get(t.at()) {
-        Some(table) => (&table.schema, &table.name),
-        None => (&none, &none),
-    };
     let mut members = Vec::new(alloc);
     push_text(alloc, "schema", schema, &mut members)?;
     push_text(alloc, "name", name, &mut members)?;
     Ok(object(members))
 }
 
+// The table that a foreign key refers to: its schema and its name.
+fn ref_json(alloc: Global, tables: &[Table], t: TableId) -> Result<Json, Memory>
+    ensures { IfOk result (λ json. json_view json ≡ table_ref (slice_get tables.now t)) }
+{
+    match tables.get(t.at()) {
+        Some(table) => names_json(alloc, &table.schema, &table.name),
+        None => {
+            let none = Txt::new(alloc);
+            names_json(alloc, &none, &none)
+        }
+    }
+}
+
 // A foreign key: its columns, the table that they refer to, and the columns of that table.
+#[tactic(auto, unfolding(hq_catalog_read::specs::Field::field_name))]
 fn foreign_json(
     alloc: Global,
     tables: &[Table],
@@ -64,9 +77,9 @@ fn foreign_json(
 ) -> Result<Json, Memory>
     ensures { IfOk result (λ json. json_view json ≡ foreign_json tables.now table.now key.now) }
 {
-    let own = names_json(alloc, table.columns.as_slice(), key.columns.as_slice())?;
+    let own = column_names(alloc, table.columns.as_slice(), key.columns.as_slice())?;
     let remote = columns_of(tables, key.remote);
-    let references = names_json(alloc, remote, key.references.as_slice())?;
+    let references = column_names(alloc, remote, key.references.as_slice())?;
     let table = ref_json(alloc, tables, key.remote)?;
     let mut members = Vec::new(alloc);
     push_member(alloc, "columns", own, &mut members)?;
@@ -87,12 +100,13 @@ fn foreign_keys_json(alloc: Global, tables: &[Table], table: &Table) -> Result<J
 }
 
 // A table.
+#[tactic(auto, unfolding(hq_catalog_read::specs::Field::field_name))]
 fn table_json(alloc: Global, tables: &[Table], table: &Table) -> Result<Json, Memory>
     ensures { IfOk result (λ json. json_view json ≡ table_json tables.now table.now) }
 {
     let columns = table.columns.as_slice();
     let own = columns_json(alloc, columns)?;
-    let key = names_json(alloc, columns, table.key.as_slice())?;
+    let key = column_names(alloc, columns, table.key.as_slice())?;
     let foreign = foreign_keys_json(alloc, tables, table)?;
     let mut members = Vec::new(alloc);
     push_text(alloc, "schema", &table.schema, &mut members)?;
@@ -115,6 +129,7 @@ fn tables_json(alloc: Global, tables: &[Table]) -> Result<Json, Memory>
 }
 
 /// A catalog.
+#[tactic(auto, unfolding(hq_catalog_read::specs::Field::field_name))]
 pub fn catalog_json(alloc: Global, tables: &[Table]) -> Result<Json, Memory>
     ensures { IfOk result (λ json. json_view json ≡ catalog_json tables.now) }
 {

@@ -13,7 +13,7 @@ use crate::catalog::catalog_json;
 use crate::metadata::meta_json;
 use crate::tables::file_of;
 use hq_base::{Bytes, Json, Memory, Txt};
-use hq_redact::Redacted;
+use hq_redact::{Redacted, full_name};
 use hq_terms::Table;
 use std::alloc::Global;
 
@@ -29,14 +29,11 @@ fn compact(alloc: Global, json: &Json) -> Result<Bytes, Memory>
     Ok(text)
 }
 
-// Whether a text is the schema and the name of a table, joined by a point.
-fn is_full_name(table: &Table, name: &Txt) -> bool
-    ensures { result ≡ bytes_eq (full_name table.now) name.now }
+// Whether this is the name of a table: its schema and its name, joined by a point.
+fn is_named(alloc: Global, table: &Table, name: &Txt) -> Result<bool, Memory>
+    ensures { IfOk result (λ b. b ≡ bytes_eq (full_name table.now) name.now) }
 {
-    match name.as_bytes().strip_prefix(table.schema.as_bytes()) {
-        Some([b'.', rest @ ..]) => rest == table.name.as_bytes(),
-        _ => false,
-    }
+    Ok(full_name(alloc, table)? == *name)
 }
 
 // The text of a table, where the copy has one of this name.
@@ -44,7 +41,7 @@ fn table_text(alloc: Global, copy: &Redacted, name: &Txt) -> Result<Option<Bytes
     ensures { IfOk result (λ text. text ≡ table_text copy.now.catalog.tables copy.now.rows name.now) }
 {
     for (at, table) in copy.catalog.tables.as_slice().iter().enumerate() {
-        if is_full_name(table, name) {
+        if is_named(alloc, table, name)? {
             let file = file_of(alloc, table, &copy.rows.as_slice()[at])?;
             return Ok(Some(file));
         }

@@ -21,7 +21,8 @@ fn field_of(alloc: Global, value: &Val) -> Result<Bytes, Memory>
             Bytes::from_slice(alloc, digits.format(*n).as_bytes())
         }
         Val::Text(text) => Bytes::from_slice(alloc, text.as_bytes()),
-        Val::Bool(b) => Bytes::from_slice(alloc, if *b { b"t" } else { b"f" }),
+        Val::Bool(true) => Bytes::from_slice(alloc, b"t"),
+        Val::Bool(false) => Bytes::from_slice(alloc, b"f"),
     }
 }
 

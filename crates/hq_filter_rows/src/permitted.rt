@@ -48,7 +48,7 @@ fn table_rows<'d>(alloc: Global, tables: &[&'d Rows], t: TableId) -> Result<RowR
 fn sort_rows(columns: &[ColId], rows: &mut RowRefs<'_>) -> Result<(), Memory>
     ensures { OnOk result (rows_of rows.new.items ≡ sort (columns_cmp columns.now) (rows_of rows.old.items)) }
 {
-    rows.sort_by(|left, right| columns_cmp(columns, left, right))?;
+    rows.sort_by(|left, right| columns_cmp(columns, *left, *right))?;
     Ok(())
 }
 
@@ -75,7 +75,7 @@ fn kept<'d>(
 {
     let mut kept = Vec::new(alloc);
     for row in rows {
-        if truth(alloc, filter, scope, tables, t, row)?.is_yes() {
+        if truth(alloc, filter, scope, tables, t, *row)?.is_yes() {
             kept.push(*row)?;
         }
     }

@@ -16,5 +16,5 @@ use Rattle.hq_terms.specs.declared.session.Var.{Var}
 pub record PlannedFor (role : Role) (m : MetaTree) (s : Schema) (vars : List Var) (plan : Plan) : Type 0 where
   pub tables : plan.tables ≡ copied_tables role m s
   pub meta : meta_view plan.meta ≡ copied_meta role m s
-  pub granted : granted_due s vars (sources role m) ≡ Ok (map permission_view plan.grants.items)
+  pub granted : granted_due s vars (sources role m) ≡ Ok (map permission_view plan.grants)
   pub described : described_refusal role m s ≡ None

@@ -11,6 +11,7 @@ ghost use Rattle.hq_terms.specs.PermView.{mask_view, permission_view};
 ghost use Rattle.hq_terms.specs.Scope.{scope_schema};
 ghost use Rattle.hq_terms.specs.declared.bind.BindRefusal.TheVariants as binding;
 
+use hq_base::List;
 use hq_binding::bind;
 use hq_copied::CopyRefusal;
 use hq_copy_tables::Source;
@@ -95,10 +96,10 @@ pub fn granted(
     scope: &Scope<'_>,
     session: &Session,
     sources: &[Source<'_>],
-) -> Result<Vec<PermView>, CopyRefusal>
-    ensures { Gives (λ ps. map permission_view ps.items) refusal.Memory (granted_due (scope_schema scope.now) session.now.vars (map source_view sources.now)) result }
+) -> Result<List<PermView>, CopyRefusal>
+    ensures { Gives (map permission_view) refusal.Memory (granted_due (scope_schema scope.now) session.now.vars (map source_view sources.now)) result }
 {
-    let mut all = Vec::new(alloc);
+    let mut all = List::new(alloc);
     for source in sources {
         match bound_permission(
             alloc,

@@ -43,10 +43,10 @@ fn copied(
     world: &World<'_>,
     grants: &[PermView],
 ) -> Result<Vec<RowList>, Memory>
-    requires grants { length grants.now ≡ length world.now.original.sources.now }
-    requires permitted { length world.now.permitted.now ≡ length world.now.original.sources.now }
-    ensures { IfOk result (λ all. all.items ≡ direct_lists (role_in world.now.original) (meta_in world.now.original) (schema_in world.now.original) (database_of world.now.tables.now)
-        (rows_for (map source_view world.now.original.sources.now) (lists_of world.now.permitted.now)) (map source_view world.now.original.sources.now) (map permission_view grants.now) (lists_of world.now.permitted.now)) }
+    requires grants { length grants.now ≡ length world.now.original.now.sources.now }
+    requires permitted { length world.now.permitted.now ≡ length world.now.original.now.sources.now }
+    ensures { IfOk result (λ all. all.items ≡ direct_lists (role_in world.now.original.now) (meta_in world.now.original.now) (schema_in world.now.original.now) (database_of world.now.tables.now)
+        (rows_for (map source_view world.now.original.now.sources.now) (lists_of world.now.permitted.now)) (map source_view world.now.original.now.sources.now) (map permission_view grants.now) (lists_of world.now.permitted.now)) }
 {
     let mut all = Vec::new(alloc);
     for (at, source) in world.original.sources.iter().enumerate() {
@@ -68,7 +68,7 @@ pub fn all_copied_rows(
 {
     let permitted = permitted(alloc, original, grants, tables)?;
     let world = World {
-        original: *original,
+        original,
         tables,
         permitted: &permitted,
     };

@@ -14,3 +14,4 @@ mod sizes;
 
 pub use redacted::Redacted;
 pub use redacting::redact;
+pub use sizes::full_name;

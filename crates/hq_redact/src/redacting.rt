@@ -39,7 +39,7 @@ use std::alloc::Global;
 pub struct Plan {
     pub tables: TableList,
     pub meta: Meta,
-    pub grants: Vec<PermView>,
+    pub grants: List<PermView>,
 }
 
 // Refuses what catalog and metadata tell.
@@ -90,8 +90,10 @@ fn rows_list(
     ensures { IfOk result (λ rows. rows ≡ lists.items) }
 {
     let mut all = List::new(alloc);
-    for (at, rows) in lists.into_iter().enumerate() {
+    let mut at = 0;
+    for rows in lists {
         all.push(Rows::of(alloc, rows, &catalog.tables.as_slice()[at])?)?;
+        at += 1;
     }
     Ok(all)
 }
@@ -140,7 +142,7 @@ fn made(
         meta,
         grants,
     } = plan;
-    let lists = all_copied_rows(alloc, original, &grants, rows)?;
+    let lists = all_copied_rows(alloc, original, grants.as_slice(), rows)?;
     check_files(alloc, tables.as_slice(), &lists)?;
     Ok(redacted(alloc, tables, meta, lists)?)
 }

@@ -21,7 +21,7 @@ pub type RowRefs<'d> = Vec<&'d [Val]>;
 /// The rows that a copy is made of: all tables of the original, and of each table of the copy the permitted rows in their order.
 #[derive(Clone, Copy)]
 pub struct World<'d> {
-    pub original: Original<'d>,
+    pub original: &'d Original<'d>,
     pub tables: &'d [&'d Rows],
     pub permitted: &'d [RowRefs<'d>],
 }
@@ -29,7 +29,7 @@ pub struct World<'d> {
 impl<'d> World<'d> {
     // The permitted rows of a table of the original; none where it is not copied.
     fn rows(&self, t: TableId) -> &[&'d [Val]]
-        ensures { rows_of result.now ≡ rows_for (map source_view self.now.original.sources.now) (lists_of self.now.permitted.now) t }
+        ensures { rows_of result.now ≡ rows_for (map source_view self.now.original.now.sources.now) (lists_of self.now.permitted.now) t }
     {
         match self.permitted.get(table_place(self.original.sources, t)) {
             Some(rows) => rows.as_slice(),
@@ -39,7 +39,7 @@ impl<'d> World<'d> {
 
     // The pairs of a link, none where there is no such relationship.
     fn pairs(&self, link: Link) -> &'d [Pair]
-        ensures { result.now ≡ (rel (schema_in self.now.original) link.table link.relationship).pairs }
+        ensures { result.now ≡ (rel (schema_in self.now.original.now) link.table link.relationship).pairs }
     {
         match self.original.scope.rel(link.table, link.relationship) {
             Some(rel) => rel.pairs.as_slice(),
@@ -49,7 +49,7 @@ impl<'d> World<'d> {
 
     // The value of an added column in the row at a position, counted from 0.
     fn extra_value(&self, at: usize, row: &[Val], extra: Extra) -> Val
-        ensures { result ≡ direct_value (schema_in self.now.original) (rows_for (map source_view self.now.original.sources.now) (lists_of self.now.permitted.now)) at row.now (extra_view extra) }
+        ensures { result ≡ direct_value (schema_in self.now.original.now) (rows_for (map source_view self.now.original.now.sources.now) (lists_of self.now.permitted.now)) at row.now (extra_view extra) }
     {
         match extra {
             Extra::From { link, .. } => {
@@ -74,7 +74,7 @@ fn shown_values(
     source: &Source<'_>,
     row: &[Val],
 ) -> Result<ValList, Memory>
-    ensures { IfOk result (λ values. values ≡ shown_values (permission_view permission.now) (schema_in world.now.original) (database_of world.now.tables.now) (source_view source.now) row.now) }
+    ensures { IfOk result (λ values. values ≡ shown_values (permission_view permission.now) (schema_in world.now.original.now) (database_of world.now.tables.now) (source_view source.now) row.now) }
 {
     let t = source.entry.table;
     let scope = &world.original.scope;
@@ -101,7 +101,7 @@ fn push_extras(
     extras: &[Extra],
     values: &mut ValList,
 ) -> Result<(), Memory>
-    ensures { OnOk result (values.new ≡ values.old ++ map (direct_value (schema_in world.now.original) (rows_for (map source_view world.now.original.sources.now) (lists_of world.now.permitted.now)) at row.now) (map extra_view extras.now)) }
+    ensures { OnOk result (values.new ≡ values.old ++ map (direct_value (schema_in world.now.original.now) (rows_for (map source_view world.now.original.now.sources.now) (lists_of world.now.permitted.now)) at row.now) (map extra_view extras.now)) }
 {
     for extra in extras {
         values.push(world.extra_value(at, row, *extra))?;
@@ -117,10 +117,10 @@ pub fn copied_rows(
     source: &Source<'_>,
     rows: &[&[Val]],
 ) -> Result<RowList, Memory>
-    ensures { IfOk result (λ all. all ≡ numbered (direct_row (role_in world.now.original) (meta_in world.now.original) (schema_in world.now.original) (database_of world.now.tables.now) (permission_view permission.now)
-        (rows_for (map source_view world.now.original.sources.now) (lists_of world.now.permitted.now)) (source_view source.now)) 0 (rows_of rows.now)) }
+    ensures { IfOk result (λ all. all ≡ numbered (direct_row (role_in world.now.original.now) (meta_in world.now.original.now) (schema_in world.now.original.now) (database_of world.now.tables.now) (permission_view permission.now)
+        (rows_for (map source_view world.now.original.now.sources.now) (lists_of world.now.permitted.now)) (source_view source.now)) 0 (rows_of rows.now)) }
 {
-    let extras = extras_of(alloc, &world.original, source)?;
+    let extras = extras_of(alloc, world.original, source)?;
     let mut all = List::new(alloc);
     for (at, row) in rows.iter().enumerate() {
         let mut values = shown_values(alloc, world, permission, source, row)?;

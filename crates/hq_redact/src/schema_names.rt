@@ -5,6 +5,7 @@ ghost use Rattle.hq_base.specs.Aggregates.{aggregate_suffix};
 ghost use Rattle.hq_base.specs.Text.{has_zero};
 ghost use Rattle.hq_copied.specs.Refusals.{repeated_after, schema_name_refusal};
 ghost use Rattle.hq_redact.specs.Refused.{Refuses};
+ghost use Rattle.hq_schema.specs.Fixed.{fixed_name};
 ghost use Rattle.hq_schema.specs.Parts.{part_suffix};
 ghost use Rattle.hq_terms.specs.Meta.{MetaTree, meta_view, tracked_view};
 ghost use Rattle.hq_terms.specs.Permission.{named_columns};
@@ -28,16 +29,23 @@ fn push_end(alloc: Global, name: &Txt, end: &str, names: &mut TxtList) -> Result
     names.push(text)
 }
 
+// The names of these types.
+fn names_of(alloc: Global, all: &[Fixed]) -> Result<TxtList, Memory>
+    ensures { IfOk result (λ names. names ≡ map fixed_name all.now) }
+{
+    let none = Txt::new(alloc);
+    let mut names = List::new(alloc);
+    for fixed in all {
+        push_end(alloc, &none, fixed.name(), &mut names)?;
+    }
+    Ok(names)
+}
+
 // The types that each schema has.
 fn fixed_types(alloc: Global) -> Result<TxtList, Memory>
     ensures { IfOk result (λ names. names ≡ fixed_types) }
 {
-    let none = Txt::new(alloc);
-    let mut names = List::new(alloc);
-    for fixed in &Fixed::all() {
-        push_end(alloc, &none, fixed.name(), &mut names)?;
-    }
-    Ok(names)
+    names_of(alloc, &Fixed::all())
 }
 
 // The types of rows, or of aggregates, of a table of this name, behind others.

@@ -11,4 +11,4 @@ abbrev pub invariant-loop-source : goal.invariant-loop-source
 invariant-loop-source l =
     let s = scope_schema l.scope in
     granted_due s l.session.vars (map source_view l.sources)
-    ≡ mapped (λ xs. map permission_view l.all.items ++ xs) (granted_due s l.session.vars (map source_view (drop l.source-index l.sources)))
+    ≡ mapped (λ xs. map permission_view l.all ++ xs) (granted_due s l.session.vars (map source_view (drop l.source-index l.sources)))

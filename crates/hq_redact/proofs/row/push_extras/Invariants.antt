@@ -7,5 +7,5 @@ use Rattle.hq_redact.proofs.row.push_extras.Given as goal
 -- the values so far stand behind the others
 abbrev pub invariant-loop-extra : goal.invariant-loop-extra
 invariant-loop-extra l =
-    l.values ≡ l.fn.values ++ map (direct_value (schema_in l.world.original) (rows_for (map source_view l.world.original.sources.now) (lists_of l.world.permitted.now)) l.at l.row)
+    l.values ≡ l.fn.values ++ map (direct_value (schema_in l.world.original.now) (rows_for (map source_view l.world.original.now.sources.now) (lists_of l.world.permitted.now)) l.at l.row)
     (map extra_view (take l.extra-index l.extras))

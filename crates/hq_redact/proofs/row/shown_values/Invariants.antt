@@ -9,4 +9,4 @@ use Rattle.hq_redact.proofs.row.shown_values.Given as goal
 -- the values so far
 abbrev pub invariant-loop-column : goal.invariant-loop-column
 invariant-loop-column l =
-    l.values ≡ map (λ c. value_of (shown_under (permission_view l.permission) (schema_in l.world.original) (database_of l.world.tables.now) l.t l.row c)) (take l.column-index l.column-items)
+    l.values ≡ map (λ c. value_of (shown_under (permission_view l.permission) (schema_in l.world.original.now) (database_of l.world.tables.now) l.t l.row c)) (take l.column-index l.column-items)
