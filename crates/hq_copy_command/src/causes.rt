@@ -1,10 +1,9 @@
 //! The causes for which no part of a copy is written, as they are told.
-ghost use Rattle.std.specs.Prelude.{◌≡◌, ◌++◌, IfOk, codes, false, string_bytes};
+ghost use Rattle.std.specs.Prelude.{◌≡◌, ◌++◌, IfOk, Some, codes, false, string_bytes};
 ghost use Rattle.std.specs.Fmt.{decimal};
 ghost use Rattle.hq_base.specs.Text.{has_zero};
 ghost use Rattle.hq_copy_command.specs.Causes.{copy_cause, part_cause, with_name, with_number};
 ghost use Rattle.hq_faults.specs.FaultTexts.{want_text};
-ghost use Rattle.std.specs.Prelude.{Some};
 
 use hq_base::{Memory, Txt};
 use hq_copied::CopyRefusal;

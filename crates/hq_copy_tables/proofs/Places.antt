@@ -1,7 +1,5 @@
 -- Places in lists, and the sources of tables.
-use Rattle.std.proofs.Common.{◌≡◌, ◌∙◌, ℕ, ◌+◌, ◌<◌, List, [], ◌∷◌, ◌++◌, length, Bool, true, false, cond, Option, Some, None, refl, sym, ap}
-use Rattle.std.specs.List.{position_or_len, position_from}
-use Rattle.std.specs.Prelude.{unwrap_or}
+use Rattle.std.proofs.Common.{◌≡◌, ◌+◌, List, [], ◌++◌, Option, Some, None, refl}
 use Rattle.hq_copied.specs.Sources.{Source, with_source}
 use Rattle.hq_terms.specs.Meta.{TrackedTree}
 use Rattle.hq_terms.specs.Permission.{Permission}

@@ -1,6 +1,5 @@
 //! The tables that a copy holds.
-ghost use Rattle.std.specs.Prelude.{◌≡◌, ◌==◌, ◌++◌, [], IfOk, OnOk, map, option_map};
-ghost use Rattle.std.specs.List.{list_all, list_any};
+ghost use Rattle.std.specs.Prelude.{◌≡◌, ◌++◌, [], IfOk, OnOk, map, option_map};
 ghost use Rattle.hq_copied.specs.Sources.{has_mask, keeps_key, sources, with_source};
 ghost use Rattle.hq_copy_tables.specs.Views.{source_view};
 ghost use Rattle.hq_terms.specs.Meta.{meta_view, tracked_view};

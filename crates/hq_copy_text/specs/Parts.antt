@@ -1,5 +1,5 @@
 -- The parts of a copy, each a text: the catalog, the metadata, and the file of each table.
-use Rattle.std.specs.Prelude.{ℕ, ◌^◌, List, [], ◌∷◌, length, nat_le, cond, bytes_eq, codes, Option, Some, None, Result, Ok, Err}
+use Rattle.std.specs.Prelude.{ℕ, List, ◌∷◌, length, nat_le, cond, bytes_eq, codes, Option, Some, None, Result, Ok, Err}
 use Rattle.hq_base.specs.Compact.{compact}
 use Rattle.hq_copied.specs.Copied.{Copied}
 use Rattle.hq_terms.specs.Catalog.{full_name}

@@ -1,5 +1,5 @@
 -- Rows that a filter keeps, over all of a database.
-use Rattle.std.specs.Prelude.{◌≡◌, ℕ, List, [], map, filter, Bool, ◌&&◌}
+use Rattle.std.specs.Prelude.{ℕ, List, filter, Bool, ◌&&◌}
 use Rattle.std.specs.List.{list_any}
 use Rattle.hq_terms.specs.Bexp.{BexpTree}
 use Rattle.hq_terms.specs.Database.{Row}

@@ -1,5 +1,5 @@
 //! The order of rows by the cells of columns.
-ghost use Rattle.std.specs.Prelude.{◌≡◌};
+ghost use Rattle.std.specs.Prelude.{◌≡◌, false};
 ghost use Rattle.hq_base.specs.Cells.{key_cmp};
 ghost use Rattle.hq_terms.specs.Permitted.{columns_cmp};
 ghost use Rattle.hq_terms.specs.Seen.{row_cell};

@@ -1,13 +1,11 @@
 -- The copy of a view is made of the permitted rows.
-use Rattle.std.proofs.Common.{◌≡◌, ℕ, zero, suc, ◌+◌, ◌<◌, List, [], ◌∷◌, map, length, Bool, true, false, cond, ◌==◌, Option, Some, None, Result, Ok, Err, slice_get, refl, sym, ap, ap₂, ◌∙◌, subst, arith}
+use Rattle.std.proofs.Common.{◌≡◌, ℕ, zero, suc, ◌+◌, List, [], ◌∷◌, map, true, false, ◌==◌, Option, Some, None, Result, Ok, Err, slice_get, refl, sym, ap, ap₂, ◌∙◌, subst, arith}
 use Rattle.std.proofs.lemmas.Bool.{eqb-true}
 use Rattle.std.proofs.lemmas.List.Folds.{find_at}
-use Rattle.std.specs.List.{find}
 use Rattle.std.specs.Prelude.{filter, option_and_then, option_map, slice_index_or, unwrap_or}
 use Rattle.std.specs.Result.{result_ok}
 use Rattle.hq_base.specs.Due.{and_then, mapped}
 use Rattle.hq_base.specs.Lists.{Each, Zip}
-use Rattle.hq_copied.specs.Copied.{Copied}
 use Rattle.hq_copied.specs.Rows.{copied_rows, rows_of}
 use Rattle.hq_copied.specs.Sources.{Source, sources, table_place}
 use Rattle.hq_copied.specs.declared.refusal.CopyRefusal.{CopyRefusal}

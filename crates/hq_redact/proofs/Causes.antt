@@ -1,9 +1,9 @@
 -- The first cause, as it is sought: filters, names, sizes, and then the rows.
-use Rattle.std.proofs.Common.{◌≡◌, ℕ, List, [], ◌∷◌, map, length, Bool, true, false, Option, Some, None, Result, Ok, Err, refl, sym, ap, ap₂, ◌∙◌}
+use Rattle.std.proofs.Common.{◌≡◌, ℕ, List, [], ◌∷◌, map, length, Option, Some, None, Result, Ok, Err, refl, sym, ap, ap₂, ◌∙◌}
 use Rattle.std.specs.Prelude.{nat_lt}
 use Rattle.hq_base.specs.Due.{and_then, mapped}
-use Rattle.hq_copied.specs.Copied.{Copied, copied, copy_of, unless}
-use Rattle.hq_copied.specs.Refusals.{copy_refusal, file_refusal, filter_refusal, first_of, masked_key_refusal, not_bound, or_else, own_name_refusal, refused_if, schema_name_refusal, unbound, width_refusal}
+use Rattle.hq_copied.specs.Copied.{unless}
+use Rattle.hq_copied.specs.Refusals.{copy_refusal, file_refusal, filter_refusal, first_of, masked_key_refusal, or_else, own_name_refusal, refused_if, schema_name_refusal, unbound, width_refusal}
 use Rattle.hq_copied.specs.Rows.{rows_of}
 use Rattle.hq_copied.specs.Sources.{Source, sources}
 use Rattle.hq_copied.specs.Tables.{copied_table, copied_tables}
@@ -19,8 +19,7 @@ use Rattle.hq_terms.specs.Seen.{Sees}
 use Rattle.hq_terms.specs.declared.bind.BindRefusal.{BindRefusal}
 use Rattle.hq_terms.specs.declared.role.Role.{Role}
 use Rattle.hq_terms.specs.declared.session.Var.{Var}
-use Rattle.hq_terms.specs.declared.table.Table.{Table}
-use Rattle.hq_redact.specs.Files.{file_of, files_of}
+use Rattle.hq_redact.specs.Files.{files_of}
 use Rattle.hq_redact.specs.Granted.{granted_due, or_not_bound}
 use Rattle.hq_redact.specs.Redacting.{described_refusal, refusal_in}
 

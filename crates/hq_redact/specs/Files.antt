@@ -1,5 +1,5 @@
 -- Tables whose files do not give them back.
-use Rattle.std.specs.Prelude.{List, [], ◌∷◌, Option, None}
+use Rattle.std.specs.Prelude.{List, ◌∷◌, Option, None}
 use Rattle.hq_copied.specs.Refusals.{begins_with_mark, or_else, refused_if, row_refusal}
 use Rattle.hq_copied.specs.declared.refusal.CopyRefusal.{CopyRefusal}
 use Rattle.hq_copied.specs.declared.refusal.CopyRefusal.TheVariants.{NotWritable}

@@ -2,10 +2,10 @@
 ghost use Rattle.std.specs.Prelude.{◌≡◌, map};
 ghost use Rattle.hq_base.specs.Due.{Gives};
 ghost use Rattle.hq_bound.specs.Bound.{mask_due};
+ghost use Rattle.hq_copied.specs.Refusals.{not_bound};
 ghost use Rattle.hq_copied.specs.declared.refusal.CopyRefusal.TheVariants as refusal;
 ghost use Rattle.hq_copy_tables.specs.Views.{source_view};
 ghost use Rattle.hq_redact.specs.Granted.{granted_due};
-ghost use Rattle.hq_terms.specs.Bexp.{bexp_view};
 ghost use Rattle.hq_terms.specs.Binding.{bound_masks, bound_permission};
 ghost use Rattle.hq_terms.specs.PermView.{mask_view, permission_view};
 ghost use Rattle.hq_terms.specs.Scope.{scope_schema};

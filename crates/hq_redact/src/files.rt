@@ -1,7 +1,7 @@
 //! Texts that the file of a table would not give back.
-ghost use Rattle.std.specs.Prelude.{◌≡◌, ◌⊎◌, ◌+◌};
+ghost use Rattle.std.specs.Prelude.{◌≡◌, ◌⊎◌, length};
 ghost use Rattle.std.specs.List.{list_any};
-ghost use Rattle.hq_copied.specs.Refusals.{begins_with, begins_with_mark, byte_order_mark, is_null_text, refused_if, row_refusal};
+ghost use Rattle.hq_copied.specs.Refusals.{begins_with, begins_with_mark, byte_order_mark, is_null_text, row_refusal};
 ghost use Rattle.hq_copied.specs.declared.refusal.CopyRefusal.TheVariants as refusal;
 ghost use Rattle.hq_redact.specs.Files.{file_of, files_of};
 ghost use Rattle.hq_redact.specs.Refused.{Refuses};

@@ -4,7 +4,7 @@ ghost use Rattle.hq_copied.specs.Metadata.{copied_meta};
 ghost use Rattle.hq_copied.specs.Refusals.{or_else};
 ghost use Rattle.hq_copied.specs.Sources.{links, sources};
 ghost use Rattle.hq_copied.specs.Tables.{copied_tables};
-ghost use Rattle.hq_copy_tables.specs.Views.{link_view, meta_in, role_in, schema_in, source_view};
+ghost use Rattle.hq_copy_tables.specs.Views.{meta_in, role_in, schema_in};
 ghost use Rattle.hq_filter_rows.specs.Lent.{database_of};
 ghost use Rattle.hq_redact.specs.Granted.{granted_due};
 ghost use Rattle.hq_redact.specs.Plans.{PlannedFor};
@@ -15,7 +15,6 @@ ghost use Rattle.hq_terms.specs.Database.{is_database};
 ghost use Rattle.hq_terms.specs.Fits.{fits};
 ghost use Rattle.hq_terms.specs.Meta.{meta_view};
 ghost use Rattle.hq_terms.specs.Permission.{role_of};
-ghost use Rattle.hq_terms.specs.PermView.{permission_view};
 
 use crate::Redacted;
 use crate::binding::granted;
@@ -28,7 +27,7 @@ use hq_base::{List, Memory};
 use hq_copied::CopyRefusal;
 use hq_copied_rows::copied_rows_fit;
 use hq_copies_fit::copied_metadata_fits;
-use hq_copy_tables::{Link, Original, Source, copied_meta, copied_tables, links, sources};
+use hq_copy_tables::{Original, copied_meta, copied_tables, links, sources};
 use hq_filter_rows::{all_rows, pin_all};
 use hq_tables::{RowList, Rows, RowsList, StoreRefusal, Tables};
 use hq_terms::{Catalog, Meta, PermView, Role, Scope, Session, TableList};
@@ -99,7 +98,7 @@ fn rows_list(
 }
 
 // A copy of these tables, this metadata and these rows.
-fn redacted(
+fn copy_of(
     alloc: Global,
     tables: TableList,
     meta: Meta,
@@ -144,7 +143,7 @@ fn made(
     } = plan;
     let lists = all_copied_rows(alloc, original, grants.as_slice(), rows)?;
     check_files(alloc, tables.as_slice(), &lists)?;
-    Ok(redacted(alloc, tables, meta, lists)?)
+    Ok(copy_of(alloc, tables, meta, lists)?)
 }
 
 // The copy that a plan makes of tables that are pinned.

@@ -1,5 +1,5 @@
 //! The rows of a table of a copy.
-ghost use Rattle.std.specs.Prelude.{◌≡◌, ◌++◌, IfOk, OnOk, map};
+ghost use Rattle.std.specs.Prelude.{◌≡◌, ◌++◌, ◌+◌, ◌<◌, ◌^◌, IfOk, OnOk, map};
 ghost use Rattle.hq_copy_tables.specs.Views.{extra_view, meta_in, role_in, schema_in, source_view};
 ghost use Rattle.hq_filter_rows.specs.Lent.{database_of, rows_of};
 ghost use Rattle.hq_redact.specs.Direct.{direct_row, direct_value, rows_for, shown_values};
@@ -49,6 +49,7 @@ impl<'d> World<'d> {
 
     // The value of an added column in the row at a position, counted from 0.
     fn extra_value(&self, at: usize, row: &[Val], extra: Extra) -> Val
+        requires { at + 1 < 2 ^ 63 }
         ensures { result ≡ direct_value (schema_in self.now.original.now) (rows_for (map source_view self.now.original.now.sources.now) (lists_of self.now.permitted.now)) at row.now (extra_view extra) }
     {
         match extra {
@@ -101,6 +102,7 @@ fn push_extras(
     extras: &[Extra],
     values: &mut ValList,
 ) -> Result<(), Memory>
+    requires { at + 1 < 2 ^ 63 }
     ensures { OnOk result (values.new ≡ values.old ++ map (direct_value (schema_in world.now.original.now) (rows_for (map source_view world.now.original.now.sources.now) (lists_of world.now.permitted.now)) at row.now) (map extra_view extras.now)) }
 {
     for extra in extras {

@@ -1,6 +1,6 @@
 //! Names that stand twice in the schema of a copy for `admin`: two types, or two root fields.
 ghost use Rattle.std.specs.Prelude.{◌≡◌, ◌==◌, ◌++◌, ◌∷◌, [], IfOk, OnOk, false, flat_map, map, filter, bytes_eq};
-ghost use Rattle.std.specs.List.{list_all, list_any};
+ghost use Rattle.std.specs.List.{list_any};
 ghost use Rattle.hq_base.specs.Aggregates.{aggregate_suffix};
 ghost use Rattle.hq_base.specs.Text.{has_zero};
 ghost use Rattle.hq_copied.specs.Refusals.{repeated_after, schema_name_refusal};

@@ -1,7 +1,7 @@
 //! Tables that cannot be copied: their key is masked, or they would be too wide.
 ghost use Rattle.std.specs.Prelude.{◌≡◌, ◌⊎◌, ◌&&◌, IfOk, map, length, nat_lt};
 ghost use Rattle.std.specs.List.{list_any};
-ghost use Rattle.hq_copied.specs.Refusals.{first_of, masked_key_refusal, refused_if, width_refusal};
+ghost use Rattle.hq_copied.specs.Refusals.{first_of, masked_key_refusal, refused_if};
 ghost use Rattle.hq_copied.specs.Sources.{has_mask, keeps_key};
 ghost use Rattle.hq_copied.specs.Tables.{copied_table};
 ghost use Rattle.hq_copied.specs.declared.refusal.CopyRefusal.TheVariants as refusal;
@@ -9,7 +9,6 @@ ghost use Rattle.hq_copy_tables.specs.Views.{meta_in, role_in, schema_in, source
 ghost use Rattle.hq_redact.specs.Refused.{Refuses};
 ghost use Rattle.hq_terms.specs.Catalog.{full_name};
 ghost use Rattle.hq_terms.specs.PermView.{permission_view};
-ghost use Rattle.hq_terms.specs.Schema.{table as table_at};
 
 use hq_base::{Memory, Txt};
 use hq_copied::CopyRefusal;

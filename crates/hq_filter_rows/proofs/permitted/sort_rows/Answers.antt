@@ -1,4 +1,4 @@
-use Rattle.std.proofs.Common.{rules, ap}
+use Rattle.std.proofs.Common.{rules}
 use Rattle.hq_sql_cells.proofs.KeyOrders.{sorted_by_closure}
 use Rattle.hq_filter_rows.proofs.Orders.{columns_cmp_total}
 use Rattle.hq_filter_rows.proofs.Rows.{sorted_rows}
