@@ -3,22 +3,29 @@ ghost use Rattle.std.specs.Prelude.{◌≡◌, IfOk, is_some};
 ghost use Rattle.hq_copied.specs.Sources.{kept_relationships};
 ghost use Rattle.hq_terms.specs.Meta.{meta_view};
 ghost use Rattle.hq_terms.specs.Permission.{permission};
-ghost use Rattle.hq_terms.specs.Schema.{table};
+ghost use Rattle.hq_terms.specs.Schema.{rels_of, table};
 ghost use Rattle.hq_terms.specs.Scope.{scope_schema};
 
 use hq_base::Memory;
-use hq_terms::{Rel, RelId, Role, Scope, TableId};
+use hq_terms::{Meta, Rel, RelId, Role, Scope, TableId};
 use std::alloc::Global;
 
-// The relationships of a table, none where it is not tracked.
+// The relationships of a table's entry, none where it is not tracked.
+fn tracked_rels(meta: &Meta, t: TableId) -> &[Rel]
+    ensures { result.now ≡ rels_of (meta_view meta.now) t }
+{
+    match meta.tracked_table(t) {
+        Some(tracked) => tracked.rels.as_slice(),
+        None => &[],
+    }
+}
+
+// The relationships of a table, none where it is not in the catalog.
 fn relationships<'a>(scope: &Scope<'a>, t: TableId) -> &'a [Rel]
     ensures { result.now ≡ (table (scope_schema scope.now) t).rels }
 {
     match scope.catalog.table(t) {
-        Some(_) => match scope.meta.tracked_table(t) {
-            Some(tracked) => tracked.rels.as_slice(),
-            None => &[],
-        },
+        Some(_) => tracked_rels(scope.meta, t),
         None => &[],
     }
 }

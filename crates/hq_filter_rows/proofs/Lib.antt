@@ -1,4 +1,4 @@
-pub mod Cells
+pub mod RowCells
 pub mod Orders
 pub mod Rows
 pub mod Tables

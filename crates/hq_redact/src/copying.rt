@@ -1,5 +1,5 @@
 //! The rows of all tables of a copy.
-ghost use Rattle.std.specs.Prelude.{◌≡◌, IfOk, map, length};
+ghost use Rattle.std.specs.Prelude.{◌≡◌, IfOk, map};
 ghost use Rattle.hq_copy_tables.specs.Views.{meta_in, role_in, schema_in, source_view};
 ghost use Rattle.hq_filter_rows.specs.Lent.{database_of};
 ghost use Rattle.hq_redact.specs.Direct.{direct_lists, lists_due, permitted_lists, rows_for};
@@ -21,15 +21,18 @@ fn permitted<'d>(
     grants: &[PermView],
     tables: &[&'d Rows],
 ) -> Result<Vec<RowRefs<'d>>, Memory>
-    requires { length grants.now ≡ length original.now.sources.now }
     ensures { IfOk result (λ lists. lists_of lists.items ≡ permitted_lists (schema_in original.now) (database_of tables.now) (map source_view original.now.sources.now) (map permission_view grants.now)) }
 {
     let mut lists = Vec::new(alloc);
     for (at, source) in original.sources.iter().enumerate() {
+        let Some(grant) = grants.get(at) else {
+            return Ok(lists);
+        };
+        let scope = &original.scope;
         lists.push(permitted_rows(
             alloc,
-            &grants[at],
-            &original.scope,
+            grant,
+            scope,
             tables,
             source.entry.table,
         )?)?;
@@ -43,15 +46,15 @@ fn copied(
     world: &World<'_>,
     grants: &[PermView],
 ) -> Result<Vec<RowList>, Memory>
-    requires grants { length grants.now ≡ length world.now.original.now.sources.now }
-    requires permitted { length world.now.permitted.now ≡ length world.now.original.now.sources.now }
     ensures { IfOk result (λ all. all.items ≡ direct_lists (role_in world.now.original.now) (meta_in world.now.original.now) (schema_in world.now.original.now) (database_of world.now.tables.now)
         (rows_for (map source_view world.now.original.now.sources.now) (lists_of world.now.permitted.now)) (map source_view world.now.original.now.sources.now) (map permission_view grants.now) (lists_of world.now.permitted.now)) }
 {
     let mut all = Vec::new(alloc);
     for (at, source) in world.original.sources.iter().enumerate() {
-        let rows = world.permitted[at].as_slice();
-        all.push(copied_rows(alloc, world, &grants[at], source, rows)?)?;
+        let (Some(grant), Some(rows)) = (grants.get(at), world.permitted.get(at)) else {
+            return Ok(all);
+        };
+        all.push(copied_rows(alloc, world, grant, source, rows.as_slice())?)?;
     }
     Ok(all)
 }
@@ -63,7 +66,6 @@ pub fn all_copied_rows(
     grants: &[PermView],
     tables: &[&Rows],
 ) -> Result<Vec<RowList>, Memory>
-    requires { length grants.now ≡ length original.now.sources.now }
     ensures { IfOk result (λ all. all.items ≡ lists_due (role_in original.now) (meta_in original.now) (schema_in original.now) (database_of tables.now) (map source_view original.now.sources.now) (map permission_view grants.now)) }
 {
     let permitted = permitted(alloc, original, grants, tables)?;

@@ -15,3 +15,6 @@ mod sizes;
 pub use redacted::Redacted;
 pub use redacting::redact;
 pub use sizes::full_name;
+
+#[test]
+fn nothing() {}

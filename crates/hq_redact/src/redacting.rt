@@ -55,7 +55,7 @@ fn check_plan(
     let tables = tables.as_slice();
     check_kept_names(alloc, original)?;
     check_schema_names(alloc, tables, meta)?;
-    check_keys(alloc, original, tables)?;
+    check_keys(alloc, original)?;
     check_widths(alloc, tables)
 }
 

@@ -1,9 +1,8 @@
 //! Tables that cannot be copied: their key is masked, or they would be too wide.
 ghost use Rattle.std.specs.Prelude.{◌≡◌, ◌⊎◌, ◌&&◌, IfOk, map, length, nat_lt};
 ghost use Rattle.std.specs.List.{list_any};
-ghost use Rattle.hq_copied.specs.Refusals.{first_of, masked_key_refusal, refused_if};
+ghost use Rattle.hq_copied.specs.Refusals.{first_of, masked_key_refusal, refused_if, told_name};
 ghost use Rattle.hq_copied.specs.Sources.{has_mask, keeps_key};
-ghost use Rattle.hq_copied.specs.Tables.{copied_table};
 ghost use Rattle.hq_copied.specs.declared.refusal.CopyRefusal.TheVariants as refusal;
 ghost use Rattle.hq_copy_tables.specs.Views.{meta_in, role_in, schema_in, source_view};
 ghost use Rattle.hq_redact.specs.Refused.{Refuses};
@@ -12,7 +11,7 @@ ghost use Rattle.hq_terms.specs.PermView.{permission_view};
 
 use hq_base::{Memory, Txt};
 use hq_copied::CopyRefusal;
-use hq_copy_tables::{Original, Source, has_mask, keeps_key, key_of};
+use hq_copy_tables::{Original, Source, copied_table, has_mask, keeps_key, key_of};
 use hq_terms::{ColId, PermView, Table};
 use std::alloc::Global;
 
@@ -35,10 +34,22 @@ fn has_masked_key(permission: &PermView, key: &[ColId]) -> bool
     keeps_key(permission, key) && key.iter().any(|column| has_mask(permission, *column))
 }
 
-fn masked_key(alloc: Global, table: &Table) -> CopyRefusal
-    ensures { (result ≡ refusal.Memory) ⊎ (result ≡ refusal.MaskedKey (full_name table.now)) }
+// The name of a table of the copy, as it is told.
+fn told_name(
+    alloc: Global,
+    original: &Original<'_>,
+    source: &Source<'_>,
+) -> Result<Txt, Memory>
+    ensures { IfOk result (λ name. name ≡ told_name (role_in original.now) (meta_in original.now) (schema_in original.now) (source_view source.now)) }
 {
-    match full_name(alloc, table) {
+    let table = copied_table(alloc, original, source)?;
+    full_name(alloc, &table)
+}
+
+fn masked_key(alloc: Global, original: &Original<'_>, source: &Source<'_>) -> CopyRefusal
+    ensures { (result ≡ refusal.Memory) ⊎ (result ≡ refusal.MaskedKey (told_name (role_in original.now) (meta_in original.now) (schema_in original.now) (source_view source.now))) }
+{
+    match told_name(alloc, original, source) {
         Ok(table) => CopyRefusal::MaskedKey { table },
         Err(_) => CopyRefusal::Memory,
     }
@@ -58,29 +69,22 @@ fn check_key(
     alloc: Global,
     original: &Original<'_>,
     source: &Source<'_>,
-    copied: &Table,
 ) -> Result<(), CopyRefusal>
-    requires { copied.now ≡ copied_table (role_in original.now) (meta_in original.now) (schema_in original.now) (source_view source.now) }
     ensures { Refuses (masked_key_refusal (role_in original.now) (meta_in original.now) (schema_in original.now) (source_view source.now)) result }
 {
     let key = key_of(&original.scope, source.entry.table);
     if has_masked_key(&source.permission, key) {
-        return Err(masked_key(alloc, copied));
+        return Err(masked_key(alloc, original, source));
     }
     Ok(())
 }
 
-/// Refuses the first table whose key is masked. These are the tables of the copy.
-pub fn check_keys(
-    alloc: Global,
-    original: &Original<'_>,
-    tables: &[Table],
-) -> Result<(), CopyRefusal>
-    requires { tables.now ≡ map (copied_table (role_in original.now) (meta_in original.now) (schema_in original.now)) (map source_view original.now.sources.now) }
+/// Refuses the first table whose key is masked.
+pub fn check_keys(alloc: Global, original: &Original<'_>) -> Result<(), CopyRefusal>
     ensures { Refuses (first_of (masked_key_refusal (role_in original.now) (meta_in original.now) (schema_in original.now)) (map source_view original.now.sources.now)) result }
 {
-    for (at, source) in original.sources.iter().enumerate() {
-        check_key(alloc, original, source, &tables[at])?;
+    for source in original.sources {
+        check_key(alloc, original, source)?;
     }
     Ok(())
 }

@@ -1,7 +1,7 @@
 use Rattle.std.proofs.Common.{◌∙◌, sym, ap}
 use Rattle.hq_terms.specs.Logic.{equal, is_true}
 use Rattle.hq_terms.specs.Seen.{row_cell}
-use Rattle.hq_filter_rows.proofs.Cells.{cell_there, cell_beyond, null_equals}
+use Rattle.hq_filter_rows.proofs.RowCells.{cell_there, cell_beyond, null_equals}
 use Rattle.hq_filter_rows.proofs.cells.are_equal.Goals as goal
 
 pub returns-in-Some : goal.returns-in-Some

@@ -1,5 +1,5 @@
 use Rattle.std.proofs.Common.{◌∙◌, sym}
-use Rattle.hq_filter_rows.proofs.Cells.{cell_there, cell_beyond}
+use Rattle.hq_filter_rows.proofs.RowCells.{cell_there, cell_beyond}
 use Rattle.hq_filter_rows.proofs.cells.cell_at.Goals as goal
 
 pub returns-in-Some : goal.returns-in-Some

@@ -2,7 +2,7 @@ use Rattle.std.proofs.Common.{◌∙◌, sym, ap}
 use Rattle.hq_base.specs.Cells.{cell_of}
 use Rattle.hq_terms.specs.Logic.{equal, is_true}
 use Rattle.hq_filter_rows.specs.Equal.{is_equal}
-use Rattle.hq_filter_rows.proofs.Cells.{cell_there, cell_beyond, equal_values, none_equals}
+use Rattle.hq_filter_rows.proofs.RowCells.{cell_there, cell_beyond, equal_values, none_equals}
 use Rattle.hq_filter_rows.proofs.cells.equals_cell.Goals as goal
 
 pub returns-in-Some : goal.returns-in-Some
