@@ -1,5 +1,5 @@
 -- What `hq copy` writes: the named part of the copy of what a directory holds, for the session of the headers.
-use Rattle.std.specs.Prelude.{◌≡◌, ◌≢◌, ◌⊎◌, ℕ, List, Some, Result, Ok, Err}
+use Rattle.std.specs.Prelude.{◌≡◌, ◌≢◌, ◌⊎◌, ℕ, List, Some, Result, Ok, Err, ⊤}
 use Rattle.hq_base.specs.Due.{◌>>=◌}
 use Rattle.hq_commands.specs.Ending.{Output}
 use Rattle.hq_commands.specs.Refusals.{contents_due}
@@ -38,6 +38,11 @@ text_due session name c = of_copy name (copy_due c.tables c.meta session c.rows)
 abbrev pub copy_output : (dir name : List ℕ) → List Header → List File → Result Output Refusal
 copy_output dir name headers files =
     contents_due dir files >>= λ c. text_due (session_of headers) name c >>= λ text. Ok (record { done = Answered; bytes = Some text })
+
+-- tables in memory do not fail to be read
+abbrev pub NotFailed : CopyRefusal → Type 0
+NotFailed (copy.Failed before after) = ⊥
+NotFailed e = ⊤
 
 -- what a refusal is to the program: its cause, or want of memory
 abbrev pub OfCopy : CopyRefusal → Refusal → Type 0

@@ -4,7 +4,7 @@ ghost use Rattle.hq_base.specs.Due.{Gives};
 ghost use Rattle.hq_outside.specs.Causes.{Rose};
 ghost use Rattle.hq_commands.specs.Ending.{Ends, NotDatabase, Silent};
 ghost use Rattle.hq_commands.specs.declared.refusal.Refusal.TheVariants as refusal;
-ghost use Rattle.hq_copy_command.specs.Copying.{OfCopy, OfPart, copy_output, of_part, text_due};
+ghost use Rattle.hq_copy_command.specs.Copying.{NotFailed, OfCopy, OfPart, copy_output, of_part, text_due};
 ghost use Rattle.hq_copy_text.specs.Parts.{part_due};
 ghost use Rattle.hq_loading.specs.Loading.{loaded_view};
 ghost use Rattle.hq_redact.specs.Redacting.{Redacts, copy_due, redacted_view};
@@ -44,7 +44,8 @@ fn no_part(alloc: Global, refusal: PartRefusal) -> Refusal
 
 // The copy of what a directory holds.
 fn copy_of(alloc: Global, loaded: Loaded, session: &Session) -> Result<Redacted, CopyRefusal>
-    ensures { Redacts (copy_due (loaded_view loaded).tables (loaded_view loaded).meta session.now (loaded_view loaded).rows) result }
+    ensures due { Redacts (copy_due (loaded_view loaded).tables (loaded_view loaded).meta session.now (loaded_view loaded).rows) result }
+    ensures failed { IfErr result NotFailed }
 {
     let Loaded {
         catalog,

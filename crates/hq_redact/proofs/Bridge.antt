@@ -21,7 +21,7 @@ use Rattle.hq_terms.specs.Grants.{Grants, grant, grant_of, grants_of, no_grant}
 use Rattle.hq_terms.specs.Meta.{MetaTree}
 use Rattle.hq_terms.specs.Permission.{Permission, permission, role_of}
 use Rattle.hq_terms.specs.Permitted.{by_key, permitted, permitted_under}
-use Rattle.hq_terms.specs.Schema.{Schema, schema_of, numbered}
+use Rattle.hq_terms.specs.Schema.{Schema, SchemaTable, schema_of, numbered}
 use Rattle.hq_terms.specs.View.{View, view, seen_in}
 use Rattle.hq_terms.specs.declared.bind.BindRefusal.{BindRefusal}
 use Rattle.hq_terms.specs.declared.role.Role.{Role}
@@ -102,7 +102,7 @@ module _ (tables : List Table) (m : MetaTree) (session : Session) (d : List (Lis
   none_granted t none =
       let zeroth : 0 + t ≡ t = omega arith in
       let at : slice_get g t ≡ option_map (grant_of session m s t) (slice_get s t) = numbered-get (grant_of session m s) 0 s t ∙ ap (λ n. option_map (grant_of session m s n) (slice_get s t)) zeroth in
-      let go : (o : Option _) → slice_get s t ≡ o → slice_index_or g t None ≡ None =
+      let go : (o : Option SchemaTable) → slice_get s t ≡ o → slice_index_or g t None ≡ None =
       elim [
         | None ↦ λ e. absent g t None (at ∙ ap (option_map (grant_of session m s t)) e)
         | Some x ↦ λ e.

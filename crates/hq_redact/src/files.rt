@@ -36,7 +36,7 @@ fn is_null_text(value: &Val) -> bool
     ensures { result ≡ is_null_text value.now }
 {
     match value {
-        Val::Text(text) => text.as_bytes() == b"\\N",
+        Val::Text(text) => text.as_str() == "\\N",
         Val::Null | Val::Int(_) | Val::Bool(_) => false,
     }
 }

@@ -15,6 +15,3 @@ mod sizes;
 pub use redacted::Redacted;
 pub use redacting::redact;
 pub use sizes::full_name;
-
-#[test]
-fn nothing() {}
