@@ -77,8 +77,9 @@ pub fn copied_table(
 pub fn copied_tables(alloc: Global, original: &Original<'_>) -> Result<TableList, Memory>
     ensures { IfOk result (λ tables. tables ≡ copied_tables (role_in original.now) (meta_in original.now) (schema_in original.now)) }
 {
+    let sources = original.sources;
     let mut tables = List::new(alloc);
-    for source in original.sources {
+    for source in sources {
         tables.push(copied_table(alloc, original, source)?)?;
     }
     Ok(tables)

@@ -48,8 +48,9 @@ pub(crate) fn ends_of(
 ) -> Result<Vec<Extra>, Memory>
     ensures { IfOk result (λ ends. map extra_view ends.items ≡ ends_of (role_in original.now) (meta_in original.now) (schema_in original.now) t) }
 {
+    let links = original.links;
     let mut ends = Vec::new(alloc);
-    for (at, link) in original.links.iter().enumerate() {
+    for (at, link) in links.iter().enumerate() {
         push_ends(&original.scope, t, at + 1, *link, &mut ends)?;
     }
     Ok(ends)

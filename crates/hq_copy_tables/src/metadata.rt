@@ -202,8 +202,9 @@ fn copied_entry(
 pub fn copied_meta(alloc: Global, original: &Original<'_>) -> Result<Meta, Memory>
     ensures { IfOk result (λ meta. meta_view meta ≡ copied_meta (role_in original.now) (meta_in original.now) (schema_in original.now)) }
 {
+    let sources = original.sources;
     let mut tracked = List::new(alloc);
-    for (place, source) in original.sources.iter().enumerate() {
+    for (place, source) in sources.iter().enumerate() {
         tracked.push(copied_entry(alloc, original, place, source)?)?;
     }
     Ok(Meta {

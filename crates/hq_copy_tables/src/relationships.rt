@@ -47,8 +47,9 @@ pub fn kept_relationships(
 ) -> Result<Vec<RelId>, Memory>
     ensures { IfOk result (λ kept. kept.items ≡ kept_relationships role.now (meta_view scope.now.meta.now) (scope_schema scope.now) t) }
 {
+    let rels = relationships(scope, t);
     let mut kept = Vec::new(alloc);
-    for (at, rel) in relationships(scope, t).iter().enumerate() {
+    for (at, rel) in rels.iter().enumerate() {
         if is_seen(alloc, scope, role, rel.remote)? {
             kept.push(RelId::new(at))?;
         }

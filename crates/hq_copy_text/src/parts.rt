@@ -1,5 +1,5 @@
 //! The parts of a redacted copy.
-ghost use Rattle.std.specs.Prelude.{◌≡◌, IfOk, bytes_eq};
+ghost use Rattle.std.specs.Prelude.{◌≡◌, IfOk, bytes_eq, option_map};
 ghost use Rattle.hq_base.specs.Compact.{compact};
 ghost use Rattle.hq_base.specs.Due.{Gives};
 ghost use Rattle.hq_base.specs.Json.{json_view};
@@ -7,6 +7,7 @@ ghost use Rattle.hq_copy_text.specs.Parts.{part_due, part_text, table_text};
 ghost use Rattle.hq_copy_text.specs.declared.refusal.PartRefusal.TheVariants as refusal;
 ghost use Rattle.hq_redact.specs.Redacting.{redacted_view};
 ghost use Rattle.hq_terms.specs.Catalog.{full_name};
+ghost use Rattle.hq_written_tables.specs.Written.{file_of};
 
 use crate::PartRefusal;
 use crate::catalog::catalog_json;
@@ -14,6 +15,7 @@ use crate::metadata::meta_json;
 use crate::tables::file_of;
 use hq_base::{Bytes, Json, Memory, Txt};
 use hq_redact::{Redacted, full_name};
+use hq_tables::Rows;
 use hq_terms::Table;
 use std::alloc::Global;
 
@@ -36,14 +38,24 @@ fn is_named(alloc: Global, table: &Table, name: &Txt) -> Result<bool, Memory>
     Ok(full_name(alloc, table)? == *name)
 }
 
+// The file of a table with its rows, where there are any.
+fn file_at(alloc: Global, table: &Table, rows: Option<&Rows>) -> Result<Option<Bytes>, Memory>
+    ensures { IfOk result (λ text. text ≡ option_map (λ r. file_of table.now r.now) rows) }
+{
+    match rows {
+        Some(rows) => Ok(Some(file_of(alloc, table, rows)?)),
+        None => Ok(None),
+    }
+}
+
 // The text of a table, where the copy has one of this name.
 fn table_text(alloc: Global, copy: &Redacted, name: &Txt) -> Result<Option<Bytes>, Memory>
     ensures { IfOk result (λ text. text ≡ table_text copy.now.catalog.tables copy.now.rows name.now) }
 {
-    for (at, table) in copy.catalog.tables.as_slice().iter().enumerate() {
+    let tables = copy.catalog.tables.as_slice();
+    for (at, table) in tables.iter().enumerate() {
         if is_named(alloc, table, name)? {
-            let file = file_of(alloc, table, &copy.rows.as_slice()[at])?;
-            return Ok(Some(file));
+            return file_at(alloc, table, copy.rows.get(at));
         }
     }
     Ok(None)

@@ -24,7 +24,8 @@ fn permitted<'d>(
     ensures { IfOk result (λ lists. lists_of lists.items ≡ permitted_lists (schema_in original.now) (database_of tables.now) (map source_view original.now.sources.now) (map permission_view grants.now)) }
 {
     let mut lists = Vec::new(alloc);
-    for (at, source) in original.sources.iter().enumerate() {
+    let sources = original.sources;
+    for (at, source) in sources.iter().enumerate() {
         let Some(grant) = grants.get(at) else {
             return Ok(lists);
         };
@@ -50,7 +51,8 @@ fn copied(
         (rows_for (map source_view world.now.original.now.sources.now) (lists_of world.now.permitted.now)) (map source_view world.now.original.now.sources.now) (map permission_view grants.now) (lists_of world.now.permitted.now)) }
 {
     let mut all = Vec::new(alloc);
-    for (at, source) in world.original.sources.iter().enumerate() {
+    let sources = world.original.sources;
+    for (at, source) in sources.iter().enumerate() {
         let (Some(grant), Some(rows)) = (grants.get(at), world.permitted.get(at)) else {
             return Ok(all);
         };

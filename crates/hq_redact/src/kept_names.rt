@@ -136,7 +136,8 @@ fn check_own_names(
 pub fn check_kept_names(alloc: Global, original: &Original<'_>) -> Result<(), CopyRefusal>
     ensures { Refuses (first_of (own_name_refusal (role_in original.now) (meta_in original.now) (schema_in original.now)) (map source_view original.now.sources.now)) result }
 {
-    for source in original.sources {
+    let sources = original.sources;
+    for source in sources {
         check_own_names(alloc, original, source)?;
     }
     Ok(())

@@ -80,7 +80,8 @@ fn type_at(tables: &[Table], tracked: &Tracked, c: usize) -> Ty
 fn is_aggregated(tables: &[Table], tracked: &Tracked, aggregate: Aggregate) -> bool
     ensures { (m : MetaTree) → result ≡ is_aggregated (schema_of tables.now m) (tracked_view tracked.now) aggregate }
 {
-    for (c, name) in tracked.column_names.as_slice().iter().enumerate() {
+    let names = tracked.column_names.as_slice();
+    for (c, name) in names.iter().enumerate() {
         if is_free_name(name) && aggregate.is_of(type_at(tables, tracked, c)) {
             return true;
         }

@@ -83,7 +83,8 @@ fn check_key(
 pub fn check_keys(alloc: Global, original: &Original<'_>) -> Result<(), CopyRefusal>
     ensures { Refuses (first_of (masked_key_refusal (role_in original.now) (meta_in original.now) (schema_in original.now)) (map source_view original.now.sources.now)) result }
 {
-    for source in original.sources {
+    let sources = original.sources;
+    for source in sources {
         check_key(alloc, original, source)?;
     }
     Ok(())

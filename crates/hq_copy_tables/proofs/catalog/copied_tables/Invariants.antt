@@ -6,4 +6,4 @@ use Rattle.hq_copy_tables.proofs.catalog.copied_tables.Given as goal
 -- the tables so far
 abbrev pub invariant-loop-source : goal.invariant-loop-source
 invariant-loop-source l =
-    l.tables ≡ map (copied_table (role_in l.original) (meta_in l.original) (schema_in l.original)) (map source_view (take l.source-index l.source-items))
+    l.tables ≡ map (copied_table (role_in l.original) (meta_in l.original) (schema_in l.original)) (map source_view (take l.source-index l.sources))

@@ -9,4 +9,4 @@ use Rattle.hq_copy_tables.proofs.metadata.copied_meta.Given as goal
 abbrev pub invariant-loop-place : goal.invariant-loop-place
 invariant-loop-place l =
     let entry = copied_entry (role_in l.original) (meta_in l.original) (schema_in l.original) in
-    map tracked_view l.tracked ++ numbered entry l.place (map source_view (drop l.place l.source-items)) ≡ numbered entry 0 (map source_view l.source-items)
+    map tracked_view l.tracked ++ numbered entry l.place (map source_view (drop l.place l.sources)) ≡ numbered entry 0 (map source_view l.sources)

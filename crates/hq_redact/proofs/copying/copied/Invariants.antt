@@ -11,5 +11,5 @@ abbrev pub invariant-loop-at : goal.invariant-loop-at
 invariant-loop-at l =
     let o = l.world.original.now in
     let lists = direct_lists (role_in o) (meta_in o) (schema_in o) (database_of l.world.tables.now) (rows_for (map source_view o.sources.now) (lists_of l.world.permitted.now)) in
-    l.all.items ++ lists (map source_view (drop l.at l.source-items)) (map permission_view (drop l.at l.grants)) (lists_of (drop l.at l.world.permitted.now))
-    ≡ lists (map source_view l.source-items) (map permission_view l.grants) (lists_of l.world.permitted.now)
+    l.all.items ++ lists (map source_view (drop l.at l.sources)) (map permission_view (drop l.at l.grants)) (lists_of (drop l.at l.world.permitted.now))
+    ≡ lists (map source_view l.sources) (map permission_view l.grants) (lists_of l.world.permitted.now)

@@ -10,4 +10,4 @@ use Rattle.hq_redact.proofs.copying.permitted.Given as goal
 abbrev pub invariant-loop-at : goal.invariant-loop-at
 invariant-loop-at l =
     let lists = permitted_lists (schema_in l.original) (database_of l.tables) in
-    lists_of l.lists.items ++ lists (map source_view (drop l.at l.source-items)) (map permission_view (drop l.at l.grants)) ≡ lists (map source_view l.source-items) (map permission_view l.grants)
+    lists_of l.lists.items ++ lists (map source_view (drop l.at l.sources)) (map permission_view (drop l.at l.grants)) ≡ lists (map source_view l.sources) (map permission_view l.grants)

@@ -5,4 +5,4 @@ use Rattle.hq_redact.proofs.files.check_files.Given as goal
 -- none of the tables so far is refused
 abbrev pub invariant-loop-at : goal.invariant-loop-at
 invariant-loop-at l =
-    files_of (drop l.at l.table-items) (drop l.at l.rows) ≡ files_of l.table-items l.rows
+    files_of (drop l.at l.tables) (drop l.at l.rows) ≡ files_of l.tables l.rows

@@ -8,4 +8,4 @@ use Rattle.hq_redact.proofs.numbers.from_number.Given as goal
 -- none of the rows so far is linked
 abbrev pub invariant-loop-at : goal.invariant-loop-at
 invariant-loop-at l =
-    position_from (linked_by l.pairs l.row) (l.at + 1) (rows_of (drop l.at l.far-items)) ≡ from_number (linked_by l.pairs) (rows_of l.far-items) l.row
+    position_from (linked_by l.pairs l.row) (l.at + 1) (rows_of (drop l.at l.remote)) ≡ from_number (linked_by l.pairs) (rows_of l.remote) l.row

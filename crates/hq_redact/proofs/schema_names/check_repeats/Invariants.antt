@@ -5,4 +5,4 @@ use Rattle.hq_redact.proofs.schema_names.check_repeats.Given as goal
 -- no name so far stands among those before it
 abbrev pub invariant-loop-at : goal.invariant-loop-at
 invariant-loop-at l =
-    repeated_after (take l.at l.name-items) (drop l.at l.name-items) ≡ repeated_after [] l.name-items
+    repeated_after (take l.at l.names) (drop l.at l.names) ≡ repeated_after [] l.names

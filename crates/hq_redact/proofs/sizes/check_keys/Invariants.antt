@@ -7,4 +7,4 @@ use Rattle.hq_redact.proofs.sizes.check_keys.Given as goal
 abbrev pub invariant-loop-source : goal.invariant-loop-source
 invariant-loop-source l =
     let refused = first_of (masked_key_refusal (role_in l.original) (meta_in l.original) (schema_in l.original)) in
-    refused (map source_view (drop l.source-index l.source-items)) ≡ refused (map source_view l.source-items)
+    refused (map source_view (drop l.source-index l.sources)) ≡ refused (map source_view l.sources)
