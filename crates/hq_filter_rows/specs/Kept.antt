@@ -9,9 +9,13 @@ use Rattle.hq_terms.specs.Seen.{all_of, linked_by, table_rows}
 use Rattle.hq_terms.specs.Truth.{keeps, truth}
 use Rattle.hq_terms.specs.declared.meta.Pair.{Pair}
 
--- some row of a table that is linked to a row by these pairs meets an expression
+-- a row of table u is linked to a row by these pairs, and meets an expression
+abbrev pub is_met : BexpTree → Schema → List (List Row) → ℕ → List Pair → Row → (far : Row) → Bool
+is_met b s d u ps row far = linked_by ps row far && is_true (truth b s (all_of s d) u far)
+
+-- some row of the table is
 abbrev pub some_kept : BexpTree → Schema → List (List Row) → ℕ → List Pair → Row → Bool
-some_kept b s d u ps row = list_any (λ far. linked_by ps row far && is_true (truth b s (all_of s d) u far)) (table_rows d u)
+some_kept b s d u ps row = list_any (is_met b s d u ps row) (table_rows d u)
 
 -- those of some rows of a table that meet an expression
 abbrev pub kept_rows : BexpTree → Schema → List (List Row) → ℕ → List Row → List Row

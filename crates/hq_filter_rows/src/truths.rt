@@ -1,6 +1,7 @@
 //! The truth of a bound filter at a row, over all of a database (Hasura, boolean expressions).
 ghost use Rattle.std.specs.Prelude.{◌≡◌, map, IfOk};
-ghost use Rattle.hq_filter_rows.specs.Kept.{some_kept};
+ghost use Rattle.std.specs.List.{list_any};
+ghost use Rattle.hq_filter_rows.specs.Kept.{is_met, some_kept};
 ghost use Rattle.hq_filter_rows.specs.Lent.{database_of};
 ghost use Rattle.hq_sql_cells.specs.View.{cell_view};
 ghost use Rattle.hq_terms.specs.Bexp.{bexp_view, bexps_of, operands_of};
@@ -175,7 +176,49 @@ fn any_true(
     Ok(any)
 }
 
-// Whether a filter is true at some row of a table among those that are linked to a row by these pairs.
+// Whether a row is linked to a row by these pairs, and a filter is true at it.
+#[cycle(truth)]
+fn is_met(
+    alloc: Global,
+    bexp: &Bexp,
+    scope: &Scope<'_>,
+    tables: &[&Rows],
+    u: TableId,
+    pairs: &[Pair],
+    row: &[Val],
+    far: &[Val],
+) -> Result<bool, Memory>
+    ensures { IfOk result (λ b. b ≡ is_met (bexp_view bexp.now) (scope_schema scope.now) (database_of tables.now) u pairs.now row.now far.now) }
+{
+    if !are_linked(pairs, row, far) {
+        return Ok(false);
+    }
+    Ok(truth(alloc, bexp, scope, tables, u, far)?.is_yes())
+}
+
+// Whether a filter is true at some of these rows, among those that are linked to a row by these pairs.
+#[cycle(truth)]
+fn some_met(
+    alloc: Global,
+    bexp: &Bexp,
+    scope: &Scope<'_>,
+    tables: &[&Rows],
+    u: TableId,
+    pairs: &[Pair],
+    row: &[Val],
+    rows: &Rows,
+) -> Result<bool, Memory>
+    ensures { IfOk result (λ b. b ≡ list_any (is_met (bexp_view bexp.now) (scope_schema scope.now) (database_of tables.now) u pairs.now row.now) rows.now) }
+{
+    for at in 0..rows.len() {
+        if is_met(alloc, bexp, scope, tables, u, pairs, row, rows.row(at))? {
+            return Ok(true);
+        }
+    }
+    Ok(false)
+}
+
+// The same of the rows of a table.
 #[cycle(truth)]
 fn some_row(
     alloc: Global,
@@ -188,14 +231,11 @@ fn some_row(
 ) -> Result<Truth, Memory>
     ensures { IfOk result (λ found. found ≡ truth_of (some_kept (bexp_view bexp.now) (scope_schema scope.now) (database_of tables.now) u pairs.now row.now)) }
 {
-    let Some(rows) = rows_at(tables, u) else {
-        return Ok(Truth::No);
-    };
-    for at in 0..rows.len() {
-        let far = rows.row(at);
-        if are_linked(pairs, row, far) && truth(alloc, bexp, scope, tables, u, far)?.is_yes() {
-            return Ok(Truth::Yes);
+    match rows_at(tables, u) {
+        Some(rows) => {
+            let met = some_met(alloc, bexp, scope, tables, u, pairs, row, rows)?;
+            Ok(Truth::of(met))
         }
+        None => Ok(Truth::No),
     }
-    Ok(Truth::No)
 }

@@ -7,9 +7,9 @@ use Rattle.hq_filter_rows.proofs.cells.are_equal.Goals as goal
 pub returns-in-Some : goal.returns-in-Some
 returns-in-Some c =
     let own = row_cell c.args.row.now c.args.pair.own in
-    c.equals_cell.ensures ∙ ap (λ d. is_true (equal d own)) (sym (cell_there c.args.far.now c.args.pair.remote c.in-Some.value.now (sym c.in-Some.ensures)))
+    c.equals_cell.ensures ∙ ap (λ d. is_true (equal d own)) (sym (cell_there c.args.far.now c.at.result c.args.pair.remote c.in-Some.value.now c.at.ensures c.in-Some.ensures.lookup.3.0 c.in-Some.ensures.lookup.1))
 
 pub returns-in-None : goal.returns-in-None
 returns-in-None c =
     let own = row_cell c.args.row.now c.args.pair.own in
-    sym (ap (λ d. is_true (equal d own)) (cell_beyond c.args.far.now c.args.pair.remote (sym c.in-None.ensures)) ∙ null_equals own)
+    sym (ap (λ d. is_true (equal d own)) (cell_beyond c.args.far.now c.at.result c.args.pair.remote c.at.ensures c.in-None.ensures.lookup.3) ∙ null_equals own)

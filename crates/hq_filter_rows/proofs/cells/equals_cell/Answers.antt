@@ -10,9 +10,9 @@ returns-in-Some c =
     let v = c.args.value.now in
     let own = c.in-Some.own.now in
     c.is_equal.ensures ∙ ap is_equal c.compare.ensures ∙ equal_values v own
-    ∙ ap (λ d. is_true (equal (cell_of v) d)) (sym (cell_there c.args.row.now c.args.column own (sym c.in-Some.ensures)))
+    ∙ ap (λ d. is_true (equal (cell_of v) d)) (sym (cell_there c.args.row.now c.at.result c.args.column own c.at.ensures c.in-Some.ensures.lookup.3.0 c.in-Some.ensures.lookup.1))
 
 pub returns-in-None : goal.returns-in-None
 returns-in-None c =
     let v = c.args.value.now in
-    sym (ap (λ d. is_true (equal (cell_of v) d)) (cell_beyond c.args.row.now c.args.column (sym c.in-None.ensures)) ∙ none_equals (cell_of v))
+    sym (ap (λ d. is_true (equal (cell_of v) d)) (cell_beyond c.args.row.now c.at.result c.args.column c.at.ensures c.in-None.ensures.lookup.3) ∙ none_equals (cell_of v))
