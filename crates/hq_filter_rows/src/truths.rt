@@ -118,11 +118,7 @@ pub fn truth(
             operands,
             negated,
         } => tested(alloc, &cell_at(row, *col), *test, operands, *negated),
-        Bexp::Through { rel, inner } => {
-            let pairs = pairs_of(scope, t, *rel);
-            let remote = scope.remote(t, *rel);
-            some_row(alloc, inner, scope, tables, remote, pairs, row)
-        }
+        Bexp::Through { rel, inner } => related(alloc, inner, scope, tables, t, *rel, row),
         Bexp::Exists { table, inner } => {
             some_row(alloc, inner, scope, tables, *table, &[], row)
         }
@@ -130,6 +126,24 @@ pub fn truth(
             compared(alloc, *op, &cell_at(row, *left), &cell_at(row, *right))
         }
     }
+}
+
+// Whether a filter is true at some row behind a relationship.
+#[cycle(truth)]
+fn related(
+    alloc: Global,
+    bexp: &Bexp,
+    scope: &Scope<'_>,
+    tables: &[&Rows],
+    t: TableId,
+    r: RelId,
+    row: &[Val],
+) -> Result<Truth, Memory>
+    ensures { IfOk result (λ found. found ≡ truth_of (some_kept (bexp_view bexp.now) (scope_schema scope.now) (database_of tables.now) (rel (scope_schema scope.now) t r).remote (rel (scope_schema scope.now) t r).pairs row.now)) }
+{
+    let pairs = pairs_of(scope, t, r);
+    let remote = scope.remote(t, r);
+    some_row(alloc, bexp, scope, tables, remote, pairs, row)
 }
 
 // AND of a list, which ends where one is false.
