@@ -68,12 +68,7 @@ fn part_of(alloc: Global, copy: &Redacted, name: &Txt) -> Result<Bytes, Refusal>
 }
 
 // The text of a part of the copy of what a directory holds.
-fn text_of(
-    alloc: Global,
-    loaded: Loaded,
-    session: &Session,
-    name: &Txt,
-) -> Result<Bytes, Refusal>
+fn text_of(alloc: Global, loaded: Loaded, session: &Session, name: &Txt) -> Result<Bytes, Refusal>
     ensures { Gives (λ text. text) refusal.Memory (text_due session.now name.now (loaded_view loaded)) result }
 {
     match copy_of(alloc, loaded, session) {

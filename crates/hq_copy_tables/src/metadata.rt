@@ -15,8 +15,8 @@ use crate::relationships::kept_relationships;
 use crate::{Link, Original, Source};
 use hq_base::{List, Memory, Txt};
 use hq_terms::{
-    Bexp, ColId, ColList, Meta, Pair, PairList, Perm, PermList, PermView, Rel, RelList,
-    TableId, Tracked, TryCopy, TxtList,
+    Bexp, ColId, ColList, Meta, Pair, PairList, Perm, PermList, PermView, Rel, RelList, TableId,
+    Tracked, TryCopy, TxtList,
 };
 use std::alloc::Global;
 

@@ -68,11 +68,7 @@ fn sort_members(members: &mut Members) -> Result<(), Memory>
 }
 
 // The shown columns with their GraphQL names.
-fn shown_configs(
-    alloc: Global,
-    tracked: &Tracked,
-    columns: &[Column],
-) -> Result<Members, Memory>
+fn shown_configs(alloc: Global, tracked: &Tracked, columns: &[Column]) -> Result<Members, Memory>
     ensures { IfOk result (λ members. map member_view members.items ≡ map (column_config (tracked_view tracked.now) columns.now) (shown_columns (tracked_view tracked.now) columns.now)) }
 {
     let mut members = Vec::new(alloc);
@@ -116,11 +112,7 @@ fn roots_json(alloc: Global, roots: &RootNames) -> Result<Json, Memory>
 }
 
 // The GraphQL names of a table.
-fn configuration_json(
-    alloc: Global,
-    tracked: &Tracked,
-    columns: &[Column],
-) -> Result<Json, Memory>
+fn configuration_json(alloc: Global, tracked: &Tracked, columns: &[Column]) -> Result<Json, Memory>
     ensures { IfOk result (λ json. json_view json ≡ configuration_json (tracked_view tracked.now) columns.now) }
 {
     let configs = column_configs(alloc, tracked, columns)?;

@@ -13,11 +13,7 @@ use hq_terms::{Column, Perm};
 use std::alloc::Global;
 
 // The most rows of a list, where there is a limit, behind other members.
-fn push_limit(
-    alloc: Global,
-    limit: Option<u64>,
-    members: &mut Members,
-) -> Result<(), Memory>
+fn push_limit(alloc: Global, limit: Option<u64>, members: &mut Members) -> Result<(), Memory>
     ensures { OnOk result (map member_view members.new.items ≡ map member_view members.old.items ++ limit_member limit) }
 {
     match limit {

@@ -46,12 +46,7 @@ fn mapping_json(
 }
 
 // The remote table, and the pairs.
-fn link_json(
-    alloc: Global,
-    tables: &[Table],
-    own: &[Column],
-    rel: &Rel,
-) -> Result<Json, Memory>
+fn link_json(alloc: Global, tables: &[Table], own: &[Column], rel: &Rel) -> Result<Json, Memory>
     ensures { IfOk result (λ json. json_view json ≡ link_json tables.now own.now rel.now) }
 {
     let remote = columns_of(tables, rel.remote);
@@ -64,12 +59,7 @@ fn link_json(
 }
 
 // A relationship.
-fn rel_json(
-    alloc: Global,
-    tables: &[Table],
-    own: &[Column],
-    rel: &Rel,
-) -> Result<Json, Memory>
+fn rel_json(alloc: Global, tables: &[Table], own: &[Column], rel: &Rel) -> Result<Json, Memory>
     ensures { IfOk result (λ json. json_view json ≡ rel_json tables.now own.now rel.now) }
 {
     let link = link_json(alloc, tables, own, rel)?;

@@ -30,23 +30,13 @@ fn permitted<'d>(
             return Ok(lists);
         };
         let scope = &original.scope;
-        lists.push(permitted_rows(
-            alloc,
-            grant,
-            scope,
-            tables,
-            source.entry.table,
-        )?)?;
+        lists.push(permitted_rows(alloc, grant, scope, tables, source.entry.table)?)?;
     }
     Ok(lists)
 }
 
 // The rows of each table of the copy.
-fn copied(
-    alloc: Global,
-    world: &World<'_>,
-    grants: &[PermView],
-) -> Result<Vec<RowList>, Memory>
+fn copied(alloc: Global, world: &World<'_>, grants: &[PermView]) -> Result<Vec<RowList>, Memory>
     ensures { IfOk result (λ all. all.items ≡ direct_lists (role_in world.now.original.now) (meta_in world.now.original.now) (schema_in world.now.original.now) (database_of world.now.tables.now)
         (rows_for (map source_view world.now.original.now.sources.now) (lists_of world.now.permitted.now)) (map source_view world.now.original.now.sources.now) (map permission_view grants.now) (lists_of world.now.permitted.now)) }
 {

@@ -80,11 +80,7 @@ fn check_file(alloc: Global, table: &Table, rows: &RowList) -> Result<(), CopyRe
 }
 
 /// Refuses the first table whose file would not give it back.
-pub fn check_files(
-    alloc: Global,
-    tables: &[Table],
-    rows: &[RowList],
-) -> Result<(), CopyRefusal>
+pub fn check_files(alloc: Global, tables: &[Table], rows: &[RowList]) -> Result<(), CopyRefusal>
     ensures { Refuses (files_of tables.now rows.now) result }
 {
     for (at, table) in tables.iter().enumerate() {

@@ -79,11 +79,7 @@ fn check_column(
 }
 
 // Refuses the names of copied columns, the first first.
-fn check_columns(
-    alloc: Global,
-    scope: &Scope<'_>,
-    source: &Source<'_>,
-) -> Result<(), CopyRefusal>
+fn check_columns(alloc: Global, scope: &Scope<'_>, source: &Source<'_>) -> Result<(), CopyRefusal>
     ensures { Refuses (first_of (column_refusal (scope_schema scope.now) (source_view source.now)) (source_view source.now).permission.columns) result }
 {
     for c in source.permission.cols.as_slice() {

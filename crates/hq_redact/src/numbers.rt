@@ -23,12 +23,7 @@ pub fn from_number(pairs: &[Pair], row: &[Val], remote: &[&[Val]]) -> Option<usi
 }
 
 /// The number of the first own row that is linked to a remote row.
-pub fn to_number(
-    pairs: &[Pair],
-    own: &[&[Val]],
-    remote: &[&[Val]],
-    far: &[Val],
-) -> Option<usize>
+pub fn to_number(pairs: &[Pair], own: &[&[Val]], remote: &[&[Val]], far: &[Val]) -> Option<usize>
     ensures number { result ≡ first_from (linked_by pairs.now) (rows_of own.now) (rows_of remote.now) far.now }
     ensures within { IfSome result (λ n. n < 2 ^ 63) }
 {

@@ -60,11 +60,7 @@ fn check_plan(
 }
 
 // What a copy is to hold, where neither catalog, metadata nor session refuse it.
-fn planned(
-    alloc: Global,
-    original: &Original<'_>,
-    session: &Session,
-) -> Result<Plan, CopyRefusal>
+fn planned(alloc: Global, original: &Original<'_>, session: &Session) -> Result<Plan, CopyRefusal>
     ensures plan { IfOk result (PlannedFor (role_in original.now) (meta_in original.now) (schema_in original.now) session.now.vars) }
     ensures refused { Refuses (or_else (refusal_in (granted_due (schema_in original.now) session.now.vars (sources (role_in original.now) (meta_in original.now)))) (described_refusal (role_in original.now) (meta_in original.now) (schema_in original.now))) result }
 {
@@ -80,11 +76,7 @@ fn planned(
 }
 
 // The rows of tables, each valid for its table.
-fn rows_list(
-    alloc: Global,
-    catalog: &Catalog,
-    lists: Vec<RowList>,
-) -> Result<RowsList, Memory>
+fn rows_list(alloc: Global, catalog: &Catalog, lists: Vec<RowList>) -> Result<RowsList, Memory>
     requires { is_database catalog.now.tables lists.items ≡ true }
     ensures { IfOk result (λ rows. rows ≡ lists.items) }
 {

@@ -81,15 +81,7 @@ fn shown_values(
     let scope = &world.original.scope;
     let mut values = List::new(alloc);
     for column in source.permission.cols.as_slice() {
-        values.push(shown_value(
-            alloc,
-            permission,
-            scope,
-            world.tables,
-            t,
-            row,
-            *column,
-        )?)?;
+        values.push(shown_value(alloc, permission, scope, world.tables, t, row, *column)?)?;
     }
     Ok(values)
 }

@@ -49,12 +49,7 @@ fn fixed_types(alloc: Global) -> Result<TxtList, Memory>
 }
 
 // The types of rows, or of aggregates, of a table of this name, behind others.
-fn push_parts(
-    alloc: Global,
-    name: &Txt,
-    parts: &[Part],
-    names: &mut TxtList,
-) -> Result<(), Memory>
+fn push_parts(alloc: Global, name: &Txt, parts: &[Part], names: &mut TxtList) -> Result<(), Memory>
     ensures { OnOk result (names.new ≡ names.old ++ map (λ p. name.now ++ part_suffix p) parts.now) }
 {
     for part in parts {
@@ -229,11 +224,7 @@ fn check_repeats(alloc: Global, names: &[Txt]) -> Result<(), CopyRefusal>
 }
 
 /// Refuses the first name that two types, or two root fields, would have in the schema of these tables for `admin`.
-pub fn check_schema_names(
-    alloc: Global,
-    tables: &[Table],
-    meta: &Meta,
-) -> Result<(), CopyRefusal>
+pub fn check_schema_names(alloc: Global, tables: &[Table], meta: &Meta) -> Result<(), CopyRefusal>
     ensures { Refuses (schema_name_refusal (schema_of tables.now (meta_view meta.now)) (meta_view meta.now)) result }
 {
     let types = all_types(alloc, tables, meta)?;

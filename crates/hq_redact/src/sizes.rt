@@ -35,11 +35,7 @@ fn has_masked_key(permission: &PermView, key: &[ColId]) -> bool
 }
 
 // The name of a table of the copy, as it is told.
-fn told_name(
-    alloc: Global,
-    original: &Original<'_>,
-    source: &Source<'_>,
-) -> Result<Txt, Memory>
+fn told_name(alloc: Global, original: &Original<'_>, source: &Source<'_>) -> Result<Txt, Memory>
     ensures { IfOk result (λ name. name ≡ told_name (role_in original.now) (meta_in original.now) (schema_in original.now) (source_view source.now)) }
 {
     let table = copied_table(alloc, original, source)?;
@@ -65,11 +61,7 @@ fn too_wide(alloc: Global, table: &Table) -> CopyRefusal
 }
 
 // Refuses a table whose key is masked.
-fn check_key(
-    alloc: Global,
-    original: &Original<'_>,
-    source: &Source<'_>,
-) -> Result<(), CopyRefusal>
+fn check_key(alloc: Global, original: &Original<'_>, source: &Source<'_>) -> Result<(), CopyRefusal>
     ensures { Refuses (masked_key_refusal (role_in original.now) (meta_in original.now) (schema_in original.now) (source_view source.now)) result }
 {
     let key = key_of(&original.scope, source.entry.table);
