@@ -119,9 +119,7 @@ pub fn truth(
             negated,
         } => tested(alloc, &cell_at(row, *col), *test, operands, *negated),
         Bexp::Through { rel, inner } => related(alloc, inner, scope, tables, t, *rel, row),
-        Bexp::Exists { table, inner } => {
-            some_row(alloc, inner, scope, tables, *table, &[], row)
-        }
+        Bexp::Exists { table, inner } => { some_row(alloc, inner, scope, tables, *table, &[], row) }
         Bexp::Columns { left, op, right } => {
             compared(alloc, *op, &cell_at(row, *left), &cell_at(row, *right))
         }

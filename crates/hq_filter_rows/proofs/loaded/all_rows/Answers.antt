@@ -1,4 +1,4 @@
-use Rattle.std.proofs.Common.{◌≡◌, length, map, ap, arith}
+use Rattle.std.proofs.Common.{◌≡◌, length, ap, arith}
 use Rattle.std.proofs.lemmas.List.{length-map}
 use Rattle.hq_filter_rows.specs.Lent.{database_of}
 use Rattle.hq_filter_rows.proofs.Tables.{told_rows, valid_rows}
