@@ -1,0 +1,20 @@
+//! What is copied, and for whom.
+ghost use Rattle.std.specs.Prelude.{◌≡◌, map};
+ghost use Rattle.hq_copied.specs.Sources.{links, sources};
+ghost use Rattle.hq_copy_tables.specs.Views.{link_view, source_view};
+ghost use Rattle.hq_terms.specs.Meta.{meta_view};
+ghost use Rattle.hq_terms.specs.Scope.{scope_schema};
+
+use crate::{Link, Source};
+use hq_terms::{Role, Scope};
+
+/// A database's catalog and metadata, and of them what a role may see: the tables, and the links between them.
+#[derive(Drop)]
+pub struct Original<'a> {
+    pub scope: Scope<'a>,
+    pub role: &'a Role,
+    pub sources: &'a [Source<'a>],
+    pub links: &'a [Link],
+    ghost seen: { map source_view sources.now ≡ sources role.now (meta_view scope.meta.now) },
+    ghost linked: { map link_view links.now ≡ links role.now (meta_view scope.meta.now) (scope_schema scope) },
+}

@@ -1,0 +1,15 @@
+//! The texts of a redacted copy's files: the catalog, the metadata, and a table as CSV.
+#![tactic(auto)]
+
+mod building;
+mod catalog;
+mod columns;
+mod metadata;
+mod parts;
+mod permissions;
+mod refusal;
+mod relationships;
+mod tables;
+
+pub use parts::part;
+pub use refusal::PartRefusal;
