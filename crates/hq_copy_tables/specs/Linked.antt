@@ -1,9 +1,9 @@
 -- The links of tables, table by table.
 use Rattle.std.specs.Prelude.{ℕ, List, map, flat_map}
-use Rattle.hq_copied.specs.Sources.{Source, Link, kept_relationships}
-use Rattle.hq_terms.specs.Meta.{MetaTree}
-use Rattle.hq_terms.specs.Schema.{Schema}
-use Rattle.hq_terms.specs.declared.role.Role.{Role}
+use Rattle.hq_copy_definition.specs.Sources.{Source, Link, kept_relationships}
+use Rattle.hq_model.specs.Meta.{MetaTree}
+use Rattle.hq_model.specs.Schema.{Schema}
+use Rattle.hq_model.specs.declared.role.Role.{Role}
 
 -- the links of a table
 abbrev pub links_at : Role → MetaTree → Schema → ℕ → List Link

@@ -1,16 +1,16 @@
 -- What the parts of a copy in memory are seen as.
-use Rattle.hq_copied.specs.Extras as tree
-use Rattle.hq_copied.specs.Sources as copy
+use Rattle.hq_copy_definition.specs.Extras as tree
+use Rattle.hq_copy_definition.specs.Sources as copy
 use Rattle.hq_copy_tables.specs.declared.extras.Extra.{Extra}
 use Rattle.hq_copy_tables.specs.declared.extras.Extra.TheVariants as extra
 use Rattle.hq_copy_tables.specs.declared.linked.Link.{Link}
 use Rattle.hq_copy_tables.specs.declared.original.Original.{Original}
 use Rattle.hq_copy_tables.specs.declared.seen.Source.{Source}
-use Rattle.hq_terms.specs.Meta.{MetaTree, meta_view, tracked_view}
-use Rattle.hq_terms.specs.PermView.{permission_view}
-use Rattle.hq_terms.specs.Schema.{Schema}
-use Rattle.hq_terms.specs.Scope.{scope_schema}
-use Rattle.hq_terms.specs.declared.role.Role.{Role}
+use Rattle.hq_model.specs.Meta.{MetaTree, meta_view, tracked_view}
+use Rattle.hq_model.specs.PermView.{permission_view}
+use Rattle.hq_model.specs.Schema.{Schema}
+use Rattle.hq_model.specs.Scope.{scope_schema}
+use Rattle.hq_model.specs.declared.role.Role.{Role}
 
 -- a table of the copy
 abbrev pub source_view : Source → copy.Source

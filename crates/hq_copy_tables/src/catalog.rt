@@ -1,17 +1,17 @@
 //! The catalog of a copy.
 ghost use Rattle.std.specs.Prelude.{◌≡◌, IfOk, map};
-ghost use Rattle.hq_copied.specs.Sources.{place_in};
-ghost use Rattle.hq_copied.specs.Tables.{copied_key, copied_table, copied_tables};
+ghost use Rattle.hq_copy_definition.specs.Sources.{place_in};
+ghost use Rattle.hq_copy_definition.specs.Tables.{copied_key, copied_table, copied_tables};
 ghost use Rattle.hq_copy_tables.specs.Views.{meta_in, role_in, schema_in, source_view};
-ghost use Rattle.hq_terms.specs.Schema.{table};
-ghost use Rattle.hq_terms.specs.Scope.{scope_schema};
+ghost use Rattle.hq_model.specs.Schema.{table};
+ghost use Rattle.hq_model.specs.Scope.{scope_schema};
 
 use crate::columns::copied_columns;
 use crate::extras::{ends_of, key_of};
 use crate::places::place_in;
 use crate::{Original, Source, keeps_key};
 use hq_base::{List, Memory, Txt};
-use hq_terms::{ColId, ColList, Scope, Table, TableId, TableList};
+use hq_model::{ColId, ColList, Scope, Table, TableId, TableList};
 use std::alloc::Global;
 
 // The places of these columns among the permitted ones.

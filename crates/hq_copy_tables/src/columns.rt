@@ -1,16 +1,16 @@
 //! The columns of a table of a copy.
 ghost use Rattle.std.specs.Prelude.{◌≡◌, ◌++◌, IfOk, OnOk, map};
-ghost use Rattle.hq_copied.specs.Extras.{extra_column};
-ghost use Rattle.hq_copied.specs.Tables.{copied_column, copied_columns};
+ghost use Rattle.hq_copy_definition.specs.Extras.{extra_column};
+ghost use Rattle.hq_copy_definition.specs.Tables.{copied_column, copied_columns};
 ghost use Rattle.hq_copy_tables.specs.Views.{extra_view, meta_in, role_in, schema_in, source_view};
-ghost use Rattle.hq_terms.specs.PermView.{permission_view};
-ghost use Rattle.hq_terms.specs.Schema.{column};
-ghost use Rattle.hq_terms.specs.Scope.{scope_schema};
+ghost use Rattle.hq_model.specs.PermView.{permission_view};
+ghost use Rattle.hq_model.specs.Schema.{column};
+ghost use Rattle.hq_model.specs.Scope.{scope_schema};
 
 use crate::extras::{Extra, extra_column, extras_of};
 use crate::{Original, Source, has_mask};
 use hq_base::{List, Memory, Txt, Ty};
-use hq_terms::{ColId, Column, ColumnList, PermView, Scope, TableId, TryCopy};
+use hq_model::{ColId, Column, ColumnList, PermView, Scope, TableId, TryCopy};
 use std::alloc::Global;
 
 // A column of a table: a nullable text of no name where it is not there.

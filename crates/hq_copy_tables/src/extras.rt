@@ -2,15 +2,15 @@
 ghost use Rattle.std.specs.Prelude.{◌≡◌, ◌++◌, IfOk, OnOk, map, string_bytes, false, codes};
 ghost use Rattle.std.specs.Fmt.{decimal};
 ghost use Rattle.hq_base.specs.Text.{has_zero};
-ghost use Rattle.hq_copied.specs.Extras.{ends_at, ends_of, extra_column, extra_name, extras_of, is_nullable};
+ghost use Rattle.hq_copy_definition.specs.Extras.{ends_at, ends_of, extra_column, extra_name, extras_of, is_nullable};
 ghost use Rattle.hq_copy_tables.specs.Views.{extra_view, link_view, meta_in, role_in, schema_in, source_view};
-ghost use Rattle.hq_terms.specs.Schema.{table};
-ghost use Rattle.hq_terms.specs.Scope.{scope_schema};
+ghost use Rattle.hq_model.specs.Schema.{table};
+ghost use Rattle.hq_model.specs.Scope.{scope_schema};
 
 use crate::linked::link_remote;
 use crate::{Link, Original, Source, keeps_key};
 use hq_base::{Memory, Txt, Ty};
-use hq_terms::{ColId, Column, Scope, TableId};
+use hq_model::{ColId, Column, Scope, TableId};
 use std::alloc::Global;
 
 /// An added column: the own end of the link of this number, its remote end, or the position of the row.

@@ -1,15 +1,15 @@
 //! The relationships between tables of a copy.
 ghost use Rattle.std.specs.Prelude.{◌≡◌, ◌++◌, IfOk, OnOk, map};
-ghost use Rattle.hq_copied.specs.Sources.{kept_relationships, link_remote, same_link};
+ghost use Rattle.hq_copy_definition.specs.Sources.{kept_relationships, link_remote, same_link};
 ghost use Rattle.hq_copy_tables.specs.Linked.{links_at, links_over};
 ghost use Rattle.hq_copy_tables.specs.Views.{link_view, source_view};
-ghost use Rattle.hq_terms.specs.Meta.{meta_view};
-ghost use Rattle.hq_terms.specs.Scope.{scope_schema};
+ghost use Rattle.hq_model.specs.Meta.{meta_view};
+ghost use Rattle.hq_model.specs.Scope.{scope_schema};
 
 use crate::Source;
 use crate::relationships::kept_relationships;
 use hq_base::Memory;
-use hq_terms::{RelId, Role, Scope, TableId};
+use hq_model::{RelId, Role, Scope, TableId};
 use std::alloc::Global;
 
 /// A relationship of a table of the copy, by the places of both in the original.

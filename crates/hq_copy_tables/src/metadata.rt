@@ -1,12 +1,12 @@
 //! The metadata of a copy.
 ghost use Rattle.std.specs.Prelude.{◌≡◌, ◌++◌, ◌∷◌, [], IfOk, OnOk, map, slice_index_or};
-ghost use Rattle.hq_copied.specs.Extras.{extra_name};
-ghost use Rattle.hq_copied.specs.Metadata.{copied_entry, copied_meta, copied_names, copied_pair, copied_rel, from_place, places, reader, reader_permission, to_place, width};
-ghost use Rattle.hq_copied.specs.Sources.{kept_relationships, link_remote};
+ghost use Rattle.hq_copy_definition.specs.Extras.{extra_name};
+ghost use Rattle.hq_copy_definition.specs.Metadata.{copied_entry, copied_meta, copied_names, copied_pair, copied_rel, from_place, places, reader, reader_permission, to_place, width};
+ghost use Rattle.hq_copy_definition.specs.Sources.{kept_relationships, link_remote};
 ghost use Rattle.hq_copy_tables.specs.Views.{extra_view, link_view, meta_in, role_in, schema_in, source_view};
-ghost use Rattle.hq_terms.specs.Meta.{meta_view, perm_view, tracked_view};
-ghost use Rattle.hq_terms.specs.PermView.{permission_view};
-ghost use Rattle.hq_terms.specs.Schema.{rel};
+ghost use Rattle.hq_model.specs.Meta.{meta_view, perm_view, tracked_view};
+ghost use Rattle.hq_model.specs.PermView.{permission_view};
+ghost use Rattle.hq_model.specs.Schema.{rel};
 
 use crate::extras::{Extra, ends_of, extra_name, extras_of};
 use crate::linked::link_remote;
@@ -14,7 +14,7 @@ use crate::places::{from_end_place, table_place, to_end_place};
 use crate::relationships::kept_relationships;
 use crate::{Link, Original, Source};
 use hq_base::{List, Memory, Txt};
-use hq_terms::{
+use hq_model::{
     Bexp, ColId, ColList, Meta, Pair, PairList, Perm, PermList, PermView, Rel, RelList, TableId,
     Tracked, TryCopy, TxtList,
 };

@@ -1,12 +1,12 @@
 //! What is copied, and for whom.
 ghost use Rattle.std.specs.Prelude.{◌≡◌, map};
-ghost use Rattle.hq_copied.specs.Sources.{links, sources};
+ghost use Rattle.hq_copy_definition.specs.Sources.{links, sources};
 ghost use Rattle.hq_copy_tables.specs.Views.{link_view, source_view};
-ghost use Rattle.hq_terms.specs.Meta.{meta_view};
-ghost use Rattle.hq_terms.specs.Scope.{scope_schema};
+ghost use Rattle.hq_model.specs.Meta.{meta_view};
+ghost use Rattle.hq_model.specs.Scope.{scope_schema};
 
 use crate::{Link, Source};
-use hq_terms::{Role, Scope};
+use hq_model::{Role, Scope};
 
 /// A database's catalog and metadata, and of them what a role may see: the tables, and the links between them.
 #[derive(Drop)]

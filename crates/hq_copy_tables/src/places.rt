@@ -1,13 +1,13 @@
 //! Places in lists.
 ghost use Rattle.std.specs.Prelude.{◌≡◌, ◌==◌, map};
 ghost use Rattle.std.specs.List.{position_or_len};
-ghost use Rattle.hq_copied.specs.Extras.{is_from_end, is_to_end};
-ghost use Rattle.hq_copied.specs.Sources.{place_in, table_place};
+ghost use Rattle.hq_copy_definition.specs.Extras.{is_from_end, is_to_end};
+ghost use Rattle.hq_copy_definition.specs.Sources.{place_in, table_place};
 ghost use Rattle.hq_copy_tables.specs.Views.{extra_view, link_view, source_view};
 
 use crate::linked::same_link;
 use crate::{Extra, Link, Source};
-use hq_terms::{ColId, TableId};
+use hq_model::{ColId, TableId};
 
 /// The place of a column among these, behind the last one where it is not among them.
 pub(crate) fn place_in(columns: &[ColId], column: ColId) -> usize

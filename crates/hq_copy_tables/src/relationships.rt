@@ -1,13 +1,13 @@
 //! The relationships that a copy keeps.
 ghost use Rattle.std.specs.Prelude.{◌≡◌, IfOk, is_some};
-ghost use Rattle.hq_copied.specs.Sources.{kept_relationships};
-ghost use Rattle.hq_terms.specs.Meta.{meta_view};
-ghost use Rattle.hq_terms.specs.Permission.{permission};
-ghost use Rattle.hq_terms.specs.Schema.{rels_of, table};
-ghost use Rattle.hq_terms.specs.Scope.{scope_schema};
+ghost use Rattle.hq_copy_definition.specs.Sources.{kept_relationships};
+ghost use Rattle.hq_model.specs.Meta.{meta_view};
+ghost use Rattle.hq_model.specs.Permission.{permission};
+ghost use Rattle.hq_model.specs.Schema.{rels_of, table};
+ghost use Rattle.hq_model.specs.Scope.{scope_schema};
 
 use hq_base::Memory;
-use hq_terms::{Meta, Rel, RelId, Role, Scope, TableId};
+use hq_model::{Meta, Rel, RelId, Role, Scope, TableId};
 use std::alloc::Global;
 
 // The relationships of a table's entry, none where it is not tracked.

@@ -1,12 +1,12 @@
 //! The tables that a copy holds.
 ghost use Rattle.std.specs.Prelude.{◌≡◌, ◌++◌, [], IfOk, OnOk, map, option_map};
-ghost use Rattle.hq_copied.specs.Sources.{has_mask, keeps_key, sources, with_source};
+ghost use Rattle.hq_copy_definition.specs.Sources.{has_mask, keeps_key, sources, with_source};
 ghost use Rattle.hq_copy_tables.specs.Views.{source_view};
-ghost use Rattle.hq_terms.specs.Meta.{meta_view, tracked_view};
-ghost use Rattle.hq_terms.specs.PermView.{permission_view};
+ghost use Rattle.hq_model.specs.Meta.{meta_view, tracked_view};
+ghost use Rattle.hq_model.specs.PermView.{permission_view};
 
 use hq_base::Memory;
-use hq_terms::{ColId, Meta, PermView, Role, Tracked, has_column};
+use hq_model::{ColId, Meta, PermView, Role, Tracked, has_column};
 use std::alloc::Global;
 
 /// A table of the copy: a tracked table of the original, and what the role may see of it.

@@ -1,6 +1,6 @@
 -- Parts of what is written.
 use Rattle.std.specs.Prelude.{List, filter, Bool, not, cond}
-use Rattle.hq_terms.specs.declared.meta.Rel.{Rel}
+use Rattle.hq_model.specs.declared.meta.Rel.{Rel}
 
 -- the array relationships, or the object ones
 abbrev pub those : (many : Bool) → List Rel → List Rel

@@ -1,13 +1,13 @@
 -- The parts of a copy, each a text: the catalog, the metadata, and the file of each table.
 use Rattle.std.specs.Prelude.{ℕ, List, ◌∷◌, length, nat_le, cond, bytes_eq, codes, Option, Some, None, Result, Ok, Err}
 use Rattle.hq_base.specs.Compact.{compact}
-use Rattle.hq_copied.specs.Copied.{Copied}
-use Rattle.hq_terms.specs.Catalog.{full_name}
-use Rattle.hq_terms.specs.Database.{Row}
-use Rattle.hq_terms.specs.declared.table.Table.{Table}
-use Rattle.hq_written_catalog.specs.Written.{catalog_json}
-use Rattle.hq_written_meta.specs.Written.{meta_json}
-use Rattle.hq_written_tables.specs.Written.{file_of}
+use Rattle.hq_copy_definition.specs.Copied.{Copied}
+use Rattle.hq_model.specs.Catalog.{full_name}
+use Rattle.hq_model.specs.Database.{Row}
+use Rattle.hq_model.specs.declared.table.Table.{Table}
+use Rattle.hq_laws_written_catalog.specs.Written.{catalog_json}
+use Rattle.hq_laws_written_meta.specs.Written.{meta_json}
+use Rattle.hq_laws_written_tables.specs.Written.{file_of}
 use Rattle.hq_copy_text.specs.declared.refusal.PartRefusal.{PartRefusal}
 use Rattle.hq_copy_text.specs.declared.refusal.PartRefusal.TheVariants.{NoSuchPart, TooLarge}
 

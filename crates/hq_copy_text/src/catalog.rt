@@ -2,15 +2,15 @@
 ghost use Rattle.std.specs.Prelude.{◌≡◌, ◌∷◌, [], IfOk, map, slice_get};
 ghost use Rattle.hq_base.specs.Json.{json_view, str};
 ghost use Rattle.hq_base.specs.Types.{catalog_name};
-ghost use Rattle.hq_catalog_read.specs.Field.{field_name};
-ghost use Rattle.hq_catalog_read.specs.declared.field.Field.TheVariants as field;
-ghost use Rattle.hq_written_catalog.specs.Written.{catalog_json, column_json, foreign_json, table_json, table_ref};
-ghost use Rattle.hq_written_json.specs.Building.{list, object};
+ghost use Rattle.hq_load_catalog.specs.Field.{field_name};
+ghost use Rattle.hq_load_catalog.specs.declared.field.Field.TheVariants as field;
+ghost use Rattle.hq_laws_written_catalog.specs.Written.{catalog_json, column_json, foreign_json, table_json, table_ref};
+ghost use Rattle.hq_laws_written_json.specs.Building.{list, object};
 
 use crate::building::{array, object, push_member, push_text, single, text};
 use crate::columns::{columns_of, names_json as column_names};
 use hq_base::{Json, Memory, Txt, Ty};
-use hq_terms::{Column, ForeignKey, Table, TableId};
+use hq_model::{Column, ForeignKey, Table, TableId};
 use std::alloc::Global;
 
 // The name of a type in a catalog.
@@ -21,7 +21,7 @@ fn type_json(alloc: Global, ty: Ty) -> Result<Json, Memory>
 }
 
 // A column: its name, its type and whether it may hold NULL.
-#[tactic(auto, unfolding(hq_catalog_read::specs::Field::field_name))]
+#[tactic(auto, unfolding(hq_load_catalog::specs::Field::field_name))]
 fn column_json(alloc: Global, column: &Column) -> Result<Json, Memory>
     ensures { IfOk result (λ json. json_view json ≡ column_json column.now) }
 {
@@ -44,7 +44,7 @@ fn columns_json(alloc: Global, columns: &[Column]) -> Result<Json, Memory>
 }
 
 // A schema's name and a table's.
-#[tactic(auto, unfolding(hq_catalog_read::specs::Field::field_name))]
+#[tactic(auto, unfolding(hq_load_catalog::specs::Field::field_name))]
 fn names_json(alloc: Global, schema: &Txt, name: &Txt) -> Result<Json, Memory>
     ensures { IfOk result (λ json. json_view json ≡ object ((field_name field.Schema, str schema.now) ∷ (field_name field.Name, str name.now) ∷ [])) }
 {
@@ -68,7 +68,7 @@ fn ref_json(alloc: Global, tables: &[Table], t: TableId) -> Result<Json, Memory>
 }
 
 // A foreign key: its columns, the table that they refer to, and the columns of that table.
-#[tactic(auto, unfolding(hq_catalog_read::specs::Field::field_name))]
+#[tactic(auto, unfolding(hq_load_catalog::specs::Field::field_name))]
 fn foreign_json(
     alloc: Global,
     tables: &[Table],
@@ -100,7 +100,7 @@ fn foreign_keys_json(alloc: Global, tables: &[Table], table: &Table) -> Result<J
 }
 
 // A table.
-#[tactic(auto, unfolding(hq_catalog_read::specs::Field::field_name))]
+#[tactic(auto, unfolding(hq_load_catalog::specs::Field::field_name))]
 fn table_json(alloc: Global, tables: &[Table], table: &Table) -> Result<Json, Memory>
     ensures { IfOk result (λ json. json_view json ≡ table_json tables.now table.now) }
 {
@@ -129,7 +129,7 @@ fn tables_json(alloc: Global, tables: &[Table]) -> Result<Json, Memory>
 }
 
 /// A catalog.
-#[tactic(auto, unfolding(hq_catalog_read::specs::Field::field_name))]
+#[tactic(auto, unfolding(hq_load_catalog::specs::Field::field_name))]
 pub fn catalog_json(alloc: Global, tables: &[Table]) -> Result<Json, Memory>
     ensures { IfOk result (λ json. json_view json ≡ catalog_json tables.now) }
 {

@@ -1,17 +1,17 @@
 //! Names of columns and tables.
 ghost use Rattle.std.specs.Prelude.{◌≡◌, ◌∷◌, [], IfOk, codes, map, slice_get};
 ghost use Rattle.hq_base.specs.Json.{json_view, str};
-ghost use Rattle.hq_meta_tables.specs.Field.{field_name};
-ghost use Rattle.hq_meta_tables.specs.Found.{columns_of};
-ghost use Rattle.hq_meta_tables.specs.declared.field.Field.TheVariants as field;
-ghost use Rattle.hq_written_catalog.specs.Written.{name_at};
-ghost use Rattle.hq_written_json.specs.Building.{object, texts};
-ghost use Rattle.hq_written_meta.specs.Written.{table_ref};
+ghost use Rattle.hq_load_meta_tables.specs.Field.{field_name};
+ghost use Rattle.hq_load_meta_tables.specs.Found.{columns_of};
+ghost use Rattle.hq_load_meta_tables.specs.declared.field.Field.TheVariants as field;
+ghost use Rattle.hq_laws_written_catalog.specs.Written.{name_at};
+ghost use Rattle.hq_laws_written_json.specs.Building.{object, texts};
+ghost use Rattle.hq_laws_written_meta.specs.Written.{table_ref};
 
 use crate::building::{array, object, push_text, text_json};
 use hq_base::{Json, Memory, Txt};
-use hq_meta_tables::field::Field;
-use hq_terms::{ColId, Column, Table, TableId};
+use hq_load_meta_tables::field::Field;
+use hq_model::{ColId, Column, Table, TableId};
 use std::alloc::Global;
 
 /// The columns of a table, none where it is not there.

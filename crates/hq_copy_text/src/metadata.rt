@@ -3,21 +3,21 @@ ghost use Rattle.std.specs.Prelude.{◌≡◌, ◌++◌, ◌∷◌, [], IfOk, On
 ghost use Rattle.hq_base.specs.Json.{json_view, member_view};
 ghost use Rattle.hq_base.specs.Lists.{sort};
 ghost use Rattle.hq_copy_text.specs.Lists.{those};
-ghost use Rattle.hq_meta_tables.specs.Field.{field_name};
-ghost use Rattle.hq_meta_tables.specs.Found.{columns_of};
-ghost use Rattle.hq_meta_tables.specs.declared.field.Field.TheVariants as field;
-ghost use Rattle.hq_terms.specs.Meta.{meta_view, tracked_view};
-ghost use Rattle.hq_written_json.specs.Building.{list, object};
-ghost use Rattle.hq_written_json.specs.ReadBack.{by_name};
-ghost use Rattle.hq_written_meta.specs.Written.{column_config, column_configs, configuration_json, is_shown, meta_json, rel_json, roots_json, shown_columns, source_json, tracked_json};
+ghost use Rattle.hq_load_meta_tables.specs.Field.{field_name};
+ghost use Rattle.hq_load_meta_tables.specs.Found.{columns_of};
+ghost use Rattle.hq_load_meta_tables.specs.declared.field.Field.TheVariants as field;
+ghost use Rattle.hq_model.specs.Meta.{meta_view, tracked_view};
+ghost use Rattle.hq_laws_written_json.specs.Building.{list, object};
+ghost use Rattle.hq_laws_written_json.specs.ReadBack.{by_name};
+ghost use Rattle.hq_laws_written_meta.specs.Written.{column_config, column_configs, configuration_json, is_shown, meta_json, rel_json, roots_json, shown_columns, source_json, tracked_json};
 
 use crate::building::{array, object, push_member, push_text, single, text, text_json};
 use crate::columns::{columns_of, name_at, table_json};
 use crate::permissions::perms_json;
 use crate::relationships::rels_json;
 use hq_base::{Json, Member, Members, Memory, Txt};
-use hq_meta_tables::field::Field;
-use hq_terms::{ColId, Column, Meta, RootNames, Table, Tracked, has_column};
+use hq_load_meta_tables::field::Field;
+use hq_model::{ColId, Column, Meta, RootNames, Table, Tracked, has_column};
 use std::alloc::Global;
 
 // Whether a permission shows the column.

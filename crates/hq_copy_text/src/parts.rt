@@ -5,18 +5,18 @@ ghost use Rattle.hq_base.specs.Due.{Gives};
 ghost use Rattle.hq_base.specs.Json.{json_view};
 ghost use Rattle.hq_copy_text.specs.Parts.{part_due, part_text, table_text};
 ghost use Rattle.hq_copy_text.specs.declared.refusal.PartRefusal.TheVariants as refusal;
-ghost use Rattle.hq_redact.specs.Redacting.{redacted_view};
-ghost use Rattle.hq_terms.specs.Catalog.{full_name};
-ghost use Rattle.hq_written_tables.specs.Written.{file_of};
+ghost use Rattle.hq_copy.specs.Redacting.{redacted_view};
+ghost use Rattle.hq_model.specs.Catalog.{full_name};
+ghost use Rattle.hq_laws_written_tables.specs.Written.{file_of};
 
 use crate::PartRefusal;
 use crate::catalog::catalog_json;
 use crate::metadata::meta_json;
 use crate::tables::file_of;
 use hq_base::{Bytes, Json, Memory, Txt};
-use hq_redact::{Redacted, full_name};
-use hq_tables::Rows;
-use hq_terms::Table;
+use hq_copy::{Redacted, full_name};
+use hq_load_tables::Rows;
+use hq_model::Table;
 use std::alloc::Global;
 
 /// The most bytes of a part, which are those of the largest file that is read.

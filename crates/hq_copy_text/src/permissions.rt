@@ -1,15 +1,15 @@
 //! Select permissions without a filter as JSON values.
 ghost use Rattle.std.specs.Prelude.{◌≡◌, ◌++◌, IfOk, OnOk, map};
 ghost use Rattle.hq_base.specs.Json.{json_view, member_view};
-ghost use Rattle.hq_terms.specs.Meta.{perm_view};
-ghost use Rattle.hq_written_json.specs.Building.{list};
-ghost use Rattle.hq_written_meta.specs.Written.{limit_member, perm_json, permission_json};
+ghost use Rattle.hq_model.specs.Meta.{perm_view};
+ghost use Rattle.hq_laws_written_json.specs.Building.{list};
+ghost use Rattle.hq_laws_written_meta.specs.Written.{limit_member, perm_json, permission_json};
 
 use crate::building::{array, object, push_member, push_text};
 use crate::columns::names_json;
 use hq_base::{Json, Members, Memory};
-use hq_meta_tables::field::Field;
-use hq_terms::{Column, Perm};
+use hq_load_meta_tables::field::Field;
+use hq_model::{Column, Perm};
 use std::alloc::Global;
 
 // The most rows of a list, where there is a limit, behind other members.

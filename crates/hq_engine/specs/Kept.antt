@@ -1,11 +1,11 @@
 -- The schemas that an engine keeps, and what is found for a role.
 use Rattle.std.specs.Prelude.{◌≡◌, List}
-use Rattle.hq_role_schema.specs.RoleSchema.{role_schema}
-use Rattle.hq_roles.specs.Roles.{AreRoleSchemas}
+use Rattle.hq_schema_of_role.specs.RoleSchema.{role_schema}
+use Rattle.hq_schema_roles.specs.Roles.{AreRoleSchemas}
 use Rattle.hq_schema.specs.Schema.{schema_view}
 use Rattle.hq_schema.specs.declared.schema.Schema.{Schema}
-use Rattle.hq_terms.specs.Meta.{MetaTree}
-use Rattle.hq_terms.specs.declared.table.Table.{Table}
+use Rattle.hq_model.specs.Meta.{MetaTree}
+use Rattle.hq_model.specs.declared.table.Table.{Table}
 use Rattle.hq_engine.specs.declared.schemas.Schemas.{Schemas}
 use Rattle.hq_engine.specs.declared.schemas.Schemas.TheVariants.{Each, One}
 use Rattle.hq_engine.specs.declared.schemas.FoundSchema.{FoundSchema}

@@ -1,15 +1,15 @@
 //! The schemas that an engine keeps.
 ghost use Rattle.std.specs.Prelude.{◌≡◌, IfOk, true};
-ghost use Rattle.hq_role_schema.specs.RoleSchema.{role_schema};
+ghost use Rattle.hq_schema_of_role.specs.RoleSchema.{role_schema};
 ghost use Rattle.hq_schema.specs.Schema.{schema_view};
-ghost use Rattle.hq_terms.specs.Meta.{meta_view};
+ghost use Rattle.hq_model.specs.Meta.{meta_view};
 ghost use Rattle.hq_engine.specs.Kept.{AreOfRoles, found_schema};
 
 use hq_base::Memory;
-use hq_role_schema::derive;
-use hq_roles::RoleSchemas;
+use hq_schema_of_role::derive;
+use hq_schema_roles::RoleSchemas;
 use hq_schema::Schema;
-use hq_terms::{Catalog, Meta, Role};
+use hq_model::{Catalog, Meta, Role};
 use std::alloc::Global;
 
 /// The schemas that an engine keeps.

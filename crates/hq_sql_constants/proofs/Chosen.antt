@@ -13,22 +13,22 @@ use Rattle.hq_base.specs.Lists.{Each}
 use Rattle.hq_base.specs.declared.value.Val.{Val}
 use Rattle.hq_base.specs.declared.value.Val.TheVariants as val
 use Rattle.hq_base.proofs.Lists.{any_map_of, each_weaken, filter_map_of}
-use Rattle.hq_index.proofs.Chunked.{chunked_flat, length-chunked}
-use Rattle.hq_index.specs.Chunks.{chunked}
-use Rattle.hq_index.specs.Grids.{rows_in}
-use Rattle.hq_index.specs.Indexes.{IsOver, columns_of, counted, rows_with}
-use Rattle.hq_index.specs.Keys.{cell_in, has_key}
-use Rattle.hq_terms.specs.Database.{Row}
-use Rattle.hq_terms.specs.Logic.{equal, is_true}
-use Rattle.hq_terms.specs.declared.table.Column.{Column}
-use Rattle.hq_sql_rows.specs.Equations.{is_joined, key_cell}
-use Rattle.hq_sql_rows.specs.Sources.{has_items}
-use Rattle.hq_sql_rows.specs.View.{row_in, scope_of}
-use Rattle.hq_sql_rows.specs.declared.scope.Scope.{Scope}
-use Rattle.hq_sql_rows.specs.declared.stages.Parts.{Parts}
-use Rattle.hq_sql_rows.specs.declared.scope.Source.{Source}
-use Rattle.hq_sql_rows.proofs.Asked.{named_first}
-use Rattle.hq_sql_rows.proofs.NamedCells.{stored_row}
+use Rattle.hq_load_index.proofs.Chunked.{chunked_flat, length-chunked}
+use Rattle.hq_load_index.specs.Chunks.{chunked}
+use Rattle.hq_load_index.specs.Grids.{rows_in}
+use Rattle.hq_load_index.specs.Indexes.{IsOver, columns_of, counted, rows_with}
+use Rattle.hq_load_index.specs.Keys.{cell_in, has_key}
+use Rattle.hq_model.specs.Database.{Row}
+use Rattle.hq_model.specs.Logic.{equal, is_true}
+use Rattle.hq_model.specs.declared.table.Column.{Column}
+use Rattle.hq_sql_access.specs.Equations.{is_joined, key_cell}
+use Rattle.hq_sql_access.specs.Sources.{has_items}
+use Rattle.hq_sql_access.specs.View.{row_in, scope_of}
+use Rattle.hq_sql_access.specs.declared.scope.Scope.{Scope}
+use Rattle.hq_sql_access.specs.declared.stages.Parts.{Parts}
+use Rattle.hq_sql_access.specs.declared.scope.Source.{Source}
+use Rattle.hq_sql_access.proofs.Asked.{named_first}
+use Rattle.hq_sql_access.proofs.NamedCells.{stored_row}
 use Rattle.hq_sql_tree.specs.Meaning.{NamedRow, Scope as Names, World, cell_named, joined, kept, named_row, truth_at, with_alias}
 use Rattle.hq_sql_tree.specs.Tree as tree
 use Rattle.hq_sql_tree.specs.Tree.{FilterTree, JoinTrees, PredTree}

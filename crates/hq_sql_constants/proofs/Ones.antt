@@ -7,13 +7,13 @@ use Rattle.std.proofs.lemmas.List.{map-append}
 use Rattle.hq_base.specs.Cells.{CellTree, null, int, text, bool, json, cell_of}
 use Rattle.hq_base.specs.declared.value.Val.{Val}
 use Rattle.hq_base.proofs.Lists.{any_map_of, map_map}
-use Rattle.hq_terms.specs.Logic.{or3, equal, among, is_true}
-use Rattle.hq_terms.specs.Tests.{Test, test_truth, Among, Compare}
-use Rattle.hq_terms.specs.declared.op.Op.TheVariants.{Eq}
-use Rattle.hq_terms.specs.declared.truth.Truth.{Truth}
-use Rattle.hq_terms.specs.declared.truth.Truth.TheVariants.{Yes, No, Unknown}
-use Rattle.hq_sql_rows.specs.Equations.{is_column}
-use Rattle.hq_sql_rows.proofs.Asked.{all_member, column_value}
+use Rattle.hq_model.specs.Logic.{or3, equal, among, is_true}
+use Rattle.hq_model.specs.Tests.{Test, test_truth, Among, Compare}
+use Rattle.hq_model.specs.declared.op.Op.TheVariants.{Eq}
+use Rattle.hq_model.specs.declared.truth.Truth.{Truth}
+use Rattle.hq_model.specs.declared.truth.Truth.TheVariants.{Yes, No, Unknown}
+use Rattle.hq_sql_access.specs.Equations.{is_column}
+use Rattle.hq_sql_access.proofs.Asked.{all_member, column_value}
 use Rattle.hq_sql_tree.specs.Meaning.{Scope as Names, World, any_true, cell_named, truth_at, value}
 use Rattle.hq_sql_tree.specs.Tree as tree
 use Rattle.hq_sql_tree.specs.Tree.{ExprTree, PredTree, preds_of}

@@ -3,11 +3,11 @@ use Rattle.std.specs.Prelude.{◌≡◌, ℕ, List, [], ◌∷◌, map, Bool, Op
 use Rattle.std.specs.Global.{Vec}
 use Rattle.hq_base.specs.Cells.{CellTree}
 use Rattle.hq_base.specs.declared.value.Val.{Val}
-use Rattle.hq_index.specs.Grids.{rows_in}
-use Rattle.hq_index.specs.Indexes.{IsOver, columns_of, rows_with}
+use Rattle.hq_load_index.specs.Grids.{rows_in}
+use Rattle.hq_load_index.specs.Indexes.{IsOver, columns_of, rows_with}
 use Rattle.hq_sql_tree.specs.Meaning.{NamedRow, Scope as Names, World, kept}
 use Rattle.hq_sql_tree.specs.Tree.{FilterTree, JoinTrees}
-use Rattle.hq_sql_rows.specs.Sources.{has_items}
+use Rattle.hq_sql_access.specs.Sources.{has_items}
 use Rattle.hq_sql_constants.specs.declared.marked.Constants.{Constants}
 use Rattle.hq_sql_scans.specs.Positions.{kept_of, positions_of}
 use Rattle.hq_sql_scans.specs.declared.ordered.Looked.{Looked}

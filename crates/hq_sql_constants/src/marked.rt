@@ -1,17 +1,17 @@
 //! The places of the rows that have one of many constants in a column.
 ghost use Rattle.std.specs.Prelude.{◌≡◌, ◌<◌, ◌^◌, ◌++◌, [], ◌∷◌, filter, length, map, IfOk, OnOk, slice_index_or};
 ghost use Rattle.hq_base.specs.Cells.{cell_of};
-ghost use Rattle.hq_index.specs.Grids.{rows_in};
-ghost use Rattle.hq_index.specs.Indexes.{IsOver};
-ghost use Rattle.hq_index.specs.Keys.{cell_in};
+ghost use Rattle.hq_load_index.specs.Grids.{rows_in};
+ghost use Rattle.hq_load_index.specs.Indexes.{IsOver};
+ghost use Rattle.hq_load_index.specs.Keys.{cell_in};
 ghost use Rattle.hq_sql_constants.specs.Sifted.{AreConstants, has_constant};
 ghost use Rattle.hq_sql_scans.specs.Positions.{positions_of};
 
 use hq_base::{Memory, Val};
-use hq_index::{Grid, Index, KeyCell};
+use hq_load_index::{Grid, Index, KeyCell};
 use hq_sql_scans::positions::{Positions, number_of, position_at};
-use hq_tables::Rows;
-use hq_terms::ColId;
+use hq_load_tables::Rows;
+use hq_model::ColId;
 use std::alloc::Global;
 use std::slice;
 

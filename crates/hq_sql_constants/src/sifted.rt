@@ -2,10 +2,10 @@
 ghost use Rattle.std.specs.Prelude.{◌≡◌, map, IfOk, IfSome, false};
 ghost use Rattle.hq_sql_constants.specs.Listed.{AsksOneOf};
 ghost use Rattle.hq_sql_constants.specs.Sifted.{IsLeft, KeepsSame, places_looked};
-ghost use Rattle.hq_sql_rows.specs.Equations.{is_joined};
-ghost use Rattle.hq_sql_rows.specs.Lent.{rows_lent};
-ghost use Rattle.hq_sql_rows.specs.View.{row_in};
-ghost use Rattle.hq_sql_rows.specs.declared.scope.Source.TheVariants as source;
+ghost use Rattle.hq_sql_access.specs.Equations.{is_joined};
+ghost use Rattle.hq_sql_access.specs.Lent.{rows_lent};
+ghost use Rattle.hq_sql_access.specs.View.{row_in};
+ghost use Rattle.hq_sql_access.specs.declared.scope.Source.TheVariants as source;
 ghost use Rattle.hq_sql_scans.specs.Positions.{rows_at};
 ghost use Rattle.hq_sql_tree.specs.Tree.{filter as filtered, joins_of};
 ghost use Rattle.hq_sql_tree.specs.View.{filter_view, join_view, pred_view};
@@ -13,14 +13,14 @@ ghost use Rattle.hq_sql_tree.specs.View.{filter_view, join_view, pred_view};
 use crate::listed::{Listed, is_many, listed};
 use crate::marked::{constants_of, places_with};
 use hq_base::{Memory, Txt};
-use hq_sql_rows::equations::{first_named, is_joined};
-use hq_sql_rows::scope::Source;
-use hq_sql_rows::stored::Stored;
+use hq_sql_access::equations::{first_named, is_joined};
+use hq_sql_access::scope::Source;
+use hq_sql_access::stored::Stored;
 use hq_sql_scans::ordered::Looked;
 use hq_sql_scans::positions::{Positions, number_of};
 use hq_sql_tree::{Join, Pred};
-use hq_tables::Rows;
-use hq_terms::ColId;
+use hq_load_tables::Rows;
+use hq_model::ColId;
 use std::alloc::Global;
 
 // Of fewer places none is worth to be left out.

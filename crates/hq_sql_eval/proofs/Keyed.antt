@@ -5,23 +5,23 @@ use Rattle.std.specs.List.{list_any}
 use Rattle.std.proofs.lemmas.List.{length-map}
 use Rattle.std.proofs.lemmas.List.Concat.{flat_map-cons}
 use Rattle.hq_base.proofs.Lists.{any_map_of, map_map}
-use Rattle.hq_terms.specs.Database.{Row}
-use Rattle.hq_terms.specs.Logic.{is_true, truth_of}
-use Rattle.hq_terms.specs.declared.table.Column.{Column}
-use Rattle.hq_index.specs.Keys.{has_key}
-use Rattle.hq_sql_closed.specs.Conjuncts.{all_kept, lent_views}
-use Rattle.hq_sql_closed.specs.Split.{IsSplit, kept_one}
-use Rattle.hq_sql_closed.proofs.Conjuncts.{all_alone}
+use Rattle.hq_model.specs.Database.{Row}
+use Rattle.hq_model.specs.Logic.{is_true, truth_of}
+use Rattle.hq_model.specs.declared.table.Column.{Column}
+use Rattle.hq_load_index.specs.Keys.{has_key}
+use Rattle.hq_sql_conjuncts.specs.Conjuncts.{all_kept, lent_views}
+use Rattle.hq_sql_conjuncts.specs.Split.{IsSplit, kept_one}
+use Rattle.hq_sql_conjuncts.proofs.Conjuncts.{all_alone}
 use Rattle.hq_sql_tree.specs.declared.expr.Expr.{Expr}
 use Rattle.hq_sql_tree.specs.declared.select.Pred.{Pred}
 use Rattle.hq_sql_tree.specs.Meaning.{NamedRow, Scope, World, has_rows, joined, kept, named_row, nothing, rows_of, truth_at, with_alias}
 use Rattle.hq_sql_tree.specs.Tree as tree
 use Rattle.hq_sql_tree.specs.Tree.{ExprTree, FromTree, JoinTrees, OrderTree, OutTree, PredTree, SelectTree, no_join}
-use Rattle.hq_sql_rows.specs.KeySets.{IsKeySet, keeps_key, link_keys}
+use Rattle.hq_sql_access.specs.KeySets.{IsKeySet, keeps_key, link_keys}
 use Rattle.hq_sql_scans.specs.ChosenKeys.{KeepsKeys, chosen}
 use Rattle.hq_sql_scans.specs.Links.{AreLinks}
-use Rattle.hq_sql_rows.specs.Sources.{alias_in, has_items, rows_given}
-use Rattle.hq_sql_rows.specs.declared.pinned.KeySet.{KeySet}
+use Rattle.hq_sql_access.specs.Sources.{alias_in, has_items, rows_given}
+use Rattle.hq_sql_access.specs.declared.pinned.KeySet.{KeySet}
 use Rattle.hq_sql_scans.proofs.KeySets.{items_filter}
 use Rattle.hq_sql_eval.specs.Filtered.{Filters}
 use Rattle.hq_sql_eval.specs.Narrowed.{keeps_one, narrowed}

@@ -1,10 +1,10 @@
 -- An EXISTS over the rows of a table.
 use Rattle.std.specs.Prelude.{◌≡◌, ℕ, List}
 use Rattle.std.specs.List.{list_any}
-use Rattle.hq_terms.specs.Database.{Row}
-use Rattle.hq_terms.specs.Logic.{truth_of}
-use Rattle.hq_terms.specs.declared.table.Column.{Column}
-use Rattle.hq_sql_closed.specs.Split.{kept_one}
+use Rattle.hq_model.specs.Database.{Row}
+use Rattle.hq_model.specs.Logic.{truth_of}
+use Rattle.hq_model.specs.declared.table.Column.{Column}
+use Rattle.hq_sql_conjuncts.specs.Split.{kept_one}
 use Rattle.hq_sql_tree.specs.Meaning.{Scope as Names, World, named_row, truth_at, with_alias}
 use Rattle.hq_sql_tree.specs.Tree.{PredTree}
 

@@ -1,33 +1,33 @@
 //! What is learned of conditions before a statement is walked.
 ghost use Rattle.std.specs.Prelude.{◌≡◌, ◌+◌, ◌≤◌, ◌&&◌, [], true, map, length, IfOk, IfSome};
-ghost use Rattle.hq_index.specs.Grids.{rows_in};
-ghost use Rattle.hq_index.specs.Indexes.{IsOver};
-ghost use Rattle.hq_sql_closed.specs.Conjuncts.{all_kept, lent_views, lent_weight};
-ghost use Rattle.hq_sql_closed.specs.Split.{kept_one};
-ghost use Rattle.hq_sql_closed.specs.Weight.{filter_weight};
+ghost use Rattle.hq_load_index.specs.Grids.{rows_in};
+ghost use Rattle.hq_load_index.specs.Indexes.{IsOver};
+ghost use Rattle.hq_sql_conjuncts.specs.Conjuncts.{all_kept, lent_views, lent_weight};
+ghost use Rattle.hq_sql_conjuncts.specs.Split.{kept_one};
+ghost use Rattle.hq_sql_conjuncts.specs.Weight.{filter_weight};
 ghost use Rattle.hq_sql_tree.specs.Meaning.{has_rows, nothing, rows_of, with_alias};
 ghost use Rattle.hq_sql_tree.specs.Tree.{exists, joins_of};
 ghost use Rattle.hq_sql_tree.specs.View.{filter_view, from_view, join_view, pred_view, select_view};
-ghost use Rattle.hq_sql_rows.specs.KeySets.{IsKeySet, keeps_key};
-ghost use Rattle.hq_sql_rows.specs.Known.{IsKnown, IsRight};
-ghost use Rattle.hq_sql_rows.specs.Lent.{rows_lent};
+ghost use Rattle.hq_sql_access.specs.KeySets.{IsKeySet, keeps_key};
+ghost use Rattle.hq_sql_access.specs.Known.{IsKnown, IsRight};
+ghost use Rattle.hq_sql_access.specs.Lent.{rows_lent};
 ghost use Rattle.hq_sql_eval.specs.Filtered.{Filters};
 ghost use Rattle.hq_sql_eval.specs.Narrowed.{narrowed, keeps_one};
-ghost use Rattle.hq_sql_rows.specs.Sources.{alias_in, rows_given};
-ghost use Rattle.hq_sql_rows.specs.View.{names_of, source_view, world_of};
+ghost use Rattle.hq_sql_access.specs.Sources.{alias_in, rows_given};
+ghost use Rattle.hq_sql_access.specs.View.{names_of, source_view, world_of};
 
 use hq_base::{Memory, Txt};
-use hq_index::Index;
-use hq_sql_closed::{Names, split};
-use hq_sql_rows::known::known_of;
-use hq_sql_rows::pinned::{KeySet, Known, Pinned};
-use hq_sql_rows::scope::{Scope, Source, alias_of, count, row_at, source_of};
-use hq_sql_rows::stored::Stored;
+use hq_load_index::Index;
+use hq_sql_conjuncts::{Names, split};
+use hq_sql_access::known::known_of;
+use hq_sql_access::pinned::{KeySet, Known, Pinned};
+use hq_sql_access::scope::{Scope, Source, alias_of, count, row_at, source_of};
+use hq_sql_access::stored::Stored;
 use hq_sql_scans::key_set::{has_row, key_set, key_set_of};
 use hq_sql_scans::links::{LinkList, links_of};
 use hq_sql_tree::{From, Join, JoinList, Pred, Select};
-use hq_sql_walk::{any_row, truth};
-use hq_tables::Rows;
+use hq_sql_select::{any_row, truth};
+use hq_load_tables::Rows;
 use std::alloc::Global;
 
 // Whether a condition is true too, where others were before.

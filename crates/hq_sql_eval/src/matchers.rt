@@ -2,7 +2,7 @@
 use hq_base::{Memory, Txt};
 use hq_like::Matcher;
 use hq_sql_tree::{Expr, From, JoinList, Pred, PredList, Select};
-use hq_terms::Test;
+use hq_model::Test;
 use std::alloc::Global;
 
 // No more patterns are read before: one is looked for among them at each row.

@@ -11,11 +11,11 @@ use Rattle.hq_base.specs.Lists.{all_differ}
 use Rattle.std.specs.List.{list_all, list_any}
 use Rattle.std.proofs.lemmas.Bool.{and_parts, true≢false}
 use Rattle.std.proofs.lemmas.List.Folds.{list_any_at}
-use Rattle.hq_index.specs.Indexes.{counted}
-use Rattle.hq_index.specs.Repeats.{KeysDiffer}
-use Rattle.hq_terms.specs.Database.{Row, are_rows, key_of, row_fits, same_values}
-use Rattle.hq_terms.specs.declared.table.Table.{Table}
-use Rattle.hq_tables.proofs.Keys.{same_key-values}
+use Rattle.hq_load_index.specs.Indexes.{counted}
+use Rattle.hq_load_index.specs.Repeats.{KeysDiffer}
+use Rattle.hq_model.specs.Database.{Row, are_rows, key_of, row_fits, same_values}
+use Rattle.hq_model.specs.declared.table.Table.{Table}
+use Rattle.hq_load_tables.proofs.Keys.{same_key-values}
 
 -- the last one first, where the first one is told
 turned_cons : {A : Type 0} (x : A) (xs : List A) → reverse (x ∷ xs) ≡ reverse xs ++ (x ∷ [])

@@ -7,19 +7,19 @@ use Rattle.std.proofs.lemmas.Cmp.{tied_itself}
 use Rattle.std.proofs.lemmas.List.{map-append, take-append-drop}
 use Rattle.hq_base.specs.Cells.{CellTree, key_cmp}
 use Rattle.hq_base.proofs.Orders.{key_cmp_total}
-use Rattle.hq_index.specs.Indexes.{by_key, key_at}
-use Rattle.hq_index.specs.Keys.{has_null, keys_cmp}
-use Rattle.hq_index.specs.Repeats.{KeysDiffer}
-use Rattle.hq_index.proofs.Sorted.{by_key_total}
-use Rattle.hq_terms.specs.Database.{Row}
-use Rattle.hq_terms.specs.declared.table.Column.{Column}
+use Rattle.hq_load_index.specs.Indexes.{by_key, key_at}
+use Rattle.hq_load_index.specs.Keys.{has_null, keys_cmp}
+use Rattle.hq_load_index.specs.Repeats.{KeysDiffer}
+use Rattle.hq_load_index.proofs.Sorted.{by_key_total}
+use Rattle.hq_model.specs.Database.{Row}
+use Rattle.hq_model.specs.declared.table.Column.{Column}
 use Rattle.hq_sql_tree.specs.Meaning.{Scope as Names, cell_named, named_row, order_cmp, value}
 use Rattle.hq_sql_tree.specs.Tree as tree
 use Rattle.hq_sql_tree.specs.Tree.{ExprTree, OrderTree}
 use Rattle.hq_sql_tree.specs.View.{order_view}
 use Rattle.hq_sql_tree.specs.declared.expr.Order.{Order}
 use Rattle.hq_sql_scans.specs.Ordered.{OrdersBy, OrdersRows, TiesAt, is_own, towards}
-use Rattle.hq_sql_rows.proofs.Asked.{same_name}
+use Rattle.hq_sql_access.proofs.Asked.{same_name}
 
 then_assoc : (a b c : Ordering) → ordering_then a (ordering_then b c) ≡ ordering_then (ordering_then a b) c
 then_assoc Less b c = refl

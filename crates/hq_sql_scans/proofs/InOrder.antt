@@ -10,33 +10,33 @@ use Rattle.hq_base.specs.Cells.{CellTree, null, int, text, bool, json, cell_cmp,
 use Rattle.hq_base.specs.Lists.{Each, put, sort}
 use Rattle.hq_base.proofs.Lists.{each_weaken, each_filter, filter_all}
 use Rattle.hq_base.proofs.Sorts.{sort_length, sort_filter}
-use Rattle.hq_terms.specs.Database.{Row}
-use Rattle.hq_terms.specs.Logic.{null_test}
-use Rattle.hq_terms.specs.declared.table.Column.{Column}
-use Rattle.hq_index.specs.Indexes.{counted, key_at, by_key, columns_of, entries_of}
-use Rattle.hq_index.specs.Keys.{cell_in, key_in, keys_cmp, has_null}
-use Rattle.hq_index.specs.declared.index.Index.{Index}
+use Rattle.hq_model.specs.Database.{Row}
+use Rattle.hq_model.specs.Logic.{null_test}
+use Rattle.hq_model.specs.declared.table.Column.{Column}
+use Rattle.hq_load_index.specs.Indexes.{counted, key_at, by_key, columns_of, entries_of}
+use Rattle.hq_load_index.specs.Keys.{cell_in, key_in, keys_cmp, has_null}
+use Rattle.hq_load_index.specs.declared.index.Index.{Index}
 use Rattle.hq_sql_scans.proofs.Backward.{apart_counted, each_counted, sort_turned}
-use Rattle.hq_index.proofs.Counted.{length-counted}
-use Rattle.hq_index.proofs.Sorted.{by_key_total}
+use Rattle.hq_load_index.proofs.Counted.{length-counted}
+use Rattle.hq_load_index.proofs.Sorted.{by_key_total}
 use Rattle.hq_sql_tree.specs.Tree.{OrderTree, JoinTrees}
 use Rattle.hq_sql_tree.specs.View.{expr_view, filter_view, order_view}
 use Rattle.hq_sql_tree.specs.declared.expr.Expr.{Expr}
 use Rattle.hq_sql_tree.specs.declared.expr.Order.{Order}
 use Rattle.hq_sql_tree.specs.Meaning.{NamedRow, Scope as Names, World, cell_named, with_alias, named_row, joined, kept, order_cmp}
-use Rattle.hq_sql_rows.specs.Equations.{is_joined, is_column}
+use Rattle.hq_sql_access.specs.Equations.{is_joined, is_column}
 use Rattle.hq_sql_scans.specs.Ordered.{Finds, IsKey, OrdersBy, HasOrder, standing, towards, walked}
 use Rattle.hq_sql_scans.specs.Positions.{FindsArranged, kept_of, arranged, positions_of, rows_at}
 use Rattle.hq_sql_scans.specs.declared.positions.Positions.{Positions}
 use Rattle.hq_sql_scans.specs.declared.ordered.Looked.TheVariants.{Arranged, Sorted}
-use Rattle.hq_sql_rows.specs.View.{scope_of, source_view}
-use Rattle.hq_sql_rows.specs.declared.scope.Scope.{Scope as InScope}
-use Rattle.hq_sql_rows.specs.declared.scope.Source.{Source}
-use Rattle.hq_sql_rows.specs.declared.stages.Parts.{Parts}
-use Rattle.hq_sql_rows.proofs.Asked.{not_true, column_value, named_first}
+use Rattle.hq_sql_access.specs.View.{scope_of, source_view}
+use Rattle.hq_sql_access.specs.declared.scope.Scope.{Scope as InScope}
+use Rattle.hq_sql_access.specs.declared.scope.Source.{Source}
+use Rattle.hq_sql_access.specs.declared.stages.Parts.{Parts}
+use Rattle.hq_sql_access.proofs.Asked.{not_true, column_value, named_first}
 use Rattle.hq_sql_scans.proofs.Blocks.{sort_blocks}
 use Rattle.hq_sql_scans.proofs.Looked.{Keeps, joined_keeps, kept_cons, same_bytes, stored_rows}
-use Rattle.hq_sql_rows.proofs.NamedCells.{stored_row}
+use Rattle.hq_sql_access.proofs.NamedCells.{stored_row}
 
 -- ---- keys without NULLs
 

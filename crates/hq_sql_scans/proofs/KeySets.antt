@@ -11,24 +11,24 @@ use Rattle.hq_base.specs.Lists.{Each}
 use Rattle.hq_base.specs.declared.value.Val.{Val}
 use Rattle.hq_base.specs.declared.value.Val.TheVariants as val
 use Rattle.hq_base.proofs.Lists.{filter_map_of}
-use Rattle.hq_terms.specs.Database.{Row}
-use Rattle.hq_terms.specs.Logic.{truth_of}
-use Rattle.hq_index.specs.Chunks.{chunked}
-use Rattle.hq_index.specs.Grids.{rows_in}
-use Rattle.hq_index.specs.Indexes.{IsOver, columns_of, counted, rows_with}
-use Rattle.hq_index.proofs.Chunked.{chunked_flat, length-chunked, length-flat}
-use Rattle.hq_index.specs.Keys.{cell_in, key_in, keys_cmp, has_null, has_key}
+use Rattle.hq_model.specs.Database.{Row}
+use Rattle.hq_model.specs.Logic.{truth_of}
+use Rattle.hq_load_index.specs.Chunks.{chunked}
+use Rattle.hq_load_index.specs.Grids.{rows_in}
+use Rattle.hq_load_index.specs.Indexes.{IsOver, columns_of, counted, rows_with}
+use Rattle.hq_load_index.proofs.Chunked.{chunked_flat, length-chunked, length-flat}
+use Rattle.hq_load_index.specs.Keys.{cell_in, key_in, keys_cmp, has_null, has_key}
 use Rattle.hq_sql_tree.specs.Meaning.{Scope as Names, World, value}
 use Rattle.hq_sql_tree.specs.Tree.{PredTree}
 use Rattle.hq_sql_tree.specs.View.{expr_view}
 use Rattle.hq_sql_tree.specs.declared.expr.Expr.{Expr}
-use Rattle.hq_sql_rows.specs.Equations.{key_cell}
-use Rattle.hq_sql_rows.specs.KeySets.{IsKeySet, keeps_key, link_keys}
+use Rattle.hq_sql_access.specs.Equations.{key_cell}
+use Rattle.hq_sql_access.specs.KeySets.{IsKeySet, keeps_key, link_keys}
 use Rattle.hq_sql_scans.specs.ChosenKeys.{Gathers, KeepsKeys, chosen, picked}
-use Rattle.hq_sql_rows.specs.Sources.{has_items}
-use Rattle.hq_sql_rows.specs.View.{scope_of}
-use Rattle.hq_sql_rows.specs.declared.pinned.KeySet.{KeySet}
-use Rattle.hq_sql_rows.specs.declared.scope.Scope.{Scope}
+use Rattle.hq_sql_access.specs.Sources.{has_items}
+use Rattle.hq_sql_access.specs.View.{scope_of}
+use Rattle.hq_sql_access.specs.declared.pinned.KeySet.{KeySet}
+use Rattle.hq_sql_access.specs.declared.scope.Scope.{Scope}
 use Rattle.hq_sql_scans.proofs.Looked.{counted_all}
 
 -- what is known of a condition is known of the same one

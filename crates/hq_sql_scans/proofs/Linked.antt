@@ -10,26 +10,26 @@ use Rattle.std.proofs.lemmas.List.{map-append}
 use Rattle.hq_base.specs.Cells.{CellTree, null, int, text, bool, json, cell_of, cell_cmp}
 use Rattle.hq_base.specs.declared.value.Val.{Val}
 use Rattle.hq_base.specs.declared.value.Val.TheVariants as val
-use Rattle.hq_terms.specs.Database.{Row}
-use Rattle.hq_terms.specs.Logic.{is_true, truth_of, equal, null_test}
-use Rattle.hq_terms.specs.declared.test.Test.{Test}
-use Rattle.hq_terms.specs.declared.table.Column.{Column}
-use Rattle.hq_terms.proofs.CellOrders.{then_equal}
-use Rattle.hq_index.specs.Keys.{cell_in, key_in, keys_cmp, has_null, has_key}
-use Rattle.hq_sql_closed.specs.Conjuncts.{all_kept, lent_views}
-use Rattle.hq_sql_closed.specs.Split.{kept_one}
-use Rattle.hq_sql_closed.proofs.Conjuncts.{all_append}
+use Rattle.hq_model.specs.Database.{Row}
+use Rattle.hq_model.specs.Logic.{is_true, truth_of, equal, null_test}
+use Rattle.hq_model.specs.declared.test.Test.{Test}
+use Rattle.hq_model.specs.declared.table.Column.{Column}
+use Rattle.hq_model.proofs.CellOrders.{then_equal}
+use Rattle.hq_load_index.specs.Keys.{cell_in, key_in, keys_cmp, has_null, has_key}
+use Rattle.hq_sql_conjuncts.specs.Conjuncts.{all_kept, lent_views}
+use Rattle.hq_sql_conjuncts.specs.Split.{kept_one}
+use Rattle.hq_sql_conjuncts.proofs.Conjuncts.{all_append}
 use Rattle.hq_sql_tree.specs.Tree as tree
 use Rattle.hq_sql_tree.specs.Tree.{ExprTree, PredTree, no_join}
 use Rattle.hq_sql_tree.specs.View.{expr_view, pred_view}
 use Rattle.hq_sql_tree.specs.declared.expr.Expr.{Expr}
 use Rattle.hq_sql_tree.specs.declared.select.Pred.{Pred}
 use Rattle.hq_sql_tree.specs.Meaning.{Scope as Names, World, cell_named, named_row, value, truth_at, with_alias}
-use Rattle.hq_sql_rows.specs.Equations.{is_column, is_outer, key_cell, IsEquation}
-use Rattle.hq_sql_rows.specs.KeySets.{link_keys}
+use Rattle.hq_sql_access.specs.Equations.{is_column, is_outer, key_cell, IsEquation}
+use Rattle.hq_sql_access.specs.KeySets.{link_keys}
 use Rattle.hq_sql_scans.specs.Links.{has_cell, IsOwn, IsLink, AreLinks}
 use Rattle.hq_sql_scans.specs.declared.links.Link.{Link}
-use Rattle.hq_sql_rows.proofs.Asked.{column_value, equal_turn, named_first, outer_value}
+use Rattle.hq_sql_access.proofs.Asked.{column_value, equal_turn, named_first, outer_value}
 use Rattle.hq_sql_scans.proofs.Looked.{is_yes, same_bytes}
 
 -- ---- equal cells

@@ -8,24 +8,24 @@ use Rattle.std.proofs.lemmas.List.{length-map, length-reverse, get_or-reverse}
 use Rattle.hq_base.specs.Cells.{CellTree}
 use Rattle.hq_base.specs.Lists.{Each}
 use Rattle.hq_base.proofs.Lists.{each_weaken}
-use Rattle.hq_terms.specs.Database.{Row}
-use Rattle.hq_terms.specs.declared.truth.Truth.{Truth}
-use Rattle.hq_terms.specs.declared.truth.Truth.TheVariants.{Yes, No, Unknown}
-use Rattle.hq_terms.specs.Logic.{is_true}
-use Rattle.hq_terms.specs.declared.table.Column.{Column}
-use Rattle.hq_index.specs.Indexes.{counted, rows_with}
-use Rattle.hq_index.specs.Keys.{has_key}
-use Rattle.hq_index.proofs.Counted.{length-counted, counted_at}
+use Rattle.hq_model.specs.Database.{Row}
+use Rattle.hq_model.specs.declared.truth.Truth.{Truth}
+use Rattle.hq_model.specs.declared.truth.Truth.TheVariants.{Yes, No, Unknown}
+use Rattle.hq_model.specs.Logic.{is_true}
+use Rattle.hq_model.specs.declared.table.Column.{Column}
+use Rattle.hq_load_index.specs.Indexes.{counted, rows_with}
+use Rattle.hq_load_index.specs.Keys.{has_key}
+use Rattle.hq_load_index.proofs.Counted.{length-counted, counted_at}
 use Rattle.hq_sql_tree.specs.Tree as tree
 use Rattle.hq_sql_tree.specs.Tree.{SelectTree, JoinTrees, PredTree}
 use Rattle.hq_sql_tree.specs.Meaning.{NamedRow, Scope as Names, World, with_alias, named_row, or_null_row, rows_of, joined, kept, truth_at}
-use Rattle.hq_sql_rows.specs.Equations.{is_joined, IsAround, AsksKey}
+use Rattle.hq_sql_access.specs.Equations.{is_joined, IsAround, AsksKey}
 use Rattle.hq_sql_scans.specs.Positions.{kept_of}
-use Rattle.hq_sql_rows.specs.View.{scope_of, source_view, row_in}
-use Rattle.hq_sql_rows.specs.declared.scope.Scope.{Scope}
-use Rattle.hq_sql_rows.specs.declared.scope.Source.{Source}
-use Rattle.hq_sql_rows.proofs.RowsIn.{row_in_is}
-use Rattle.hq_sql_rows.proofs.NamedCells.{stored_row}
+use Rattle.hq_sql_access.specs.View.{scope_of, source_view, row_in}
+use Rattle.hq_sql_access.specs.declared.scope.Scope.{Scope}
+use Rattle.hq_sql_access.specs.declared.scope.Source.{Source}
+use Rattle.hq_sql_access.proofs.RowsIn.{row_in_is}
+use Rattle.hq_sql_access.proofs.NamedCells.{stored_row}
 
 -- ---- all places
 

@@ -12,7 +12,7 @@ use Rattle.hq_base.proofs.Lists.{each_weaken}
 use Rattle.hq_base.proofs.Orders.{key_cmp_total}
 use Rattle.hq_base.proofs.Sorts.{each_put, ascends_sort, ascends_take, sort_ascending}
 use Rattle.hq_base.proofs.StableSorts.{one_order}
-use Rattle.hq_index.proofs.Sorted.{class_sort}
+use Rattle.hq_load_index.proofs.Sorted.{class_sort}
 use Rattle.hq_sql_tree.specs.Tree.{OrderTree}
 use Rattle.hq_sql_tree.specs.Meaning.{value, order_cmp}
 use Rattle.hq_sql_scans.proofs.Blocks.{put_each, sort_append, put_front}

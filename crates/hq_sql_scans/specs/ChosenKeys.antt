@@ -4,13 +4,13 @@ use Rattle.std.specs.Borrow.{Bor}
 use Rattle.std.specs.List.{list_any}
 use Rattle.hq_base.specs.declared.value.Val.{Val}
 use Rattle.hq_base.specs.declared.value.Val.TheVariants as val
-use Rattle.hq_terms.specs.Database.{Row}
-use Rattle.hq_index.specs.Keys.{has_key}
-use Rattle.hq_terms.specs.Logic.{truth_of}
+use Rattle.hq_model.specs.Database.{Row}
+use Rattle.hq_load_index.specs.Keys.{has_key}
+use Rattle.hq_model.specs.Logic.{truth_of}
 use Rattle.hq_sql_tree.specs.declared.expr.Expr.{Expr}
 use Rattle.hq_sql_tree.specs.Meaning.{Scope as Names, World, truth_at}
 use Rattle.hq_sql_tree.specs.Tree.{PredTree}
-use Rattle.hq_sql_rows.specs.KeySets.{link_keys}
+use Rattle.hq_sql_access.specs.KeySets.{link_keys}
 
 -- the cells of a row in columns
 abbrev pub picked : (columns : List ℕ) → Row → List Val

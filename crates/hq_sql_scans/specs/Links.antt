@@ -3,17 +3,17 @@ use Rattle.std.specs.Prelude.{◌≡◌, ℕ, List, [], map, length, Bool, true,
 use Rattle.std.specs.Borrow.{Bor}
 use Rattle.std.specs.Ordering.{is_eq}
 use Rattle.hq_base.specs.Cells.{CellTree, cell_cmp}
-use Rattle.hq_terms.specs.Database.{Row}
-use Rattle.hq_terms.specs.Logic.{null_test}
-use Rattle.hq_terms.specs.declared.table.Column.{Column}
-use Rattle.hq_index.specs.Keys.{cell_in, has_key}
-use Rattle.hq_sql_closed.specs.Conjuncts.{all_kept}
-use Rattle.hq_sql_closed.specs.Split.{kept_one}
+use Rattle.hq_model.specs.Database.{Row}
+use Rattle.hq_model.specs.Logic.{null_test}
+use Rattle.hq_model.specs.declared.table.Column.{Column}
+use Rattle.hq_load_index.specs.Keys.{cell_in, has_key}
+use Rattle.hq_sql_conjuncts.specs.Conjuncts.{all_kept}
+use Rattle.hq_sql_conjuncts.specs.Split.{kept_one}
 use Rattle.hq_sql_tree.specs.declared.expr.Expr.{Expr}
 use Rattle.hq_sql_tree.specs.Meaning.{Scope as Names, World, named_row, value, with_alias}
 use Rattle.hq_sql_tree.specs.Tree.{ExprTree, PredTree}
-use Rattle.hq_sql_rows.specs.KeyCells.{key_cell}
-use Rattle.hq_sql_rows.specs.KeySets.{link_keys}
+use Rattle.hq_sql_access.specs.KeyCells.{key_cell}
+use Rattle.hq_sql_access.specs.KeySets.{link_keys}
 
 -- a cell is that of a key
 abbrev pub has_cell : (cell key : CellTree) → Bool

@@ -5,12 +5,12 @@ use Rattle.std.specs.declared.cmp.Ordering.TheVariants.{Equal}
 use Rattle.std.specs.Ordering.{flip_args}
 use Rattle.std.specs.Borrow.{Bor}
 use Rattle.hq_base.specs.Cells.{CellTree}
-use Rattle.hq_terms.specs.Database.{Row}
-use Rattle.hq_terms.specs.declared.table.Column.{Column}
-use Rattle.hq_index.specs.Indexes.{IsOver, columns_of, entries_of, key_at}
-use Rattle.hq_index.specs.Repeats.{KeysDiffer}
-use Rattle.hq_index.specs.Keys.{cell_in, key_in, keys_cmp, has_null}
-use Rattle.hq_index.specs.declared.index.Index.{Index}
+use Rattle.hq_model.specs.Database.{Row}
+use Rattle.hq_model.specs.declared.table.Column.{Column}
+use Rattle.hq_load_index.specs.Indexes.{IsOver, columns_of, entries_of, key_at}
+use Rattle.hq_load_index.specs.Repeats.{KeysDiffer}
+use Rattle.hq_load_index.specs.Keys.{cell_in, key_in, keys_cmp, has_null}
+use Rattle.hq_load_index.specs.declared.index.Index.{Index}
 use Rattle.hq_sql_tree.specs.Tree as tree
 use Rattle.hq_sql_tree.specs.declared.expr.Expr.{Expr}
 use Rattle.hq_sql_tree.specs.Tree.{ExprTree, JoinTrees, OrderTree}
@@ -21,9 +21,9 @@ use Rattle.hq_sql_scans.specs.declared.positions.Positions.{Positions}
 use Rattle.hq_sql_scans.specs.declared.positions.Positions.TheVariants.{Ordered, Backward}
 use Rattle.hq_sql_scans.specs.declared.ordered.Looked.{Looked}
 use Rattle.hq_sql_scans.specs.declared.ordered.Looked.TheVariants.{Arranged, Sorted, Unsorted}
-use Rattle.hq_sql_rows.specs.declared.scope.Scope.{Scope}
-use Rattle.hq_sql_rows.specs.declared.scope.Source.{Source}
-use Rattle.hq_sql_rows.specs.declared.stages.Parts.{Parts}
+use Rattle.hq_sql_access.specs.declared.scope.Scope.{Scope}
+use Rattle.hq_sql_access.specs.declared.scope.Source.{Source}
+use Rattle.hq_sql_access.specs.declared.stages.Parts.{Parts}
 
 -- the order of keys, or the one against it
 abbrev pub towards : (desc : Bool) → List CellTree → List CellTree → Ordering

@@ -1,14 +1,14 @@
 -- The places in a source at which a scan looks.
 use Rattle.std.specs.Prelude.{◌≡◌, ℕ, List, map, filter, flat_map, reverse, Bool}
 use Rattle.hq_base.specs.Lists.{sort}
-use Rattle.hq_index.specs.Indexes.{counted, entries_of}
+use Rattle.hq_load_index.specs.Indexes.{counted, entries_of}
 use Rattle.hq_sql_tree.specs.Tree.{ExprTree, OrderTree, JoinTrees, FilterTree}
 use Rattle.hq_sql_tree.specs.Meaning.{NamedRow, Scope as Names, World, with_alias, joined, kept, order_cmp, distinct_on}
-use Rattle.hq_sql_rows.specs.View.{row_in, scope_of, source_view}
+use Rattle.hq_sql_access.specs.View.{row_in, scope_of, source_view}
 use Rattle.hq_sql_scans.specs.declared.positions.Positions.{Positions}
 use Rattle.hq_sql_scans.specs.declared.positions.Positions.TheVariants.{All, Entries, Ordered, Backward}
-use Rattle.hq_sql_rows.specs.declared.scope.Scope.{Scope}
-use Rattle.hq_sql_rows.specs.declared.scope.Source.{Source}
+use Rattle.hq_sql_access.specs.declared.scope.Scope.{Scope}
+use Rattle.hq_sql_access.specs.declared.scope.Source.{Source}
 
 -- the places, one after the other
 abbrev pub positions_of : Positions → List ℕ

@@ -1,25 +1,25 @@
 //! EXISTS by the keys of the rows that its WHERE keeps.
 ghost use Rattle.std.specs.Prelude.{◌≡◌, ◌++◌, ◌+◌, ◌<◌, ◌^◌, map, length, false, IfOk, IfSome, OnOk, slice_index_or};
 ghost use Rattle.hq_base.specs.declared.value.Val.TheVariants as val;
-ghost use Rattle.hq_index.specs.Grids.{rows_in};
-ghost use Rattle.hq_index.specs.Indexes.{IsOver, counted};
-ghost use Rattle.hq_index.specs.Keys.{cell_view as key_view};
-ghost use Rattle.hq_terms.specs.Logic.{truth_of};
+ghost use Rattle.hq_load_index.specs.Grids.{rows_in};
+ghost use Rattle.hq_load_index.specs.Indexes.{IsOver, counted};
+ghost use Rattle.hq_load_index.specs.Keys.{cell_view as key_view};
+ghost use Rattle.hq_model.specs.Logic.{truth_of};
 ghost use Rattle.hq_sql_tree.specs.Meaning.{World, truth_at};
 ghost use Rattle.hq_sql_tree.specs.View.{pred_view};
-ghost use Rattle.hq_sql_rows.specs.KeySets.{IsKeySet, keeps_key, link_keys};
+ghost use Rattle.hq_sql_access.specs.KeySets.{IsKeySet, keeps_key, link_keys};
 ghost use Rattle.hq_sql_scans.specs.ChosenKeys.{Gathers, KeepsKeys, chosen, picked};
-ghost use Rattle.hq_sql_rows.specs.View.{names_of, scope_of, world_of};
+ghost use Rattle.hq_sql_access.specs.View.{names_of, scope_of, world_of};
 
 use hq_base::{Memory, Val};
-use hq_index::{Grid, Index, KeyCell};
-use hq_sql_closed::same_pred;
-use hq_sql_rows::equations::outer_cell;
-use hq_sql_rows::pinned::{KeySet, Pinned};
-use hq_sql_rows::scope::Scope;
+use hq_load_index::{Grid, Index, KeyCell};
+use hq_sql_conjuncts::same_pred;
+use hq_sql_access::equations::outer_cell;
+use hq_sql_access::pinned::{KeySet, Pinned};
+use hq_sql_access::scope::Scope;
 use hq_sql_tree::{Expr, Pred};
-use hq_tables::Rows;
-use hq_terms::ColId;
+use hq_load_tables::Rows;
+use hq_model::ColId;
 use std::alloc::Global;
 use std::cell::Cell;
 
@@ -183,7 +183,7 @@ fn key_grid(alloc: Global, rows: &Rows, truths: &[bool], columns: &[ColId]) -> R
 }
 
 // The numbers of so many columns.
-#[tactic(auto, using(hq_index::proofs::Counted::counted_more))]
+#[tactic(auto, using(hq_load_index::proofs::Counted::counted_more))]
 fn first_columns(alloc: Global, width: usize) -> Result<Vec<ColId>, Memory>
     ensures { IfOk result (λ all. all.items ≡ counted 0 width) }
 {

@@ -1,8 +1,8 @@
 //! LIKE and ILIKE with patterns that are read once a statement.
 ghost use Rattle.std.specs.Prelude.{◌≡◌, ◌∷◌, [], IfSome};
 ghost use Rattle.hq_base.specs.Cells as cell;
-ghost use Rattle.hq_terms.specs.Logic.{matched};
-ghost use Rattle.hq_terms.specs.Tests.{test_truth};
+ghost use Rattle.hq_model.specs.Logic.{matched};
+ghost use Rattle.hq_model.specs.Tests.{test_truth};
 ghost use Rattle.hq_sql_cells.specs.View.{cell_view};
 ghost use Rattle.hq_sql_tree.specs.Meaning.{Scope as Names, value};
 ghost use Rattle.hq_sql_tree.specs.View.{expr_view};
@@ -11,7 +11,7 @@ use hq_base::Txt;
 use hq_like::Matcher;
 use hq_sql_cells::Cell;
 use hq_sql_tree::Expr;
-use hq_terms::{Test, Truth};
+use hq_model::{Test, Truth};
 
 // The matcher of a pattern.
 fn matcher_of<'m>(matchers: &'m [Matcher], pattern: &Txt, fold: bool) -> Option<&'m Matcher>

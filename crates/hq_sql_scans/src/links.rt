@@ -1,15 +1,15 @@
 //! What conditions ask the columns of an alias to equal, where they ask nothing else.
 ghost use Rattle.std.specs.Prelude.{◌≡◌, true, map, IfOk, IfSome};
-ghost use Rattle.hq_sql_closed.specs.Conjuncts.{lent_views};
+ghost use Rattle.hq_sql_conjuncts.specs.Conjuncts.{lent_views};
 ghost use Rattle.hq_sql_tree.specs.Tree.{no_join, test as tested};
 ghost use Rattle.hq_sql_tree.specs.View.{expr_view, pred_view};
-ghost use Rattle.hq_sql_rows.specs.Equations.{is_column, is_outer};
+ghost use Rattle.hq_sql_access.specs.Equations.{is_column, is_outer};
 ghost use Rattle.hq_sql_scans.specs.Links.{IsOwn, IsLink, AreLinks};
 
 use hq_base::{Memory, Txt};
-use hq_sql_rows::equations::{equal_to, first_named, is_outer};
+use hq_sql_access::equations::{equal_to, first_named, is_outer};
 use hq_sql_tree::{Expr, ExprList, Pred};
-use hq_terms::{ColId, Column, Test};
+use hq_model::{ColId, Column, Test};
 use std::alloc::Global;
 
 /// A column, and the expression that it is asked to equal.

@@ -1,26 +1,26 @@
 //! The places at which a scan looks, in the order that ORDER BY asks for where an index has it.
 ghost use Rattle.std.specs.Prelude.{◌≡◌, ◌<◌, ◌∷◌, ℕ, [], true, false, map, length, IfOk, IfSome, slice_index_or};
-ghost use Rattle.hq_index.specs.Indexes.{IsOver, columns_of};
-ghost use Rattle.hq_index.specs.declared.index.Index.{Index};
-ghost use Rattle.hq_terms.specs.Database.{are_rows};
+ghost use Rattle.hq_load_index.specs.Indexes.{IsOver, columns_of};
+ghost use Rattle.hq_load_index.specs.declared.index.Index.{Index};
+ghost use Rattle.hq_model.specs.Database.{are_rows};
 ghost use Rattle.hq_sql_tree.specs.Tree.{FilterTree, joins_of};
 ghost use Rattle.hq_sql_tree.specs.View.{expr_view, join_view, order_view};
-ghost use Rattle.hq_sql_rows.specs.Lent.{rows_lent};
-ghost use Rattle.hq_index.specs.Repeats.{KeysDiffer};
+ghost use Rattle.hq_sql_access.specs.Lent.{rows_lent};
+ghost use Rattle.hq_load_index.specs.Repeats.{KeysDiffer};
 ghost use Rattle.hq_sql_scans.specs.Ordered.{IsKey, OrdersBy, OrdersRows, TiesAt, HasOrder, Finds, is_own, standing, walked};
 ghost use Rattle.hq_sql_scans.specs.Positions.{rows_at, FindsArranged};
-ghost use Rattle.hq_sql_rows.specs.declared.scope.Scope.{Scope as InScope};
+ghost use Rattle.hq_sql_access.specs.declared.scope.Scope.{Scope as InScope};
 
 use crate::positions::{Positions, looked_at};
 use hq_base::{Memory, Txt};
-use hq_index::Index;
-use hq_sql_rows::equations::{is_column, is_first, is_joined};
-use hq_sql_rows::scope::{Scope, Source};
-use hq_sql_rows::stages::Parts;
-use hq_sql_rows::stored::Stored;
+use hq_load_index::Index;
+use hq_sql_access::equations::{is_column, is_first, is_joined};
+use hq_sql_access::scope::{Scope, Source};
+use hq_sql_access::stages::Parts;
+use hq_sql_access::stored::Stored;
 use hq_sql_tree::{Expr, ExprList, Join, Order};
-use hq_tables::Rows;
-use hq_terms::{ColId, Table};
+use hq_load_tables::Rows;
+use hq_model::{ColId, Table};
 use std::alloc::Global;
 use std::cell::Cell;
 

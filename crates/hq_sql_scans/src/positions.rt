@@ -3,21 +3,21 @@ ghost use Rattle.std.specs.Prelude.{◌≡◌, ◌<◌, ℕ, false, map, length,
 ghost use Rattle.hq_sql_tree.specs.Tree.{joins_of};
 ghost use Rattle.hq_sql_tree.specs.View.{join_view, filter_view, pred_view};
 ghost use Rattle.hq_sql_tree.specs.Tree.{filter as filtered};
-ghost use Rattle.hq_index.specs.Indexes.{IsOver};
-ghost use Rattle.hq_index.specs.declared.index.Index.{Index};
-ghost use Rattle.hq_sql_rows.specs.Lent.{rows_lent};
-ghost use Rattle.hq_sql_rows.specs.View.{row_in};
-ghost use Rattle.hq_sql_rows.specs.Equations.{is_joined};
-ghost use Rattle.hq_sql_rows.specs.declared.scope.Source.TheVariants as source;
+ghost use Rattle.hq_load_index.specs.Indexes.{IsOver};
+ghost use Rattle.hq_load_index.specs.declared.index.Index.{Index};
+ghost use Rattle.hq_sql_access.specs.Lent.{rows_lent};
+ghost use Rattle.hq_sql_access.specs.View.{row_in};
+ghost use Rattle.hq_sql_access.specs.Equations.{is_joined};
+ghost use Rattle.hq_sql_access.specs.declared.scope.Source.TheVariants as source;
 ghost use Rattle.hq_sql_scans.specs.Positions.{positions_of, rows_at, FindsAll};
 
 use hq_base::{Memory, Txt};
-use hq_index::Index;
-use hq_sql_rows::equations::{asked_key, is_joined};
-use hq_sql_rows::scope::{Scope, Source, count};
-use hq_sql_rows::stored::Stored;
+use hq_load_index::Index;
+use hq_sql_access::equations::{asked_key, is_joined};
+use hq_sql_access::scope::{Scope, Source, count};
+use hq_sql_access::stored::Stored;
 use hq_sql_tree::{Join, Pred};
-use hq_tables::Rows;
+use hq_load_tables::Rows;
 use std::alloc::Global;
 use std::cell::Cell;
 

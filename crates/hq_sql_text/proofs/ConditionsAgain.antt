@@ -2,8 +2,8 @@
 use Rattle.std.proofs.Common.{◌≡◌, ℕ, zero, suc, ◌<◌, Bool, true, false, cond, not, ◌||◌, List, [], ◌∷◌, ◌++◌, length, map, Option, Some, None, refl, sym, ap, subst, ◌∙◌, append_assoc, arith}
 use Rattle.std.specs.Prelude.{codes}
 use Rattle.std.specs.List.{AllByRecursion}
-use Rattle.hq_terms.specs.Tests.{arity}
-use Rattle.hq_terms.specs.declared.test.Test.{Test}
+use Rattle.hq_model.specs.Tests.{arity}
+use Rattle.hq_model.specs.declared.test.Test.{Test}
 use Rattle.hq_sql_tree.specs.declared.expr.ColumnForm.{ColumnForm}
 use Rattle.hq_sql_tree.specs.declared.expr.ColumnForm.TheVariants as form
 use Rattle.hq_sql_tree.specs.declared.word.Word.{Word}

@@ -1,5 +1,5 @@
 use Rattle.std.proofs.Common.{◌≡◌, map, take}
-use Rattle.hq_copied.specs.Tables.{copied_table}
+use Rattle.hq_copy_definition.specs.Tables.{copied_table}
 use Rattle.hq_copy_tables.specs.Views.{meta_in, role_in, schema_in, source_view}
 use Rattle.hq_copy_tables.proofs.catalog.copied_tables.Given as goal
 

@@ -1,5 +1,5 @@
 use Rattle.std.proofs.Common.{◌≡◌, map, take}
-use Rattle.hq_copied.specs.Sources.{place_in}
+use Rattle.hq_copy_definition.specs.Sources.{place_in}
 use Rattle.hq_copy_tables.proofs.catalog.places_of.Given as goal
 
 -- the places so far

@@ -1,8 +1,8 @@
 use Rattle.std.proofs.Common.{◌≡◌, ◌++◌, map, drop}
-use Rattle.hq_copied.specs.Metadata.{copied_entry}
+use Rattle.hq_copy_definition.specs.Metadata.{copied_entry}
 use Rattle.hq_copy_tables.specs.Views.{meta_in, role_in, schema_in, source_view}
-use Rattle.hq_terms.specs.Meta.{tracked_view}
-use Rattle.hq_terms.specs.Schema.{numbered}
+use Rattle.hq_model.specs.Meta.{tracked_view}
+use Rattle.hq_model.specs.Schema.{numbered}
 use Rattle.hq_copy_tables.proofs.metadata.copied_meta.Given as goal
 
 -- the entries so far, and then those of the tables that are left

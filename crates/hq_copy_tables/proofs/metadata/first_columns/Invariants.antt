@@ -1,5 +1,5 @@
 use Rattle.std.proofs.Common.{◌≡◌, ◌++◌, drop}
-use Rattle.hq_copied.specs.Metadata.{places}
+use Rattle.hq_copy_definition.specs.Metadata.{places}
 use Rattle.hq_copy_tables.proofs.metadata.first_columns.Given as goal
 
 -- those so far, and then the others

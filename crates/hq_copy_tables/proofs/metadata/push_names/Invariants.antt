@@ -1,5 +1,5 @@
 use Rattle.std.proofs.Common.{◌≡◌, ◌++◌, map, take}
-use Rattle.hq_copied.specs.Extras.{extra_name}
+use Rattle.hq_copy_definition.specs.Extras.{extra_name}
 use Rattle.hq_copy_tables.specs.Views.{extra_view}
 use Rattle.hq_copy_tables.proofs.metadata.push_names.Given as goal
 

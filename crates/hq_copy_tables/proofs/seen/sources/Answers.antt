@@ -1,10 +1,10 @@
 use Rattle.std.proofs.Common.{List, ◌∙◌, ◌+◌, ◌++◌, [], ap, append_assoc, drop, map, sym}
 use Rattle.hq_base.proofs.Loops.{next_item}
-use Rattle.hq_copied.specs.Sources.{sources_in, with_source}
+use Rattle.hq_copy_definition.specs.Sources.{sources_in, with_source}
 use Rattle.hq_copy_tables.proofs.Fronts.{with_source_front}
 use Rattle.hq_copy_tables.specs.Views.{source_view}
-use Rattle.hq_terms.specs.Meta.{meta_view, tracked_view}
-use Rattle.hq_terms.specs.declared.meta.Tracked.{Tracked}
+use Rattle.hq_model.specs.Meta.{meta_view, tracked_view}
+use Rattle.hq_model.specs.declared.meta.Tracked.{Tracked}
 use Rattle.hq_copy_tables.proofs.seen.sources.Goals as goal
 
 -- a table of which the role may see something stands behind those so far

@@ -1,7 +1,7 @@
 use Rattle.std.proofs.Common.{◌≡◌, ◌++◌, map, drop}
-use Rattle.hq_copied.specs.Sources.{sources, sources_in}
+use Rattle.hq_copy_definition.specs.Sources.{sources, sources_in}
 use Rattle.hq_copy_tables.specs.Views.{source_view}
-use Rattle.hq_terms.specs.Meta.{meta_view, tracked_view}
+use Rattle.hq_model.specs.Meta.{meta_view, tracked_view}
 use Rattle.hq_copy_tables.proofs.seen.sources.Given as goal
 
 -- those so far, and then those of the tables that are left

@@ -4,7 +4,7 @@ use Rattle.std.specs.Prelude.{IfSome}
 use Rattle.std.proofs.lemmas.Result.{IfOk-weaker}
 use Rattle.hq_base.specs.Cells.{cell_of}
 use Rattle.hq_base.specs.declared.value.Val.{Val}
-use Rattle.hq_sql_rows.specs.Equations.{is_column}
+use Rattle.hq_sql_access.specs.Equations.{is_column}
 use Rattle.hq_sql_tree.specs.Meaning.{Scope as Names, value}
 use Rattle.hq_sql_tree.specs.Tree.{test as tested}
 use Rattle.hq_sql_tree.specs.View.{expr_view}

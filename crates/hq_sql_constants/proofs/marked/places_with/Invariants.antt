@@ -1,5 +1,5 @@
 use Rattle.std.proofs.Common.{◌≡◌, [], filter, get_or, take}
-use Rattle.hq_index.specs.Keys.{cell_in}
+use Rattle.hq_load_index.specs.Keys.{cell_in}
 use Rattle.hq_sql_constants.specs.Sifted.{has_constant}
 use Rattle.hq_sql_scans.specs.Positions.{positions_of}
 use Rattle.hq_sql_constants.proofs.marked.places_with.Given as goal

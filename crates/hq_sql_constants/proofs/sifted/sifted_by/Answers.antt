@@ -1,8 +1,8 @@
 use Rattle.std.proofs.Common.{◌≡◌, ◌∙◌, [], Some, map, filter, get_or, bytes_eq, sym, ap}
 use Rattle.std.specs.List.{position}
-use Rattle.hq_index.specs.Keys.{cell_in}
-use Rattle.hq_terms.specs.declared.table.Column.{Column}
-use Rattle.hq_sql_rows.specs.Lent.{rows_lent}
+use Rattle.hq_load_index.specs.Keys.{cell_in}
+use Rattle.hq_model.specs.declared.table.Column.{Column}
+use Rattle.hq_sql_access.specs.Lent.{rows_lent}
 use Rattle.hq_sql_tree.specs.Tree.{joins_of}
 use Rattle.hq_sql_tree.specs.View.{join_view, pred_view}
 use Rattle.hq_sql_scans.specs.Positions.{positions_of}

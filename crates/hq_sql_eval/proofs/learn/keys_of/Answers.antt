@@ -5,10 +5,10 @@ use Rattle.hq_sql_tree.specs.Meaning.{named_row}
 use Rattle.hq_sql_tree.specs.Tree as tree
 use Rattle.hq_sql_tree.specs.Tree.{joins_of, no_join}
 use Rattle.hq_sql_tree.specs.View.{expr_view, filter_view, from_view, join_view, order_view, out_view, pred_view, select_view}
-use Rattle.hq_sql_rows.specs.Lent.{rows_lent}
-use Rattle.hq_sql_rows.specs.Sources.{rows_given}
-use Rattle.hq_sql_rows.specs.View.{source_view, world_of}
-use Rattle.hq_sql_rows.specs.declared.scope.Source.TheVariants as source
+use Rattle.hq_sql_access.specs.Lent.{rows_lent}
+use Rattle.hq_sql_access.specs.Sources.{rows_given}
+use Rattle.hq_sql_access.specs.View.{source_view, world_of}
+use Rattle.hq_sql_access.specs.declared.scope.Source.TheVariants as source
 use Rattle.hq_sql_eval.proofs.Keyed.{filters_is}
 use Rattle.hq_sql_eval.proofs.learn.keys_of.Goals as goal
 

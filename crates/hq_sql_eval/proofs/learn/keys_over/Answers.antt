@@ -1,11 +1,11 @@
 use Rattle.std.proofs.Common.{◌≡◌, ◌∷◌, [], map, sym, subst}
-use Rattle.hq_sql_closed.specs.Conjuncts.{all_kept, lent_views}
-use Rattle.hq_sql_closed.specs.Split.{IsSplit, kept_one}
-use Rattle.hq_sql_closed.specs.Weight.{pred_weight}
+use Rattle.hq_sql_conjuncts.specs.Conjuncts.{all_kept, lent_views}
+use Rattle.hq_sql_conjuncts.specs.Split.{IsSplit, kept_one}
+use Rattle.hq_sql_conjuncts.specs.Weight.{pred_weight}
 use Rattle.hq_sql_tree.specs.Meaning.{named_row, nothing, with_alias}
 use Rattle.hq_sql_tree.specs.View.{pred_view}
-use Rattle.hq_sql_rows.specs.Lent.{rows_lent}
-use Rattle.hq_sql_rows.specs.View.{world_of}
+use Rattle.hq_sql_access.specs.Lent.{rows_lent}
+use Rattle.hq_sql_access.specs.View.{world_of}
 use Rattle.hq_sql_scans.specs.ChosenKeys.{KeepsKeys}
 use Rattle.hq_sql_scans.specs.Links.{AreLinks}
 use Rattle.hq_sql_eval.proofs.Keyed.{keeps_keys}

@@ -1,9 +1,9 @@
 use Rattle.std.proofs.Common.{◌≡◌, ◌∙◌, ◌+◌, ◌<◌, ◌&&◌, ◌++◌, ◌∷◌, [], Bool, false, map, take, length, get_or, sym, ap, subst, arith}
 use Rattle.hq_sql_tree.specs.Meaning.{NamedRow, nothing, with_alias}
 use Rattle.hq_sql_eval.specs.Narrowed.{narrowed}
-use Rattle.hq_sql_rows.specs.KeySets.{keeps_key}
-use Rattle.hq_sql_rows.specs.View.{source_view, row_view}
-use Rattle.hq_sql_rows.proofs.RowsIn.{row_in_is}
+use Rattle.hq_sql_access.specs.KeySets.{keeps_key}
+use Rattle.hq_sql_access.specs.View.{source_view, row_view}
+use Rattle.hq_sql_access.proofs.RowsIn.{row_in_is}
 use Rattle.hq_sql_eval.proofs.Learned.{narrowed_step, narrowed_end}
 use Rattle.hq_sql_eval.proofs.learn.narrowed_keyed.Goals as goal
 

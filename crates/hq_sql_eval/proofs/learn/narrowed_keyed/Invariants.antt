@@ -1,8 +1,8 @@
 use Rattle.std.proofs.Common.{◌≡◌, map, take}
 use Rattle.hq_sql_tree.specs.Meaning.{nothing, with_alias}
 use Rattle.hq_sql_eval.specs.Narrowed.{narrowed}
-use Rattle.hq_sql_rows.specs.KeySets.{keeps_key}
-use Rattle.hq_sql_rows.specs.View.{source_view}
+use Rattle.hq_sql_access.specs.KeySets.{keeps_key}
+use Rattle.hq_sql_access.specs.View.{source_view}
 use Rattle.hq_sql_eval.proofs.learn.narrowed_keyed.Given as goal
 
 -- the truths at the rows so far

@@ -1,10 +1,10 @@
 use Rattle.std.proofs.Common.{◌≡◌, ◌∙◌, map, not, ap}
-use Rattle.hq_index.specs.Grids.{rows_in}
-use Rattle.hq_index.specs.Indexes.{columns_of, rows_with}
-use Rattle.hq_index.specs.Keys.{cell_view as key_view}
+use Rattle.hq_load_index.specs.Grids.{rows_in}
+use Rattle.hq_load_index.specs.Indexes.{columns_of, rows_with}
+use Rattle.hq_load_index.specs.Keys.{cell_view as key_view}
 use Rattle.hq_sql_tree.specs.Meaning.{World}
-use Rattle.hq_sql_rows.specs.KeySets.{link_keys}
-use Rattle.hq_sql_rows.specs.View.{scope_of}
+use Rattle.hq_sql_access.specs.KeySets.{link_keys}
+use Rattle.hq_sql_access.specs.View.{scope_of}
 use Rattle.hq_sql_scans.proofs.KeySets.{told_key}
 use Rattle.hq_sql_scans.proofs.key_set.has_row.Goals as goal
 

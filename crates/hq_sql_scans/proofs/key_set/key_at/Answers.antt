@@ -1,10 +1,10 @@
 use Rattle.std.proofs.Common.{◌<◌, ◌≡◌, ◌∙◌, [], ◌∷◌, length, map, ap, arith}
 use Rattle.std.proofs.lemmas.List.{map-append}
-use Rattle.hq_index.specs.Keys.{cell_view as key_view}
+use Rattle.hq_load_index.specs.Keys.{cell_view as key_view}
 use Rattle.hq_sql_tree.specs.Meaning.{World, value}
 use Rattle.hq_sql_tree.specs.View.{expr_view}
-use Rattle.hq_sql_rows.specs.Equations.{key_cell}
-use Rattle.hq_sql_rows.specs.View.{scope_of}
+use Rattle.hq_sql_access.specs.Equations.{key_cell}
+use Rattle.hq_sql_access.specs.View.{scope_of}
 use Rattle.hq_sql_scans.proofs.KeySets.{more_key}
 use Rattle.hq_sql_scans.proofs.key_set.key_at.Goals as goal
 

@@ -1,5 +1,5 @@
 use Rattle.std.proofs.Common.{length, refl}
-use Rattle.hq_index.specs.Grids.{rows_in}
+use Rattle.hq_load_index.specs.Grids.{rows_in}
 use Rattle.hq_sql_scans.proofs.KeySets.{grid_rows}
 use Rattle.hq_sql_scans.proofs.key_set.key_grid.Goals as goal
 

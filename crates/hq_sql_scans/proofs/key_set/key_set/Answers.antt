@@ -1,8 +1,8 @@
 use Rattle.std.proofs.Common.{◌≡◌, ◌∙◌, length, refl, ap}
-use Rattle.hq_index.specs.Indexes.{columns_of, counted}
+use Rattle.hq_load_index.specs.Indexes.{columns_of, counted}
 use Rattle.hq_sql_tree.specs.View.{pred_view}
-use Rattle.hq_sql_rows.specs.View.{world_of}
-use Rattle.hq_sql_rows.specs.declared.pinned.KeySet.{KeySet}
+use Rattle.hq_sql_access.specs.View.{world_of}
+use Rattle.hq_sql_access.specs.declared.pinned.KeySet.{KeySet}
 use Rattle.hq_sql_scans.proofs.KeySets.{set_is}
 use Rattle.hq_sql_scans.proofs.key_set.key_set.Goals as goal
 

@@ -1,11 +1,11 @@
 use Rattle.std.proofs.Common.{◌≡◌, ◌∙◌, Bool, Option, None, Some, ap, sym}
 use Rattle.std.specs.Prelude.{IfSome}
 use Rattle.std.proofs.lemmas.Result.{IfOk-weaker}
-use Rattle.hq_terms.specs.Logic.{truth_of}
+use Rattle.hq_model.specs.Logic.{truth_of}
 use Rattle.hq_sql_tree.specs.Meaning.{World, truth_at}
 use Rattle.hq_sql_tree.specs.View.{pred_view}
-use Rattle.hq_sql_rows.specs.KeySets.{keeps_key}
-use Rattle.hq_sql_rows.specs.View.{names_of, scope_of, world_of}
+use Rattle.hq_sql_access.specs.KeySets.{keeps_key}
+use Rattle.hq_sql_access.specs.View.{names_of, scope_of, world_of}
 use Rattle.hq_sql_scans.proofs.key_set.known_row.Goals as goal
 
 pub returns-in-Some : goal.returns-in-Some

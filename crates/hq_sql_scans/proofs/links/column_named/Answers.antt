@@ -1,7 +1,7 @@
 use Rattle.std.proofs.Common.{◌≡◌, ◌∙◌, Some, bytes_eq, sym, subst}
 use Rattle.std.specs.List.{position}
 use Rattle.hq_sql_tree.specs.View.{expr_view}
-use Rattle.hq_terms.specs.declared.table.Column.{Column}
+use Rattle.hq_model.specs.declared.table.Column.{Column}
 use Rattle.hq_sql_scans.specs.Links.{IsOwn}
 use Rattle.hq_sql_scans.proofs.Linked.{own_is}
 use Rattle.hq_sql_scans.proofs.links.column_named.Goals as goal

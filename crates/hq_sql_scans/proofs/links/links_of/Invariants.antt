@@ -1,5 +1,5 @@
 use Rattle.std.proofs.Common.{take}
-use Rattle.hq_sql_closed.specs.Conjuncts.{lent_views}
+use Rattle.hq_sql_conjuncts.specs.Conjuncts.{lent_views}
 use Rattle.hq_sql_scans.specs.Links.{AreLinks}
 use Rattle.hq_sql_scans.proofs.links.links_of.Given as goal
 

@@ -1,17 +1,17 @@
 use Rattle.std.proofs.Common.{◌≡◌, ◌∙◌, [], map, false, Option, None, Some, sym}
 use Rattle.std.specs.Prelude.{IfSome}
 use Rattle.std.specs.Borrow.{Bor}
-use Rattle.hq_index.specs.declared.index.Index.{Index}
+use Rattle.hq_load_index.specs.declared.index.Index.{Index}
 use Rattle.hq_sql_tree.specs.Tree.{FilterTree, joins_of}
 use Rattle.hq_sql_tree.specs.View.{join_view, order_view}
 use Rattle.hq_sql_tree.specs.Meaning.{kept}
-use Rattle.hq_sql_rows.specs.Equations.{is_joined}
-use Rattle.hq_sql_rows.specs.Lent.{rows_lent}
+use Rattle.hq_sql_access.specs.Equations.{is_joined}
+use Rattle.hq_sql_access.specs.Lent.{rows_lent}
 use Rattle.hq_sql_scans.specs.Ordered.{HasOrder, walked}
 use Rattle.hq_sql_scans.specs.Positions.{rows_at, FindsArranged}
-use Rattle.hq_sql_rows.specs.View.{scope_of}
-use Rattle.hq_sql_rows.specs.declared.scope.Scope.{Scope as InScope}
-use Rattle.hq_sql_rows.specs.declared.scope.Source.TheVariants as source
+use Rattle.hq_sql_access.specs.View.{scope_of}
+use Rattle.hq_sql_access.specs.declared.scope.Scope.{Scope as InScope}
+use Rattle.hq_sql_access.specs.declared.scope.Source.TheVariants as source
 use Rattle.hq_sql_scans.proofs.InOrder.{ordered_is}
 use Rattle.hq_sql_scans.proofs.ordered.index_in_order.Goals as goal
 

@@ -2,8 +2,8 @@ use Rattle.std.proofs.Common.{rules, ◌≡◌, ◌∙◌, Bool, true, false, So
 use Rattle.std.specs.List.{position}
 use Rattle.hq_sql_tree.specs.View.{expr_view, order_view}
 use Rattle.hq_sql_tree.specs.declared.expr.Order.{the_lemmas as order_lemmas}
-use Rattle.hq_terms.specs.declared.table.Column.{Column}
-use Rattle.hq_sql_rows.specs.Equations.{is_column}
+use Rattle.hq_model.specs.declared.table.Column.{Column}
+use Rattle.hq_sql_access.specs.Equations.{is_column}
 use Rattle.hq_sql_scans.proofs.InOrder.{key_is}
 use Rattle.hq_sql_scans.proofs.ordered.is_key.Goals as goal
 

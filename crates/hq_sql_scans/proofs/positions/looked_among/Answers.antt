@@ -1,10 +1,10 @@
 use Rattle.std.proofs.Common.{◌≡◌, ◌∙◌, map, ap, sym}
-use Rattle.hq_index.specs.Indexes.{rows_with}
-use Rattle.hq_index.specs.Keys.{cell_view as key_view}
+use Rattle.hq_load_index.specs.Indexes.{rows_with}
+use Rattle.hq_load_index.specs.Keys.{cell_view as key_view}
 use Rattle.hq_sql_tree.specs.Tree.{joins_of}
 use Rattle.hq_sql_tree.specs.View.{join_view, pred_view}
-use Rattle.hq_sql_rows.specs.Equations.{AsksKey}
-use Rattle.hq_sql_rows.specs.Lent.{rows_lent}
+use Rattle.hq_sql_access.specs.Equations.{AsksKey}
+use Rattle.hq_sql_access.specs.Lent.{rows_lent}
 use Rattle.hq_sql_scans.proofs.Looked.{looked_is}
 use Rattle.hq_sql_scans.proofs.positions.looked_among.Goals as goal
 

@@ -3,7 +3,7 @@ use Rattle.hq_sql_tree.specs.Tree.{joins_of}
 use Rattle.hq_sql_tree.specs.View.{join_view, filter_view}
 use Rattle.hq_sql_tree.specs.Meaning.{kept}
 use Rattle.hq_sql_scans.specs.Positions.{kept_of}
-use Rattle.hq_sql_rows.specs.View.{scope_of}
+use Rattle.hq_sql_access.specs.View.{scope_of}
 use Rattle.hq_sql_scans.proofs.Looked.{all_rows}
 use Rattle.hq_sql_scans.proofs.positions.looked_at.Goals as goal
 

@@ -1,9 +1,9 @@
 use Rattle.std.proofs.Common.{◌≡◌, ◌∙◌, ap, sym, subst, rules}
 use Rattle.std.proofs.Math.Logic.{∥∥₁_elim}
-use Rattle.hq_role_schema.specs.RoleSchema.{role_schema}
-use Rattle.hq_roles.proofs.SchemaSets.{schema_set}
+use Rattle.hq_schema_of_role.specs.RoleSchema.{role_schema}
+use Rattle.hq_schema_roles.proofs.SchemaSets.{schema_set}
 use Rattle.hq_schema.specs.Schema.{schema_view}
-use Rattle.hq_terms.specs.Meta.{meta_view}
+use Rattle.hq_model.specs.Meta.{meta_view}
 use Rattle.hq_engine.specs.Kept.{AreOfRoles}
 use Rattle.hq_engine.proofs.schemas.Schemas.find.Goals as goal
 
