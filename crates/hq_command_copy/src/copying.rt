@@ -12,14 +12,14 @@ ghost use Rattle.hq_copy.specs.Redacting.{Redacts, copy_due, redacted_view};
 use crate::causes::{copy_cause, part_cause};
 use hq_base::{Bytes, Txt};
 use hq_command::{Done, Refusal, caller};
+use hq_copy::{Redacted, redact};
 use hq_copy_definition::CopyRefusal;
 use hq_copy_text::{PartRefusal, part};
-use hq_load::{Loaded, load};
 use hq_io::{Files, Sink, write_all};
-use hq_copy::{Redacted, redact};
-use hq_session::Headers;
+use hq_load::{Loaded, load};
 use hq_load_tables::MemTables;
 use hq_model::Session;
+use hq_session::Headers;
 use std::alloc::Global;
 
 // What a refusal of a copy is to the program.

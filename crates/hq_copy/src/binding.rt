@@ -12,10 +12,10 @@ ghost use Rattle.hq_model.specs.Scope.{scope_schema};
 ghost use Rattle.hq_model.specs.declared.bind.BindRefusal.TheVariants as binding;
 
 use hq_base::List;
-use hq_model_binding::bind;
 use hq_copy_definition::CopyRefusal;
 use hq_copy_tables::Source;
 use hq_model::{BindRefusal, Mask, MaskList, PermView, Scope, Session, TableId, TryCopy};
+use hq_model_binding::bind;
 use std::alloc::Global;
 
 fn bound_mask(

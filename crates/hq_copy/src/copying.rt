@@ -8,8 +8,8 @@ ghost use Rattle.hq_model.specs.PermView.{permission_view};
 
 use crate::row::{RowRefs, World, copied_rows};
 use hq_base::Memory;
-use hq_copy_tables::Original;
 use hq_copy_filter::permitted_rows;
+use hq_copy_tables::Original;
 use hq_load_tables::{RowList, Rows};
 use hq_model::PermView;
 use std::alloc::Global;

@@ -9,8 +9,8 @@ ghost use Rattle.hq_model.specs.Schema.{numbered, rel};
 
 use crate::numbers::{from_number, number_value, to_number};
 use hq_base::{List, Memory, Val};
-use hq_copy_tables::{Extra, Link, Original, Source, extras_of, link_remote, table_place};
 use hq_copy_filter::shown_value;
+use hq_copy_tables::{Extra, Link, Original, Source, extras_of, link_remote, table_place};
 use hq_load_tables::{RowList, Rows, ValList};
 use hq_model::{Pair, PermView, TableId};
 use std::alloc::Global;

@@ -15,8 +15,8 @@ ghost use Rattle.hq_model.specs.SchemaNames.{fixed_types, has_columns, is_aggreg
 use crate::kept_names::name_taken;
 use hq_base::{Aggregate, List, Memory, Txt, Ty};
 use hq_copy_definition::CopyRefusal;
-use hq_schema::{Fixed, Part};
 use hq_model::{ColId, Meta, Table, Tracked, TxtList, is_free_name};
+use hq_schema::{Fixed, Part};
 use std::alloc::Global;
 
 // A name with an end, behind others.

@@ -7,8 +7,8 @@ ghost use Rattle.hq_model.specs.Logic.{is_true, equal};
 ghost use Rattle.hq_model.specs.Seen.{row_cell, linked_by};
 
 use hq_base::{Val, compare};
-use hq_sql_cells::Cell;
 use hq_model::{ColId, Pair};
+use hq_sql_cells::Cell;
 use std::cmp::Ordering;
 
 /// The cell of a row in a column; NULL beyond its columns.

@@ -6,8 +6,8 @@ ghost use Rattle.hq_model.specs.Seen.{row_cell};
 
 use crate::cells::cell_at;
 use hq_base::Val;
-use hq_sql_cells::{Direction, keys_cmp};
 use hq_model::ColId;
+use hq_sql_cells::{Direction, keys_cmp};
 use std::cmp::Ordering;
 use std::slice;
 

@@ -15,9 +15,9 @@ ghost use Rattle.hq_model.specs.Truth.{operand_cell, truth, truth_of_all, truth_
 use crate::cells::{are_linked, cell_at};
 use crate::loaded::rows_at;
 use hq_base::{Memory, Val};
-use hq_sql_cells::{Cell, test_truth};
 use hq_load_tables::Rows;
 use hq_model::{Bexp, BexpList, Op, Operand, Operands, Pair, RelId, Scope, TableId, Test, Truth};
+use hq_sql_cells::{Cell, test_truth};
 use std::alloc::Global;
 use std::slice;
 

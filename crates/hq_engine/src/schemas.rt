@@ -6,10 +6,10 @@ ghost use Rattle.hq_model.specs.Meta.{meta_view};
 ghost use Rattle.hq_engine.specs.Kept.{AreOfRoles, found_schema};
 
 use hq_base::Memory;
+use hq_model::{Catalog, Meta, Role};
+use hq_schema::Schema;
 use hq_schema_of_role::derive;
 use hq_schema_roles::RoleSchemas;
-use hq_schema::Schema;
-use hq_model::{Catalog, Meta, Role};
 use std::alloc::Global;
 
 /// The schemas that an engine keeps.

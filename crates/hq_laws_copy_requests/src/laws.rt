@@ -10,8 +10,8 @@ ghost use Rattle.hq_model.specs.declared.table.Table.{Table as CatalogTable};
 use hq_laws_blank_schemas::{origins_change_no_fault, origins_change_no_variable};
 use hq_laws_copy_schema::copied_schema_is_renumbered;
 use hq_laws_renumbered_requests::fields_are_renumbered;
-use hq_schema_roles::leads_where_permitted;
 use hq_laws_schema_origins::numbers_change_origins_alone;
+use hq_schema_roles::leads_where_permitted;
 
 /// A body asks a copy for what it asks the database for, in the numbers of the copy, or it has the same first fault.
 pub fn copied_requests_are_renumbered()

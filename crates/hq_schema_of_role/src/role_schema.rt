@@ -13,8 +13,8 @@ use crate::scalars::behind_scalars;
 use crate::see::shown_tables;
 use crate::shown::{PlacedTable, PlacedTableList};
 use hq_base::{Memory, Txt};
-use hq_schema::{Fixed, NamedList, Schema, TypeDef, TypeDefList};
 use hq_model::{Catalog, Meta, Role};
+use hq_schema::{Fixed, NamedList, Schema, TypeDef, TypeDefList};
 use std::alloc::Global;
 
 // Adds the types of a table among those that the role may see.

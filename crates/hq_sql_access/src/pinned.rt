@@ -10,8 +10,8 @@ ghost use Rattle.hq_sql_access.specs.declared.pinned.Known.{Known};
 use crate::stored::Stored;
 use crate::work::Work;
 use hq_base::Memory;
-use hq_load_index::{Grid, Index};
 use hq_like::Matcher;
+use hq_load_index::{Grid, Index};
 use hq_sql_tree::{Expr, From, Pred};
 use std::alloc::Global;
 

@@ -7,9 +7,9 @@ ghost use Rattle.hq_sql_tree.specs.View.{expr_view, pred_view};
 ghost use Rattle.hq_sql_constants.specs.Listed.{AsksOneOf, IsOfOne};
 
 use hq_base::{Memory, Txt, Val};
+use hq_model::{Op, Test};
 use hq_sql_access::equations::is_column;
 use hq_sql_tree::{Expr, ExprList, Pred, PredList};
-use hq_model::{Op, Test};
 use std::alloc::Global;
 
 /// The name of a column, and the values of which it is asked to be one.

@@ -9,9 +9,9 @@ ghost use Rattle.hq_sql_scans.specs.Positions.{positions_of};
 
 use hq_base::{Memory, Val};
 use hq_load_index::{Grid, Index, KeyCell};
-use hq_sql_scans::positions::{Positions, number_of, position_at};
 use hq_load_tables::Rows;
 use hq_model::ColId;
+use hq_sql_scans::positions::{Positions, number_of, position_at};
 use std::alloc::Global;
 use std::slice;
 

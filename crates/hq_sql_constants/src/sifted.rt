@@ -13,14 +13,14 @@ ghost use Rattle.hq_sql_tree.specs.View.{filter_view, join_view, pred_view};
 use crate::listed::{Listed, is_many, listed};
 use crate::marked::{constants_of, places_with};
 use hq_base::{Memory, Txt};
+use hq_load_tables::Rows;
+use hq_model::ColId;
 use hq_sql_access::equations::{first_named, is_joined};
 use hq_sql_access::scope::Source;
 use hq_sql_access::stored::Stored;
 use hq_sql_scans::ordered::Looked;
 use hq_sql_scans::positions::{Positions, number_of};
 use hq_sql_tree::{Join, Pred};
-use hq_load_tables::Rows;
-use hq_model::ColId;
 use std::alloc::Global;
 
 // Of fewer places none is worth to be left out.

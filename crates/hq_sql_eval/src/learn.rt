@@ -18,16 +18,16 @@ ghost use Rattle.hq_sql_access.specs.View.{names_of, source_view, world_of};
 
 use hq_base::{Memory, Txt};
 use hq_load_index::Index;
-use hq_sql_conjuncts::{Names, split};
+use hq_load_tables::Rows;
 use hq_sql_access::known::known_of;
 use hq_sql_access::pinned::{KeySet, Known, Pinned};
 use hq_sql_access::scope::{Scope, Source, alias_of, count, row_at, source_of};
 use hq_sql_access::stored::Stored;
+use hq_sql_conjuncts::{Names, split};
 use hq_sql_scans::key_set::{has_row, key_set, key_set_of};
 use hq_sql_scans::links::{LinkList, links_of};
-use hq_sql_tree::{From, Join, JoinList, Pred, Select};
 use hq_sql_select::{any_row, truth};
-use hq_load_tables::Rows;
+use hq_sql_tree::{From, Join, JoinList, Pred, Select};
 use std::alloc::Global;
 
 // Whether a condition is true too, where others were before.

@@ -1,8 +1,8 @@
 //! The patterns of LIKE that stand in a statement, read once. Whichever are read, the answer is the meaning.
 use hq_base::{Memory, Txt};
 use hq_like::Matcher;
-use hq_sql_tree::{Expr, From, JoinList, Pred, PredList, Select};
 use hq_model::Test;
+use hq_sql_tree::{Expr, From, JoinList, Pred, PredList, Select};
 use std::alloc::Global;
 
 // No more patterns are read before: one is looked for among them at each row.

@@ -10,16 +10,16 @@ ghost use Rattle.hq_sql_output.specs.Selected.{page_at};
 
 use crate::listed::Rows;
 use hq_base::{Memory, Txt};
-use hq_sql_constants::has_many;
 use hq_sql_access::pinned::Pinned;
 use hq_sql_access::place::Place;
 use hq_sql_access::row::Made;
 use hq_sql_access::scope::{Scope, Source, alias_of, source_of};
 use hq_sql_access::stages::Stage;
+use hq_sql_constants::has_many;
 use hq_sql_scans::ordered::{Looked, ordered_at};
 use hq_sql_scans::positions::Positions;
-use hq_sql_tree::{Join, Pred};
 use hq_sql_select::{Piece, page, page_sorted, scan_from};
+use hq_sql_tree::{Join, Pred};
 use std::alloc::Global;
 
 /// The rows of a FROM under its alias, with the joins beside them and when each is evaluated.

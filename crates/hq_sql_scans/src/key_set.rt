@@ -13,13 +13,13 @@ ghost use Rattle.hq_sql_access.specs.View.{names_of, scope_of, world_of};
 
 use hq_base::{Memory, Val};
 use hq_load_index::{Grid, Index, KeyCell};
-use hq_sql_conjuncts::same_pred;
+use hq_load_tables::Rows;
+use hq_model::ColId;
 use hq_sql_access::equations::outer_cell;
 use hq_sql_access::pinned::{KeySet, Pinned};
 use hq_sql_access::scope::Scope;
+use hq_sql_conjuncts::same_pred;
 use hq_sql_tree::{Expr, Pred};
-use hq_load_tables::Rows;
-use hq_model::ColId;
 use std::alloc::Global;
 use std::cell::Cell;
 

@@ -9,9 +9,9 @@ ghost use Rattle.hq_sql_tree.specs.View.{expr_view};
 
 use hq_base::Txt;
 use hq_like::Matcher;
+use hq_model::{Test, Truth};
 use hq_sql_cells::Cell;
 use hq_sql_tree::Expr;
-use hq_model::{Test, Truth};
 
 // The matcher of a pattern.
 fn matcher_of<'m>(matchers: &'m [Matcher], pattern: &Txt, fold: bool) -> Option<&'m Matcher>

@@ -7,9 +7,9 @@ ghost use Rattle.hq_sql_access.specs.Equations.{is_column, is_outer};
 ghost use Rattle.hq_sql_scans.specs.Links.{IsOwn, IsLink, AreLinks};
 
 use hq_base::{Memory, Txt};
+use hq_model::{ColId, Column, Test};
 use hq_sql_access::equations::{equal_to, first_named, is_outer};
 use hq_sql_tree::{Expr, ExprList, Pred};
-use hq_model::{ColId, Column, Test};
 use std::alloc::Global;
 
 /// A column, and the expression that it is asked to equal.

@@ -14,13 +14,13 @@ ghost use Rattle.hq_sql_access.specs.declared.scope.Scope.{Scope as InScope};
 use crate::positions::{Positions, looked_at};
 use hq_base::{Memory, Txt};
 use hq_load_index::Index;
+use hq_load_tables::Rows;
+use hq_model::{ColId, Table};
 use hq_sql_access::equations::{is_column, is_first, is_joined};
 use hq_sql_access::scope::{Scope, Source};
 use hq_sql_access::stages::Parts;
 use hq_sql_access::stored::Stored;
 use hq_sql_tree::{Expr, ExprList, Join, Order};
-use hq_load_tables::Rows;
-use hq_model::{ColId, Table};
 use std::alloc::Global;
 use std::cell::Cell;
 

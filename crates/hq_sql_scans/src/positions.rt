@@ -13,11 +13,11 @@ ghost use Rattle.hq_sql_scans.specs.Positions.{positions_of, rows_at, FindsAll};
 
 use hq_base::{Memory, Txt};
 use hq_load_index::Index;
+use hq_load_tables::Rows;
 use hq_sql_access::equations::{asked_key, is_joined};
 use hq_sql_access::scope::{Scope, Source, count};
 use hq_sql_access::stored::Stored;
 use hq_sql_tree::{Join, Pred};
-use hq_load_tables::Rows;
 use std::alloc::Global;
 use std::cell::Cell;
 

@@ -11,13 +11,13 @@ ghost use Rattle.hq_sql_select.specs.Selected.{Arranges, Groups, Pages, PagesFro
 use crate::scans::scan_from;
 use crate::values::{keys, values};
 use hq_base::{Memory, Txt};
-use hq_sql_cells::{Kept, paged};
-use hq_sql_constants::{left_of, with_left};
 use hq_sql_access::cells::{arranged, grouped};
 use hq_sql_access::pinned::Pinned;
 use hq_sql_access::place::{Place, with_more};
 use hq_sql_access::scope::{Scope, Source, row_at};
 use hq_sql_access::stages::{Parts, Stage};
+use hq_sql_cells::{Kept, paged};
+use hq_sql_constants::{left_of, with_left};
 use hq_sql_scans::ordered::{Looked, ordered_at};
 use hq_sql_scans::pages::{enough, enough_sorted, has_enough};
 use hq_sql_scans::positions::{Positions, number_of};
