@@ -5,8 +5,8 @@ ghost use Rattle.std.specs.Iterator.{IsFinite};
 
 use hq_app::{World, run};
 use hq_base::{List, Memory, Txt, TxtRefusal};
-use hq_outside::write_all;
-use hq_system::{DirFiles, FileDisk, StdSink, StdSource, TcpDoor};
+use hq_io::write_all;
+use hq_io_system::{DirFiles, FileDisk, StdSink, StdSource, TcpDoor};
 use hq_ws::TcpHall;
 use std::alloc::Global;
 use std::env;

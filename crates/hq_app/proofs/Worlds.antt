@@ -1,6 +1,6 @@
 -- Two databases that a session cannot tell apart give it the same answers.
 use Rattle.std.proofs.Common.{◌≡◌, ℕ, List, Option, Some, None, IfSome, Result, Ok, Err, refl, ap, subst}
-use Rattle.hq_ask_tree.specs.Request.{AskTree}
+use Rattle.hq_request_tree.specs.Request.{AskTree}
 use Rattle.hq_engine.specs.Asking.{Counts}
 use Rattle.hq_engine.specs.Engines.{engine_agree}
 use Rattle.hq_engine.specs.Laws.{RepliesAgree}
@@ -9,16 +9,16 @@ use Rattle.hq_engine.specs.declared.engine.Engine.{Engine}
 use Rattle.hq_request.specs.Request.{request_due}
 use Rattle.hq_request.specs.declared.refusal.RequestRefusal.{RequestRefusal}
 use Rattle.hq_request.specs.declared.refusal.RequestRefusal.TheVariants.{Fault, Memory}
-use Rattle.hq_terms.specs.Database.{Row}
-use Rattle.hq_terms.specs.Meta.{MetaTree, meta_view}
-use Rattle.hq_terms.specs.declared.session.Session.{Session}
-use Rattle.hq_terms.specs.declared.table.Table.{Table}
-use Rattle.hq_commands.specs.Ending.{Answer, Ends, Output}
-use Rattle.hq_commands.specs.Answers.{Answers}
+use Rattle.hq_model.specs.Database.{Row}
+use Rattle.hq_model.specs.Meta.{MetaTree, meta_view}
+use Rattle.hq_model.specs.declared.session.Session.{Session}
+use Rattle.hq_model.specs.declared.table.Table.{Table}
+use Rattle.hq_command.specs.Ending.{Answer, Ends, Output}
+use Rattle.hq_command.specs.Answers.{Answers}
 use Rattle.hq_app.specs.Laws.{AnswersAlike, OutputsAgree}
-use Rattle.hq_commands.specs.Output.{engine_output, reply_output, within_limit}
-use Rattle.hq_commands.specs.declared.done.Done.TheVariants.{Answered}
-use Rattle.hq_commands.specs.declared.refusal.Refusal.{Refusal}
+use Rattle.hq_command.specs.Output.{engine_output, reply_output, within_limit}
+use Rattle.hq_command.specs.declared.done.Done.TheVariants.{Answered}
+use Rattle.hq_command.specs.declared.refusal.Refusal.{Refusal}
 
 -- equal replies are equal outputs
 output_same : (tables : List Table) (meta : MetaTree) (session : Session) (d e : List (List Row)) (made : Result AskTree RequestRefusal) → reply_to tables meta session d made ≡ reply_to tables meta session e made

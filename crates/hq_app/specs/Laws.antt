@@ -3,18 +3,18 @@ use Rattle.std.specs.Prelude.{◌≡◌, ℕ, List, true, Option, Some, IfSome}
 use Rattle.hq_engine.specs.Asking.{Counts}
 use Rattle.hq_engine.specs.Engines.{engine_agree}
 use Rattle.hq_engine.specs.declared.engine.Engine.{Engine}
-use Rattle.hq_terms.specs.Catalog.{is_catalog}
-use Rattle.hq_terms.specs.Database.{Row}
-use Rattle.hq_terms.specs.Fits.{fits}
-use Rattle.hq_terms.specs.Grants.{grants_of}
-use Rattle.hq_terms.specs.Meta.{MetaTree}
-use Rattle.hq_terms.specs.Schema.{schema_of}
-use Rattle.hq_terms.specs.View.{Agree}
-use Rattle.hq_terms.specs.declared.session.Session.{Session}
-use Rattle.hq_terms.specs.declared.table.Table.{Table}
-use Rattle.hq_commands.specs.Ending.{Answer}
-use Rattle.hq_commands.specs.Answers.{Answers}
-use Rattle.hq_commands.specs.Output.{request_output}
+use Rattle.hq_model.specs.Catalog.{is_catalog}
+use Rattle.hq_model.specs.Database.{Row}
+use Rattle.hq_model.specs.Fits.{fits}
+use Rattle.hq_model.specs.Grants.{grants_of}
+use Rattle.hq_model.specs.Meta.{MetaTree}
+use Rattle.hq_model.specs.Schema.{schema_of}
+use Rattle.hq_model.specs.View.{Agree}
+use Rattle.hq_model.specs.declared.session.Session.{Session}
+use Rattle.hq_model.specs.declared.table.Table.{Table}
+use Rattle.hq_command.specs.Ending.{Answer}
+use Rattle.hq_command.specs.Answers.{Answers}
+use Rattle.hq_command.specs.Output.{request_output}
 
 -- over two databases that a session cannot tell apart, the same output is due
 abbrev pub OutputsAgree : List Table → MetaTree → Session → (text : List ℕ) → (d e : List (List Row)) → Type 0

@@ -1,11 +1,11 @@
 -- The outside, as a run sees it.
 use Rattle.std.specs.Prelude.{◌≤◌, ℕ, List, Option}
-use Rattle.hq_outside.specs.declared.files.File.{File}
+use Rattle.hq_io.specs.declared.files.File.{File}
 use Rattle.hq_serve.specs.Serving.{Told}
 use Rattle.hq_live_serve.specs.Talking.{ToldLink}
-use Rattle.hq_paged_commands.specs.Disks.{SeenDisk, DiskLater}
-use Rattle.hq_commands.specs.Ending.{Tells}
-use Rattle.hq_serve_command.specs.Serving.{SeenDoor}
+use Rattle.hq_command_paged.specs.Disks.{SeenDisk, DiskLater}
+use Rattle.hq_command.specs.Ending.{Tells}
+use Rattle.hq_command_serve.specs.Serving.{SeenDoor}
 
 -- what a part tells, and how often it has failed
 pub record Seen (A : Type 0) : Type 0 where

@@ -1,22 +1,22 @@
 -- How a run ends, by cases on the command that the words ask for.
 use Rattle.std.specs.Prelude.{◌≡◌, ◌≢◌, ◌⊎◌, ◌||◌, ℕ, Bool, true, false, Option, Some, None, Ok, Err, IfErr, IfSome}
-use Rattle.hq_outside.specs.Causes.{Rose}
-use Rattle.hq_words.specs.declared.command.Command.{Command}
-use Rattle.hq_words.specs.declared.command.Command.TheVariants.{Query, Sql, Explain, Confine, Check, Serve, Live, Gen, Show}
-use Rattle.hq_commands.specs.Ending.{Answer, Ends, NotDatabase, status_of, told_line}
-use Rattle.hq_explain_command.specs.Explaining.{Explains, explain_output}
-use Rattle.hq_confine_command.specs.Confining.{Confines}
-use Rattle.hq_commands.specs.Generating.{GenEnds}
-use Rattle.hq_paged_commands.specs.Disks.{DiskFailed, paged_output}
-use Rattle.hq_commands.specs.Output.{query_output, sql_output}
-use Rattle.hq_commands.specs.Check.{check_output}
-use Rattle.hq_serve_command.specs.Serving.{ServeEnds}
-use Rattle.hq_paged_commands.specs.Serving.{PagedServeEnds}
-use Rattle.hq_commands.specs.Showing.{page_output}
-use Rattle.hq_live_command.specs.Living.{LiveEnds}
-use Rattle.hq_commands.specs.declared.done.Done.TheVariants.{Faulty}
-use Rattle.hq_commands.specs.declared.refusal.Refusal.{Refusal}
-use Rattle.hq_commands.specs.declared.refusal.Refusal.TheVariants.{BadWords, Memory}
+use Rattle.hq_io.specs.Causes.{Rose}
+use Rattle.hq_cli.specs.declared.command.Command.{Command}
+use Rattle.hq_cli.specs.declared.command.Command.TheVariants.{Query, Sql, Explain, Confine, Check, Serve, Live, Gen, Show}
+use Rattle.hq_command.specs.Ending.{Answer, Ends, NotDatabase, status_of, told_line}
+use Rattle.hq_command_explain.specs.Explaining.{Explains, explain_output}
+use Rattle.hq_command_confine.specs.Confining.{Confines}
+use Rattle.hq_command.specs.Generating.{GenEnds}
+use Rattle.hq_command_paged.specs.Disks.{DiskFailed, paged_output}
+use Rattle.hq_command.specs.Output.{query_output, sql_output}
+use Rattle.hq_command.specs.Check.{check_output}
+use Rattle.hq_command_serve.specs.Serving.{ServeEnds}
+use Rattle.hq_command_paged.specs.Serving.{PagedServeEnds}
+use Rattle.hq_command.specs.Showing.{page_output}
+use Rattle.hq_command_live.specs.Living.{LiveEnds}
+use Rattle.hq_command.specs.declared.done.Done.TheVariants.{Faulty}
+use Rattle.hq_command.specs.declared.refusal.Refusal.{Refusal}
+use Rattle.hq_command.specs.declared.refusal.Refusal.TheVariants.{BadWords, Memory}
 use Rattle.hq_app.specs.Outside.{Outside, TellsLine}
 
 -- whether a command reads the standard input

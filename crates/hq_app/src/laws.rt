@@ -1,9 +1,9 @@
 //! The law of two worlds, the contract of a function that does nothing.
 ghost use Rattle.std.specs.Prelude.{ℕ, List as Items};
-ghost use Rattle.hq_terms.specs.Database.{Row};
-ghost use Rattle.hq_terms.specs.Meta.{MetaTree};
-ghost use Rattle.hq_terms.specs.declared.session.Session.{Session as Caller};
-ghost use Rattle.hq_terms.specs.declared.table.Table.{Table as CatalogTable};
+ghost use Rattle.hq_model.specs.Database.{Row};
+ghost use Rattle.hq_model.specs.Meta.{MetaTree};
+ghost use Rattle.hq_model.specs.declared.session.Session.{Session as Caller};
+ghost use Rattle.hq_model.specs.declared.table.Table.{Table as CatalogTable};
 ghost use Rattle.hq_app.specs.Laws.{OutputsAgree};
 
 use hq_engine::replies_agree;

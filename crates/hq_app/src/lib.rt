@@ -6,7 +6,7 @@ mod living;
 mod top;
 mod world;
 
-pub use hq_commands::{Done, INPUT_LIMIT, Refusal};
+pub use hq_command::{Done, INPUT_LIMIT, Refusal};
 pub use laws::outputs_agree;
 pub use top::{answer_one, run};
 pub use world::{Observed, Ran, World};

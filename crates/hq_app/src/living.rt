@@ -1,19 +1,19 @@
 //! Talks of live queries over a world.
 ghost use Rattle.std.specs.Prelude.{◌≡◌, ◌≤◌, IfErr, IsErrOf, Some};
-ghost use Rattle.hq_outside.specs.Causes.{Rose};
-ghost use Rattle.hq_commands.specs.Ending.{NotDatabase};
+ghost use Rattle.hq_io.specs.Causes.{Rose};
+ghost use Rattle.hq_command.specs.Ending.{NotDatabase};
 ghost use Rattle.hq_app.specs.Outside.{NoneFell};
 ghost use Rattle.hq_app.specs.Runs.{ReadCause, Runs};
 
 use crate::top::Ended;
 use crate::{Observed, World};
 use hq_base::Txt;
-use hq_commands::Refusal;
-use hq_live_command::live;
+use hq_command::Refusal;
+use hq_command_live::live;
 use hq_messages::{Hall, Messages};
-use hq_outside::{Disk, Door, Files, Sink, Source};
+use hq_io::{Disk, Door, Files, Sink, Source};
 use hq_session::SecretRule;
-use hq_words::Command;
+use hq_cli::Command;
 use std::alloc::Global;
 
 /// Talks with the peers of the hall over a directory.

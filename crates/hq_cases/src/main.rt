@@ -3,18 +3,18 @@
 //! status is 1 where it is refused.
 #![tactic(auto)]
 
-use hq_case::run_all;
-use hq_request_cases::answer_input;
+use hq_cases_file::run_all;
+use hq_cases_request::answer_input;
 use std::env;
 use std::process::ExitCode;
 
 fn cases_pass(rt: &HostRuntime) -> bool {
-    let mut well = run_all(rt, &hq_text_cases::About::ALL);
-    well &= run_all(rt, &hq_data_cases::About::ALL);
-    well &= run_all(rt, &hq_server_cases::About::ALL);
-    well &= run_all(rt, &hq_ask_cases::About::ALL);
-    well &= run_all(rt, &hq_sql_cases::About::ALL);
-    well &= run_all(rt, &hq_request_cases::About::ALL);
+    let mut well = run_all(rt, &hq_cases_text::About::ALL);
+    well &= run_all(rt, &hq_cases_data::About::ALL);
+    well &= run_all(rt, &hq_cases_server::About::ALL);
+    well &= run_all(rt, &hq_cases_ask::About::ALL);
+    well &= run_all(rt, &hq_cases_sql::About::ALL);
+    well &= run_all(rt, &hq_cases_request::About::ALL);
     well
 }
 

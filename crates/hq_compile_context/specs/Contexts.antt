@@ -1,10 +1,10 @@
 -- What a context stands for.
 use Rattle.std.specs.Prelude.{List, [], find, map, ◌==◌, option_map, option_and_then, unwrap_or}
-use Rattle.hq_terms.specs.Bexp.{bexp_view, never}
-use Rattle.hq_terms.specs.PermView.{mask_view}
-use Rattle.hq_terms.specs.Schema.{Schema}
-use Rattle.hq_terms.specs.Scope.{scope_schema}
-use Rattle.hq_compiled.specs.Rights.{Rights}
+use Rattle.hq_model.specs.Bexp.{bexp_view, never}
+use Rattle.hq_model.specs.PermView.{mask_view}
+use Rattle.hq_model.specs.Schema.{Schema}
+use Rattle.hq_model.specs.Scope.{scope_schema}
+use Rattle.hq_translation.specs.Rights.{Rights}
 use Rattle.hq_compile_context.specs.declared.context.Granted.{Granted}
 use Rattle.hq_compile_context.specs.declared.context.Context.{Context}
 

@@ -1,7 +1,7 @@
 -- The most rows that are selected of a table.
 use Rattle.std.specs.Prelude.{ℕ, Option}
-use Rattle.hq_terms.specs.Selected.{smaller}
-use Rattle.hq_compiled.specs.Rights.{Rights}
+use Rattle.hq_model.specs.Selected.{smaller}
+use Rattle.hq_translation.specs.Rights.{Rights}
 use Rattle.hq_compile_context.specs.declared.limit.RowUse.{RowUse}
 use Rattle.hq_compile_context.specs.declared.limit.RowUse.TheVariants.{List, Aggregate}
 

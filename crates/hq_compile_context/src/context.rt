@@ -1,7 +1,7 @@
 ghost use Rattle.std.specs.Prelude.{◌≡◌};
 
 use hq_base::List;
-use hq_terms::{Bexp, ColId, Column, Mask, MaskList, Pair, RelId, Scope, Table, TableId};
+use hq_model::{Bexp, ColId, Column, Mask, MaskList, Pair, RelId, Scope, Table, TableId};
 
 /// What a request is granted of a table: the bound filter, the most rows of a list, and the bound masks.
 #[derive(Drop)]
@@ -26,8 +26,8 @@ pub struct Context<'a> {
 
 impl<'a> Context<'a> {
     ghost use Rattle.std.specs.Prelude.{◌≡◌, ◌==◌, find, map, option_copied};
-    ghost use Rattle.hq_terms.specs.PermView.{mask_view};
-    ghost use Rattle.hq_terms.specs.Schema.{table, rel};
+    ghost use Rattle.hq_model.specs.PermView.{mask_view};
+    ghost use Rattle.hq_model.specs.Schema.{table, rel};
     ghost use Rattle.hq_compile_context.specs.Contexts.{context_schema, context_rights};
 
     /// The columns of a table; none beyond the catalog.

@@ -1,7 +1,7 @@
 //! Numbers of aliases, aliases, and the names of outputs.
 ghost use Rattle.std.specs.Prelude.{◌≡◌, ◌+◌, ◌++◌, IfOk, OnOk, false, decimal};
 ghost use Rattle.hq_base.specs.Text.{has_zero};
-ghost use Rattle.hq_compiled.specs.Names.{table_alias, fold_alias, join_alias, value_name, key_name, needed_name, unit_name};
+ghost use Rattle.hq_translation.specs.Names.{table_alias, fold_alias, join_alias, value_name, key_name, needed_name, unit_name};
 
 use hq_base::{Memory, Txt};
 use std::alloc::Global;
@@ -34,7 +34,7 @@ fn numbered(alloc: Global, letter: &str, number: u64) -> Result<Txt, Memory>
 }
 
 /// The alias of a table's rows.
-#[tactic(auto, unfolding(hq_compiled::specs::Names::table_alias))]
+#[tactic(auto, unfolding(hq_translation::specs::Names::table_alias))]
 pub fn table_alias(alloc: Global, number: u64) -> Result<Txt, Memory>
     ensures { IfOk result (λ name. name ≡ table_alias number) }
 {
@@ -42,7 +42,7 @@ pub fn table_alias(alloc: Global, number: u64) -> Result<Txt, Memory>
 }
 
 /// The alias of the rows that an aggregate folds.
-#[tactic(auto, unfolding(hq_compiled::specs::Names::fold_alias))]
+#[tactic(auto, unfolding(hq_translation::specs::Names::fold_alias))]
 pub fn fold_alias(alloc: Global, number: u64) -> Result<Txt, Memory>
     ensures { IfOk result (λ name. name ≡ fold_alias number) }
 {
@@ -50,7 +50,7 @@ pub fn fold_alias(alloc: Global, number: u64) -> Result<Txt, Memory>
 }
 
 /// The alias of a join.
-#[tactic(auto, unfolding(hq_compiled::specs::Names::join_alias))]
+#[tactic(auto, unfolding(hq_translation::specs::Names::join_alias))]
 pub fn join_alias(alloc: Global, number: u64) -> Result<Txt, Memory>
     ensures { IfOk result (λ name. name ≡ join_alias number) }
 {
@@ -58,7 +58,7 @@ pub fn join_alias(alloc: Global, number: u64) -> Result<Txt, Memory>
 }
 
 /// The name of the sort key of this number.
-#[tactic(auto, unfolding(hq_compiled::specs::Names::key_name))]
+#[tactic(auto, unfolding(hq_translation::specs::Names::key_name))]
 pub fn key_name(alloc: Global, number: u64) -> Result<Txt, Memory>
     ensures { IfOk result (λ name. name ≡ key_name number) }
 {
@@ -66,7 +66,7 @@ pub fn key_name(alloc: Global, number: u64) -> Result<Txt, Memory>
 }
 
 /// The name of the needed column of this number.
-#[tactic(auto, unfolding(hq_compiled::specs::Names::needed_name))]
+#[tactic(auto, unfolding(hq_translation::specs::Names::needed_name))]
 pub fn needed_name(alloc: Global, number: u64) -> Result<Txt, Memory>
     ensures { IfOk result (λ name. name ≡ needed_name number) }
 {
@@ -74,7 +74,7 @@ pub fn needed_name(alloc: Global, number: u64) -> Result<Txt, Memory>
 }
 
 /// The name of the output that holds the value.
-#[tactic(auto, unfolding(hq_compiled::specs::Names::value_name))]
+#[tactic(auto, unfolding(hq_translation::specs::Names::value_name))]
 pub fn value_name(alloc: Global) -> Result<Txt, Memory>
     ensures { IfOk result (λ name. name ≡ value_name) }
 {
@@ -84,7 +84,7 @@ pub fn value_name(alloc: Global) -> Result<Txt, Memory>
 }
 
 /// The name of the output of rows of which only the number counts.
-#[tactic(auto, unfolding(hq_compiled::specs::Names::unit_name))]
+#[tactic(auto, unfolding(hq_translation::specs::Names::unit_name))]
 pub fn unit_name(alloc: Global) -> Result<Txt, Memory>
     ensures { IfOk result (λ name. name ≡ unit_name) }
 {

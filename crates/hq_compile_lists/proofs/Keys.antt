@@ -1,15 +1,15 @@
 -- The row that a key looks up, put together from its parts.
 use Rattle.std.proofs.Common.{◌≡◌, ◌∙◌, ℕ, List, [], ap, refl}
 use Rattle.hq_base.specs.declared.value.Val.{Val}
-use Rattle.hq_terms.specs.Schema.{Schema, table}
-use Rattle.hq_terms.specs.declared.table.Column.{Column}
+use Rattle.hq_model.specs.Schema.{Schema, table}
+use Rattle.hq_model.specs.declared.table.Column.{Column}
 use Rattle.hq_sql_tree.specs.Tree.{PredTree}
-use Rattle.hq_compiled.specs.Conditions.{joined_by_and, with_member}
-use Rattle.hq_compiled.specs.Fields.{key_members}
-use Rattle.hq_compiled.specs.Looks.{Look}
-use Rattle.hq_compiled.specs.Masks.{shown_look, filter_predicate}
-use Rattle.hq_compiled.specs.Rights.{Rights}
-use Rattle.hq_compiled.specs.Selects.{filter_from}
+use Rattle.hq_translation.specs.Conditions.{joined_by_and, with_member}
+use Rattle.hq_translation.specs.Fields.{key_members}
+use Rattle.hq_translation.specs.Looks.{Look}
+use Rattle.hq_translation.specs.Masks.{shown_look, filter_predicate}
+use Rattle.hq_translation.specs.Rights.{Rights}
+use Rattle.hq_translation.specs.Selects.{filter_from}
 use Rattle.hq_compile_tables.specs.Shown.{look_in, look_of}
 use Rattle.hq_compile_tables.specs.declared.shown.MaskPlace.{MaskPlace}
 use Rattle.hq_compile_tables.specs.declared.shown.Shown.{Shown}

@@ -1,17 +1,17 @@
 -- The selects of lists, put together from their parts.
 use Rattle.std.proofs.Common.{◌≡◌, ◌∙◌, ℕ, ◌+◌, List, [], ◌++◌, false, Option, refl, ap, append_assoc}
-use Rattle.hq_terms.specs.Schema.{Schema, table}
-use Rattle.hq_terms.specs.Selected.{ListArguments, smaller}
-use Rattle.hq_terms.specs.declared.table.Column.{Column}
+use Rattle.hq_model.specs.Schema.{Schema, table}
+use Rattle.hq_model.specs.Selected.{ListArguments, smaller}
+use Rattle.hq_model.specs.declared.table.Column.{Column}
 use Rattle.hq_sql_tree.specs.Tree.{ExprTree, column, aggregate, json_agg, orders_of, PairTree, OrderTree, OutTree, SelectTree, rows, fold, table as from_table, JoinTree, joins_of, PredTree}
-use Rattle.hq_compiled.specs.Conditions.{with_member, where_of}
-use Rattle.hq_compiled.specs.Lists.{once, list_sorts, where_numbers, sorts_from, distinct_columns, list_rows, list_outputs, list_select}
-use Rattle.hq_compiled.specs.Looks.{Look}
-use Rattle.hq_compiled.specs.Masks.{extra, masks, shown_look, filter_numbers, filter_predicate, where_mode}
-use Rattle.hq_compiled.specs.Names.{table_alias, fold_alias, value_name}
-use Rattle.hq_compiled.specs.Predicates.{predicate}
-use Rattle.hq_compiled.specs.Rights.{Rights}
-use Rattle.hq_compiled.specs.Sorts.{sorts_joins, orders, key_outputs, output_orders}
+use Rattle.hq_translation.specs.Conditions.{with_member, where_of}
+use Rattle.hq_translation.specs.Lists.{once, list_sorts, where_numbers, sorts_from, distinct_columns, list_rows, list_outputs, list_select}
+use Rattle.hq_translation.specs.Looks.{Look}
+use Rattle.hq_translation.specs.Masks.{extra, masks, shown_look, filter_numbers, filter_predicate, where_mode}
+use Rattle.hq_translation.specs.Names.{table_alias, fold_alias, value_name}
+use Rattle.hq_translation.specs.Predicates.{predicate}
+use Rattle.hq_translation.specs.Rights.{Rights}
+use Rattle.hq_translation.specs.Sorts.{sorts_joins, orders, key_outputs, output_orders}
 use Rattle.hq_compile_tables.specs.Shown.{look_in, look_of}
 use Rattle.hq_compile_tables.specs.declared.shown.MaskPlace.{MaskPlace}
 use Rattle.hq_compile_tables.specs.declared.shown.Shown.{Shown}

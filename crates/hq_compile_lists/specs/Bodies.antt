@@ -1,15 +1,15 @@
 -- What the select of a list's rows is put together from.
 use Rattle.std.specs.Prelude.{◌≡◌, ℕ, List, ◌++◌, map, Option}
-use Rattle.hq_terms.specs.Schema.{Schema, table}
-use Rattle.hq_terms.specs.Selected.{ListArguments}
+use Rattle.hq_model.specs.Schema.{Schema, table}
+use Rattle.hq_model.specs.Selected.{ListArguments}
 use Rattle.hq_sql_tree.specs.Tree.{OutTree, SelectTree, rows, table as from_table, JoinTree, joins_of, PredTree}
 use Rattle.hq_sql_tree.specs.View.{expr_view, order_view, out_view, join_view, pred_view}
-use Rattle.hq_compiled.specs.Conditions.{where_of}
-use Rattle.hq_compiled.specs.Lists.{list_rows, list_sorts, sorts_from}
-use Rattle.hq_compiled.specs.Masks.{shown_look}
-use Rattle.hq_compiled.specs.Names.{table_alias}
-use Rattle.hq_compiled.specs.Rights.{Rights}
-use Rattle.hq_compiled.specs.Sorts.{key_outputs}
+use Rattle.hq_translation.specs.Conditions.{where_of}
+use Rattle.hq_translation.specs.Lists.{list_rows, list_sorts, sorts_from}
+use Rattle.hq_translation.specs.Masks.{shown_look}
+use Rattle.hq_translation.specs.Names.{table_alias}
+use Rattle.hq_translation.specs.Rights.{Rights}
+use Rattle.hq_translation.specs.Sorts.{key_outputs}
 use Rattle.hq_compile_tables.specs.Shown.{look_in}
 use Rattle.hq_compile_lists.specs.declared.list.ListBody.{ListBody}
 

@@ -1,10 +1,10 @@
 -- Where a list begins.
 use Rattle.std.specs.Prelude.{ℕ}
-use Rattle.hq_terms.specs.Schema.{Schema}
-use Rattle.hq_ask_tree.specs.Fields.{Origin, origin_of}
-use Rattle.hq_ask_tree.specs.Resolve.{origin_table}
+use Rattle.hq_model.specs.Schema.{Schema}
+use Rattle.hq_request_tree.specs.Fields.{Origin, origin_of}
+use Rattle.hq_request_tree.specs.Resolve.{origin_table}
 use Rattle.hq_sql_tree.specs.Tree.{PredTree}
-use Rattle.hq_compiled.specs.Fields.{origin_tie}
+use Rattle.hq_translation.specs.Fields.{origin_tie}
 use Rattle.hq_compile_lists.specs.declared.start.ListStart.{ListStart}
 
 abbrev pub start_origin : ListStart → Origin

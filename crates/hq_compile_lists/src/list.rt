@@ -1,18 +1,18 @@
 //! The select of a list: the array of its rows' objects in order.
 ghost use Rattle.std.specs.Prelude.{◌≡◌, ◌+◌, ◌∷◌, [], ℕ, List, IfOk, OnOk, map, false};
-ghost use Rattle.hq_terms.specs.Bexp.{bexp_view};
-ghost use Rattle.hq_terms.specs.Schema.{table};
-ghost use Rattle.hq_terms.specs.Selected.{smaller};
-ghost use Rattle.hq_ask_tree.specs.Arguments.{arguments_view};
+ghost use Rattle.hq_model.specs.Bexp.{bexp_view};
+ghost use Rattle.hq_model.specs.Schema.{table};
+ghost use Rattle.hq_model.specs.Selected.{smaller};
+ghost use Rattle.hq_request_tree.specs.Arguments.{arguments_view};
 ghost use Rattle.hq_sql_tree.specs.Tree as tree;
 ghost use Rattle.hq_sql_tree.specs.Tree.{PredTree};
 ghost use Rattle.hq_sql_tree.specs.View.{expr_view, order_view, out_view, pair_view, select_view, join_view, pred_view};
-ghost use Rattle.hq_compiled.specs.Conditions.{with_member};
-ghost use Rattle.hq_compiled.specs.Lists.{once, list_sorts, distinct_columns, where_numbers, children_from, list_select};
-ghost use Rattle.hq_compiled.specs.Masks.{filter_numbers, filter_predicate, where_mode};
-ghost use Rattle.hq_compiled.specs.Names.{fold_alias, value_name};
-ghost use Rattle.hq_compiled.specs.Predicates.{predicate};
-ghost use Rattle.hq_compiled.specs.Sorts.{sorts_numbers, sorts_joins, orders, key_outputs, output_orders};
+ghost use Rattle.hq_translation.specs.Conditions.{with_member};
+ghost use Rattle.hq_translation.specs.Lists.{once, list_sorts, distinct_columns, where_numbers, children_from, list_select};
+ghost use Rattle.hq_translation.specs.Masks.{filter_numbers, filter_predicate, where_mode};
+ghost use Rattle.hq_translation.specs.Names.{fold_alias, value_name};
+ghost use Rattle.hq_translation.specs.Predicates.{predicate};
+ghost use Rattle.hq_translation.specs.Sorts.{sorts_numbers, sorts_joins, orders, key_outputs, output_orders};
 ghost use Rattle.hq_compile_context.specs.Contexts.{context_schema, context_rights};
 ghost use Rattle.hq_compile_tables.specs.Shown.{look_in, look_of};
 ghost use Rattle.hq_compile_lists.specs.Bodies.{IsBody, rows_of};
@@ -20,7 +20,7 @@ ghost use Rattle.hq_compile_lists.specs.Starts.{start_tie};
 
 use crate::row::{Row, object};
 use crate::start::{ListStart, list_tie};
-use hq_ask_tree::Args;
+use hq_request_tree::Args;
 use hq_base::{Memory, Txt};
 use hq_compile_context::{Context, RowUse, fold_alias, row_limit, value_name, wide};
 use hq_compile_masks::{mask_parts, where_predicate};
@@ -31,7 +31,7 @@ use hq_compile_tables::{
     where_of, with_member,
 };
 use hq_sql_tree::{Agg, Expr, ExprList, JoinList, OrderList, Out, OutList, PredList, Select};
-use hq_terms::{ColId, TableId};
+use hq_model::{ColId, TableId};
 use std::alloc::Global;
 
 /// What stands in the select of a list's rows beside its outputs and the joins of its children.

@@ -2,9 +2,9 @@
 ghost use Rattle.std.specs.Prelude.{◌≡◌, [], IfOk, map, None};
 ghost use Rattle.hq_sql_tree.specs.Tree as tree;
 ghost use Rattle.hq_sql_tree.specs.View.{expr_view, pair_view, out_view, join_view, filter_view, select_view};
-ghost use Rattle.hq_compiled.specs.Fields.{empty_select};
-ghost use Rattle.hq_compiled.specs.Masks.{value_output};
-ghost use Rattle.hq_compiled.specs.Names.{table_alias};
+ghost use Rattle.hq_translation.specs.Fields.{empty_select};
+ghost use Rattle.hq_translation.specs.Masks.{value_output};
+ghost use Rattle.hq_translation.specs.Names.{table_alias};
 
 use hq_base::{Memory, Txt};
 use hq_compile_context::table_alias;

@@ -1,20 +1,20 @@
 //! Where the rows of a field begin.
 ghost use Rattle.std.specs.Prelude.{◌≡◌, ◌+◌, ◌∷◌, [], IfOk, OnOk, map};
-ghost use Rattle.hq_terms.specs.Schema.{table};
-ghost use Rattle.hq_terms.specs.declared.op.Op.TheVariants.{Eq};
-ghost use Rattle.hq_terms.specs.declared.test.Test.TheVariants.{Compare};
+ghost use Rattle.hq_model.specs.Schema.{table};
+ghost use Rattle.hq_model.specs.declared.op.Op.TheVariants.{Eq};
+ghost use Rattle.hq_model.specs.declared.test.Test.TheVariants.{Compare};
 ghost use Rattle.hq_sql_tree.specs.Tree as tree;
 ghost use Rattle.hq_sql_tree.specs.View.{join_view, pred_view};
-ghost use Rattle.hq_compiled.specs.Conditions.{literal, joined_by_and, with_member};
-ghost use Rattle.hq_compiled.specs.Fields.{key_members};
-ghost use Rattle.hq_compiled.specs.Looks.{compared_at, type_in};
-ghost use Rattle.hq_compiled.specs.Masks.{masks, shown_look, filter_numbers, filter_predicate};
-ghost use Rattle.hq_compiled.specs.Selects.{filter_from, behind_filter};
+ghost use Rattle.hq_translation.specs.Conditions.{literal, joined_by_and, with_member};
+ghost use Rattle.hq_translation.specs.Fields.{key_members};
+ghost use Rattle.hq_translation.specs.Looks.{compared_at, type_in};
+ghost use Rattle.hq_translation.specs.Masks.{masks, shown_look, filter_numbers, filter_predicate};
+ghost use Rattle.hq_translation.specs.Selects.{filter_from, behind_filter};
 ghost use Rattle.hq_compile_context.specs.Contexts.{context_schema, context_rights};
 ghost use Rattle.hq_compile_tables.specs.Shown.{look_in, look_of};
 ghost use Rattle.hq_compile_lists.specs.Starts.{start_table, start_tie};
 
-use hq_ask_tree::Args;
+use hq_request_tree::Args;
 use hq_base::{Memory, Val};
 use hq_compile_context::{Context, take_number};
 use hq_compile_masks::{FirstRow, mask_parts};
@@ -24,7 +24,7 @@ use hq_compile_tables::{
     type_in,
 };
 use hq_sql_tree::{Pred, PredList};
-use hq_terms::{ColId, Op, RelId, TableId};
+use hq_model::{ColId, Op, RelId, TableId};
 use std::alloc::Global;
 
 // A column of a key equals a value.

@@ -1,12 +1,12 @@
 -- The parts of a first row behind a relationship, by the names that they have in the code.
 use Rattle.std.proofs.Common.{◌≡◌, ℕ, ◌+◌, List, [], refl, subst}
-use Rattle.hq_terms.specs.Schema.{Schema, table, rel}
+use Rattle.hq_model.specs.Schema.{Schema, table, rel}
 use Rattle.hq_sql_tree.specs.Tree.{JoinTree, PredTree}
-use Rattle.hq_compiled.specs.Conditions.{with_member}
-use Rattle.hq_compiled.specs.Masks.{extra, masks, shown_look, filter_predicate}
-use Rattle.hq_compiled.specs.Predicates.{link}
-use Rattle.hq_compiled.specs.Rights.{Rights}
-use Rattle.hq_compiled.specs.Selects.{filter_from}
+use Rattle.hq_translation.specs.Conditions.{with_member}
+use Rattle.hq_translation.specs.Masks.{extra, masks, shown_look, filter_predicate}
+use Rattle.hq_translation.specs.Predicates.{link}
+use Rattle.hq_translation.specs.Rights.{Rights}
+use Rattle.hq_translation.specs.Selects.{filter_from}
 use Rattle.hq_compile_tables.specs.Shown.{look_in}
 use Rattle.hq_compile_tables.specs.declared.shown.MaskPlace.{MaskPlace}
 

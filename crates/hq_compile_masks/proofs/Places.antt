@@ -1,12 +1,12 @@
 -- What the code keeps of masks is how their columns are looked at.
 use Rattle.std.proofs.Common.{◌≡◌, ◌∙◌, ℕ, ◌+◌, List, [], ◌∷◌, ◌++◌, Bool, true, false, cond, ◌==◌, refl, sym, ap, arith}
 use Rattle.std.proofs.lemmas.List.{append-nil}
-use Rattle.hq_terms.specs.Permission.{Mask}
-use Rattle.hq_terms.specs.Schema.{Schema, table}
+use Rattle.hq_model.specs.Permission.{Mask}
+use Rattle.hq_model.specs.Schema.{Schema, table}
 use Rattle.hq_sql_tree.specs.Tree.{JoinTree}
-use Rattle.hq_compiled.specs.Looks.{Place, is_used}
-use Rattle.hq_compiled.specs.Masks.{value_place, mask_numbers, mask_joins, mask_look}
-use Rattle.hq_compiled.specs.Predicates.{own_numbers}
+use Rattle.hq_translation.specs.Looks.{Place, is_used}
+use Rattle.hq_translation.specs.Masks.{value_place, mask_numbers, mask_joins, mask_look}
+use Rattle.hq_translation.specs.Predicates.{own_numbers}
 use Rattle.hq_compile_tables.specs.Shown.{look_in}
 use Rattle.hq_compile_tables.specs.declared.shown.MaskPlace.{MaskPlace}
 use Rattle.hq_compile_masks.specs.MaskPlaces.{used_of, mask_places}

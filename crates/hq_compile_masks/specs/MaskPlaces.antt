@@ -1,9 +1,9 @@
 -- Where the joins of masks show their columns.
 use Rattle.std.specs.Prelude.{ℕ, ◌+◌, List, [], ◌∷◌, filter}
-use Rattle.hq_terms.specs.Permission.{Mask}
-use Rattle.hq_terms.specs.Schema.{Schema}
-use Rattle.hq_compiled.specs.Looks.{is_used}
-use Rattle.hq_compiled.specs.Predicates.{own_numbers}
+use Rattle.hq_model.specs.Permission.{Mask}
+use Rattle.hq_model.specs.Schema.{Schema}
+use Rattle.hq_translation.specs.Looks.{is_used}
+use Rattle.hq_translation.specs.Predicates.{own_numbers}
 use Rattle.hq_compile_tables.specs.declared.shown.MaskPlace.{MaskPlace}
 
 -- the masks whose columns are used

@@ -1,11 +1,11 @@
 //! The first row behind a relationship.
 ghost use Rattle.std.specs.Prelude.{◌≡◌, ◌+◌, [], IfOk, OnOk, map};
-ghost use Rattle.hq_terms.specs.Schema.{table, rel};
+ghost use Rattle.hq_model.specs.Schema.{table, rel};
 ghost use Rattle.hq_sql_tree.specs.View.{join_view, pred_view};
-ghost use Rattle.hq_compiled.specs.Conditions.{with_member};
-ghost use Rattle.hq_compiled.specs.Masks.{masks, shown_look, filter_numbers, filter_predicate};
-ghost use Rattle.hq_compiled.specs.Predicates.{link};
-ghost use Rattle.hq_compiled.specs.Selects.{filter_from, behind_filter};
+ghost use Rattle.hq_translation.specs.Conditions.{with_member};
+ghost use Rattle.hq_translation.specs.Masks.{masks, shown_look, filter_numbers, filter_predicate};
+ghost use Rattle.hq_translation.specs.Predicates.{link};
+ghost use Rattle.hq_translation.specs.Selects.{filter_from, behind_filter};
 ghost use Rattle.hq_compile_context.specs.Contexts.{context_schema, context_rights};
 ghost use Rattle.hq_compile_tables.specs.Shown.{look_in};
 
@@ -15,7 +15,7 @@ use hq_compile_context::{Context, take_number};
 use hq_compile_predicates::{MaskParts, row_members};
 use hq_compile_tables::link;
 use hq_sql_tree::PredList;
-use hq_terms::{ColId, RelId, TableId};
+use hq_model::{ColId, RelId, TableId};
 use std::alloc::Global;
 
 /// A table whose first row is asked for, its number, the joins of its masks, and what the row meets.

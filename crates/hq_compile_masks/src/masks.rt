@@ -1,13 +1,13 @@
 //! The joins that show masked columns.
 ghost use Rattle.std.specs.Prelude.{◌≡◌, ◌+◌, ◌++◌, ◌∷◌, [], IfOk, OnOk, map, None};
-ghost use Rattle.hq_terms.specs.PermView.{mask_view};
-ghost use Rattle.hq_terms.specs.Schema.{table};
+ghost use Rattle.hq_model.specs.PermView.{mask_view};
+ghost use Rattle.hq_model.specs.Schema.{table};
 ghost use Rattle.hq_sql_tree.specs.Tree as tree;
 ghost use Rattle.hq_sql_tree.specs.View.{expr_view, join_view, pred_view, select_view};
-ghost use Rattle.hq_compiled.specs.Conditions.{where_of, with_member};
-ghost use Rattle.hq_compiled.specs.Masks.{value_output, mask_numbers, mask_select, mask_joins, extra, masks, shown_look};
-ghost use Rattle.hq_compiled.specs.Names.{table_alias, join_alias};
-ghost use Rattle.hq_compiled.specs.Predicates.{own_numbers, own_predicate};
+ghost use Rattle.hq_translation.specs.Conditions.{where_of, with_member};
+ghost use Rattle.hq_translation.specs.Masks.{value_output, mask_numbers, mask_select, mask_joins, extra, masks, shown_look};
+ghost use Rattle.hq_translation.specs.Names.{table_alias, join_alias};
+ghost use Rattle.hq_translation.specs.Predicates.{own_numbers, own_predicate};
 ghost use Rattle.hq_compile_context.specs.Contexts.{context_schema, context_rights};
 ghost use Rattle.hq_compile_tables.specs.Shown.{look_in};
 ghost use Rattle.hq_compile_masks.specs.MaskPlaces.{used_of, mask_places};
@@ -19,7 +19,7 @@ use hq_compile_tables::{
     MaskPlace, first_member, is_used, one_join, own_column, value_output, where_of,
 };
 use hq_sql_tree::{Expr, From, Join, PredList, Select};
-use hq_terms::{ColId, Mask, TableId};
+use hq_model::{ColId, Mask, TableId};
 use std::alloc::Global;
 
 // A value where these members of a WHERE hold.

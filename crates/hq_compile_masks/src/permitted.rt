@@ -1,11 +1,11 @@
 //! The `where` of a request: the permitted rows count, with their shown cells.
 ghost use Rattle.std.specs.Prelude.{◌≡◌, ◌+◌, IfOk, OnOk};
-ghost use Rattle.hq_terms.specs.Bexp.{bexp_view};
-ghost use Rattle.hq_terms.specs.Schema.{table};
+ghost use Rattle.hq_model.specs.Bexp.{bexp_view};
+ghost use Rattle.hq_model.specs.Schema.{table};
 ghost use Rattle.hq_sql_tree.specs.View.{pred_view};
-ghost use Rattle.hq_compiled.specs.Lists.{where_numbers};
-ghost use Rattle.hq_compiled.specs.Masks.{where_mode};
-ghost use Rattle.hq_compiled.specs.Predicates.{predicate};
+ghost use Rattle.hq_translation.specs.Lists.{where_numbers};
+ghost use Rattle.hq_translation.specs.Masks.{where_mode};
+ghost use Rattle.hq_translation.specs.Predicates.{predicate};
 ghost use Rattle.hq_compile_context.specs.Contexts.{context_schema, context_rights};
 ghost use Rattle.hq_compile_tables.specs.Shown.{look_in};
 
@@ -16,14 +16,14 @@ use hq_compile_context::Context;
 use hq_compile_predicates::{Counted, MaskParts, filter_predicate, predicate_of};
 use hq_compile_tables::MaskPlace;
 use hq_sql_tree::Pred;
-use hq_terms::{Bexp, TableId};
+use hq_model::{Bexp, TableId};
 use std::alloc::Global;
 
 // The permitted rows, with their shown cells: inside the `where` of a request.
 struct PermittedRows;
 
 impl Counted for PermittedRows {
-    ghost use Rattle.hq_compiled.specs.Masks.{where_mode};
+    ghost use Rattle.hq_translation.specs.Masks.{where_mode};
 
     ghost mode = { λ s g. where_mode s g };
 

@@ -1,11 +1,11 @@
 //! The columns that a condition uses.
 ghost use Rattle.std.specs.Prelude.{◌≡◌, ◌++◌, [], IfOk, OnOk, map};
-ghost use Rattle.hq_terms.specs.Bexp.{bexp_view, bexps_of, operands_of};
-ghost use Rattle.hq_terms.specs.Tests.{is_of_nothing};
-ghost use Rattle.hq_compiled.specs.Predicates.{columns_in, columns_in_all};
+ghost use Rattle.hq_model.specs.Bexp.{bexp_view, bexps_of, operands_of};
+ghost use Rattle.hq_model.specs.Tests.{is_of_nothing};
+ghost use Rattle.hq_translation.specs.Predicates.{columns_in, columns_in_all};
 
 use hq_base::{List, Memory};
-use hq_terms::{Bexp, BexpList, ColList, Operands, Test};
+use hq_model::{Bexp, BexpList, ColList, Operands, Test};
 use std::alloc::Global;
 
 // Whether a value is tested to be one of none, for which it is not looked at.

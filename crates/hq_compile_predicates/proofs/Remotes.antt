@@ -1,12 +1,12 @@
 -- A condition on rows of another table, put together from its parts.
 use Rattle.std.proofs.Common.{◌≡◌, ℕ, ◌+◌, List, [], ◌++◌, refl}
-use Rattle.hq_terms.specs.Bexp.{BexpTree, through, exists_in}
-use Rattle.hq_terms.specs.Schema.{Schema, rel}
+use Rattle.hq_model.specs.Bexp.{BexpTree, through, exists_in}
+use Rattle.hq_model.specs.Schema.{Schema, rel}
 use Rattle.hq_sql_tree.specs.Tree as tree
 use Rattle.hq_sql_tree.specs.Tree.{JoinTree, PredTree}
-use Rattle.hq_compiled.specs.Conditions.{with_member, where_of}
-use Rattle.hq_compiled.specs.Looks.{Look}
-use Rattle.hq_compiled.specs.Predicates.{Mode, columns_in, counted_rows, inner_from, link, predicate}
+use Rattle.hq_translation.specs.Conditions.{with_member, where_of}
+use Rattle.hq_translation.specs.Looks.{Look}
+use Rattle.hq_translation.specs.Predicates.{Mode, columns_in, counted_rows, inner_from, link, predicate}
 use Rattle.hq_compile_tables.specs.Selects.{exists_where}
 use Rattle.hq_compile_tables.proofs.Members.{two_members, three_members}
 

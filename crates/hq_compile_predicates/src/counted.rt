@@ -5,7 +5,7 @@ use hq_base::{List, Memory};
 use hq_compile_context::Context;
 use hq_compile_tables::MaskPlaceList;
 use hq_sql_tree::{JoinList, Pred};
-use hq_terms::{Bexp, TableId};
+use hq_model::{Bexp, TableId};
 use std::alloc::Global;
 
 /// The joins of masks at an alias, and where they show their columns.
@@ -19,11 +19,11 @@ pub struct MaskParts {
 /// are looked at.
 pub trait Counted {
     ghost use Rattle.std.specs.Prelude.{◌≡◌, ◌+◌, IfOk, OnOk, map};
-    ghost use Rattle.hq_terms.specs.Bexp.{bexp_view};
-    ghost use Rattle.hq_terms.specs.Schema.{Schema, table as table_of};
+    ghost use Rattle.hq_model.specs.Bexp.{bexp_view};
+    ghost use Rattle.hq_model.specs.Schema.{Schema, table as table_of};
     ghost use Rattle.hq_sql_tree.specs.View.{join_view, pred_view};
-    ghost use Rattle.hq_compiled.specs.Predicates.{Mode, columns_in};
-    ghost use Rattle.hq_compiled.specs.Rights.{Rights};
+    ghost use Rattle.hq_translation.specs.Predicates.{Mode, columns_in};
+    ghost use Rattle.hq_translation.specs.Rights.{Rights};
     ghost use Rattle.hq_compile_context.specs.Contexts.{context_schema, context_rights};
     ghost use Rattle.hq_compile_tables.specs.Shown.{look_in};
 
@@ -67,7 +67,7 @@ pub trait Counted {
 pub struct AllRows;
 
 impl Counted for AllRows {
-    ghost use Rattle.hq_compiled.specs.Predicates.{filter_mode};
+    ghost use Rattle.hq_translation.specs.Predicates.{filter_mode};
 
     ghost mode = { λ s g. filter_mode s };
 

@@ -1,13 +1,13 @@
 //! Boolean expressions as conditions.
 ghost use Rattle.std.specs.Prelude.{◌≡◌, ◌+◌, ◌++◌, [], IfOk, OnOk, map};
-ghost use Rattle.hq_terms.specs.Schema.{table, rel};
-ghost use Rattle.hq_terms.specs.Bexp.{bexp_view, bexps_of, exists_in, through};
+ghost use Rattle.hq_model.specs.Schema.{table, rel};
+ghost use Rattle.hq_model.specs.Bexp.{bexp_view, bexps_of, exists_in, through};
 ghost use Rattle.hq_sql_tree.specs.Tree as tree;
 ghost use Rattle.hq_sql_tree.specs.View.{join_view, pred_view};
-ghost use Rattle.hq_compiled.specs.Conditions.{with_member, where_of};
-ghost use Rattle.hq_compiled.specs.Looks.{own_look};
-ghost use Rattle.hq_compiled.specs.Predicates.{columns_in, numbers, numbers_all, counted_rows, inner_from, predicate, predicates, own_predicate, own_numbers};
-ghost use Rattle.hq_compiled.specs.Masks.{filter_numbers, filter_predicate};
+ghost use Rattle.hq_translation.specs.Conditions.{with_member, where_of};
+ghost use Rattle.hq_translation.specs.Looks.{own_look};
+ghost use Rattle.hq_translation.specs.Predicates.{columns_in, numbers, numbers_all, counted_rows, inner_from, predicate, predicates, own_predicate, own_numbers};
+ghost use Rattle.hq_translation.specs.Masks.{filter_numbers, filter_predicate};
 ghost use Rattle.hq_compile_context.specs.Contexts.{context_schema, context_rights};
 ghost use Rattle.hq_compile_tables.specs.Selects.{exists_where};
 ghost use Rattle.hq_compile_tables.specs.Shown.{look_in};
@@ -20,7 +20,7 @@ use hq_compile_tables::{
     link, negation, table_shown, with_member,
 };
 use hq_sql_tree::{JoinList, Pred, PredList};
-use hq_terms::{Bexp, BexpList, RelId, TableId};
+use hq_model::{Bexp, BexpList, RelId, TableId};
 use std::alloc::Global;
 
 /// An expression over table t, whose rows stand at the alias of number p and are looked at behind the joins of masks.

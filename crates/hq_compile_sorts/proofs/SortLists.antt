@@ -1,7 +1,7 @@
 -- Sort keys one behind the other.
 use Rattle.std.proofs.Common.{◌≡◌, List, [], ◌∷◌, ◌++◌, false, ap, refl}
-use Rattle.hq_terms.specs.Selected.{SortKey}
-use Rattle.hq_compiled.specs.Sorts.{Sort, shown_sorts}
+use Rattle.hq_model.specs.Selected.{SortKey}
+use Rattle.hq_translation.specs.Sorts.{Sort, shown_sorts}
 
 -- entries, and then other sort keys
 pub shown_sorts-append : (ks : List SortKey) (rest : List Sort) → shown_sorts ks [] ++ rest ≡ shown_sorts ks rest

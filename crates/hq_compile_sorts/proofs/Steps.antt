@@ -1,16 +1,16 @@
 -- The join of the first relationship of a sort key, put together from its parts.
 use Rattle.std.proofs.Common.{◌≡◌, ◌∙◌, ℕ, ◌-◌, ◌≤◌, List, [], ◌∷◌, ◌++◌, length, get_or, take, drop, false, refl, ap, arith}
 use Rattle.std.proofs.lemmas.List.{take_all}
-use Rattle.hq_terms.specs.Schema.{Schema, table, rel}
+use Rattle.hq_model.specs.Schema.{Schema, table, rel}
 use Rattle.hq_sql_tree.specs.Tree.{JoinTree, OutTree, PredTree}
-use Rattle.hq_compiled.specs.Conditions.{with_member, where_of}
-use Rattle.hq_compiled.specs.Looks.{cell_at}
-use Rattle.hq_compiled.specs.Masks.{value_output, masks, shown_look, filter_predicate}
-use Rattle.hq_compiled.specs.Names.{join_alias}
-use Rattle.hq_compiled.specs.Predicates.{link}
-use Rattle.hq_compiled.specs.Rights.{Rights}
-use Rattle.hq_compiled.specs.Selects.{filter_from, behind_filter}
-use Rattle.hq_compiled.specs.Sorts.{last_used, sort_place, sort_joins}
+use Rattle.hq_translation.specs.Conditions.{with_member, where_of}
+use Rattle.hq_translation.specs.Looks.{cell_at}
+use Rattle.hq_translation.specs.Masks.{value_output, masks, shown_look, filter_predicate}
+use Rattle.hq_translation.specs.Names.{join_alias}
+use Rattle.hq_translation.specs.Predicates.{link}
+use Rattle.hq_translation.specs.Rights.{Rights}
+use Rattle.hq_translation.specs.Selects.{filter_from, behind_filter}
+use Rattle.hq_translation.specs.Sorts.{last_used, sort_place, sort_joins}
 use Rattle.hq_compile_tables.specs.Selects.{first_row}
 use Rattle.hq_compile_tables.specs.Shown.{look_in}
 use Rattle.hq_compile_tables.specs.declared.shown.MaskPlace.{MaskPlace}

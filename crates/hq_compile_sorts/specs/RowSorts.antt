@@ -1,5 +1,5 @@
 -- What a sort key of rows is seen as.
-use Rattle.hq_compiled.specs.Sorts.{Sort}
+use Rattle.hq_translation.specs.Sorts.{Sort}
 use Rattle.hq_compile_sorts.specs.declared.sorts.RowSort.{RowSort}
 
 abbrev pub row_sort_view : RowSort → Sort

@@ -1,13 +1,13 @@
 //! What sort keys put into the select of rows: joins, ORDER BY, and outputs.
 ghost use Rattle.std.specs.Prelude.{◌≡◌, ◌+◌, ◌++◌, ◌∷◌, [], IfOk, OnOk, map, false};
-ghost use Rattle.hq_terms.specs.Schema.{table};
+ghost use Rattle.hq_model.specs.Schema.{table};
 ghost use Rattle.hq_sql_tree.specs.Tree as tree;
 ghost use Rattle.hq_sql_tree.specs.View.{expr_view, order_view, out_view, join_view, pred_view};
-ghost use Rattle.hq_compiled.specs.Conditions.{where_of};
-ghost use Rattle.hq_compiled.specs.Looks.{is_text_column, cell_at};
-ghost use Rattle.hq_compiled.specs.Masks.{value_output};
-ghost use Rattle.hq_compiled.specs.Names.{fold_alias, join_alias, key_name};
-ghost use Rattle.hq_compiled.specs.Sorts.{end_of, is_text_sort, sort_place, sort_numbers, sort_joins, sorts_numbers, sorts_joins, orders, key_outputs, output_orders};
+ghost use Rattle.hq_translation.specs.Conditions.{where_of};
+ghost use Rattle.hq_translation.specs.Looks.{is_text_column, cell_at};
+ghost use Rattle.hq_translation.specs.Masks.{value_output};
+ghost use Rattle.hq_translation.specs.Names.{fold_alias, join_alias, key_name};
+ghost use Rattle.hq_translation.specs.Sorts.{end_of, is_text_sort, sort_place, sort_numbers, sort_joins, sorts_numbers, sorts_joins, orders, key_outputs, output_orders};
 ghost use Rattle.hq_compile_context.specs.Contexts.{context_schema, context_rights};
 ghost use Rattle.hq_compile_tables.specs.Selects.{first_row};
 ghost use Rattle.hq_compile_tables.specs.Shown.{look_in};
@@ -23,7 +23,7 @@ use hq_compile_tables::{
     value_output,
 };
 use hq_sql_tree::{Expr, JoinList, Order, OrderList, Out, OutList};
-use hq_terms::{ColId, RelId, TableId};
+use hq_model::{ColId, RelId, TableId};
 use std::alloc::Global;
 
 // The table at the end of relationships.

@@ -1,17 +1,17 @@
 //! The sort keys of a list.
 ghost use Rattle.std.specs.Prelude.{◌≡◌, ◌++◌, [], IfOk, OnOk, map, true, false};
-ghost use Rattle.hq_terms.specs.Selected.{ascending, entries, sorts_or};
-ghost use Rattle.hq_ask_tree.specs.Arguments.{arguments_view, sort_view};
-ghost use Rattle.hq_compiled.specs.Sorts.{shown_sorts, own_sorts};
-ghost use Rattle.hq_compiled.specs.Lists.{once, list_sorts};
+ghost use Rattle.hq_model.specs.Selected.{ascending, entries, sorts_or};
+ghost use Rattle.hq_request_tree.specs.Arguments.{arguments_view, sort_view};
+ghost use Rattle.hq_translation.specs.Sorts.{shown_sorts, own_sorts};
+ghost use Rattle.hq_translation.specs.Lists.{once, list_sorts};
 ghost use Rattle.hq_compile_context.specs.Contexts.{context_schema};
 ghost use Rattle.hq_compile_sorts.specs.RowSorts.{row_sort_view};
 
-use hq_ask_tree::{Args, RelIdList, Sort};
+use hq_request_tree::{Args, RelIdList, Sort};
 use hq_base::{List, Memory};
 use hq_compile_context::Context;
 use hq_compile_tables::each_once;
-use hq_terms::{ColId, TableId};
+use hq_model::{ColId, TableId};
 use std::alloc::Global;
 
 /// A sort key of rows, of their own cells or of those that are shown: a column at the end of object relationships.

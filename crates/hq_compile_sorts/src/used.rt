@@ -1,11 +1,11 @@
 //! The columns of a row that sort keys use.
 ghost use Rattle.std.specs.Prelude.{◌≡◌, ◌++◌, IfOk, OnOk, map};
-ghost use Rattle.hq_compiled.specs.Sorts.{last_used, used_by, used_sorts};
+ghost use Rattle.hq_translation.specs.Sorts.{last_used, used_by, used_sorts};
 ghost use Rattle.hq_compile_sorts.specs.RowSorts.{row_sort_view};
 
 use crate::sorts::RowSort;
 use hq_base::{List, Memory};
-use hq_terms::{ColId, ColList, RelId};
+use hq_model::{ColId, ColList, RelId};
 use std::alloc::Global;
 
 /// The column that a sort key uses at the last table of its relationships.

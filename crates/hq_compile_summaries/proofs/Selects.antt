@@ -1,16 +1,16 @@
 -- The select of `aggregate`, put together from its parts.
 use Rattle.std.proofs.Common.{◌≡◌, ◌∙◌, ℕ, List, [], true, false, cond, Option, refl, sym, ap}
-use Rattle.hq_terms.specs.Schema.{Schema, table}
-use Rattle.hq_terms.specs.Selected.{ListArguments}
-use Rattle.hq_terms.specs.declared.table.Column.{Column}
-use Rattle.hq_ask_tree.specs.declared.aggregate.KeyedAggField.{KeyedAggField}
+use Rattle.hq_model.specs.Schema.{Schema, table}
+use Rattle.hq_model.specs.Selected.{ListArguments}
+use Rattle.hq_model.specs.declared.table.Column.{Column}
+use Rattle.hq_request_tree.specs.declared.aggregate.KeyedAggField.{KeyedAggField}
 use Rattle.hq_sql_tree.specs.Tree.{object, pairs_of, OutTree, SelectTree, fold, JoinTree, PredTree}
-use Rattle.hq_compiled.specs.Aggregates.{needed, needed_outputs, summary_pairs, some_aggregate, folded_select, plain_select, summary_select}
-use Rattle.hq_compiled.specs.Lists.{list_used, list_rows}
-use Rattle.hq_compiled.specs.Looks.{Look}
-use Rattle.hq_compiled.specs.Masks.{shown_look}
-use Rattle.hq_compiled.specs.Names.{fold_alias, value_name}
-use Rattle.hq_compiled.specs.Rights.{Rights}
+use Rattle.hq_translation.specs.Aggregates.{needed, needed_outputs, summary_pairs, some_aggregate, folded_select, plain_select, summary_select}
+use Rattle.hq_translation.specs.Lists.{list_used, list_rows}
+use Rattle.hq_translation.specs.Looks.{Look}
+use Rattle.hq_translation.specs.Masks.{shown_look}
+use Rattle.hq_translation.specs.Names.{fold_alias, value_name}
+use Rattle.hq_translation.specs.Rights.{Rights}
 use Rattle.hq_compile_lists.specs.Bodies.{IsBody, rows_of}
 use Rattle.hq_compile_lists.specs.declared.list.ListBody.{ListBody}
 

@@ -1,11 +1,11 @@
 //! The columns that aggregates need, each once, in order of first need; and whether an aggregate occurs.
 ghost use Rattle.std.specs.Prelude.{◌≡◌, [], IfOk, OnOk};
-ghost use Rattle.hq_compiled.specs.Aggregates.{add_column, add_columns, add_counted, add_field, needed, place_of, is_taken, some_taken, is_aggregate, some_aggregate};
+ghost use Rattle.hq_translation.specs.Aggregates.{add_column, add_columns, add_counted, add_field, needed, place_of, is_taken, some_taken, is_aggregate, some_aggregate};
 
-use hq_ask_tree::{AggCol, AggField, KeyedAggCol, KeyedAggField};
+use hq_request_tree::{AggCol, AggField, KeyedAggCol, KeyedAggField};
 use hq_base::{List, Memory};
 use hq_compile_tables::add_new;
-use hq_terms::{ColId, ColList};
+use hq_model::{ColId, ColList};
 use std::alloc::Global;
 
 fn add_column(field: &AggCol, columns: &mut ColList) -> Result<(), Memory>

@@ -1,19 +1,19 @@
 //! The select of `aggregate`: over the selected rows, whose outputs are the columns that its fields need.
 ghost use Rattle.std.specs.Prelude.{◌≡◌, ◌+◌, ◌∷◌, [], IfOk, OnOk, map, Some, None, true};
-ghost use Rattle.hq_terms.specs.Schema.{table};
-ghost use Rattle.hq_ask_tree.specs.Arguments.{arguments_view};
+ghost use Rattle.hq_model.specs.Schema.{table};
+ghost use Rattle.hq_request_tree.specs.Arguments.{arguments_view};
 ghost use Rattle.hq_sql_tree.specs.Tree as tree;
 ghost use Rattle.hq_sql_tree.specs.View.{expr_view, pair_view, out_view, select_view};
-ghost use Rattle.hq_compiled.specs.Names.{fold_alias, value_name, needed_name, unit_name};
-ghost use Rattle.hq_compiled.specs.Aggregates.{needed, needed_cell, taken_value, taken_pairs, count_value, summary_value, summary_pairs, needed_columns, needed_outputs, summary_used, summary_numbers, folded_select, plain_select, summary_select};
-ghost use Rattle.hq_compiled.specs.Lists.{list_used, list_rows, children_from};
-ghost use Rattle.hq_compiled.specs.Masks.{shown_look};
+ghost use Rattle.hq_translation.specs.Names.{fold_alias, value_name, needed_name, unit_name};
+ghost use Rattle.hq_translation.specs.Aggregates.{needed, needed_cell, taken_value, taken_pairs, count_value, summary_value, summary_pairs, needed_columns, needed_outputs, summary_used, summary_numbers, folded_select, plain_select, summary_select};
+ghost use Rattle.hq_translation.specs.Lists.{list_used, list_rows, children_from};
+ghost use Rattle.hq_translation.specs.Masks.{shown_look};
 ghost use Rattle.hq_compile_context.specs.Contexts.{context_schema, context_rights};
 ghost use Rattle.hq_compile_tables.specs.Shown.{look_in, look_of};
 ghost use Rattle.hq_compile_lists.specs.Starts.{start_tie};
 
 use crate::needs::{needed, place_of, some_aggregate};
-use hq_ask_tree::{AggCol, AggField, KeyedAggCol, KeyedAggField};
+use hq_request_tree::{AggCol, AggField, KeyedAggCol, KeyedAggField};
 use hq_base::{Aggregate, Memory};
 use hq_compile_context::{
     Context, RowUse, fold_alias, needed_name, row_limit, unit_name, value_name,
@@ -21,7 +21,7 @@ use hq_compile_context::{
 use hq_compile_lists::{ListStart, fold, list_body, list_rows, list_used, object, one_row};
 use hq_compile_tables::{MaskPlace, Shown, is_text, shown_column, table_shown};
 use hq_sql_tree::{Agg, Expr, ExprPair, ExprPairList, Out, OutList, Select};
-use hq_terms::{ColId, Column, TableId};
+use hq_model::{ColId, Column, TableId};
 use std::alloc::Global;
 
 // A needed column at the fold of number n.

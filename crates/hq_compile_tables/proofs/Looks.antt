@@ -1,9 +1,9 @@
 -- Columns behind the joins of masks.
 use Rattle.std.proofs.Common.{◌≡◌, ℕ, List, [], ◌∷◌, Bool, true, false, cond, find, Some, ◌==◌, refl, ap, ◌∙◌}
 use Rattle.std.specs.Prelude.{option_map, unwrap_or}
-use Rattle.hq_terms.specs.declared.table.Column.{Column}
-use Rattle.hq_compiled.specs.Looks.{own_look}
-use Rattle.hq_compiled.specs.Masks.{value_place}
+use Rattle.hq_model.specs.declared.table.Column.{Column}
+use Rattle.hq_translation.specs.Looks.{own_look}
+use Rattle.hq_translation.specs.Masks.{value_place}
 use Rattle.hq_compile_tables.specs.Shown.{look_in, look_of}
 use Rattle.hq_compile_tables.specs.declared.shown.MaskPlace.{MaskPlace}
 use Rattle.hq_compile_tables.specs.declared.shown.Shown.{Shown}

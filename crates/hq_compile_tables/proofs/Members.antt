@@ -1,7 +1,7 @@
 -- The members of a WHERE, one after the other.
 use Rattle.std.proofs.Common.{◌≡◌, ◌∙◌, List, [], ◌++◌, refl, ap}
 use Rattle.hq_sql_tree.specs.Tree.{PredTree, always, never, test, negation, all_of, any_of, exists}
-use Rattle.hq_compiled.specs.Conditions.{with_member}
+use Rattle.hq_translation.specs.Conditions.{with_member}
 
 -- what stands behind a member stands behind those that follow it
 pub member_behind : (p : PredTree) (ps qs : List PredTree) → with_member p ps ++ qs ≡ with_member p (ps ++ qs)

@@ -1,10 +1,10 @@
 -- The selects of one table's rows.
 use Rattle.std.specs.Prelude.{ℕ, List, [], ◌∷◌, true, Some, None}
-use Rattle.hq_terms.specs.Schema.{Schema, table}
+use Rattle.hq_model.specs.Schema.{Schema, table}
 use Rattle.hq_sql_tree.specs.Tree as tree
 use Rattle.hq_sql_tree.specs.Tree.{FilterTree, JoinTree, OutTree, PredTree, SelectTree}
-use Rattle.hq_compiled.specs.Names.{table_alias, unit_name}
-use Rattle.hq_compiled.specs.Selects.{key_orders}
+use Rattle.hq_translation.specs.Names.{table_alias, unit_name}
+use Rattle.hq_translation.specs.Selects.{key_orders}
 
 -- table u has a row, at the alias of number n and behind joins, that meets a condition
 abbrev pub exists_where : Schema → (u n : ℕ) → List JoinTree → FilterTree → PredTree

@@ -1,8 +1,8 @@
 -- How columns are looked at behind the joins of masks.
 use Rattle.std.specs.Prelude.{ℕ, List, [], ◌∷◌, cond, ◌==◌}
-use Rattle.hq_terms.specs.declared.table.Column.{Column}
-use Rattle.hq_compiled.specs.Looks.{Look, own_look}
-use Rattle.hq_compiled.specs.Masks.{value_place}
+use Rattle.hq_model.specs.declared.table.Column.{Column}
+use Rattle.hq_translation.specs.Looks.{Look, own_look}
+use Rattle.hq_translation.specs.Masks.{value_place}
 use Rattle.hq_compile_tables.specs.declared.shown.MaskPlace.{MaskPlace}
 use Rattle.hq_compile_tables.specs.declared.shown.Shown.{Shown}
 

@@ -2,13 +2,13 @@
 ghost use Rattle.std.specs.Prelude.{◌≡◌, [], IfOk, OnOk, false};
 ghost use Rattle.hq_sql_tree.specs.Tree as tree;
 ghost use Rattle.hq_sql_tree.specs.View.{expr_view};
-ghost use Rattle.hq_compiled.specs.Looks.{name_of, is_text_column, own_look, cell_at, compared_at, compares, is_used, add_new, add_all, type_in};
-ghost use Rattle.hq_compiled.specs.Masks.{value_place};
+ghost use Rattle.hq_translation.specs.Looks.{name_of, is_text_column, own_look, cell_at, compared_at, compares, is_used, add_new, add_all, type_in};
+ghost use Rattle.hq_translation.specs.Masks.{value_place};
 
 use hq_base::{List, Memory, Txt, Ty};
 use hq_compile_context::{join_alias, table_alias, value_name};
 use hq_sql_tree::Expr;
-use hq_terms::{ColId, ColList, Column, Test};
+use hq_model::{ColId, ColList, Column, Test};
 use std::alloc::Global;
 
 // The name of a column; empty beyond the table's columns.

@@ -1,19 +1,19 @@
 //! Conditions: literals, lists of conditions in one, WHERE, and a test of one column.
 ghost use Rattle.std.specs.Prelude.{◌≡◌, ◌++◌, ◌∷◌, [], ℕ, IfOk, map, cond};
-ghost use Rattle.hq_terms.specs.Bexp.{operands_of};
-ghost use Rattle.hq_terms.specs.Tests.{is_of_nothing};
-ghost use Rattle.hq_terms.specs.declared.test.Test.TheVariants.{Compare};
+ghost use Rattle.hq_model.specs.Bexp.{operands_of};
+ghost use Rattle.hq_model.specs.Tests.{is_of_nothing};
+ghost use Rattle.hq_model.specs.declared.test.Test.TheVariants.{Compare};
 ghost use Rattle.hq_sql_tree.specs.Tree as tree;
 ghost use Rattle.hq_sql_tree.specs.View.{expr_view, pred_view, filter_view};
-ghost use Rattle.hq_compiled.specs.Conditions.{text_literal, literal, operand_literal, joined_by_and, joined_by_or, with_member, where_of, negation_if, first_literal, literals_for, test_of};
-ghost use Rattle.hq_compiled.specs.Looks.{compared_at, tested_at, type_in};
+ghost use Rattle.hq_translation.specs.Conditions.{text_literal, literal, operand_literal, joined_by_and, joined_by_or, with_member, where_of, negation_if, first_literal, literals_for, test_of};
+ghost use Rattle.hq_translation.specs.Looks.{compared_at, tested_at, type_in};
 ghost use Rattle.hq_compile_tables.specs.Shown.{look_of};
 
 use crate::columns::type_in;
 use crate::shown::{Shown, compared_shown, tested_shown};
 use hq_base::{Memory, Txt, Ty, Val};
 use hq_sql_tree::{Expr, ExprList, Pred, PredList};
-use hq_terms::{Arity, ColId, Op, Operand, Operands, Test};
+use hq_model::{Arity, ColId, Op, Operand, Operands, Test};
 use std::alloc::Global;
 
 // The literal of a text: where it is compared with a uuid, one of that type.

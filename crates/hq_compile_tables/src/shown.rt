@@ -1,9 +1,9 @@
 //! Columns as they are shown.
 ghost use Rattle.std.specs.Prelude.{◌≡◌, IfOk, find, option_copied, ◌==◌};
-ghost use Rattle.hq_terms.specs.Schema.{table};
+ghost use Rattle.hq_model.specs.Schema.{table};
 ghost use Rattle.hq_sql_tree.specs.Tree as tree;
 ghost use Rattle.hq_sql_tree.specs.View.{expr_view};
-ghost use Rattle.hq_compiled.specs.Looks.{cell_at, compared_at, tested_at};
+ghost use Rattle.hq_translation.specs.Looks.{cell_at, compared_at, tested_at};
 ghost use Rattle.hq_compile_context.specs.Contexts.{context_schema};
 ghost use Rattle.hq_compile_tables.specs.Shown.{look_in, look_of};
 
@@ -11,7 +11,7 @@ use crate::columns::{column_at, compares, is_text, value_at};
 use hq_base::{List, Memory};
 use hq_compile_context::Context;
 use hq_sql_tree::Expr;
-use hq_terms::{ColId, Column, TableId, Test};
+use hq_model::{ColId, Column, TableId, Test};
 use std::alloc::Global;
 
 /// A masked column, and the number of the join that shows it.

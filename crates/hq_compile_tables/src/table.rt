@@ -1,16 +1,16 @@
 //! Selects of one table: its rows, links to them, the order of its key, and the first row in that order.
 ghost use Rattle.std.specs.Prelude.{◌≡◌, ◌++◌, ◌∷◌, [], IfOk, map, Some, None, true, false};
-ghost use Rattle.hq_terms.specs.Schema.{table, rel};
-ghost use Rattle.hq_terms.specs.declared.op.Op.TheVariants.{Eq};
-ghost use Rattle.hq_terms.specs.declared.test.Test.TheVariants.{Compare};
+ghost use Rattle.hq_model.specs.Schema.{table, rel};
+ghost use Rattle.hq_model.specs.declared.op.Op.TheVariants.{Eq};
+ghost use Rattle.hq_model.specs.declared.test.Test.TheVariants.{Compare};
 ghost use Rattle.hq_sql_tree.specs.Tree as tree;
 ghost use Rattle.hq_sql_tree.specs.View.{expr_view, order_view, out_view, select_view, join_view, from_view, pred_view, filter_view};
-ghost use Rattle.hq_compiled.specs.Looks.{own_look, compared_at};
-ghost use Rattle.hq_compiled.specs.Masks.{value_output};
-ghost use Rattle.hq_compiled.specs.Names.{table_alias, join_alias, unit_name};
-ghost use Rattle.hq_compiled.specs.Conditions.{where_of};
-ghost use Rattle.hq_compiled.specs.Predicates.{link, link_members};
-ghost use Rattle.hq_compiled.specs.Selects.{key_orders};
+ghost use Rattle.hq_translation.specs.Looks.{own_look, compared_at};
+ghost use Rattle.hq_translation.specs.Masks.{value_output};
+ghost use Rattle.hq_translation.specs.Names.{table_alias, join_alias, unit_name};
+ghost use Rattle.hq_translation.specs.Conditions.{where_of};
+ghost use Rattle.hq_translation.specs.Predicates.{link, link_members};
+ghost use Rattle.hq_translation.specs.Selects.{key_orders};
 ghost use Rattle.hq_compile_context.specs.Contexts.{context_schema};
 ghost use Rattle.hq_compile_tables.specs.Selects.{exists_where, first_row};
 
@@ -21,7 +21,7 @@ use hq_compile_context::{Context, join_alias, table_alias, unit_name, value_name
 use hq_sql_tree::{
     Expr, From, Join, JoinList, Order, OrderList, Out, OutList, Pred, PredList, Select,
 };
-use hq_terms::{ColId, Column, Op, Pair, RelId, TableId};
+use hq_model::{ColId, Column, Op, Pair, RelId, TableId};
 use std::alloc::Global;
 
 // The rows of a table by its names, under an alias.

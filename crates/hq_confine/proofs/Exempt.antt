@@ -1,13 +1,13 @@
 -- Conjuncts that are exempt, and those that are not.
 use Rattle.std.proofs.Common.{◌≡◌, ◌∙◌, List, [], ◌++◌, Bool, true, false, cond, Option, None, refl, sym, ap}
-use Rattle.hq_terms.specs.Grants.{Grants}
-use Rattle.hq_terms.specs.Schema.{Schema}
-use Rattle.hq_terms.specs.declared.test.Test.{Test}
+use Rattle.hq_model.specs.Grants.{Grants}
+use Rattle.hq_model.specs.Schema.{Schema}
+use Rattle.hq_model.specs.declared.test.Test.{Test}
 use Rattle.hq_sql_tree.specs.Tree as tree
 use Rattle.hq_sql_tree.specs.Tree.{ExprTree, SelectTree, PredTree, PredTrees}
-use Rattle.hq_confined.specs.Faults.{conjunct_faults, pred_faults, preds_faults, select_faults, worst}
-use Rattle.hq_confined.specs.Origins.{Shapes}
-use Rattle.hq_confined.specs.Uses.{Fault, expr_faults, exprs_faults}
+use Rattle.hq_confine_rules.specs.Faults.{conjunct_faults, pred_faults, preds_faults, select_faults, worst}
+use Rattle.hq_confine_rules.specs.Origins.{Shapes}
+use Rattle.hq_confine_rules.specs.Uses.{Fault, expr_faults, exprs_faults}
 
 module _ (s : Schema) (g : Grants) (x : Shapes) (E : PredTree → Bool) where
   -- faults that count where a conjunct is not exempt

@@ -2,8 +2,8 @@
 use Rattle.std.proofs.Common.{◌≡◌, ◌∙◌, ℕ, suc, ◌+◌, ◌<◌, ◌≤◌, List, [], ◌∷◌, ◌++◌, Option, length, drop, get_or, refl, sym, ap, ap₂, add-one}
 use Rattle.std.proofs.lemmas.List.{append-nil, at_drop_all, drop_more}
 use Rattle.hq_base.proofs.Loops.{piece_more}
-use Rattle.hq_terms.specs.Permission.{Permission}
-use Rattle.hq_terms.specs.Schema.{Schema, SchemaTable, no_table, numbered}
+use Rattle.hq_model.specs.Permission.{Permission}
+use Rattle.hq_model.specs.Schema.{Schema, SchemaTable, no_table, numbered}
 
 module _ (h : ℕ → SchemaTable → Option Permission) (s : Schema) (whole : List (Option Permission)) where
   -- one table more

@@ -1,13 +1,13 @@
 -- The faults of rows, part by part.
 use Rattle.std.proofs.Common.{◌≡◌, ◌∙◌, ℕ, List, [], ◌∷◌, ◌++◌, Bool, Option, None, refl, sym, ap, ap₂, append_assoc}
-use Rattle.hq_terms.specs.Grants.{Grants}
-use Rattle.hq_terms.specs.Schema.{Schema}
+use Rattle.hq_model.specs.Grants.{Grants}
+use Rattle.hq_model.specs.Schema.{Schema}
 use Rattle.hq_sql_tree.specs.Tree as tree
 use Rattle.hq_sql_tree.specs.Tree.{ExprTree, OrderTree, OutTree, SelectTree, FromTree, JoinTrees, FilterTree, PredTree, orders_of}
-use Rattle.hq_confined.specs.Conjuncts.{conjuncts}
-use Rattle.hq_confined.specs.Faults.{outputs_of, from_shapes, joined_shapes, is_exempt, is_unordered, select_faults, from_faults, joins_faults, where_faults, worse, worst}
-use Rattle.hq_confined.specs.Origins.{Origin, Shapes, outputs}
-use Rattle.hq_confined.specs.Uses.{Fault, expr_faults, exprs_faults, outs_faults, orders_faults, shows_order}
+use Rattle.hq_confine_rules.specs.Conjuncts.{conjuncts}
+use Rattle.hq_confine_rules.specs.Faults.{outputs_of, from_shapes, joined_shapes, is_exempt, is_unordered, select_faults, from_faults, joins_faults, where_faults, worse, worst}
+use Rattle.hq_confine_rules.specs.Origins.{Origin, Shapes, outputs}
+use Rattle.hq_confine_rules.specs.Uses.{Fault, expr_faults, exprs_faults, outs_faults, orders_faults, shows_order}
 use Rattle.hq_confine.specs.Parts.{inner_faults, scanned_faults}
 use Rattle.hq_confine_uses.proofs.Worst.{worse_none, worst_append, worst_of_two}
 

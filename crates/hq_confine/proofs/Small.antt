@@ -4,13 +4,13 @@ use Rattle.std.proofs.Common.{ap, subst, sym, inl, inr, lit≤}
 use Rattle.std.specs.Prelude.{slice_index_or, unwrap_or}
 use Rattle.std.proofs.lemmas.List.{get_or_past}
 use Rattle.std.proofs.lemmas.Bool.{cases_lt}
-use Rattle.hq_terms.specs.Bexp.{BexpTree, always, never}
-use Rattle.hq_terms.specs.Grants.{Grants, grant, no_grant}
-use Rattle.hq_terms.specs.Permission.{Mask, Permission}
-use Rattle.hq_terms.specs.Permitted.{mask_of}
-use Rattle.hq_terms.specs.Schema.{Schema}
-use Rattle.hq_compiled.specs.Predicates.{own_numbers}
-use Rattle.hq_confined_means.specs.Laws.{AreWritten}
+use Rattle.hq_model.specs.Bexp.{BexpTree, always, never}
+use Rattle.hq_model.specs.Grants.{Grants, grant, no_grant}
+use Rattle.hq_model.specs.Permission.{Mask, Permission}
+use Rattle.hq_model.specs.Permitted.{mask_of}
+use Rattle.hq_model.specs.Schema.{Schema}
+use Rattle.hq_translation.specs.Predicates.{own_numbers}
+use Rattle.hq_laws_confine.specs.Laws.{AreWritten}
 use Rattle.hq_confine.specs.Written.{IsWritten}
 
 module _ (s : Schema) (t : ℕ) where

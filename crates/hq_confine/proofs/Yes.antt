@@ -2,12 +2,12 @@
 use Rattle.std.proofs.Common.{◌≡◌, List, [], ◌∷◌, Bool, true, false, cond, Option, Some, None, Result, Ok, Err, refl, sym}
 use Rattle.std.specs.Prelude.{nat_lt, IfOk}
 use Rattle.hq_base.specs.declared.memory.Memory.{Memory}
-use Rattle.hq_terms.specs.Grants.{Grants}
-use Rattle.hq_terms.specs.Meta.{MetaTree}
-use Rattle.hq_terms.specs.declared.table.Table.{Table}
+use Rattle.hq_model.specs.Grants.{Grants}
+use Rattle.hq_model.specs.Meta.{MetaTree}
+use Rattle.hq_model.specs.declared.table.Table.{Table}
 use Rattle.hq_sql_tree.specs.Tree.{SelectTree}
-use Rattle.hq_confined.specs.Faults.{worse, worst}
-use Rattle.hq_confined.specs.Uses.{Fault}
+use Rattle.hq_confine_rules.specs.Faults.{worse, worst}
+use Rattle.hq_confine_rules.specs.Uses.{Fault}
 use Rattle.hq_confine.specs.Verdicts.{told, ShowsTheView, YesShowsTheView}
 use Rattle.hq_confine.specs.declared.check.Verdict.{Verdict}
 use Rattle.hq_confine.specs.declared.check.Verdict.TheVariants.{Yes, No}

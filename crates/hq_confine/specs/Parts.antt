@@ -1,12 +1,12 @@
 -- The faults of a FROM in two parts: those of its select, and those of its scan.
 use Rattle.std.specs.Prelude.{ℕ, List, [], Bool, true}
-use Rattle.hq_terms.specs.Grants.{Grants}
-use Rattle.hq_terms.specs.Schema.{Schema}
+use Rattle.hq_model.specs.Grants.{Grants}
+use Rattle.hq_model.specs.Schema.{Schema}
 use Rattle.hq_sql_tree.specs.Tree as tree
 use Rattle.hq_sql_tree.specs.Tree.{OrderTree, FromTree, PredTree}
-use Rattle.hq_confined.specs.Faults.{scan_faults, select_faults}
-use Rattle.hq_confined.specs.Origins.{Shapes, table_place}
-use Rattle.hq_confined.specs.Uses.{Fault}
+use Rattle.hq_confine_rules.specs.Faults.{scan_faults, select_faults}
+use Rattle.hq_confine_rules.specs.Origins.{Shapes, table_place}
+use Rattle.hq_confine_rules.specs.Uses.{Fault}
 
 -- those of the select that it takes its rows from
 abbrev pub inner_faults : Schema → Grants → Shapes → FromTree → List Fault

@@ -1,14 +1,14 @@
 -- What the checker says of a statement.
 use Rattle.std.specs.Prelude.{◌≡◌, List, Option, Some, None, true}
-use Rattle.hq_terms.specs.Database.{Row, is_database}
-use Rattle.hq_terms.specs.Grants.{Grants}
-use Rattle.hq_terms.specs.Meta.{MetaTree}
-use Rattle.hq_terms.specs.Schema.{schema_of}
-use Rattle.hq_terms.specs.View.{Agree}
-use Rattle.hq_terms.specs.declared.table.Table.{Table}
+use Rattle.hq_model.specs.Database.{Row, is_database}
+use Rattle.hq_model.specs.Grants.{Grants}
+use Rattle.hq_model.specs.Meta.{MetaTree}
+use Rattle.hq_model.specs.Schema.{schema_of}
+use Rattle.hq_model.specs.View.{Agree}
+use Rattle.hq_model.specs.declared.table.Table.{Table}
 use Rattle.hq_sql_tree.specs.Meaning.{meaning}
 use Rattle.hq_sql_tree.specs.Tree.{SelectTree}
-use Rattle.hq_confined.specs.Uses.{Fault}
+use Rattle.hq_confine_rules.specs.Uses.{Fault}
 use Rattle.hq_confine.specs.declared.check.Verdict.{Verdict}
 use Rattle.hq_confine.specs.declared.check.Verdict.TheVariants.{Yes, No}
 

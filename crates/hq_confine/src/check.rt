@@ -1,11 +1,11 @@
 //! The verdict on a statement.
 ghost use Rattle.std.specs.Prelude.{◌≡◌, IfOk, true};
-ghost use Rattle.hq_terms.specs.Grants.{grants_of};
-ghost use Rattle.hq_terms.specs.Meta.{meta_view};
-ghost use Rattle.hq_terms.specs.Schema.{schema_of};
+ghost use Rattle.hq_model.specs.Grants.{grants_of};
+ghost use Rattle.hq_model.specs.Meta.{meta_view};
+ghost use Rattle.hq_model.specs.Schema.{schema_of};
 ghost use Rattle.hq_sql_tree.specs.View.{select_view};
 ghost use Rattle.hq_sql_tree.specs.WellFormed.{is_statement};
-ghost use Rattle.hq_confined.specs.Faults.{faults, worst};
+ghost use Rattle.hq_confine_rules.specs.Faults.{faults, worst};
 ghost use Rattle.hq_confine.specs.Verdicts.{told, YesShowsTheView};
 ghost use Rattle.hq_confine_uses.specs.Views.{faulted, rules_schema, rules_grants};
 
@@ -14,9 +14,9 @@ use crate::numbers::write_grants;
 use crate::walk::walk_select;
 use hq_base::{Memory, Txt};
 use hq_confine_uses::{Fault, Rules, Shapes};
-use hq_confined_means::confined_statements_mean_the_same;
+use hq_laws_confine::confined_statements_mean_the_same;
 use hq_sql_tree::Select;
-use hq_terms::{Catalog, Meta, Scope, Session};
+use hq_model::{Catalog, Meta, Scope, Session};
 use std::alloc::Global;
 
 /// Whether a statement shows no more than a session's view: else the least rule that it violates, 1 to 6, and the alias of the first

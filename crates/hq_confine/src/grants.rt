@@ -1,20 +1,20 @@
 //! What a session is granted of each table: its role's permission, with filter and masks bound.
 ghost use Rattle.std.specs.Prelude.{◌≡◌, IfOk, map, option_map};
 ghost use Rattle.hq_base.specs.Due.{Gives};
-ghost use Rattle.hq_terms.specs.Bexp.{bexp_view};
-ghost use Rattle.hq_terms.specs.Binding.{bound_masks, bound_permission};
-ghost use Rattle.hq_terms.specs.Grants.{grant_of, grants_of};
-ghost use Rattle.hq_terms.specs.Meta.{meta_view};
-ghost use Rattle.hq_terms.specs.Permission.{role_of};
-ghost use Rattle.hq_terms.specs.PermView.{mask_view, permission_view};
-ghost use Rattle.hq_terms.specs.Schema.{no_table};
-ghost use Rattle.hq_terms.specs.Scope.{scope_schema};
-ghost use Rattle.hq_terms.specs.declared.bind.BindRefusal.TheVariants as refusal;
-ghost use Rattle.hq_bound.specs.Bound.{mask_due};
+ghost use Rattle.hq_model.specs.Bexp.{bexp_view};
+ghost use Rattle.hq_model.specs.Binding.{bound_masks, bound_permission};
+ghost use Rattle.hq_model.specs.Grants.{grant_of, grants_of};
+ghost use Rattle.hq_model.specs.Meta.{meta_view};
+ghost use Rattle.hq_model.specs.Permission.{role_of};
+ghost use Rattle.hq_model.specs.PermView.{mask_view, permission_view};
+ghost use Rattle.hq_model.specs.Schema.{no_table};
+ghost use Rattle.hq_model.specs.Scope.{scope_schema};
+ghost use Rattle.hq_model.specs.declared.bind.BindRefusal.TheVariants as refusal;
+ghost use Rattle.hq_request_bound.specs.Bound.{mask_due};
 
 use hq_base::Memory;
-use hq_binding::bind;
-use hq_terms::{Bexp, BindRefusal, Mask, MaskList, PermView, Role, Scope, Session, TableId};
+use hq_model_binding::bind;
+use hq_model::{Bexp, BindRefusal, Mask, MaskList, PermView, Role, Scope, Session, TableId};
 use std::alloc::Global;
 
 fn bound_mask(

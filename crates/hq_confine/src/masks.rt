@@ -1,13 +1,13 @@
 //! Joins that show a masked column.
 ghost use Rattle.std.specs.Prelude.{◌≡◌, ◌∷◌, ◌&&◌, [], IfOk, map};
 ghost use Rattle.std.specs.List.{list_all};
-ghost use Rattle.hq_terms.specs.Bexp.{bexp_view};
+ghost use Rattle.hq_model.specs.Bexp.{bexp_view};
 ghost use Rattle.hq_sql_tree.specs.Form.{is_one};
 ghost use Rattle.hq_sql_tree.specs.View.{expr_view, filter_view, from_view, out_view, select_view};
-ghost use Rattle.hq_compiled.specs.Predicates.{own_predicate};
-ghost use Rattle.hq_confined.specs.Conjuncts.{conjuncts, opened};
-ghost use Rattle.hq_confined.specs.Members.{is_one_of, stand_among, shows_masked, shows_in, shows_one, shows_only, is_mask_join};
-ghost use Rattle.hq_confined.specs.Origins.{outputs, shape_at};
+ghost use Rattle.hq_translation.specs.Predicates.{own_predicate};
+ghost use Rattle.hq_confine_rules.specs.Conjuncts.{conjuncts, opened};
+ghost use Rattle.hq_confine_rules.specs.Members.{is_one_of, stand_among, shows_masked, shows_in, shows_one, shows_only, is_mask_join};
+ghost use Rattle.hq_confine_rules.specs.Origins.{outputs, shape_at};
 ghost use Rattle.hq_confine_members.specs.Views.{preds_view};
 ghost use Rattle.hq_confine_uses.specs.Views.{shapes_view, rules_schema, rules_grants};
 
@@ -16,7 +16,7 @@ use hq_base::{Memory, Txt};
 use hq_confine_members::{alias_of, are_of, conjuncts, is_bare, opened, stand_among};
 use hq_confine_uses::{Alias, Rules, Shape, Shapes, column_place, shape_at};
 use hq_sql_tree::{Expr, From, OutList, Pred, Select};
-use hq_terms::Bexp;
+use hq_model::Bexp;
 use std::alloc::Global;
 
 // Whether the conjuncts are exactly those of a filter or mask of a table, at an alias.

@@ -1,17 +1,17 @@
 //! Whether the filters and masks of what is granted can be written: the numbers of their aliases have 64 bits.
 ghost use Rattle.std.specs.Prelude.{◌≡◌, ℕ, ◌+◌, ◌^◌, ◌≤◌, OnOk, map};
-ghost use Rattle.hq_terms.specs.Bexp.{bexp_view};
-ghost use Rattle.hq_terms.specs.PermView.{mask_view};
-ghost use Rattle.hq_terms.specs.Permitted.{mask_of};
-ghost use Rattle.hq_compiled.specs.Predicates.{own_numbers};
-ghost use Rattle.hq_confined_means.specs.Laws.{AreWritten};
+ghost use Rattle.hq_model.specs.Bexp.{bexp_view};
+ghost use Rattle.hq_model.specs.PermView.{mask_view};
+ghost use Rattle.hq_model.specs.Permitted.{mask_of};
+ghost use Rattle.hq_translation.specs.Predicates.{own_numbers};
+ghost use Rattle.hq_laws_confine.specs.Laws.{AreWritten};
 ghost use Rattle.hq_confine.specs.Written.{IsWritten};
 ghost use Rattle.hq_confine_uses.specs.Views.{rules_schema, rules_grants};
 
 use crate::written::own_condition;
 use hq_base::Memory;
 use hq_confine_uses::Rules;
-use hq_terms::{Bexp, Mask};
+use hq_model::{Bexp, Mask};
 use std::alloc::Global;
 
 // Wants memory where a filter or a mask of table `t` has too many aliases.

@@ -2,9 +2,9 @@
 ghost use Rattle.std.specs.Prelude.{◌≡◌, IfOk, map};
 ghost use Rattle.hq_sql_tree.specs.Tree.{orders_of};
 ghost use Rattle.hq_sql_tree.specs.View.{expr_view, from_view, order_view, pred_view};
-ghost use Rattle.hq_confined.specs.Conjuncts.{opened};
-ghost use Rattle.hq_confined.specs.Faults.{is_exempt, is_unordered, scan_faults, worst};
-ghost use Rattle.hq_confined.specs.Members.{filter_conjuncts, is_one_of, stand_among};
+ghost use Rattle.hq_confine_rules.specs.Conjuncts.{opened};
+ghost use Rattle.hq_confine_rules.specs.Faults.{is_exempt, is_unordered, scan_faults, worst};
+ghost use Rattle.hq_confine_rules.specs.Members.{filter_conjuncts, is_one_of, stand_among};
 ghost use Rattle.hq_confine.specs.Parts.{scanned_faults};
 ghost use Rattle.hq_confine_members.specs.Views.{preds_view};
 ghost use Rattle.hq_confine_uses.specs.Views.{faulted, shapes_view, rules_schema, rules_grants};

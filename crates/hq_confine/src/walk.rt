@@ -2,11 +2,11 @@
 ghost use Rattle.std.specs.Prelude.{◌≡◌, ◌∷◌, ◌++◌, [], IfOk, OnOk, cond, false, map, true};
 ghost use Rattle.hq_sql_tree.specs.Tree.{joins_of, preds_of};
 ghost use Rattle.hq_sql_tree.specs.View.{expr_view, filter_view, from_view, join_view, out_view, pred_view, select_view};
-ghost use Rattle.hq_confined.specs.Faults.{outputs_of, from_shapes, joined_shapes, is_exempt, worse, worst};
-ghost use Rattle.hq_confined.specs.Faults.{select_faults, joins_faults, where_faults, conjunct_faults, conjuncts_faults, pred_faults, preds_faults};
-ghost use Rattle.hq_confined.specs.Members.{is_mask_join};
-ghost use Rattle.hq_confined.specs.Origins.{outputs};
-ghost use Rattle.hq_confined.specs.Uses.{expr_faults, exprs_faults, outs_faults};
+ghost use Rattle.hq_confine_rules.specs.Faults.{outputs_of, from_shapes, joined_shapes, is_exempt, worse, worst};
+ghost use Rattle.hq_confine_rules.specs.Faults.{select_faults, joins_faults, where_faults, conjunct_faults, conjuncts_faults, pred_faults, preds_faults};
+ghost use Rattle.hq_confine_rules.specs.Members.{is_mask_join};
+ghost use Rattle.hq_confine_rules.specs.Origins.{outputs};
+ghost use Rattle.hq_confine_rules.specs.Uses.{expr_faults, exprs_faults, outs_faults};
 ghost use Rattle.hq_confine.specs.Parts.{inner_faults};
 ghost use Rattle.hq_confine_members.specs.Views.{preds_view};
 ghost use Rattle.hq_confine_uses.specs.Views.{alias_view, faulted, output_view, shapes_view, stacked, rules_schema, rules_grants};

@@ -1,10 +1,10 @@
 //! Filters and masks as conditions, at the alias of number 0.
 ghost use Rattle.std.specs.Prelude.{◌≡◌, ◌+◌, ◌^◌, ◌≤◌, IfOk, OnOk};
-ghost use Rattle.hq_terms.specs.Bexp.{bexp_view};
+ghost use Rattle.hq_model.specs.Bexp.{bexp_view};
 ghost use Rattle.hq_sql_tree.specs.View.{pred_view};
-ghost use Rattle.hq_compiled.specs.Masks.{filter_predicate};
-ghost use Rattle.hq_compiled.specs.Predicates.{own_numbers, own_predicate};
-ghost use Rattle.hq_compiled.specs.Rights.{rights_of};
+ghost use Rattle.hq_translation.specs.Masks.{filter_predicate};
+ghost use Rattle.hq_translation.specs.Predicates.{own_numbers, own_predicate};
+ghost use Rattle.hq_translation.specs.Rights.{rights_of};
 ghost use Rattle.hq_confine_uses.specs.Views.{rules_schema, rules_grants};
 
 use hq_base::{List, Memory};
@@ -12,7 +12,7 @@ use hq_compile_context::Context;
 use hq_compile_predicates::own_predicate;
 use hq_confine_uses::Rules;
 use hq_sql_tree::Pred;
-use hq_terms::{Bexp, TableId};
+use hq_model::{Bexp, TableId};
 use std::alloc::Global;
 
 // A number is one of 64 bits.

@@ -10,7 +10,7 @@ use Rattle.hq_sql_tree.specs.Tree as tree
 use Rattle.hq_sql_tree.specs.Tree.{ExprTree, joins_of, pairs_of}
 use Rattle.hq_sql_tree.specs.View.{expr_view, join_view, pair_view}
 use Rattle.hq_sql_tree.specs.Form.{is_no_join}
-use Rattle.hq_confined.specs.Renamed.{Renaming, is_alike_expr}
+use Rattle.hq_confine_rules.specs.Renamed.{Renaming, is_alike_expr}
 
 some : {A : Type 0} (x : A) (xs : List A) → (length (x ∷ xs) == 0) ≡ false
 some x xs = ne_eqb (length (x ∷ xs)) 0 (λ e. absurd (omega arith))

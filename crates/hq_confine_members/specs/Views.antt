@@ -4,8 +4,8 @@ use Rattle.std.specs.Prelude.{List, [], ◌∷◌, map}
 use Rattle.hq_sql_tree.specs.Tree.{PredTree}
 use Rattle.hq_sql_tree.specs.View.{pred_view}
 use Rattle.hq_sql_tree.specs.declared.select.Pred.{Pred}
-use Rattle.hq_confined.specs.Members.{Equation}
-use Rattle.hq_confined.specs.Renamed.{Renaming}
+use Rattle.hq_confine_rules.specs.Members.{Equation}
+use Rattle.hq_confine_rules.specs.Renamed.{Renaming}
 use Rattle.hq_confine_members.specs.declared.alike.Renaming as renaming
 use Rattle.hq_confine_members.specs.declared.links.Equation as equation
 

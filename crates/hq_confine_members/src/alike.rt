@@ -3,15 +3,15 @@ ghost use Rattle.std.specs.Prelude.{◌≡◌, ◌==◌, ◌&&◌, length, map};
 ghost use Rattle.hq_sql_tree.specs.Form.{is_no_join};
 ghost use Rattle.hq_sql_tree.specs.Tree.{joins_of, preds_of};
 ghost use Rattle.hq_sql_tree.specs.View.{expr_view, filter_view, from_view, join_view, order_view, out_view, pred_view, select_view};
-ghost use Rattle.hq_confined.specs.Renamed.{stands_for, same_op, same_test, is_bare, alias_of, is_from_table, same_table};
-ghost use Rattle.hq_confined.specs.Renamed.{is_alike_expr, are_alike_exprs, is_alike_out, are_alike_outs, is_alike, are_alike, is_alike_select, is_alike_filter};
+ghost use Rattle.hq_confine_rules.specs.Renamed.{stands_for, same_op, same_test, is_bare, alias_of, is_from_table, same_table};
+ghost use Rattle.hq_confine_rules.specs.Renamed.{is_alike_expr, are_alike_exprs, is_alike_out, are_alike_outs, is_alike, are_alike, is_alike_select, is_alike_filter};
 ghost use Rattle.hq_confine_members.specs.Views.{renaming_view};
 
 use hq_base::Txt;
 use hq_sql_tree::{
     Expr, ExprList, ExprPairList, From, JoinList, OrderList, Out, OutList, Pred, PredList, Select,
 };
-use hq_terms::{Op, Test};
+use hq_model::{Op, Test};
 
 /// Aliases of the one condition with those that stand for them in the other, the innermost first.
 #[derive(Clone, Copy)]

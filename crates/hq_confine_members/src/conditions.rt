@@ -2,7 +2,7 @@
 ghost use Rattle.std.specs.Prelude.{◌≡◌, ◌++◌, ◌∷◌, [], IfOk, OnOk, map};
 ghost use Rattle.hq_sql_tree.specs.Tree.{preds_of};
 ghost use Rattle.hq_sql_tree.specs.View.{filter_view, pred_view};
-ghost use Rattle.hq_confined.specs.Conjuncts.{opened, all_opened, conjuncts};
+ghost use Rattle.hq_confine_rules.specs.Conjuncts.{opened, all_opened, conjuncts};
 ghost use Rattle.hq_confine_members.specs.Views.{preds_view};
 
 use hq_base::Memory;

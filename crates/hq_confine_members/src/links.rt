@@ -1,18 +1,18 @@
 //! Whole links: equations of the columns of two scans, one for each pair of a relationship.
 ghost use Rattle.std.specs.Prelude.{◌≡◌, ◌∷◌, [], map, bytes_eq, option_map};
 ghost use Rattle.std.specs.List.{list_all, list_any};
-ghost use Rattle.hq_terms.specs.Schema.{table};
+ghost use Rattle.hq_model.specs.Schema.{table};
 ghost use Rattle.hq_sql_tree.specs.View.{expr_view, pred_view};
-ghost use Rattle.hq_compiled.specs.Looks.{name_of};
-ghost use Rattle.hq_confined.specs.Members.{equation_between, equation, is_equation_of, is_for_pair, is_whole_link, links_shape, is_linking};
-ghost use Rattle.hq_confined.specs.Origins.{shape_at};
+ghost use Rattle.hq_translation.specs.Looks.{name_of};
+ghost use Rattle.hq_confine_rules.specs.Members.{equation_between, equation, is_equation_of, is_for_pair, is_whole_link, links_shape, is_linking};
+ghost use Rattle.hq_confine_rules.specs.Origins.{shape_at};
 ghost use Rattle.hq_confine_members.specs.Views.{equation_view, preds_view};
 ghost use Rattle.hq_confine_uses.specs.Views.{rules_schema, shapes_view};
 
 use hq_base::Txt;
 use hq_confine_uses::{Rules, Shape, Shapes, shape_at};
 use hq_sql_tree::{Expr, ExprList, Pred};
-use hq_terms::{ColId, Op, Pair, Rel, Test};
+use hq_model::{ColId, Op, Pair, Rel, Test};
 
 /// An equation of two columns.
 #[derive(Clone, Copy)]

@@ -2,7 +2,7 @@
 ghost use Rattle.std.specs.Prelude.{◌≡◌};
 ghost use Rattle.std.specs.List.{list_all, list_any};
 ghost use Rattle.hq_sql_tree.specs.View.{pred_view};
-ghost use Rattle.hq_confined.specs.Members.{is_written, is_one_of, stand_among};
+ghost use Rattle.hq_confine_rules.specs.Members.{is_written, is_one_of, stand_among};
 ghost use Rattle.hq_confine_members.specs.Views.{preds_view};
 
 use crate::alike::{Renaming, is_alike};

@@ -1,14 +1,14 @@
 -- Runs of key columns among sort keys that are gone over.
 use Rattle.std.proofs.Common.{◌≡◌, ◌∙◌, ℕ, zero, suc, ◌+◌, ◌<◌, ◌≤◌, List, [], ◌∷◌, Bool, true, false, ◌&&◌, ◌||◌, drop, length, map, refl, sym, ap, arith}
 use Rattle.std.proofs.lemmas.List.{at_drop_all}
-use Rattle.hq_terms.specs.Schema.{Schema, table}
+use Rattle.hq_model.specs.Schema.{Schema, table}
 use Rattle.hq_sql_tree.specs.Tree.{OrderTree, orders_of}
 use Rattle.hq_sql_tree.specs.View.{expr_view, order_view}
 use Rattle.hq_sql_tree.specs.declared.expr.Order.{Order}
 use Rattle.hq_sql_tree.proofs.Conjunctions.{and_false}
 use Rattle.hq_sql_tree.proofs.Next.{view_order}
-use Rattle.hq_confined.specs.Origins.{Shapes}
-use Rattle.hq_confined.specs.Uses.{is_key_sort, is_run, has_run}
+use Rattle.hq_confine_rules.specs.Origins.{Shapes}
+use Rattle.hq_confine_rules.specs.Uses.{is_key_sort, is_run, has_run}
 
 module _ (s : Schema) (x : Shapes) (t : ℕ) where
   -- the sort keys begin with these columns

@@ -2,10 +2,10 @@
 use Rattle.std.proofs.Common.{◌≡◌, ℕ, suc, ◌+◌, List, [], ◌∷◌, length, Bool, cond, not, ◌&&◌, Some, None, bytes_eq, refl, ap, ap₂}
 use Rattle.std.specs.Prelude.{nat_lt, unwrap_or}
 use Rattle.std.specs.List.{position, prefix_len}
-use Rattle.hq_terms.specs.Meta.{MetaTree}
-use Rattle.hq_terms.specs.Schema.{numbered, schema_of, schema_table}
-use Rattle.hq_terms.specs.declared.table.Table.{Table}
-use Rattle.hq_confined.specs.Origins.{is_named, table_place}
+use Rattle.hq_model.specs.Meta.{MetaTree}
+use Rattle.hq_model.specs.Schema.{numbered, schema_of, schema_table}
+use Rattle.hq_model.specs.declared.table.Table.{Table}
+use Rattle.hq_confine_rules.specs.Origins.{is_named, table_place}
 
 pub length-numbered : {A B : Type 0} (f : ℕ → A → B) (k : ℕ) (xs : List A) → length (numbered f k xs) ≡ length xs
 length-numbered f k [] = refl

@@ -1,15 +1,15 @@
 -- Sort keys that are gone over: those of a run that has begun, a run that begins, and one alone.
 use Rattle.std.proofs.Common.{◌≡◌, ◌∙◌, ℕ, zero, suc, ◌+◌, ◌-◌, ◌<◌, ◌==◌, List, ◌++◌, cond, Bool, false, get_or, length, map, drop, sym, ap, arith}
 use Rattle.std.proofs.lemmas.Bool.{ne_eqb}
-use Rattle.hq_terms.specs.Grants.{Grants}
-use Rattle.hq_terms.specs.Schema.{Schema}
+use Rattle.hq_model.specs.Grants.{Grants}
+use Rattle.hq_model.specs.Schema.{Schema}
 use Rattle.hq_sql_tree.specs.Tree as tree
 use Rattle.hq_sql_tree.specs.Tree.{OrderTrees, ExprTree, orders_of}
 use Rattle.hq_sql_tree.specs.View.{expr_view, order_view}
 use Rattle.hq_sql_tree.specs.declared.expr.Order.{Order}
 use Rattle.hq_sql_tree.proofs.Next.{next_order}
-use Rattle.hq_confined.specs.Origins.{Shapes, origin}
-use Rattle.hq_confined.specs.Uses.{Fault, expr_faults, less_one, orders_faults, run_from}
+use Rattle.hq_confine_rules.specs.Origins.{Shapes, origin}
+use Rattle.hq_confine_rules.specs.Uses.{Fault, expr_faults, less_one, orders_faults, run_from}
 
 by_run : (R run : ℕ) (A : List Fault) (f : ℕ → List Fault) → run ≡ R → 0 < run → cond (R == 0) A (f (less_one R)) ≡ f (run - 1)
 by_run zero run A f e lt = absurd (omega arith)

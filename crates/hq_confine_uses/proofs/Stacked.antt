@@ -2,7 +2,7 @@
 use Rattle.std.proofs.Common.{◌≡◌, refl, sym, ◌∙◌, ap, List, [], ◌∷◌, ◌++◌, map, ℕ, suc, ◌-◌, ◌<◌, ◌≤◌, take, length, get_or, arith}
 use Rattle.std.proofs.Math.Seq.{take-suc}
 use Rattle.std.proofs.lemmas.List.{map-append}
-use Rattle.hq_confined.specs.Origins.{Shape, Shapes}
+use Rattle.hq_confine_rules.specs.Origins.{Shape, Shapes}
 use Rattle.hq_confine_uses.specs.declared.scope.Alias.{Alias}
 use Rattle.hq_confine_uses.specs.Views.{alias_view, stacked}
 

@@ -3,8 +3,8 @@ use Rattle.std.proofs.Common.{◌≡◌, ◌∙◌, ℕ, ◌≤◌, List, [], �
 use Rattle.std.specs.Prelude.{nat_lt}
 use Rattle.std.proofs.lemmas.Bool.Decides.{nat_tests}
 use Rattle.std.proofs.lemmas.List.{at_drop_all}
-use Rattle.hq_confined.specs.Faults.{worse, worst}
-use Rattle.hq_confined.specs.Uses.{Fault}
+use Rattle.hq_confine_rules.specs.Faults.{worse, worst}
+use Rattle.hq_confine_rules.specs.Uses.{Fault}
 
 -- nothing is no worse
 pub worse_none : (a : Option Fault) → worse a None ≡ a

@@ -1,12 +1,12 @@
 -- What values of the code stand for.
 use Rattle.std.specs.Borrow.{Bor}
 use Rattle.std.specs.Prelude.{ℕ, List, [], ◌∷◌, map, Option, Some, None, option_map}
-use Rattle.hq_terms.specs.Grants.{Grants}
-use Rattle.hq_terms.specs.PermView.{permission_view}
-use Rattle.hq_terms.specs.Schema.{Schema}
-use Rattle.hq_terms.specs.Scope.{scope_schema}
-use Rattle.hq_confined.specs.Origins.{Origin, made, of, Shape, scan, outputs, Shapes}
-use Rattle.hq_confined.specs.Uses.{Fault}
+use Rattle.hq_model.specs.Grants.{Grants}
+use Rattle.hq_model.specs.PermView.{permission_view}
+use Rattle.hq_model.specs.Schema.{Schema}
+use Rattle.hq_model.specs.Scope.{scope_schema}
+use Rattle.hq_confine_rules.specs.Origins.{Origin, made, of, Shape, scan, outputs, Shapes}
+use Rattle.hq_confine_rules.specs.Uses.{Fault}
 use Rattle.hq_confine_uses.specs.declared.faults.Fault as fault
 use Rattle.hq_confine_uses.specs.declared.origins.Cell.{Cell}
 use Rattle.hq_confine_uses.specs.declared.origins.Path.{Path}

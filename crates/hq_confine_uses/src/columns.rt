@@ -1,10 +1,10 @@
 //! Where a column may stand, by where its cell comes from.
 ghost use Rattle.std.specs.Prelude.{◌≡◌, ◌&&◌, not};
-ghost use Rattle.hq_terms.specs.Grants.{grant};
-ghost use Rattle.hq_confined.specs.Faults.{worst};
-ghost use Rattle.hq_confined.specs.Members.{has_mask, is_permitted};
-ghost use Rattle.hq_confined.specs.Origins.{origin_at};
-ghost use Rattle.hq_confined.specs.Uses.{is_plain, may_pass, rule_of_column, rule_of, column_faults, needs};
+ghost use Rattle.hq_model.specs.Grants.{grant};
+ghost use Rattle.hq_confine_rules.specs.Faults.{worst};
+ghost use Rattle.hq_confine_rules.specs.Members.{has_mask, is_permitted};
+ghost use Rattle.hq_confine_rules.specs.Origins.{origin_at};
+ghost use Rattle.hq_confine_rules.specs.Uses.{is_plain, may_pass, rule_of_column, rule_of, column_faults, needs};
 ghost use Rattle.hq_confine_uses.specs.Views.{faulted, origin_view, shapes_view, rules_schema, rules_grants};
 
 use crate::faults::{Fault, missing};

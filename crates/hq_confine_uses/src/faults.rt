@@ -1,7 +1,7 @@
 //! A rule that is violated, and which of two is told.
 ghost use Rattle.std.specs.Prelude.{◌≡◌};
-ghost use Rattle.hq_confined.specs.Faults.{worse, worst};
-ghost use Rattle.hq_confined.specs.Uses.{needs};
+ghost use Rattle.hq_confine_rules.specs.Faults.{worse, worst};
+ghost use Rattle.hq_confine_rules.specs.Uses.{needs};
 ghost use Rattle.hq_confine_uses.specs.Views.{faulted};
 
 use hq_base::Txt;

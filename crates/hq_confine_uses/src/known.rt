@@ -1,7 +1,7 @@
 //! What the rules are asked over: the tables with their relationships, and what a session is granted of each.
 ghost use Rattle.std.specs.Prelude.{◌≡◌};
 
-use hq_terms::{Bexp, ColId, Column, Mask, PermView, Rel, Scope, TableId, has_column};
+use hq_model::{Bexp, ColId, Column, Mask, PermView, Rel, Scope, TableId, has_column};
 
 /// The tables with their relationships, and for each table by its place what the session is granted of it.
 #[derive(Clone, Copy)]
@@ -12,14 +12,14 @@ pub struct Rules<'a> {
 
 impl<'a> Rules<'a> {
     ghost use Rattle.std.specs.Prelude.{◌≡◌, None, MatchOption, map, option_map, slice_index_or, true, false};
-    ghost use Rattle.hq_terms.specs.Bexp.{bexp_view};
-    ghost use Rattle.hq_terms.specs.Grants.{grant};
-    ghost use Rattle.hq_terms.specs.PermView.{mask_view, permission_view};
-    ghost use Rattle.hq_terms.specs.Permitted.{mask_of};
-    ghost use Rattle.hq_terms.specs.Meta.{meta_view};
-    ghost use Rattle.hq_terms.specs.Schema.{rels_of, table};
-    ghost use Rattle.hq_confined.specs.Members.{has_mask, is_permitted};
-    ghost use Rattle.hq_confined.specs.Uses.{is_key};
+    ghost use Rattle.hq_model.specs.Bexp.{bexp_view};
+    ghost use Rattle.hq_model.specs.Grants.{grant};
+    ghost use Rattle.hq_model.specs.PermView.{mask_view, permission_view};
+    ghost use Rattle.hq_model.specs.Permitted.{mask_of};
+    ghost use Rattle.hq_model.specs.Meta.{meta_view};
+    ghost use Rattle.hq_model.specs.Schema.{rels_of, table};
+    ghost use Rattle.hq_confine_rules.specs.Members.{has_mask, is_permitted};
+    ghost use Rattle.hq_confine_rules.specs.Uses.{is_key};
     ghost use Rattle.hq_confine_uses.specs.Views.{rules_schema, rules_grants};
 
     /// The columns of a table; none beyond the catalog.

@@ -1,16 +1,16 @@
 //! Where the cell of a column comes from.
 ghost use Rattle.std.specs.Prelude.{◌≡◌, ◌&&◌, IfOk, map, bytes_eq};
 ghost use Rattle.std.specs.List.{position};
-ghost use Rattle.hq_terms.specs.Schema.{table};
+ghost use Rattle.hq_model.specs.Schema.{table};
 ghost use Rattle.hq_sql_tree.specs.View.{expr_view, out_view};
-ghost use Rattle.hq_confined.specs.Origins.{column_place, table_place, output_named, origin_at, origin, output_origins, same_path, is_of, behind, column_of};
+ghost use Rattle.hq_confine_rules.specs.Origins.{column_place, table_place, output_named, origin_at, origin, output_origins, same_path, is_of, behind, column_of};
 ghost use Rattle.hq_confine_uses.specs.Views.{texts, path_view, origin_view, passed_view, output_view, shapes_view, rules_schema};
 
 use crate::known::Rules;
 use crate::scope::{Output, Passed, Shape, Shapes, shape_at};
 use hq_base::{Memory, Txt};
 use hq_sql_tree::{Expr, OutList};
-use hq_terms::{Column, Table};
+use hq_model::{Column, Table};
 use std::alloc::Global;
 
 /// A path of aliases to a scan: the nearest one, and those behind it.

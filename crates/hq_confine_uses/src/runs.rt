@@ -1,10 +1,10 @@
 //! Runs: all key columns of one scan among sort keys, in key order, from one alias at every step, each ascending with NULLs last.
 ghost use Rattle.std.specs.Prelude.{◌≡◌, map};
-ghost use Rattle.hq_terms.specs.Schema.{table};
+ghost use Rattle.hq_model.specs.Schema.{table};
 ghost use Rattle.hq_sql_tree.specs.Tree.{orders_of};
 ghost use Rattle.hq_sql_tree.specs.View.{expr_view, order_view};
-ghost use Rattle.hq_confined.specs.Origins.{origin};
-ghost use Rattle.hq_confined.specs.Uses.{is_key_sort, is_run, run_from, has_run};
+ghost use Rattle.hq_confine_rules.specs.Origins.{origin};
+ghost use Rattle.hq_confine_rules.specs.Uses.{is_key_sort, is_run, run_from, has_run};
 ghost use Rattle.hq_confine_uses.specs.Views.{origin_view, path_view, shapes_view, rules_schema};
 
 use crate::known::Rules;
@@ -12,7 +12,7 @@ use crate::origins::{Cell, Path, is_of, origin};
 use crate::scope::Shapes;
 use hq_base::Txt;
 use hq_sql_tree::Order;
-use hq_terms::ColId;
+use hq_model::ColId;
 
 // Whether it is a sort key by this column of the scan at the end of a path, ascending, NULLs last.
 fn is_key_sort(

@@ -1,6 +1,6 @@
 //! What is in scope: aliases, each with what it shows.
 ghost use Rattle.std.specs.Prelude.{◌≡◌, ◌++◌, ◌∷◌, [], MatchOption, OnOk, map};
-ghost use Rattle.hq_confined.specs.Origins.{Shapes as Scopes, outputs, shape_at};
+ghost use Rattle.hq_confine_rules.specs.Origins.{Shapes as Scopes, outputs, shape_at};
 ghost use Rattle.hq_confine_uses.specs.Views.{alias_view, output_view, shape_view, shapes_view, stacked};
 
 use hq_base::{Memory, Txt};

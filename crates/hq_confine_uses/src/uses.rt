@@ -2,8 +2,8 @@
 ghost use Rattle.std.specs.Prelude.{◌≡◌, map};
 ghost use Rattle.hq_sql_tree.specs.Tree.{orders_of, pairs_of};
 ghost use Rattle.hq_sql_tree.specs.View.{agg_view, expr_view, order_view, out_view, pair_view};
-ghost use Rattle.hq_confined.specs.Faults.{worst};
-ghost use Rattle.hq_confined.specs.Uses.{expr_faults, pairs_faults, agg_faults, orders_faults, exprs_faults, out_faults, outs_faults, shows_order, show_order, agg_shows_order};
+ghost use Rattle.hq_confine_rules.specs.Faults.{worst};
+ghost use Rattle.hq_confine_rules.specs.Uses.{expr_faults, pairs_faults, agg_faults, orders_faults, exprs_faults, out_faults, outs_faults, shows_order, show_order, agg_shows_order};
 ghost use Rattle.hq_confine_uses.specs.Views.{faulted, shapes_view, rules_schema, rules_grants};
 
 use crate::columns::{column_fault, passed_fault};

@@ -3,19 +3,19 @@ use Rattle.std.proofs.Common.{◌≡◌, ℕ, List, [], Bool, true, false, Optio
 use Rattle.std.specs.Prelude.{IfSome}
 use Rattle.hq_answer.specs.Answers.{IsAnswer, answer_of, answer_view, object}
 use Rattle.hq_answer.specs.declared.answer.Answer.{Answer}
-use Rattle.hq_ask_tree.specs.Fields.{FieldTree, FieldTrees}
-use Rattle.hq_ask_tree.specs.Request.{AskTree}
+use Rattle.hq_request_tree.specs.Fields.{FieldTree, FieldTrees}
+use Rattle.hq_request_tree.specs.Request.{AskTree}
 use Rattle.hq_base.specs.Json.{JsonTree, obj, no_member}
-use Rattle.hq_compiled.specs.Asked.{asked_statement}
+use Rattle.hq_translation.specs.Asked.{asked_statement}
 use Rattle.hq_reply.specs.RootObject.{has_table_field, of_database}
 use Rattle.hq_reply.specs.TableObject.{AnswersNone, IsResolved, table_object}
 use Rattle.hq_sql_tree.specs.Spelling.{select_text}
-use Rattle.hq_terms.specs.Database.{Row, is_database}
-use Rattle.hq_terms.specs.Grants.{grants_of}
-use Rattle.hq_terms.specs.Meta.{MetaTree}
-use Rattle.hq_terms.specs.Schema.{schema_of}
-use Rattle.hq_terms.specs.declared.session.Session.{Session}
-use Rattle.hq_terms.specs.declared.table.Table.{Table}
+use Rattle.hq_model.specs.Database.{Row, is_database}
+use Rattle.hq_model.specs.Grants.{grants_of}
+use Rattle.hq_model.specs.Meta.{MetaTree}
+use Rattle.hq_model.specs.Schema.{schema_of}
+use Rattle.hq_model.specs.declared.session.Session.{Session}
+use Rattle.hq_model.specs.declared.table.Table.{Table}
 use Rattle.hq_engine.specs.Asking.{statement_text}
 use Rattle.hq_engine.specs.Statements.{IsMeaning, IsStatement}
 

@@ -1,9 +1,9 @@
 -- Two databases that a session cannot tell apart give it the same replies.
 use Rattle.std.proofs.Common.{◌≡◌, ◌∙◌, ℕ, List, [], length, Option, true, Some, None, Result, Ok, Err, refl, sym, ap}
 use Rattle.std.specs.Prelude.{unwrap_or, IfSome}
-use Rattle.hq_ask_tree.specs.Fields.{FieldTrees, no_field, field}
-use Rattle.hq_ask_tree.specs.Request.{AskTree}
-use Rattle.hq_ask_tree.specs.Resolve.{resolve_all, resolved}
+use Rattle.hq_request_tree.specs.Fields.{FieldTrees, no_field, field}
+use Rattle.hq_request_tree.specs.Request.{AskTree}
+use Rattle.hq_request_tree.specs.Resolve.{resolve_all, resolved}
 use Rattle.hq_base.specs.Json.{JsonTree, obj, MemberTrees, member}
 use Rattle.hq_answer.specs.declared.answer.Answer.{Answer}
 use Rattle.hq_reply.specs.DataTexts.{HasData, data_text}
@@ -13,21 +13,21 @@ use Rattle.hq_reply.specs.RootObject.{own_value, root_members, of_database, root
 use Rattle.hq_request.specs.Request.{request_due}
 use Rattle.hq_request.specs.declared.refusal.RequestRefusal.{RequestRefusal}
 use Rattle.hq_request.specs.declared.refusal.RequestRefusal.TheVariants.{Fault, Memory}
-use Rattle.hq_request_laws.specs.Formed.{IsOfSession, MakesFormed}
-use Rattle.hq_role_schema.specs.RoleSchema.{role_schema}
+use Rattle.hq_laws_request.specs.Formed.{IsOfSession, MakesFormed}
+use Rattle.hq_schema_of_role.specs.RoleSchema.{role_schema}
 use Rattle.hq_schema.specs.Schema.{SchemaTree}
-use Rattle.hq_terms.specs.Catalog.{is_catalog}
-use Rattle.hq_terms.specs.Database.{Row}
-use Rattle.hq_terms.specs.Fits.{fits}
-use Rattle.hq_terms.specs.Grants.{Grants, grants_of, limits}
-use Rattle.hq_terms.specs.Meta.{MetaTree}
-use Rattle.hq_terms.specs.Permission.{role_of}
-use Rattle.hq_terms.specs.Permitted.{seen_by}
-use Rattle.hq_terms.specs.Schema.{Schema, schema_of}
-use Rattle.hq_terms.specs.View.{Agree}
-use Rattle.hq_terms.specs.declared.session.Session.{Session}
-use Rattle.hq_terms.specs.declared.table.Table.{Table}
-use Rattle.hq_views.specs.Laws.{WorldsAgree}
+use Rattle.hq_model.specs.Catalog.{is_catalog}
+use Rattle.hq_model.specs.Database.{Row}
+use Rattle.hq_model.specs.Fits.{fits}
+use Rattle.hq_model.specs.Grants.{Grants, grants_of, limits}
+use Rattle.hq_model.specs.Meta.{MetaTree}
+use Rattle.hq_model.specs.Permission.{role_of}
+use Rattle.hq_model.specs.Permitted.{seen_by}
+use Rattle.hq_model.specs.Schema.{Schema, schema_of}
+use Rattle.hq_model.specs.View.{Agree}
+use Rattle.hq_model.specs.declared.session.Session.{Session}
+use Rattle.hq_model.specs.declared.table.Table.{Table}
+use Rattle.hq_laws_isolation.specs.Laws.{WorldsAgree}
 use Rattle.hq_engine.specs.Laws.{RepliesAgree}
 use Rattle.hq_engine.specs.Replies.{IsOverEach, due_object, reply_to, due_reply}
 use Rattle.hq_engine.specs.Asking.{asked_text, text_for}

@@ -1,16 +1,16 @@
 -- What an engine asks of its database: one text for a request with a table field, and else none. The text is a function of the
 -- catalog, the metadata, the session and the body; no database is looked at.
 use Rattle.std.specs.Prelude.{◌⊎◌, ℕ, List, cond, Option, Some, None, Result, Ok, Err}
-use Rattle.hq_ask_tree.specs.Request.{AskTree}
-use Rattle.hq_compiled.specs.Asked.{asked_statement}
-use Rattle.hq_link.specs.Asked.{Asked, NotAsked}
+use Rattle.hq_request_tree.specs.Request.{AskTree}
+use Rattle.hq_translation.specs.Asked.{asked_statement}
+use Rattle.hq_database.specs.Asked.{Asked, NotAsked}
 use Rattle.hq_reply.specs.RootObject.{has_table_field}
 use Rattle.hq_request.specs.Request.{request_due}
 use Rattle.hq_request.specs.declared.refusal.RequestRefusal.{RequestRefusal}
 use Rattle.hq_sql_tree.specs.Spelling.{select_text}
-use Rattle.hq_terms.specs.Meta.{MetaTree}
-use Rattle.hq_terms.specs.declared.session.Session.{Session}
-use Rattle.hq_terms.specs.declared.table.Table.{Table}
+use Rattle.hq_model.specs.Meta.{MetaTree}
+use Rattle.hq_model.specs.declared.session.Session.{Session}
+use Rattle.hq_model.specs.declared.table.Table.{Table}
 use Rattle.hq_engine.specs.declared.refusal.EngineRefusal.{EngineRefusal}
 use Rattle.hq_engine.specs.declared.refusal.EngineRefusal.TheVariants.{Database, Memory}
 

@@ -1,18 +1,18 @@
 -- What an engine answers, by its catalog and its metadata.
 use Rattle.std.specs.Prelude.{◌≡◌, ℕ, List, true, Option, Some, None, Result}
-use Rattle.hq_ask_tree.specs.Request.{AskTree}
-use Rattle.hq_terms.specs.Database.{Row}
-use Rattle.hq_terms.specs.Grants.{grants_of}
-use Rattle.hq_terms.specs.Meta.{meta_view}
-use Rattle.hq_terms.specs.Schema.{schema_of}
-use Rattle.hq_terms.specs.View.{Agree}
-use Rattle.hq_terms.specs.declared.session.Session.{Session}
+use Rattle.hq_request_tree.specs.Request.{AskTree}
+use Rattle.hq_model.specs.Database.{Row}
+use Rattle.hq_model.specs.Grants.{grants_of}
+use Rattle.hq_model.specs.Meta.{meta_view}
+use Rattle.hq_model.specs.Schema.{schema_of}
+use Rattle.hq_model.specs.View.{Agree}
+use Rattle.hq_model.specs.declared.session.Session.{Session}
 use Rattle.hq_engine.specs.Asking.{asked_text}
 use Rattle.hq_engine.specs.Replies.{due_reply}
 use Rattle.hq_request.specs.Request.{request_due, first_fault}
 use Rattle.hq_engine.specs.declared.engine.Engine.{Engine}
-use Rattle.hq_build_laws.specs.Faults.{IsValid}
-use Rattle.hq_build_laws.specs.Refusing.{is_of_building}
+use Rattle.hq_laws_build.specs.Faults.{IsValid}
+use Rattle.hq_laws_build.specs.Refusing.{is_of_building}
 use Rattle.hq_faults.specs.Faults.{rule_of}
 use Rattle.hq_faults.specs.declared.faults.RequestFault.{RequestFault}
 use Rattle.hq_request.specs.declared.refusal.RequestRefusal.{RequestRefusal}

@@ -1,6 +1,6 @@
 -- Why an engine has no reply.
 use Rattle.std.specs.Prelude.{◌≡◌, ℕ, ⊤}
-use Rattle.hq_outside.specs.Causes.{Rose}
+use Rattle.hq_io.specs.Causes.{Rose}
 use Rattle.hq_engine.specs.declared.refusal.EngineRefusal.{EngineRefusal}
 use Rattle.hq_engine.specs.declared.refusal.EngineRefusal.TheVariants.{Database, Memory}
 

@@ -1,7 +1,7 @@
 -- The reply that is due: the text of the first fault, or the object of the root fields, of which those that start at a table give
 -- what nested resolvers give over the rows and columns that the session may see. There is no SQL here.
 use Rattle.std.specs.Prelude.{◌≡◌, ℕ, List, Option, Some, None, Result, Ok, Err}
-use Rattle.hq_ask_tree.specs.Request.{AskTree}
+use Rattle.hq_request_tree.specs.Request.{AskTree}
 use Rattle.hq_base.specs.Json.{JsonTree}
 use Rattle.hq_faults.specs.FaultTexts.{fault_text}
 use Rattle.hq_reply.specs.DataTexts.{data_text}
@@ -9,14 +9,14 @@ use Rattle.hq_reply.specs.RootObject.{root_object}
 use Rattle.hq_request.specs.Request.{request_due}
 use Rattle.hq_request.specs.declared.refusal.RequestRefusal.{RequestRefusal}
 use Rattle.hq_request.specs.declared.refusal.RequestRefusal.TheVariants.{Fault, Memory}
-use Rattle.hq_role_schema.specs.RoleSchema.{role_schema}
-use Rattle.hq_terms.specs.Database.{Row}
-use Rattle.hq_terms.specs.Grants.{grants_of}
-use Rattle.hq_terms.specs.Meta.{MetaTree}
-use Rattle.hq_terms.specs.Permission.{role_of}
-use Rattle.hq_terms.specs.Schema.{schema_of}
-use Rattle.hq_terms.specs.declared.session.Session.{Session}
-use Rattle.hq_terms.specs.declared.table.Table.{Table}
+use Rattle.hq_schema_of_role.specs.RoleSchema.{role_schema}
+use Rattle.hq_model.specs.Database.{Row}
+use Rattle.hq_model.specs.Grants.{grants_of}
+use Rattle.hq_model.specs.Meta.{MetaTree}
+use Rattle.hq_model.specs.Permission.{role_of}
+use Rattle.hq_model.specs.Schema.{schema_of}
+use Rattle.hq_model.specs.declared.session.Session.{Session}
+use Rattle.hq_model.specs.declared.table.Table.{Table}
 use Rattle.hq_engine.specs.Asking.{statement_text}
 
 -- the object of a request's root fields for a session

@@ -2,24 +2,24 @@
 use Rattle.std.specs.Prelude.{◌≡◌, ℕ, true, List, Result, Ok, Err, ⊤}
 use Rattle.hq_answer.specs.Answers.{IsAnswer}
 use Rattle.hq_answer.specs.declared.answer.Answer.{Answer}
-use Rattle.hq_ask_tree.specs.Request.{AskTree}
-use Rattle.hq_ask_tree.specs.Resolve.{resolved}
-use Rattle.hq_ask_tree.specs.Root.{table_fields}
-use Rattle.hq_compiled.specs.Asked.{asked_statement}
-use Rattle.hq_confined_asks.specs.Asks.{IsAskedConfined}
-use Rattle.hq_link.specs.Typed.{IsTyped}
+use Rattle.hq_request_tree.specs.Request.{AskTree}
+use Rattle.hq_request_tree.specs.Resolve.{resolved}
+use Rattle.hq_request_tree.specs.Root.{table_fields}
+use Rattle.hq_translation.specs.Asked.{asked_statement}
+use Rattle.hq_laws_confine_own.specs.Asks.{IsAskedConfined}
+use Rattle.hq_database.specs.Typed.{IsTyped}
 use Rattle.hq_reply.specs.RootObject.{has_table_field}
 use Rattle.hq_request.specs.declared.refusal.RequestRefusal.{RequestRefusal}
 use Rattle.hq_sql_text.specs.Readable.{Spells}
 use Rattle.hq_sql_tree.specs.Meaning.{meaning}
 use Rattle.hq_sql_tree.specs.Spelling.{select_text}
 use Rattle.hq_sql_tree.specs.Tree.{SelectTree}
-use Rattle.hq_terms.specs.Database.{Row, is_database}
-use Rattle.hq_terms.specs.Grants.{grants_of}
-use Rattle.hq_terms.specs.Meta.{MetaTree}
-use Rattle.hq_terms.specs.Schema.{schema_of}
-use Rattle.hq_terms.specs.declared.session.Session.{Session}
-use Rattle.hq_terms.specs.declared.table.Table.{Table}
+use Rattle.hq_model.specs.Database.{Row, is_database}
+use Rattle.hq_model.specs.Grants.{grants_of}
+use Rattle.hq_model.specs.Meta.{MetaTree}
+use Rattle.hq_model.specs.Schema.{schema_of}
+use Rattle.hq_model.specs.declared.session.Session.{Session}
+use Rattle.hq_model.specs.declared.table.Table.{Table}
 
 -- the text spells the statement, which is well-formed for the catalog and confined for the session, and whose meaning over every
 -- database of the catalog is the object of the root fields that start at a table

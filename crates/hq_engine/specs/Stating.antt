@@ -1,6 +1,6 @@
 -- What is said of a request without a database: the text that is asked for it, or why none is.
 use Rattle.std.specs.Prelude.{◌≡◌, ℕ, List, true, Option, Some, None, is_ok, Result, Ok, Err, ⊤}
-use Rattle.hq_ask_tree.specs.Request.{AskTree}
+use Rattle.hq_request_tree.specs.Request.{AskTree}
 use Rattle.hq_base.specs.declared.memory.Memory.{Memory}
 use Rattle.hq_faults.specs.FaultTexts.{fault_text}
 use Rattle.hq_faults.specs.declared.faults.RequestFault.{RequestFault}

@@ -1,21 +1,21 @@
 ghost use Rattle.std.specs.Prelude.{◌≡◌, true};
-ghost use Rattle.hq_terms.specs.Fits.{fits};
-ghost use Rattle.hq_terms.specs.Meta.{meta_view};
-ghost use Rattle.hq_roles.specs.Roles.{AreRoleSchemas};
+ghost use Rattle.hq_model.specs.Fits.{fits};
+ghost use Rattle.hq_model.specs.Meta.{meta_view};
+ghost use Rattle.hq_schema_roles.specs.Roles.{AreRoleSchemas};
 
 use crate::statement::{ask, statement_text};
 use crate::{EngineRefusal, Stated, replies_agree};
 use hq_answer::Answer;
-use hq_ask_tree::Ask;
+use hq_request_tree::Ask;
 use hq_base::{Memory, Reply};
-use hq_build_laws::valid_faults;
-use hq_link::Database;
+use hq_laws_build::valid_faults;
+use hq_database::Database;
 use hq_reply::{data_reply, fault_reply, tables_are_resolved};
 use hq_request::{RequestRefusal, request};
-use hq_request_laws::requests_are_formed;
-use hq_roles::RoleSchemas;
+use hq_laws_request::requests_are_formed;
+use hq_schema_roles::RoleSchemas;
 use hq_schema::Schema;
-use hq_terms::{Catalog, Meta, Role, Session};
+use hq_model::{Catalog, Meta, Role, Session};
 use std::alloc::Global;
 
 /// Answers requests over a database of this catalog, by this metadata.
@@ -31,7 +31,7 @@ pub struct Engine {
 impl Engine {
     ghost use Rattle.std.specs.Prelude.{◌≡◌, ◌≤◌, List as Items, length, true, false, is_some, IfOk, IfErr, IfSome, OnOk, Ok, Some};
     ghost use Rattle.hq_answer.specs.Answers.{IsAnswer};
-    ghost use Rattle.hq_ask_tree.specs.Request.{ask_view};
+    ghost use Rattle.hq_request_tree.specs.Request.{ask_view};
     ghost use Rattle.hq_base.specs.Due.{Gives};
     ghost use Rattle.hq_faults.specs.FaultTexts.{fault_text, tells_fault};
     ghost use Rattle.hq_reply.specs.DataTexts.{HasData, data_text};
@@ -39,15 +39,15 @@ impl Engine {
     ghost use Rattle.hq_reply.specs.TableObject.{AnswersNone, table_object};
     ghost use Rattle.hq_request.specs.Request.{is_answered};
     ghost use Rattle.hq_request.specs.declared.refusal.RequestRefusal.TheVariants as request;
-    ghost use Rattle.hq_request_laws.specs.Formed.{IsOfSession};
-    ghost use Rattle.hq_role_schema.specs.RoleSchema.{role_schema};
+    ghost use Rattle.hq_laws_request.specs.Formed.{IsOfSession};
+    ghost use Rattle.hq_schema_of_role.specs.RoleSchema.{role_schema};
     ghost use Rattle.hq_schema.specs.Schema.{schema_view};
-    ghost use Rattle.hq_terms.specs.Database.{Row};
-    ghost use Rattle.hq_terms.specs.Fits.{fits};
-    ghost use Rattle.hq_terms.specs.Grants.{grants_of};
-    ghost use Rattle.hq_terms.specs.Meta.{meta_view};
-    ghost use Rattle.hq_terms.specs.Permission.{role_of};
-    ghost use Rattle.hq_terms.specs.Schema.{schema_of};
+    ghost use Rattle.hq_model.specs.Database.{Row};
+    ghost use Rattle.hq_model.specs.Fits.{fits};
+    ghost use Rattle.hq_model.specs.Grants.{grants_of};
+    ghost use Rattle.hq_model.specs.Meta.{meta_view};
+    ghost use Rattle.hq_model.specs.Permission.{role_of};
+    ghost use Rattle.hq_model.specs.Schema.{schema_of};
     ghost use Rattle.hq_engine.specs.Asking.{Asks, statement_text};
     ghost use Rattle.hq_engine.specs.Engines.{FaultsOfBuilding, IsDueOverEach, engine_agree, engine_fault, engine_reply, engine_request, engine_text};
     ghost use Rattle.hq_engine.specs.Failures.{TellsDatabase};

@@ -1,28 +1,28 @@
 //! The statement of a request: its text, and asking it.
 ghost use Rattle.std.specs.Prelude.{◌≡◌, ◌⊎◌, ◌≤◌, Err, Ok, IfOk, IfErr, IfSome, OnOk, true};
-ghost use Rattle.hq_ask_tree.specs.Request.{ask_view};
-ghost use Rattle.hq_compiled.specs.Asked.{asked_statement};
-ghost use Rattle.hq_link.specs.Asked.{Asked, NotAsked};
-ghost use Rattle.hq_link.specs.Typed.{IsTyped};
-ghost use Rattle.hq_request_laws.specs.Formed.{IsOfSession};
+ghost use Rattle.hq_request_tree.specs.Request.{ask_view};
+ghost use Rattle.hq_translation.specs.Asked.{asked_statement};
+ghost use Rattle.hq_database.specs.Asked.{Asked, NotAsked};
+ghost use Rattle.hq_database.specs.Typed.{IsTyped};
+ghost use Rattle.hq_laws_request.specs.Formed.{IsOfSession};
 ghost use Rattle.hq_sql_text.specs.Readable.{Spells};
 ghost use Rattle.hq_sql_tree.specs.Spelling.{select_text};
 ghost use Rattle.hq_sql_tree.specs.Tree.{SelectTree};
-ghost use Rattle.hq_terms.specs.Fits.{fits};
-ghost use Rattle.hq_terms.specs.Meta.{meta_view};
+ghost use Rattle.hq_model.specs.Fits.{fits};
+ghost use Rattle.hq_model.specs.Meta.{meta_view};
 ghost use Rattle.hq_engine.specs.Asking.{statement_text};
 ghost use Rattle.hq_engine.specs.Failures.{TellsDatabase};
 ghost use Rattle.hq_engine.specs.Statements.{HasStatement, IsMeaning, IsStatement};
 
 use crate::EngineRefusal;
 use hq_answer::Answer;
-use hq_ask_tree::Ask;
+use hq_request_tree::Ask;
 use hq_base::{Bytes, Memory};
-use hq_link::{Database, DbRefusal};
+use hq_database::{Database, DbRefusal};
 use hq_reply::has_table_field;
-use hq_sql_compile::compile;
+use hq_compile::compile;
 use hq_sql_text::{one_tree, print};
-use hq_terms::{Catalog, Meta, Session};
+use hq_model::{Catalog, Meta, Session};
 use std::alloc::Global;
 
 // The text of the statement of a session's request.

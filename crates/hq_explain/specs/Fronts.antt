@@ -7,7 +7,7 @@ use Rattle.hq_base.specs.declared.body.JsonRefusal.{JsonRefusal}
 use Rattle.hq_faults.specs.Faults.{place_of, rule_of}
 use Rattle.hq_faults.specs.declared.faults.RequestFault.{RequestFault}
 use Rattle.hq_gql_tree.specs.Rules.{rule_text}
-use Rattle.hq_places.specs.Lines.{column_of, line_of}
+use Rattle.hq_explain_places.specs.Lines.{column_of, line_of}
 
 -- the text of a body's member `query`; none where that is no text, or the body no JSON
 abbrev pub query_in : Result JsonTree JsonRefusal → List ℕ

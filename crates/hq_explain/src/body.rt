@@ -1,7 +1,7 @@
 //! Faults of the body: F1 and F2.
 
 use hq_base::Json;
-use hq_places::{Words, put_not_json};
+use hq_explain_places::{Words, put_not_json};
 use std::alloc::Global;
 
 /// F1: the body is not read.

@@ -2,7 +2,7 @@
 
 use crate::subject::{Sort, Subject};
 use hq_gql_nodes::Node;
-use hq_places::Words;
+use hq_explain_places::Words;
 
 /// What is wrong with the directive at the place.
 pub fn of_directive(words: &mut Words, subject: &Subject<'_>, front: &str, said: &str) {

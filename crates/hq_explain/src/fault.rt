@@ -20,9 +20,9 @@ use hq_gql_lexer::lex;
 use hq_gql_nodes::{document_parts, variable_types};
 use hq_gql_parser::parse;
 use hq_gql_tree::{Document, Fault, RuleId};
-use hq_places::{Words, put_excerpt};
+use hq_explain_places::{Words, put_excerpt};
 use hq_schema::Schema;
-use hq_terms::Session;
+use hq_model::Session;
 use std::alloc::Global;
 
 // What a rule of validation is violated by.

@@ -6,7 +6,7 @@ use crate::types::{put_type, put_type_name};
 use hq_base::Txt;
 use hq_gql_nodes::{Node, known_field};
 use hq_gql_tree::Field;
-use hq_places::{Words, place_of};
+use hq_explain_places::{Words, place_of};
 use hq_schema::TypeId;
 
 // The key under which a field is answered.

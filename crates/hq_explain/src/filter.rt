@@ -1,8 +1,8 @@
 //! A filter in words, over the tables of a catalog.
 
 use hq_base::Val;
-use hq_places::Words;
-use hq_terms::{
+use hq_explain_places::Words;
+use hq_model::{
     Arity, Bexp, BexpList, Catalog, ColId, Meta, Op, Operand, Operands, RelId, TableId, Test,
 };
 

@@ -6,7 +6,7 @@ ghost use Rattle.hq_explain.specs.Fronts.{fault_front, place_front, query_text, 
 
 use hq_base::{Bytes, Json, JsonRefusal, Memory, Txt};
 use hq_faults::RequestFault;
-use hq_places::place_of;
+use hq_explain_places::place_of;
 use itoa::Buffer;
 use std::alloc::Global;
 

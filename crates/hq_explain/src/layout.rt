@@ -1,6 +1,6 @@
 //! A statement in lines.
 
-use hq_places::{Words, piece};
+use hq_explain_places::{Words, piece};
 use std::alloc::Global;
 
 // Whether a quote is open: none, that of a name, or that of a text.

@@ -1,6 +1,6 @@
 //! Names of what is there.
 
-use hq_places::Words;
+use hq_explain_places::Words;
 use hq_schema::Named;
 
 // The most names that are shown of a list.

@@ -3,8 +3,8 @@
 use crate::subject::{Sort, Subject};
 use hq_gql_nodes::Node;
 use hq_gql_tree::{Fault, RuleId};
-use hq_places::Words;
-use hq_terms::{Session, Want};
+use hq_explain_places::Words;
+use hq_model::{Session, Want};
 
 // Adds the field at the place, and what is wrong with it.
 fn of_field(words: &mut Words, subject: &Subject<'_>, said: &str) {

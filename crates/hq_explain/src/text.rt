@@ -2,7 +2,7 @@
 
 use hq_gql_lexer::{LexRefusal, lex};
 use hq_gql_parser::{ParseRefusal, parse};
-use hq_places::{Words, piece};
+use hq_explain_places::{Words, piece};
 use std::alloc::Global;
 
 // The bytes of the token, or of what stands in its place, that begins here.

@@ -6,7 +6,7 @@ use crate::values::variable_text;
 use hq_base::{Bytes, Json, Memory, Txt};
 use hq_gql_nodes::Node;
 use hq_gql_tree::{Definition, VarDef};
-use hq_places::Words;
+use hq_explain_places::Words;
 use std::alloc::Global;
 
 fn put_variable(words: &mut Words, name: &[u8]) {

@@ -1,8 +1,8 @@
 //! What is known: types, operators, and the tables and columns of a catalog.
 
 use hq_base::Ty;
-use hq_places::Words;
-use hq_terms::{Catalog, Op, Operator, Table};
+use hq_explain_places::Words;
+use hq_model::{Catalog, Op, Operator, Table};
 
 fn put_comma(words: &mut Words, at: usize) {
     words.put(if at == 0 { "" } else { ", " });

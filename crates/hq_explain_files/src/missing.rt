@@ -1,7 +1,7 @@
 //! A file that is absent or too large, in words.
 
 use hq_base::{Bytes, Memory, Txt};
-use hq_places::Words;
+use hq_explain_places::Words;
 use std::alloc::Global;
 
 /// That a file of a directory is absent, or else that it is too large.

@@ -2,7 +2,7 @@
 
 use crate::path::{last_name, number_behind};
 use hq_base::{Json, Txt};
-use hq_places::{Found, Words, find, piece, place_of, put_excerpt, value_at};
+use hq_explain_places::{Found, Words, find, piece, place_of, put_excerpt, value_at};
 
 /// A JSON file, and the path of a node in it.
 #[derive(Clone, Copy)]

@@ -1,6 +1,6 @@
 //! Paths of nodes, as `$.tables[0].columns[2].type`.
 
-use hq_places::piece;
+use hq_explain_places::piece;
 
 // How many bytes stand before the last byte of this kind, None where there is none.
 fn last_of(path: &[u8], byte: u8) -> Option<usize> {

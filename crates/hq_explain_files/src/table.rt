@@ -2,11 +2,11 @@
 
 use crate::known::put_columns;
 use hq_base::{Bytes, Memory, Ty};
-use hq_places::{
+use hq_explain_places::{
     Piece, Words, field_at, field_count, open_quote, place_of, put_excerpt, record_at,
 };
-use hq_tables::LoadRefusal;
-use hq_terms::{Column, Table};
+use hq_load_tables::LoadRefusal;
+use hq_model::{Column, Table};
 use std::alloc::Global;
 
 // The name in quotes that a field of the header is, without its own quotes.

@@ -3,8 +3,8 @@ use Rattle.std.specs.Prelude.{ℕ, pos, List, [], ◌++◌, codes, Bool, nat_eq,
 use Rattle.std.specs.List.{starts_with}
 use Rattle.hq_base.specs.Compact.{compact}
 use Rattle.hq_base.specs.Json.{JsonTree, null, int, str, arr, obj, no_element, element, no_member, member}
-use Rattle.hq_terms.specs.declared.want.Want.{Want}
-use Rattle.hq_terms.specs.declared.want.Want.TheVariants as want
+use Rattle.hq_model.specs.declared.want.Want.{Want}
+use Rattle.hq_model.specs.declared.want.Want.TheVariants as want
 use Rattle.hq_gql_tree.specs.Rules.{rule_text}
 use Rattle.hq_gql_tree.specs.declared.fault.Fault.{Fault}
 use Rattle.hq_gql_tree.specs.declared.rule.RuleId.{RuleId}

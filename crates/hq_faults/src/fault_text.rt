@@ -9,7 +9,7 @@ ghost use Rattle.hq_faults.specs.FaultTexts.{code_of, fixed_message, want_text, 
 use crate::{BodyFault, RequestFault};
 use hq_base::{Json, Member, Members, Memory, Txt};
 use hq_gql_tree::{Fault, RuleId};
-use hq_terms::Want;
+use hq_model::Want;
 use std::alloc::Global;
 
 #[tactic(auto, unfolding(crate::specs::FaultTexts::code_of))]

@@ -5,7 +5,7 @@ use Rattle.std.specs.Cmp.{first_so, second_so}
 use Rattle.std.proofs.lemmas.Bool.{and_from, not_from_false}
 use Rattle.std.proofs.lemmas.List.Folds.{list_all-append, list_any-append}
 use Rattle.hq_base.specs.Lists.{all_differ}
-use Rattle.hq_terms.specs.Database.{Row}
+use Rattle.hq_model.specs.Database.{Row}
 use Rattle.hq_generator.specs.Rows.{rows_to}
 
 -- one row more

@@ -12,11 +12,11 @@ use Rattle.hq_base.specs.Lists.{all_differ}
 use Rattle.hq_base.specs.declared.value.Ty.TheVariants.{Integer, Bigint, Text}
 use Rattle.hq_base.specs.declared.value.Val.{Val}
 use Rattle.hq_base.specs.declared.value.Val.TheVariants as val
-use Rattle.hq_terms.specs.Catalog.{is_catalog}
-use Rattle.hq_terms.specs.Database.{Row, are_rows, is_database, key_of, row_fits, same_values, value_fits}
-use Rattle.hq_terms.specs.Fits.{fits}
-use Rattle.hq_terms.specs.declared.table.Column.{Column}
-use Rattle.hq_terms.specs.declared.table.Table.{Table}
+use Rattle.hq_model.specs.Catalog.{is_catalog}
+use Rattle.hq_model.specs.Database.{Row, are_rows, is_database, key_of, row_fits, same_values, value_fits}
+use Rattle.hq_model.specs.Fits.{fits}
+use Rattle.hq_model.specs.declared.table.Column.{Column}
+use Rattle.hq_model.specs.declared.table.Table.{Table}
 use Rattle.hq_generator.specs.Metadata.{metadata}
 use Rattle.hq_generator.specs.Rows.{article_row, author_row, number, or_null, rows, rows_to}
 use Rattle.hq_generator.specs.Tables.{article_table, author_table, column_of, tables}

@@ -2,16 +2,16 @@
 -- format; Authorization: row and column permissions).
 use Rattle.std.specs.Prelude.{ℕ, List, [], ◌∷◌, Bool, true, false, None, codes}
 use Rattle.hq_base.specs.declared.value.Val.TheVariants as val
-use Rattle.hq_terms.specs.Bexp.{BexpTree, always, or_of, test, bexp, no_bexp}
-use Rattle.hq_terms.specs.Meta.{PermTree, TrackedTree, MetaTree}
-use Rattle.hq_terms.specs.declared.bexp.Operand.{Operand}
-use Rattle.hq_terms.specs.declared.bexp.Operand.TheVariants.{Const, Session}
-use Rattle.hq_terms.specs.declared.bexp.Operands.TheVariants as operands
-use Rattle.hq_terms.specs.declared.meta.Pair.{Pair}
-use Rattle.hq_terms.specs.declared.meta.Rel.{Rel}
-use Rattle.hq_terms.specs.declared.meta.RootNames.{RootNames}
-use Rattle.hq_terms.specs.declared.op.Op.TheVariants.{Eq}
-use Rattle.hq_terms.specs.declared.test.Test.TheVariants.{Compare}
+use Rattle.hq_model.specs.Bexp.{BexpTree, always, or_of, test, bexp, no_bexp}
+use Rattle.hq_model.specs.Meta.{PermTree, TrackedTree, MetaTree}
+use Rattle.hq_model.specs.declared.bexp.Operand.{Operand}
+use Rattle.hq_model.specs.declared.bexp.Operand.TheVariants.{Const, Session}
+use Rattle.hq_model.specs.declared.bexp.Operands.TheVariants as operands
+use Rattle.hq_model.specs.declared.meta.Pair.{Pair}
+use Rattle.hq_model.specs.declared.meta.Rel.{Rel}
+use Rattle.hq_model.specs.declared.meta.RootNames.{RootNames}
+use Rattle.hq_model.specs.declared.op.Op.TheVariants.{Eq}
+use Rattle.hq_model.specs.declared.test.Test.TheVariants.{Compare}
 
 -- a relationship by one pair of columns
 abbrev pub rel_of : (name : List ℕ) → (remote : ℕ) → Pair → (many : Bool) → Rel

@@ -1,7 +1,7 @@
 -- The bodies of the requests that are answered over a generated database, and the session that asks.
 use Rattle.std.specs.Prelude.{ℕ, List, [], ◌∷◌, codes}
-use Rattle.hq_terms.specs.declared.session.Session.{Session}
-use Rattle.hq_terms.specs.declared.session.Var.{Var}
+use Rattle.hq_model.specs.declared.session.Session.{Session}
+use Rattle.hq_model.specs.declared.session.Var.{Var}
 
 -- a list, an aggregate, a list in a list, a test through a relationship, and the first of each group
 abbrev pub requests : List (List ℕ)

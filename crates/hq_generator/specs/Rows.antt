@@ -3,7 +3,7 @@ use Rattle.std.specs.Prelude.{ℕ, zero, suc, ◌+◌, ◌*◌, ◌%◌, ◌==�
 use Rattle.std.specs.Fmt.{decimal}
 use Rattle.hq_base.specs.declared.value.Val.{Val}
 use Rattle.hq_base.specs.declared.value.Val.TheVariants as val
-use Rattle.hq_terms.specs.Database.{Row}
+use Rattle.hq_model.specs.Database.{Row}
 
 abbrev pub number : ℕ → Val
 number n = val.Int (pos n)

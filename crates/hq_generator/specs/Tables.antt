@@ -3,9 +3,9 @@ use Rattle.std.specs.Borrow.{Bor}
 use Rattle.std.specs.Prelude.{ℕ, List, [], ◌∷◌, Bool, true, false, codes}
 use Rattle.hq_base.specs.declared.value.Ty.{Ty}
 use Rattle.hq_base.specs.declared.value.Ty.TheVariants.{Integer, Bigint, Text, Boolean}
-use Rattle.hq_terms.specs.declared.table.Column.{Column}
-use Rattle.hq_terms.specs.declared.table.ForeignKey.{ForeignKey}
-use Rattle.hq_terms.specs.declared.table.Table.{Table}
+use Rattle.hq_model.specs.declared.table.Column.{Column}
+use Rattle.hq_model.specs.declared.table.ForeignKey.{ForeignKey}
+use Rattle.hq_model.specs.declared.table.Table.{Table}
 use Rattle.hq_generator.specs.Words.{is_clean}
 
 abbrev pub column_of : (name : List ℕ) → Ty → (nullable : Bool) → Column

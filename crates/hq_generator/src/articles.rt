@@ -5,7 +5,7 @@ ghost use Rattle.hq_generator.specs.Rows.{article_row, author_of, rating, rows_t
 use crate::catalog::article_table;
 use crate::text::with_number;
 use hq_base::{List, Memory, Val};
-use hq_tables::{RowList, Rows, ValList};
+use hq_load_tables::{RowList, Rows, ValList};
 use std::alloc::Global;
 
 // The author of an article.

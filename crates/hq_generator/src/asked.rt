@@ -5,7 +5,7 @@ ghost use Rattle.hq_generator.specs.Requests.{caller, requests, variable_of};
 
 use crate::text::text;
 use hq_base::{List, Memory};
-use hq_terms::{Session, Var};
+use hq_model::{Session, Var};
 use std::alloc::Global;
 
 /// The bodies of the requests, in order.

@@ -5,7 +5,7 @@ ghost use Rattle.hq_generator.specs.Rows.{author_row, email, rows_to};
 use crate::catalog::author_table;
 use crate::text::with_number;
 use hq_base::{List, Memory, Val};
-use hq_tables::{RowList, Rows, ValList};
+use hq_load_tables::{RowList, Rows, ValList};
 use std::alloc::Global;
 
 // The address of an author.

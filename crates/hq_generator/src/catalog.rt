@@ -5,7 +5,7 @@ ghost use Rattle.hq_generator.specs.Tables.{article_columns, article_table, auth
 
 use crate::text::text;
 use hq_base::{List, Memory, Ty};
-use hq_terms::{
+use hq_model::{
     Catalog, ColId, ColList, Column, ColumnList, ForeignKey, ForeignKeyList, Table, TableId,
 };
 use std::alloc::Global;

@@ -1,8 +1,8 @@
 //! The generated database.
 ghost use Rattle.std.specs.Prelude.{◌≡◌, ◌≤◌, true, IfOk};
-ghost use Rattle.hq_terms.specs.Database.{is_database};
-ghost use Rattle.hq_terms.specs.Fits.{fits as fits_tables};
-ghost use Rattle.hq_terms.specs.Meta.{meta_view};
+ghost use Rattle.hq_model.specs.Database.{is_database};
+ghost use Rattle.hq_model.specs.Fits.{fits as fits_tables};
+ghost use Rattle.hq_model.specs.Meta.{meta_view};
 ghost use Rattle.hq_generator.specs.Metadata.{metadata};
 ghost use Rattle.hq_generator.specs.Rows.{rows};
 ghost use Rattle.hq_generator.specs.Tables.{tables};
@@ -12,8 +12,8 @@ use crate::authors::author_rows;
 use crate::catalog::catalog;
 use crate::metadata::metadata;
 use hq_base::{List, Memory};
-use hq_tables::RowsList;
-use hq_terms::{Catalog, Meta};
+use hq_load_tables::RowsList;
+use hq_model::{Catalog, Meta};
 use std::alloc::Global;
 
 /// A generated database: its catalog, its metadata, and the rows of each table of the catalog, in its order.

@@ -2,14 +2,14 @@
 ghost use Rattle.std.specs.Prelude.{◌≡◌, ◌∷◌, [], true, false, map, IfOk};
 ghost use Rattle.std.specs.List.{list_all};
 ghost use Rattle.hq_base.specs.Text.{has_zero};
-ghost use Rattle.hq_terms.specs.Bexp.{bexp_view};
-ghost use Rattle.hq_terms.specs.Meta.{meta_view, perm_view, tracked_view};
+ghost use Rattle.hq_model.specs.Bexp.{bexp_view};
+ghost use Rattle.hq_model.specs.Meta.{meta_view, perm_view, tracked_view};
 ghost use Rattle.hq_generator.specs.Metadata.{article_filter, equals, article_perm, article_roots, article_tracked, author_perm, author_roots, author_tracked, metadata, rel_of, tracked_of};
 ghost use Rattle.hq_generator.specs.Words.{is_clean, word_text};
 
 use crate::text::{text, texts};
 use hq_base::{List, Memory, Txt, Val};
-use hq_terms::{
+use hq_model::{
     Bexp, ColId, Meta, Op, Operand, Operands, Pair, Perm, Rel, RelList, RootNames, TableId, Test,
     Tracked,
 };

@@ -1,6 +1,6 @@
 use crate::RuleId;
 use hq_base::Txt;
-use hq_terms::Want;
+use hq_model::Want;
 
 /// A fault of a request: the rule that is violated, the place in the query text if there is one, and for a session
 /// variable its name and what it was to be read as.

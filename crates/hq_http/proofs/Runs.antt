@@ -12,7 +12,7 @@ use Rattle.hq_http.specs.declared.end.ConnEnd.TheVariants as end
 use Rattle.hq_http.specs.Connections.{Counts, Exchange, IsExchange, EachGoesOn, failures, failures_of, request_bytes, due_bytes, Ending, memory, Connects}
 use Rattle.hq_http.specs.Serving.{Ran, Going, Stopping}
 use Rattle.hq_http.proofs.Weaker.{exchange_weaker, ending_weaker}
-use Rattle.hq_outside.proofs.Pieces.{consumes_none, consumes_more}
+use Rattle.hq_io.proofs.Pieces.{consumes_none, consumes_more}
 use Rattle.hq_http.proofs.Served.{appends_nothing}
 
 pub appends_both : (a b c : Option (List ℕ)) (xs ys : List ℕ) → Appends a b xs → Appends b c ys → Appends a c (xs ++ ys)

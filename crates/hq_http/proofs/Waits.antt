@@ -8,7 +8,7 @@ use Rattle.httparse.specs.Grammar.{RequestHead, print_request}
 use Rattle.hq_http_request.specs.declared.next.Next.{Next}
 use Rattle.hq_http_request.specs.declared.next.Next.TheVariants.{More}
 use Rattle.hq_http_request.specs.Holds.{Holds, HasHead, whole, without_body, refused, begun, large, many, never, window}
-use Rattle.hq_outside.proofs.Pieces.{consumes_none, consumes_more}
+use Rattle.hq_io.proofs.Pieces.{consumes_none, consumes_more}
 use Rattle.hq_http.specs.Pending.{Fills}
 use Rattle.hq_http.specs.Waits.{Reaches, FillsTo, Awaits}
 use Rattle.hq_http.specs.declared.await_next.Filled.TheVariants.{Enough, Over, Failed}

@@ -6,7 +6,7 @@ use Rattle.std.specs.Io.KnownBytes.{Consumes, Appends, IsAtEnd}
 use Rattle.httparse.specs.Grammar.{RequestHead, print_request}
 use Rattle.hq_base.specs.declared.reply.Reply.{Reply}
 use Rattle.hq_session.specs.declared.header.Header.{Header}
-use Rattle.hq_outside.specs.Streams.{AppendsPrefix}
+use Rattle.hq_io.specs.Streams.{AppendsPrefix}
 use Rattle.hq_http_request.specs.declared.fault.Fault.{Fault}
 use Rattle.hq_http_request.specs.declared.judge.WholeRequest.{WholeRequest}
 use Rattle.hq_http.specs.declared.respond.Response.{Response}

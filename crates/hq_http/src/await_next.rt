@@ -1,12 +1,12 @@
 ghost use Rattle.std.specs.Prelude.{◌≡◌, ◌<◌, ◌≤◌, length};
 ghost use Rattle.std.specs.Io.KnownBytes.{IsAtEnd};
-ghost use Rattle.hq_outside.specs.Causes.{Rose};
+ghost use Rattle.hq_io.specs.Causes.{Rose};
 ghost use Rattle.hq_http.specs.Waits.{FillsTo, Awaits};
 ghost use Rattle.hq_http_request.specs.Holds.{Holds, window};
 
 use crate::pending::PendingBytes;
 use hq_http_request::{Fault, Next, WholeRequest, next_request};
-use hq_outside::Link;
+use hq_io::Link;
 use httparse::spans::HeaderSpan;
 
 /// Whether enough bytes arrived.

@@ -5,7 +5,7 @@ ghost use Rattle.hq_session.specs.declared.header.Header.{Header};
 ghost use Rattle.hq_http_request.specs.declared.next.Next.TheVariants as next;
 ghost use Rattle.hq_http_request.specs.Holds.{Holds, window};
 ghost use Rattle.hq_http_request.specs.Reads.{SpansAre};
-ghost use Rattle.hq_outside.specs.Causes.{Rose};
+ghost use Rattle.hq_io.specs.Causes.{Rose};
 ghost use Rattle.hq_http.specs.Connections.{Connects, Counts, failures_of};
 ghost use Rattle.hq_http.specs.Serving.{ServedAs, Stepped, Responds, over_as, step_after};
 
@@ -17,7 +17,7 @@ use crate::responder::Responder;
 use crate::send::{refuse, send_response};
 use hq_base::Bytes;
 use hq_http_request::{WholeRequest, front};
-use hq_outside::Link;
+use hq_io::Link;
 use httparse::spans::{EMPTY_HEADER_SPAN, HeaderSpan};
 use std::alloc::Global;
 

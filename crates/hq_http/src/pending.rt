@@ -1,10 +1,10 @@
 ghost use Rattle.std.specs.Prelude.{◌≡◌, ◌+◌, ◌-◌, ◌<◌, ◌≤◌, [], length, take, drop, IfOk, OnOk, OnErr};
 ghost use Rattle.std.specs.Io.KnownBytes.{Consumes, Keeps, IsAtEnd};
-ghost use Rattle.hq_outside.specs.Causes.{HasCause};
+ghost use Rattle.hq_io.specs.Causes.{HasCause};
 ghost use Rattle.hq_http.specs.Pending.{Fills};
 
 use hq_base::Memory;
-use hq_outside::{Link, ReadFailed};
+use hq_io::{Link, ReadFailed};
 use std::alloc::Global;
 use std::marker::Model;
 

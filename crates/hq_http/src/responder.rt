@@ -1,7 +1,7 @@
 ghost use Rattle.std.specs.Prelude.{◌≡◌, ◌≤◌, ◌⊎◌, ℕ, List, length};
 ghost use Rattle.hq_base.specs.declared.reply.Reply.{Reply};
 ghost use Rattle.hq_session.specs.declared.header.Header.{Header};
-ghost use Rattle.hq_outside.specs.Causes.{Rose};
+ghost use Rattle.hq_io.specs.Causes.{Rose};
 ghost use Rattle.hq_http.specs.Connections.{IfBody};
 
 use hq_base::Reply;

@@ -1,5 +1,5 @@
 ghost use Rattle.std.specs.Prelude.{◌≡◌, ◌≤◌, ◌≢◌};
-ghost use Rattle.hq_outside.specs.Causes.{Rose};
+ghost use Rattle.hq_io.specs.Causes.{Rose};
 ghost use Rattle.hq_http.specs.Connections.{response_status, response_is_plain, response_text};
 ghost use Rattle.hq_http.specs.Serving.{Writes, RefusedAs};
 ghost use Rattle.hq_http.specs.Replies.{reply_bytes};
@@ -9,7 +9,7 @@ use crate::reply::{Manner, fault_text, number_of, put_reply};
 use crate::respond::Response;
 use hq_base::Bytes;
 use hq_http_request::{Fault, Place, WholeRequest};
-use hq_outside::{Link, send_all};
+use hq_io::{Link, send_all};
 
 // Makes a reply and writes it.
 fn send<L: Link>(link: &mut L, out: &mut Bytes, manner: Manner, body: &[u8]) -> Sent

@@ -1,7 +1,7 @@
 -- Runs of the same events over databases over which the same replies are due send the same.
 use Rattle.std.proofs.Common.{◌≡◌, ◌++◌, ◌∷◌, [], ◌⊎◌, cond, ℕ, List, Bool, true, false, filter, map, flat_map, refl, sym, ap, ◌∙◌, inl, inr}
 use Rattle.std.specs.Prelude.{⊤}
-use Rattle.hq_terms.specs.declared.session.Session.{Session}
+use Rattle.hq_model.specs.declared.session.Session.{Session}
 use Rattle.hq_live.specs.Asking.{Due}
 use Rattle.hq_live.specs.Steps.{begun}
 use Rattle.hq_live.specs.LiveRun.{Moment, told, holding, said, renewed, sent_at, left_by, live_run, is_to, moments_of, begins_with, sessions_of, SameReplies, Alike, AlikeFor}

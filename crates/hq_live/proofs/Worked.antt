@@ -1,6 +1,6 @@
 -- Worked runs: what one subscriber is sent, computed.
 use Rattle.std.proofs.Common.{◌≡◌, ◌∷◌, [], ℕ, List, refl}
-use Rattle.hq_terms.specs.declared.session.Session.{Session}
+use Rattle.hq_model.specs.declared.session.Session.{Session}
 use Rattle.hq_live.specs.Asking.{Due}
 use Rattle.hq_live.specs.LiveRun.{Moment, live_run}
 use Rattle.hq_live.specs.declared.event.Event.{Event}

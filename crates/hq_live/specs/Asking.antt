@@ -1,8 +1,8 @@
 -- Due replies, and what asking and reloading give.
 use Rattle.std.specs.Prelude.{◌≡◌, ◌≤◌, ℕ, List, [], ◌∷◌, Option, ⊤}
-use Rattle.hq_outside.specs.Causes.{Rose}
-use Rattle.hq_outside.specs.declared.files.File.{File}
-use Rattle.hq_terms.specs.declared.session.Session.{Session}
+use Rattle.hq_io.specs.Causes.{Rose}
+use Rattle.hq_io.specs.declared.files.File.{File}
+use Rattle.hq_model.specs.declared.session.Session.{Session}
 use Rattle.hq_live.specs.declared.asker.Asked.{Asked}
 use Rattle.hq_live.specs.declared.asker.Asked.TheVariants as asked
 use Rattle.hq_live.specs.declared.asker.Reloaded.{Reloaded}

@@ -1,7 +1,7 @@
 -- The live run as a fold over events, where no ask fails: a function of the events and of the databases that are present at them.
 use Rattle.std.specs.Prelude.{◌≡◌, ◌++◌, ◌∷◌, [], ◌==◌, nat_eq, not, ℕ, List, Bool, true, false, Option, None, Some, filter, map, flat_map, ⊤}
 use Rattle.std.specs.Cmp.Lexicographic.{pointwise}
-use Rattle.hq_terms.specs.declared.session.Session.{Session}
+use Rattle.hq_model.specs.declared.session.Session.{Session}
 use Rattle.hq_live.specs.Asking.{Due}
 use Rattle.hq_live.specs.Answers.{reply_to}
 use Rattle.hq_live.specs.Steps.{is_of, is_by, begun}

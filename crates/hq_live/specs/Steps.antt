@@ -2,7 +2,7 @@
 use Rattle.std.specs.Prelude.{◌≡◌, ◌≤◌, ◌++◌, ◌∷◌, [], ◌==◌, ◌&&◌, nat_eq, not, ℕ, List, Bool, None, Result, Ok, Err, filter, count_by, false, ⊤}
 use Rattle.std.specs.Cmp.Lexicographic.{pointwise}
 use Rattle.std.specs.List.{list_any}
-use Rattle.hq_terms.specs.declared.session.Session.{Session}
+use Rattle.hq_model.specs.declared.session.Session.{Session}
 use Rattle.hq_live.specs.Asking.{Due, Next, Moved, RoseWithin}
 use Rattle.hq_live.specs.Answers.{IsAnswer, AreAnswers, kept, kept_all, news, news_all}
 use Rattle.hq_live.specs.declared.event.Subscription.{Subscription}

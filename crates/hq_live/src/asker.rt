@@ -1,9 +1,9 @@
 ghost use Rattle.std.specs.Prelude.{◌≡◌, ◌≤◌, ℕ, List as Items, Option, length};
-ghost use Rattle.hq_outside.specs.declared.files.File.{File};
+ghost use Rattle.hq_io.specs.declared.files.File.{File};
 ghost use Rattle.hq_live.specs.Asking.{Due, Next, GaveReply, KeepsFiles, Reloads};
 
 use hq_base::Bytes;
-use hq_terms::Session;
+use hq_model::Session;
 use std::alloc::Global;
 
 /// What asking gave.

@@ -1,6 +1,6 @@
 use crate::Body;
 use hq_base::{Bytes, List, Txt};
-use hq_terms::Session;
+use hq_model::Session;
 
 /// A subscription: whose it is and its name, who asks and what, and the last reply that it was sent.
 #[derive(Drop)]

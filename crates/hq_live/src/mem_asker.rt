@@ -1,13 +1,13 @@
 ghost use Rattle.std.specs.Prelude.{◌≡◌, ◌≤◌, ◌↔◌, length, map, option_copied, find, ◌&&◌, bytes_eq, IfOk};
-ghost use Rattle.hq_memory.specs.Calls.{calls_from, IsToFail};
+ghost use Rattle.hq_io_memory.specs.Calls.{calls_from, IsToFail};
 ghost use Rattle.hq_live.specs.Asking.{GaveReply, Reloads, listed};
 ghost use Rattle.hq_live.specs.Memory.{due_over, next_over, reply_of, HasFailed, HasNotTaken};
 
 use crate::{Asked, Asker, Reloaded};
 use hq_base::{Bytes, List, Memory, Txt};
-use hq_memory::Calls;
-use hq_outside::NumList;
-use hq_terms::Session;
+use hq_io_memory::Calls;
+use hq_io::NumList;
+use hq_model::Session;
 use std::alloc::Global;
 
 /// A reply that is due to a role and a body.

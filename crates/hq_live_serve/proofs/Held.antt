@@ -1,14 +1,14 @@
 -- Talks that are held one after the other, and one more.
 use Rattle.std.proofs.Common.{◌≡◌, ◌++◌, ℕ, suc, List, [], ◌∷◌, length, refl, sym, ap, ◌∙◌, subst, arith}
 use Rattle.std.specs.Prelude.{Option, Some}
-use Rattle.hq_outside.specs.Causes.{one_more}
-use Rattle.hq_outside.specs.Links.{with_present}
+use Rattle.hq_io.specs.Causes.{one_more}
+use Rattle.hq_io.specs.Links.{with_present}
 use Rattle.hq_session.specs.declared.header.Header.{Header}
 use Rattle.hq_session.specs.declared.hook.HookAnswer.{HookAnswer}
 use Rattle.hq_messages.specs.Messages.{IsNextTalk}
 use Rattle.hq_messages.specs.declared.messages.Message.{Message}
 use Rattle.hq_live.specs.Runs.{Standing}
-use Rattle.hq_talk.specs.declared.end.TalkEnd.{TalkEnd}
+use Rattle.hq_live_talk.specs.declared.end.TalkEnd.{TalkEnd}
 use Rattle.hq_live_serve.specs.Talking.{ToldLink, Held, IsHeld, AreHeld, Accepts, ends_of}
 use Rattle.hq_live_serve.specs.Serving.{Holds, HoldsNext}
 

@@ -5,8 +5,8 @@ use Rattle.std.specs.declared.option.Option.{Option}
 use Rattle.std.specs.declared.option.Option.TheVariants.{None, Some}
 use Rattle.std.specs.declared.result.Result.TheVariants.{Err}
 use Rattle.std.specs.Io.KnownBytes.{Appends}
-use Rattle.hq_outside.specs.Streams.{AppendsPrefix}
-use Rattle.hq_talk.specs.declared.end.TalkEnd.{TalkEnd}
+use Rattle.hq_io.specs.Streams.{AppendsPrefix}
+use Rattle.hq_live_talk.specs.declared.end.TalkEnd.{TalkEnd}
 use Rattle.hq_serve.specs.declared.serving.ServeRefusal.{ServeRefusal}
 use Rattle.hq_serve.specs.declared.serving.ServeRefusal.TheVariants as refusal
 use Rattle.hq_live_serve.specs.Lines.{line_of, lines_from}

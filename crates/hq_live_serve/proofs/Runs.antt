@@ -3,11 +3,11 @@ use Rattle.std.proofs.Common.{◌≡◌, ◌<◌, ◌+◌, ◌++◌, ◌∙◌, 
 use Rattle.std.specs.Prelude.{Option}
 use Rattle.std.specs.declared.result.Result.TheVariants.{Err}
 use Rattle.std.specs.Io.KnownBytes.{Appends}
-use Rattle.hq_outside.proofs.Pieces.{appends_none}
+use Rattle.hq_io.proofs.Pieces.{appends_none}
 use Rattle.hq_session.specs.declared.header.Header.{Header}
 use Rattle.hq_session.specs.declared.hook.HookAnswer.{HookAnswer}
 use Rattle.hq_live.specs.Runs.{Standing}
-use Rattle.hq_talk.specs.declared.end.TalkEnd.{TalkEnd}
+use Rattle.hq_live_talk.specs.declared.end.TalkEnd.{TalkEnd}
 use Rattle.hq_serve.specs.declared.serving.ServeRefusal.{ServeRefusal}
 use Rattle.hq_live_serve.specs.Lines.{line_of, lines_from}
 use Rattle.hq_live_serve.specs.Talking.{ToldLink, Held, ends_of}

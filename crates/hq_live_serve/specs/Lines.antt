@@ -1,7 +1,7 @@
 -- The lines that are written after talks.
 use Rattle.std.specs.Prelude.{ℕ, ◌+◌, List, [], ◌∷◌, ◌++◌, codes, decimal}
-use Rattle.hq_talk.specs.declared.end.TalkEnd.{TalkEnd}
-use Rattle.hq_talk.specs.declared.end.TalkEnd.TheVariants.{Ended, Closed, Spent, LinkFault, Memory}
+use Rattle.hq_live_talk.specs.declared.end.TalkEnd.{TalkEnd}
+use Rattle.hq_live_talk.specs.declared.end.TalkEnd.TheVariants.{Ended, Closed, Spent, LinkFault, Memory}
 
 -- how a talk ended
 unfoldable pub end_text : TalkEnd → List ℕ

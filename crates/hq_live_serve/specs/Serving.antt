@@ -2,13 +2,13 @@
 use Rattle.std.specs.Prelude.{◌≡◌, ◌≤◌, ℕ, List, [], ◌∷◌, length, take, OnOk, Option, Result}
 use Rattle.std.specs.declared.result.Result.TheVariants.{Ok, Err}
 use Rattle.std.specs.Io.KnownBytes.{Appends}
-use Rattle.hq_outside.specs.Streams.{AppendsPrefix}
+use Rattle.hq_io.specs.Streams.{AppendsPrefix}
 use Rattle.hq_session.specs.declared.header.Header.{Header}
 use Rattle.hq_session.specs.declared.hook.HookAnswer.{HookAnswer}
 use Rattle.hq_serve.specs.declared.serving.ServeRefusal.{ServeRefusal}
 use Rattle.hq_serve.specs.declared.serving.ServeRefusal.TheVariants as refusal
 use Rattle.hq_live.specs.Runs.{Standing}
-use Rattle.hq_talk.specs.declared.end.TalkEnd.{TalkEnd}
+use Rattle.hq_live_talk.specs.declared.end.TalkEnd.{TalkEnd}
 use Rattle.hq_live_serve.specs.Lines.{lines_from}
 use Rattle.hq_live_serve.specs.Talking.{ToldLink, Held, AreHeld, Accepts, ends_of}
 

@@ -1,16 +1,16 @@
 -- Talks with the peers of a hall, one after the other.
 use Rattle.std.specs.Prelude.{◌≡◌, ℕ, List, [], ◌∷◌, Option, Some}
-use Rattle.hq_outside.specs.Causes.{Rose, one_more}
-use Rattle.hq_outside.specs.Links.{with_present}
+use Rattle.hq_io.specs.Causes.{Rose, one_more}
+use Rattle.hq_io.specs.Links.{with_present}
 use Rattle.hq_session.specs.declared.header.Header.{Header}
 use Rattle.hq_session.specs.declared.hook.HookAnswer.{HookAnswer}
 use Rattle.hq_messages.specs.Messages.{IsNextTalk}
 use Rattle.hq_messages.specs.declared.messages.Message.{Message}
 use Rattle.hq_messages.specs.declared.messages.Out.{Out}
 use Rattle.hq_live.specs.Runs.{Standing}
-use Rattle.hq_talk.specs.Talks.{Talks, link_of}
-use Rattle.hq_talk.specs.declared.end.TalkEnd.{TalkEnd}
-use Rattle.hq_talk.specs.declared.end.TalkEnd.TheVariants as end
+use Rattle.hq_live_talk.specs.Talks.{Talks, link_of}
+use Rattle.hq_live_talk.specs.declared.end.TalkEnd.{TalkEnd}
+use Rattle.hq_live_talk.specs.declared.end.TalkEnd.TheVariants as end
 
 -- what a link tells: the messages that are left, what was sent, and how often it has failed
 pub record ToldLink (L : Type 0) : Type 0 where

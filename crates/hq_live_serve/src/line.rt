@@ -2,7 +2,7 @@ ghost use Rattle.std.specs.Prelude.{◌≡◌, ◌++◌, OnOk, decimal};
 ghost use Rattle.hq_live_serve.specs.Lines.{end_text, line_of};
 
 use hq_base::{Bytes, Memory};
-use hq_talk::TalkEnd;
+use hq_live_talk::TalkEnd;
 use itoa::Buffer;
 
 // Adds a word and a number, in decimal.

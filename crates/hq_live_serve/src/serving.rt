@@ -1,6 +1,6 @@
 ghost use Rattle.std.specs.Prelude.{◌≡◌, ◌≤◌, [], OnErr, OnOk, IfOk, IsErrOf, IsNone};
 ghost use Rattle.std.specs.Io.KnownBytes.{Appends};
-ghost use Rattle.hq_outside.specs.Causes.{HasCause, Rose};
+ghost use Rattle.hq_io.specs.Causes.{HasCause, Rose};
 ghost use Rattle.hq_session.specs.Hook.{KeepsRule};
 ghost use Rattle.hq_live.specs.Asking.{KeepsFiles};
 ghost use Rattle.hq_live.specs.Runs.{standing};
@@ -12,10 +12,10 @@ use crate::line::put_line;
 use hq_base::Bytes;
 use hq_live::{Asker, Live};
 use hq_messages::{Hall, HallFailed};
-use hq_outside::{Sink, write_all};
+use hq_io::{Sink, write_all};
 use hq_serve::ServeRefusal;
 use hq_session::{Headers, Hook, HookAnswer, HookRule};
-use hq_talk::{TalkEnd, talk};
+use hq_live_talk::{TalkEnd, talk};
 use std::alloc::Global;
 
 // Writes the line after the talk of this number.

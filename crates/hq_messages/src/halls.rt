@@ -1,8 +1,8 @@
 ghost use Rattle.std.specs.Prelude.{◌≡◌, ℕ, List, IsNone, IsSome, OnOk, OnErr, Some};
 ghost use Rattle.std.specs.Borrow.{sem, Lends};
 ghost use Rattle.std.specs.declared.option.Option.{Option};
-ghost use Rattle.hq_outside.specs.Causes.{HasCause, one_more};
-ghost use Rattle.hq_outside.specs.Links.{with_present};
+ghost use Rattle.hq_io.specs.Causes.{HasCause, one_more};
+ghost use Rattle.hq_io.specs.Links.{with_present};
 ghost use Rattle.hq_messages.specs.Messages.{IsNextTalk};
 
 use crate::Messages;

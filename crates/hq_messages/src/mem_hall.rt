@@ -1,13 +1,13 @@
 ghost use Rattle.std.specs.Prelude.{◌≡◌, ◌↔◌, [], Some, None, OnOk, OnErr, IsErr, is_err, IfSome, option_copied, slice_get};
-ghost use Rattle.hq_outside.specs.Causes.{HasCause, one_more};
-ghost use Rattle.hq_memory.specs.Calls.{calls_from, IsToFail, after};
-ghost use Rattle.hq_memory.specs.LinkRow.{links_in, present_in, with_link_in};
+ghost use Rattle.hq_io.specs.Causes.{HasCause, one_more};
+ghost use Rattle.hq_io_memory.specs.Calls.{calls_from, IsToFail, after};
+ghost use Rattle.hq_io_memory.specs.LinkRow.{links_in, present_in, with_link_in};
 ghost use Rattle.hq_messages.specs.Messages.{IsNextTalk};
 
 use crate::{Hall, HallFailed, MemMessages};
 use hq_base::List;
-use hq_memory::{Calls, LinkRow};
-use hq_outside::NumList;
+use hq_io_memory::{Calls, LinkRow};
+use hq_io::NumList;
 use std::alloc::Global;
 
 /// Talks in memory, in order.
@@ -108,7 +108,7 @@ impl Hall for MemHall {
         self.row.close();
     }
 
-    ghost use Rattle.hq_memory.specs.Lending.{present_in-with_link_in, links_in-with_link_in};
+    ghost use Rattle.hq_io_memory.specs.Lending.{present_in-with_link_in, links_in-with_link_in};
     ghost use Rattle.std.specs.Prelude.{refl};
     ghost use Rattle.std.proofs.Common.{ap};
 

@@ -1,13 +1,13 @@
 ghost use Rattle.std.specs.Prelude.{◌≡◌, ◌≤◌, ◌↔◌, ◌++◌, ◌∷◌, [], IsErrOf, OnOk, OnErr, Some};
-ghost use Rattle.hq_outside.specs.Causes.{Rose};
-ghost use Rattle.hq_memory.specs.Calls.{calls_from, IsToFail};
+ghost use Rattle.hq_io.specs.Causes.{Rose};
+ghost use Rattle.hq_io_memory.specs.Calls.{calls_from, IsToFail};
 ghost use Rattle.hq_messages.specs.Messages.{Receives, Adds};
 ghost use Rattle.hq_messages.specs.declared.messages.Out.TheVariants as out;
 
 use crate::{In, LinkRefusal, Message, Messages, Out};
 use hq_base::{Bytes, List};
-use hq_memory::Calls;
-use hq_outside::NumList;
+use hq_io_memory::Calls;
+use hq_io::NumList;
 use std::alloc::Global;
 
 /// Messages, in order.

@@ -1,5 +1,5 @@
 ghost use Rattle.std.specs.Prelude.{◌≡◌, ◌≤◌, ℕ, List as Items, IsErrOf, OnOk, OnErr, Option};
-ghost use Rattle.hq_outside.specs.Causes.{Rose};
+ghost use Rattle.hq_io.specs.Causes.{Rose};
 ghost use Rattle.hq_messages.specs.Messages.{Receives, Adds, came};
 ghost use Rattle.hq_messages.specs.declared.messages.Message.{Message as Waiting};
 ghost use Rattle.hq_messages.specs.declared.messages.Out.{Out as Told};

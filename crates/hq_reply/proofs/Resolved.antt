@@ -1,13 +1,13 @@
 -- What resolvers give for the root fields that start at a table.
 use Rattle.std.proofs.Common.{◌≡◌, List, [], length, false, refl, ap}
-use Rattle.hq_ask_tree.specs.Fields.{FieldTrees, no_field, field, FieldTree, column, typename, no_queries, object, list, by_key, aggregate, introspect}
-use Rattle.hq_ask_tree.specs.Resolve.{resolve_all}
-use Rattle.hq_ask_tree.specs.Root.{table_fields}
+use Rattle.hq_request_tree.specs.Fields.{FieldTrees, no_field, field, FieldTree, column, typename, no_queries, object, list, by_key, aggregate, introspect}
+use Rattle.hq_request_tree.specs.Resolve.{resolve_all}
+use Rattle.hq_request_tree.specs.Root.{table_fields}
 use Rattle.hq_base.specs.Json.{JsonTree, obj, member, no_member}
-use Rattle.hq_terms.specs.Database.{Row}
-use Rattle.hq_terms.specs.Grants.{Grants, limits}
-use Rattle.hq_terms.specs.Permitted.{seen_by}
-use Rattle.hq_terms.specs.Schema.{Schema}
+use Rattle.hq_model.specs.Database.{Row}
+use Rattle.hq_model.specs.Grants.{Grants, limits}
+use Rattle.hq_model.specs.Permitted.{seen_by}
+use Rattle.hq_model.specs.Schema.{Schema}
 use Rattle.hq_reply.specs.RootObject.{of_database, has_table_field}
 use Rattle.hq_reply.specs.TableObject.{table_members, table_object, IsResolved}
 

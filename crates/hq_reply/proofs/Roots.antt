@@ -2,7 +2,7 @@
 use Rattle.std.proofs.Common.{◌≡◌, ◌∙◌, refl, sym, ap, ℕ, List, ◌∷◌, ◌++◌, map, codes, append_assoc}
 use Rattle.hq_answer.specs.Answers.{named_text, named_texts}
 use Rattle.hq_answer.specs.declared.answer.AnswerMember.{AnswerMember}
-use Rattle.hq_ask_tree.specs.Fields.{FieldTrees, no_field, field, FieldTree, column, typename, no_queries, object, list, by_key, aggregate, introspect}
+use Rattle.hq_request_tree.specs.Fields.{FieldTrees, no_field, field, FieldTree, column, typename, no_queries, object, list, by_key, aggregate, introspect}
 use Rattle.hq_base.proofs.Lists.{map_map}
 use Rattle.hq_base.specs.Compact.{compact, escaped, quoted, member_texts}
 use Rattle.hq_base.specs.Json.{JsonTree, obj, MemberTrees}

@@ -4,8 +4,8 @@ use Rattle.std.proofs.lemmas.Bool.{ne_eqb}
 use Rattle.std.proofs.lemmas.List.{append-nil}
 use Rattle.std.proofs.Math.Seq.{drop-cons}
 use Rattle.std.specs.List.{join_with_byte}
-use Rattle.hq_ask_tree.specs.Fields.{fields_of, keyed_field_view}
-use Rattle.hq_ask_tree.specs.declared.field.KeyedAskField.{KeyedAskField}
+use Rattle.hq_request_tree.specs.Fields.{fields_of, keyed_field_view}
+use Rattle.hq_request_tree.specs.declared.field.KeyedAskField.{KeyedAskField}
 use Rattle.hq_schema.specs.Schema.{SchemaTree}
 use Rattle.hq_reply.specs.RootTexts.{keyed_text, root_texts, texts_behind}
 

@@ -2,7 +2,7 @@
 use Rattle.std.specs.Prelude.{◌≡◌, ℕ, List, codes}
 use Rattle.hq_answer.specs.Answers.{IsAnswer}
 use Rattle.hq_answer.specs.declared.answer.Answer.{Answer}
-use Rattle.hq_ask_tree.specs.Fields.{FieldTrees, FieldTree}
+use Rattle.hq_request_tree.specs.Fields.{FieldTrees, FieldTree}
 use Rattle.hq_base.specs.Compact.{compact}
 use Rattle.hq_base.specs.Json.{JsonTree, obj, member, no_member}
 use Rattle.hq_schema.specs.Schema.{SchemaTree}

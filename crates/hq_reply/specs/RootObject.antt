@@ -1,16 +1,16 @@
 -- The object of root fields, in collected order (GraphQL October 2021, 6.2.1: query). A field that starts at a table gives what
 -- resolvers give over a database; each other gives what is known without one.
 use Rattle.std.specs.Prelude.{ℕ, List, [], length, codes, Bool, false, ◌||◌, Option, Some, None, unwrap_or}
-use Rattle.hq_ask_tree.specs.Fields.{FieldTrees, no_field, field, FieldTree, column, typename, no_queries, object, list, by_key, aggregate, introspect}
-use Rattle.hq_ask_tree.specs.Resolve.{resolve}
-use Rattle.hq_ask_tree.specs.Root.{is_table_field}
+use Rattle.hq_request_tree.specs.Fields.{FieldTrees, no_field, field, FieldTree, column, typename, no_queries, object, list, by_key, aggregate, introspect}
+use Rattle.hq_request_tree.specs.Resolve.{resolve}
+use Rattle.hq_request_tree.specs.Root.{is_table_field}
 use Rattle.hq_base.specs.Json.{JsonTree, null, str, obj, MemberTrees, no_member, member}
-use Rattle.hq_introspect.specs.Answers.{answered}
+use Rattle.hq_request_introspect.specs.Answers.{answered}
 use Rattle.hq_schema.specs.Schema.{SchemaTree}
-use Rattle.hq_terms.specs.Database.{Row}
-use Rattle.hq_terms.specs.Grants.{Grants, limits}
-use Rattle.hq_terms.specs.Permitted.{seen_by}
-use Rattle.hq_terms.specs.Schema.{Schema}
+use Rattle.hq_model.specs.Database.{Row}
+use Rattle.hq_model.specs.Grants.{Grants, limits}
+use Rattle.hq_model.specs.Permitted.{seen_by}
+use Rattle.hq_model.specs.Schema.{Schema}
 
 -- what is told to a role that may ask nothing
 abbrev pub no_queries_text : List ℕ

@@ -5,7 +5,7 @@ use Rattle.std.specs.Vec.Iter.{into_iter_items}
 use Rattle.std.specs.declared.alloc.Global.{Global}
 use Rattle.std.specs.declared.vec.IntoIter.{IntoIter}
 use Rattle.hq_answer.specs.declared.answer.AnswerMember.{AnswerMember}
-use Rattle.hq_ask_tree.specs.Fields.{FieldTrees, no_field, field, FieldTree}
+use Rattle.hq_request_tree.specs.Fields.{FieldTrees, no_field, field, FieldTree}
 use Rattle.hq_base.specs.Compact.{compact, quoted}
 use Rattle.hq_base.specs.Json.{JsonTree}
 use Rattle.hq_schema.specs.Schema.{SchemaTree}

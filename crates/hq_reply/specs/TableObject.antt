@@ -1,12 +1,12 @@
 -- The part of the object of root fields that starts at tables: what the one statement gives.
 use Rattle.std.specs.Prelude.{◌≡◌, List, false, cond}
-use Rattle.hq_ask_tree.specs.Fields.{FieldTrees, no_field, field, FieldTree}
-use Rattle.hq_ask_tree.specs.Resolve.{resolved}
-use Rattle.hq_ask_tree.specs.Root.{is_table_field, table_fields}
+use Rattle.hq_request_tree.specs.Fields.{FieldTrees, no_field, field, FieldTree}
+use Rattle.hq_request_tree.specs.Resolve.{resolved}
+use Rattle.hq_request_tree.specs.Root.{is_table_field, table_fields}
 use Rattle.hq_base.specs.Json.{JsonTree, obj, MemberTrees, no_member, member}
-use Rattle.hq_terms.specs.Database.{Row}
-use Rattle.hq_terms.specs.Grants.{Grants}
-use Rattle.hq_terms.specs.Schema.{Schema}
+use Rattle.hq_model.specs.Database.{Row}
+use Rattle.hq_model.specs.Grants.{Grants}
+use Rattle.hq_model.specs.Schema.{Schema}
 use Rattle.hq_answer.specs.Answers.{IsAnswer}
 use Rattle.hq_answer.specs.declared.answer.Answer.{Answer}
 use Rattle.hq_reply.specs.RootObject.{of_database, has_table_field}

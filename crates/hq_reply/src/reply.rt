@@ -1,6 +1,6 @@
 //! The reply of data, and that of a fault.
 ghost use Rattle.std.specs.Prelude.{◌≡◌, IfOk, map, true, false};
-ghost use Rattle.hq_ask_tree.specs.Fields.{fields_of, keyed_field_view};
+ghost use Rattle.hq_request_tree.specs.Fields.{fields_of, keyed_field_view};
 ghost use Rattle.hq_base.specs.Compact.{compact};
 ghost use Rattle.hq_base.specs.Json.{json_view};
 ghost use Rattle.hq_faults.specs.FaultTexts.{fault_text, tells_fault};
@@ -10,7 +10,7 @@ ghost use Rattle.hq_schema.specs.Schema.{schema_view};
 use crate::root::put_fields;
 use crate::tables::members_in;
 use hq_answer::Answer;
-use hq_ask_tree::AskFields;
+use hq_request_tree::AskFields;
 use hq_base::{Bytes, Json, Memory, Reply};
 use hq_faults::{RequestFault, fault_json};
 use hq_schema::Schema;

@@ -1,6 +1,6 @@
 //! The text of the object of root fields.
 ghost use Rattle.std.specs.Prelude.{◌≡◌, ◌++◌, IfOk, OnOk, map};
-ghost use Rattle.hq_ask_tree.specs.Fields.{fields_of, field_view, keyed_field_view};
+ghost use Rattle.hq_request_tree.specs.Fields.{fields_of, field_view, keyed_field_view};
 ghost use Rattle.hq_base.specs.Compact.{compact};
 ghost use Rattle.hq_base.specs.Json.{str};
 ghost use Rattle.hq_schema.specs.Schema.{schema_view};
@@ -9,9 +9,9 @@ ghost use Rattle.hq_reply.specs.RootTexts.{field_text, keyed_text, members_text,
 
 use crate::tables::put_next;
 use hq_answer::AnswerMember;
-use hq_ask_tree::{AskField, AskFields, KeyedAskField};
+use hq_request_tree::{AskField, AskFields, KeyedAskField};
 use hq_base::{Bytes, Memory, Txt, put_comma, put_quoted};
-use hq_introspect::put_answer;
+use hq_request_introspect::put_answer;
 use hq_schema::Schema;
 use std::alloc::Global;
 use std::vec::IntoIter;

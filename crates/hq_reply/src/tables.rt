@@ -1,19 +1,19 @@
 //! Root fields that start at a table, and the members of the object that their one statement gives.
 ghost use Rattle.std.specs.Prelude.{◌≡◌, ◌++◌, List as Items, None, OnOk, map, false};
 ghost use Rattle.hq_answer.specs.Answers.{IsAnswer, named_text, named_texts};
-ghost use Rattle.hq_ask_tree.specs.Fields.{FieldTree, FieldTrees, fields_of, field_view, keyed_field_view};
-ghost use Rattle.hq_ask_tree.specs.Root.{is_table_field};
+ghost use Rattle.hq_request_tree.specs.Fields.{FieldTree, FieldTrees, fields_of, field_view, keyed_field_view};
+ghost use Rattle.hq_request_tree.specs.Root.{is_table_field};
 ghost use Rattle.hq_base.specs.Json as tree;
 ghost use Rattle.hq_base.specs.Json.{JsonTree, MemberTrees};
-ghost use Rattle.hq_terms.specs.Database.{Row};
-ghost use Rattle.hq_terms.specs.Grants.{Grants};
-ghost use Rattle.hq_terms.specs.Schema.{Schema};
+ghost use Rattle.hq_model.specs.Database.{Row};
+ghost use Rattle.hq_model.specs.Grants.{Grants};
+ghost use Rattle.hq_model.specs.Schema.{Schema};
 ghost use Rattle.hq_reply.specs.RootObject.{has_table_field};
 ghost use Rattle.hq_reply.specs.RootTexts.{texts_in, texts_left, value_text};
 ghost use Rattle.hq_reply.specs.TableObject.{IsResolved, table_object};
 
 use hq_answer::{Answer, AnswerMember};
-use hq_ask_tree::{AskField, AskFields};
+use hq_request_tree::{AskField, AskFields};
 use hq_base::{Bytes, Memory};
 use std::alloc::Global;
 use std::vec::IntoIter;

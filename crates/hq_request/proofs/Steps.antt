@@ -1,14 +1,14 @@
 -- What several steps gave, where the last has a value.
 use Rattle.std.proofs.Common.{◌≡◌, ℕ, List, Option, Some, None, Result, Ok, Err, refl, sym, subst}
-use Rattle.hq_ask_tree.specs.Request.{AskTree}
+use Rattle.hq_request_tree.specs.Request.{AskTree}
 use Rattle.hq_base.specs.Due.{◌>>=◌}
 use Rattle.hq_base.specs.Json.{JsonTree}
 use Rattle.hq_gql_tree.specs.Documents.{DocumentTree}
 use Rattle.hq_gql_tree.specs.declared.fault.Fault.{Fault}
 use Rattle.hq_schema.specs.Schema.{SchemaTree}
-use Rattle.hq_terms.specs.Meta.{MetaTree}
-use Rattle.hq_terms.specs.declared.session.Session.{Session}
-use Rattle.hq_terms.specs.declared.table.Table.{Table}
+use Rattle.hq_model.specs.Meta.{MetaTree}
+use Rattle.hq_model.specs.declared.session.Session.{Session}
+use Rattle.hq_model.specs.declared.table.Table.{Table}
 use Rattle.hq_rules_doc.specs.First.{first_doc_fault}
 use Rattle.hq_rules_fields.specs.First.{first_field_fault}
 use Rattle.hq_request.specs.Made.{IsMade, Makes}

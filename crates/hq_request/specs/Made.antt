@@ -1,13 +1,13 @@
 -- What a typed request of a body is made of: what each step gave.
 use Rattle.std.specs.Prelude.{◌≡◌, ℕ, List, Ok}
-use Rattle.hq_ask_tree.specs.Request.{AskTree}
+use Rattle.hq_request_tree.specs.Request.{AskTree}
 use Rattle.hq_base.specs.Json.{JsonTree}
-use Rattle.hq_coerce.specs.Variables.{VarTree}
+use Rattle.hq_request_coerce.specs.Variables.{VarTree}
 use Rattle.hq_gql_tree.specs.Documents.{DocumentTree}
 use Rattle.hq_schema.specs.Schema.{SchemaTree}
-use Rattle.hq_terms.specs.Meta.{MetaTree}
-use Rattle.hq_terms.specs.declared.session.Session.{Session}
-use Rattle.hq_terms.specs.declared.table.Table.{Table}
+use Rattle.hq_model.specs.Meta.{MetaTree}
+use Rattle.hq_model.specs.declared.session.Session.{Session}
+use Rattle.hq_model.specs.declared.table.Table.{Table}
 use Rattle.hq_request.specs.Operation.{operation_due, values_due, ask_due}
 use Rattle.hq_request.specs.Reading.{json_due, query_due, document_due}
 use Rattle.hq_request.specs.Request.{request_by}

@@ -1,23 +1,23 @@
 -- What a valid document asks for: the operation that the request names, its variables, and its typed request (GraphQL October
 -- 2021, section 6.1: executing requests).
 use Rattle.std.specs.Prelude.{ℕ, List, codes, Option, option_and_then, Result}
-use Rattle.hq_ask.specs.Due.{build_due}
-use Rattle.hq_ask_tree.specs.Request.{AskTree}
+use Rattle.hq_request_build.specs.Due.{build_due}
+use Rattle.hq_request_tree.specs.Request.{AskTree}
 use Rattle.hq_base.specs.Due.{◌>>=◌}
 use Rattle.hq_base.specs.Json.{JsonTree}
 use Rattle.hq_base.specs.Look.{str_in, member_in}
-use Rattle.hq_coerce.specs.Choice.{chosen}
-use Rattle.hq_coerce.specs.Due.{variables_due}
-use Rattle.hq_coerce.specs.Variables.{VarTree}
-use Rattle.hq_coerce.specs.declared.refusal.CoerceRefusal.{CoerceRefusal}
-use Rattle.hq_coerce.specs.declared.refusal.CoerceRefusal.TheVariants as coerce
+use Rattle.hq_request_coerce.specs.Choice.{chosen}
+use Rattle.hq_request_coerce.specs.Due.{variables_due}
+use Rattle.hq_request_coerce.specs.Variables.{VarTree}
+use Rattle.hq_request_coerce.specs.declared.refusal.CoerceRefusal.{CoerceRefusal}
+use Rattle.hq_request_coerce.specs.declared.refusal.CoerceRefusal.TheVariants as coerce
 use Rattle.hq_faults.specs.declared.faults.RequestFault.TheVariants.{Rule}
 use Rattle.hq_gql_tree.specs.Documents.{DocumentTree}
 use Rattle.hq_gql_tree.specs.declared.fault.Fault.{Fault as RuleFault}
 use Rattle.hq_schema.specs.Schema.{SchemaTree}
-use Rattle.hq_terms.specs.Meta.{MetaTree}
-use Rattle.hq_terms.specs.declared.session.Session.{Session}
-use Rattle.hq_terms.specs.declared.table.Table.{Table}
+use Rattle.hq_model.specs.Meta.{MetaTree}
+use Rattle.hq_model.specs.declared.session.Session.{Session}
+use Rattle.hq_model.specs.declared.table.Table.{Table}
 use Rattle.hq_request.specs.Reading.{refused_as}
 use Rattle.hq_request.specs.declared.refusal.RequestRefusal.{RequestRefusal}
 use Rattle.hq_request.specs.declared.refusal.RequestRefusal.TheVariants.{Fault, Memory}

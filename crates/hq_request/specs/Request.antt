@@ -1,15 +1,15 @@
 -- What a body makes for a session: a typed request, or why it makes none. Each step takes what those before it gave, and the
 -- first that refuses decides. No database is looked at.
 use Rattle.std.specs.Prelude.{ℕ, List, Bool, true, false, Option, Some, None, Result, Ok, Err}
-use Rattle.hq_ask_tree.specs.Request.{AskTree}
+use Rattle.hq_request_tree.specs.Request.{AskTree}
 use Rattle.hq_base.specs.Due.{◌>>=◌}
 use Rattle.hq_faults.specs.declared.faults.RequestFault.{RequestFault}
-use Rattle.hq_role_schema.specs.RoleSchema.{role_schema}
+use Rattle.hq_schema_of_role.specs.RoleSchema.{role_schema}
 use Rattle.hq_schema.specs.Schema.{SchemaTree}
-use Rattle.hq_terms.specs.Meta.{MetaTree}
-use Rattle.hq_terms.specs.Permission.{role_of}
-use Rattle.hq_terms.specs.declared.session.Session.{Session}
-use Rattle.hq_terms.specs.declared.table.Table.{Table}
+use Rattle.hq_model.specs.Meta.{MetaTree}
+use Rattle.hq_model.specs.Permission.{role_of}
+use Rattle.hq_model.specs.declared.session.Session.{Session}
+use Rattle.hq_model.specs.declared.table.Table.{Table}
 use Rattle.hq_request.specs.Operation.{operation_ask}
 use Rattle.hq_request.specs.Reading.{json_due, query_due, document_due}
 use Rattle.hq_request.specs.Validation.{valid_due}

@@ -1,18 +1,18 @@
 //! The typed request of a body.
 ghost use Rattle.std.specs.Prelude.{◌≡◌};
-ghost use Rattle.hq_ask_tree.specs.Request.{ask_view};
+ghost use Rattle.hq_request_tree.specs.Request.{ask_view};
 ghost use Rattle.hq_base.specs.Due.{Gives};
 ghost use Rattle.hq_schema.specs.Schema.{schema_view};
-ghost use Rattle.hq_terms.specs.Meta.{meta_view};
+ghost use Rattle.hq_model.specs.Meta.{meta_view};
 ghost use Rattle.hq_request.specs.Request.{request_by};
 
 use crate::operation::operation_ask;
 use crate::reading::{document_due, json_due, query_due};
 use crate::refusal::RequestRefusal;
 use crate::validation::valid_due;
-use hq_ask_tree::Ask;
+use hq_request_tree::Ask;
 use hq_schema::Schema;
-use hq_terms::{Catalog, Meta, Session};
+use hq_model::{Catalog, Meta, Session};
 use std::alloc::Global;
 
 /// The typed request that a body makes for a session whose role has this schema, or the first fault: of the body (F1, F2), of

@@ -1,23 +1,23 @@
 //! The operation that a request names, and its variables.
 ghost use Rattle.std.specs.Prelude.{◌≡◌, map, option_copied};
-ghost use Rattle.hq_ask_tree.specs.Request.{ask_view};
+ghost use Rattle.hq_request_tree.specs.Request.{ask_view};
 ghost use Rattle.hq_base.specs.Due.{Gives};
 ghost use Rattle.hq_base.specs.Json.{json_view};
-ghost use Rattle.hq_coerce.specs.Variables.{var_view};
+ghost use Rattle.hq_request_coerce.specs.Variables.{var_view};
 ghost use Rattle.hq_gql_tree.specs.View.{document_view};
 ghost use Rattle.hq_schema.specs.Schema.{schema_view};
-ghost use Rattle.hq_terms.specs.Meta.{meta_view};
+ghost use Rattle.hq_model.specs.Meta.{meta_view};
 ghost use Rattle.hq_request.specs.Operation.{operation_name, operation_due, values_due, ask_due, operation_ask};
 
 use crate::body::text_of;
 use crate::refusal::RequestRefusal;
-use hq_ask::build;
-use hq_ask_tree::Ask;
+use hq_request_build::build;
+use hq_request_tree::Ask;
 use hq_base::{Json, Txt};
-use hq_coerce::{OpRef, VarValues, choose, coerce_variables};
+use hq_request_coerce::{OpRef, VarValues, choose, coerce_variables};
 use hq_gql_tree::Document;
 use hq_schema::Schema;
-use hq_terms::{Catalog, Meta, Session};
+use hq_model::{Catalog, Meta, Session};
 use std::alloc::Global;
 
 // The name of the operation that a request wants.

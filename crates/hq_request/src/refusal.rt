@@ -1,5 +1,5 @@
 use hq_base::Memory;
-use hq_coerce::CoerceRefusal;
+use hq_request_coerce::CoerceRefusal;
 use hq_faults::RequestFault;
 use hq_gql_tree::Fault;
 

@@ -1,12 +1,12 @@
 -- A law of the replies that are due.
 use Rattle.std.specs.Prelude.{◌≡◌, List, Option, Result}
 use Rattle.std.specs.declared.result.Result.TheVariants.{Ok, Err}
-use Rattle.hq_ask_tree.specs.Request.{AskTree}
+use Rattle.hq_request_tree.specs.Request.{AskTree}
 use Rattle.hq_base.specs.declared.reply.Reply.{Reply}
-use Rattle.hq_terms.specs.Database.{Row}
-use Rattle.hq_terms.specs.Meta.{MetaTree}
-use Rattle.hq_terms.specs.declared.session.Session.{Session}
-use Rattle.hq_terms.specs.declared.table.Table.{Table}
+use Rattle.hq_model.specs.Database.{Row}
+use Rattle.hq_model.specs.Meta.{MetaTree}
+use Rattle.hq_model.specs.declared.session.Session.{Session}
+use Rattle.hq_model.specs.declared.table.Table.{Table}
 use Rattle.hq_request.specs.declared.refusal.RequestRefusal.{RequestRefusal}
 use Rattle.hq_request.specs.declared.refusal.RequestRefusal.TheVariants as request
 use Rattle.hq_responder.specs.Due.{IsReply}

@@ -1,12 +1,12 @@
 ghost use Rattle.std.specs.Prelude.{◌≡◌, ◌≢◌, ◌≤◌, length};
-ghost use Rattle.hq_outside.specs.Causes.{Rose};
+ghost use Rattle.hq_io.specs.Causes.{Rose};
 ghost use Rattle.hq_http.specs.Connections.{IfBody};
 ghost use Rattle.hq_responder.specs.Due.{is_due_of};
 
 use hq_engine::{Engine, EngineRefusal};
 use hq_http::Answer;
-use hq_link::Database;
-use hq_terms::Session;
+use hq_database::Database;
+use hq_model::Session;
 use std::alloc::Global;
 
 /// The answer to a request of a session: the reply that is due, or that the database failed, or that memory is wanted.

@@ -1,7 +1,7 @@
 use crate::reply::answer_for;
 use hq_engine::Engine;
 use hq_http::{Answer, Responder};
-use hq_link::Database;
+use hq_database::Database;
 use hq_session::{Headers, Hook, HookAnswer, HookRule};
 use std::alloc::Global;
 
@@ -18,7 +18,7 @@ impl<P: HookRule, F: Fn(&Headers) -> HookAnswer, D: Database> Responder
     ghost use Rattle.std.specs.Prelude.{◌≡◌};
     ghost use Rattle.hq_session.specs.declared.hook.HookAnswer.TheVariants as answer;
     ghost use Rattle.hq_responder.specs.Due.{IsReady, MayGive};
-    ghost use Rattle.hq_terms.specs.Meta.{meta_view};
+    ghost use Rattle.hq_model.specs.Meta.{meta_view};
     ghost use Rattle.hq_request.specs.Request.{request_due};
     ghost use Rattle.hq_responder.specs.Laws.{status_known};
 

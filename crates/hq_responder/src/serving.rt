@@ -1,13 +1,13 @@
 ghost use Rattle.std.specs.Prelude.{◌≡◌, ◌≤◌, IsErrOf};
-ghost use Rattle.hq_outside.specs.Causes.{Rose};
+ghost use Rattle.hq_io.specs.Causes.{Rose};
 ghost use Rattle.hq_serve.specs.Serving.{Serves};
-ghost use Rattle.hq_terms.specs.Meta.{meta_view};
+ghost use Rattle.hq_model.specs.Meta.{meta_view};
 ghost use Rattle.hq_responder.specs.Due.{denies, gives};
 
 use crate::EngineResponder;
 use hq_engine::Engine;
-use hq_link::Database;
-use hq_outside::{Door, Sink};
+use hq_database::Database;
+use hq_io::{Door, Sink};
 use hq_serve::{ServeRefusal, serve};
 use hq_session::{Headers, Hook, SecretRule};
 use std::alloc::Global;

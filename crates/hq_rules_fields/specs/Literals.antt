@@ -4,7 +4,7 @@ use Rattle.std.specs.Option.{option_map_or}
 use Rattle.hq_base.specs.Uuids.{spells_uuid}
 use Rattle.hq_base.specs.declared.value.Ty.{Ty}
 use Rattle.hq_base.specs.declared.value.Ty.TheVariants.{Bigint, Text, Boolean, Uuid}
-use Rattle.hq_terms.specs.Reading.{whole_number}
+use Rattle.hq_model.specs.Reading.{whole_number}
 use Rattle.hq_schema.specs.declared.origin.TypeOrigin.{TypeOrigin}
 use Rattle.hq_schema.specs.declared.origin.TypeOrigin.TheVariants as origin
 use Rattle.hq_schema.specs.Look.{type_at, enum_value_of}

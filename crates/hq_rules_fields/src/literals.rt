@@ -2,7 +2,7 @@
 ghost use Rattle.std.specs.Prelude.{◌≡◌, is_some, map, option_map};
 ghost use Rattle.hq_schema.specs.Schema.{schema_view, type_ref_view};
 ghost use Rattle.hq_gql_tree.specs.Values.{members_of, argument_view, value_view};
-ghost use Rattle.hq_terms.specs.Reading.{whole_number};
+ghost use Rattle.hq_model.specs.Reading.{whole_number};
 ghost use Rattle.hq_rules_fields.specs.Literals.{scalar_takes, enum_takes, leaf_by, leaf_takes, takes};
 ghost use Rattle.hq_rules_fields.specs.NodeRules.{object_members};
 
@@ -10,7 +10,7 @@ use hq_base::{Ty, spells_uuid};
 use hq_gql_nodes::{element_type, input_at, is_non_null};
 use hq_gql_tree::{Argument, Value};
 use hq_schema::{Schema, TypeId, TypeOrigin, TypeRef};
-use hq_terms::whole_number;
+use hq_model::whole_number;
 
 fn spells(ty: Ty, text: &str) -> bool
     ensures { result ≡ is_some (whole_number ty text.now) }

@@ -4,7 +4,7 @@ ghost use Rattle.hq_schema.specs.Look.{type_named, type_at, arg_in, field_in, fi
 
 use crate::{ArgDef, ArgDefList, FieldDef, FieldDefList, Schema, TypeDef, TypeId};
 use hq_base::Txt;
-use hq_terms::ColId;
+use hq_model::ColId;
 
 /// The argument or input field of this name.
 pub fn arg_named<'a>(args: &'a ArgDefList, name: &Txt) -> Option<&'a ArgDef>

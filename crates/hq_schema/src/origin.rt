@@ -1,5 +1,5 @@
 use hq_base::{Aggregate, Ty};
-use hq_terms::{ColId, Operator, RelId, TableId};
+use hq_model::{ColId, Operator, RelId, TableId};
 
 /// What a type stands for. A table's types are those of its rows, of the inputs over them, and of their aggregates.
 #[derive(Clone, Copy)]

@@ -3,7 +3,7 @@ ghost use Rattle.hq_base.specs.Text.{has_zero};
 
 use crate::{Kind, TypeId, TypeOrigin};
 use hq_base::Aggregate;
-use hq_terms::TableId;
+use hq_model::TableId;
 
 /// The types of a table, in the order in which they stand in a schema: the rows, the filters and sorts over them, the columns,
 /// and the aggregates. A table that has fewer has none of some aggregates, or of none.

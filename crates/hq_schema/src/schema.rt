@@ -1,6 +1,6 @@
 use crate::{ArgOrigin, FieldOrigin, Named, NamedList, TypeId, TypeOrigin, TypeRef};
 use hq_base::Txt;
-use hq_terms::ColList;
+use hq_model::ColList;
 
 /// What a type is.
 #[derive(Clone, Copy)]

@@ -4,7 +4,7 @@ use Rattle.std.proofs.lemmas.List.{take-append-le, take_all}
 use Rattle.std.specs.declared.option.Option.{Option}
 use Rattle.std.specs.declared.result.Result.TheVariants.{Err}
 use Rattle.std.specs.Io.KnownBytes.{Appends}
-use Rattle.hq_outside.specs.Streams.{AppendsPrefix}
+use Rattle.hq_io.specs.Streams.{AppendsPrefix}
 use Rattle.hq_http.specs.declared.end.ConnEnd.{ConnEnd}
 use Rattle.hq_http.proofs.Runs.{appends_both}
 use Rattle.hq_serve.specs.declared.serving.ServeRefusal.{ServeRefusal}

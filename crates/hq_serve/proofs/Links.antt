@@ -3,8 +3,8 @@ use Rattle.std.proofs.Common.{◌≡◌, ◌≤◌, ◌<◌, ◌+◌, ◌-◌, �
 use Rattle.std.specs.Prelude.{Option, Some, None, IfSome, MatchOption, slice_get, slice_set}
 use Rattle.hq_base.specs.declared.reply.Reply.{Reply}
 use Rattle.hq_session.specs.declared.header.Header.{Header}
-use Rattle.hq_outside.specs.Causes.{one_more}
-use Rattle.hq_outside.specs.Links.{IsNext, with_present}
+use Rattle.hq_io.specs.Causes.{one_more}
+use Rattle.hq_io.specs.Links.{IsNext, with_present}
 use Rattle.hq_http.specs.declared.end.ConnEnd.{ConnEnd}
 use Rattle.hq_http.proofs.Weaker.{connects_weaker}
 use Rattle.hq_serve.specs.Serving.{Told, ServedLink, ServesNext, EachServed, ServedBehind}

@@ -5,8 +5,8 @@ use Rattle.std.specs.declared.result.Result.TheVariants.{Err}
 use Rattle.std.specs.Io.KnownBytes.{Appends}
 use Rattle.hq_base.specs.declared.reply.Reply.{Reply}
 use Rattle.hq_session.specs.declared.header.Header.{Header}
-use Rattle.hq_outside.specs.Causes.{one_more}
-use Rattle.hq_outside.proofs.Pieces.{appends_none}
+use Rattle.hq_io.specs.Causes.{one_more}
+use Rattle.hq_io.proofs.Pieces.{appends_none}
 use Rattle.hq_http.specs.declared.end.ConnEnd.{ConnEnd}
 use Rattle.hq_serve.specs.declared.serving.ServeRefusal.{ServeRefusal}
 use Rattle.hq_serve.specs.Lines.{line_of}

@@ -6,8 +6,8 @@ use Rattle.std.specs.declared.result.Result.TheVariants.{Ok, Err}
 use Rattle.std.specs.Io.KnownBytes.{Appends}
 use Rattle.hq_base.specs.declared.reply.Reply.{Reply}
 use Rattle.hq_session.specs.declared.header.Header.{Header}
-use Rattle.hq_outside.specs.Causes.{Rose}
-use Rattle.hq_outside.specs.Streams.{AppendsPrefix}
+use Rattle.hq_io.specs.Causes.{Rose}
+use Rattle.hq_io.specs.Streams.{AppendsPrefix}
 use Rattle.hq_http.specs.declared.end.ConnEnd.{ConnEnd}
 use Rattle.hq_http.specs.declared.end.ConnEnd.TheVariants as end
 use Rattle.hq_http.specs.Connections.{Connects}

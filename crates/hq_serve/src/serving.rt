@@ -2,15 +2,15 @@ ghost use Rattle.std.specs.Prelude.{◌≡◌, ◌≤◌, ◌<◌, ◌+◌, ◌-
 ghost use Rattle.hq_base.specs.declared.reply.Reply.{Reply};
 ghost use Rattle.hq_session.specs.declared.header.Header.{Header};
 ghost use Rattle.std.specs.Io.KnownBytes.{Appends};
-ghost use Rattle.hq_outside.specs.Causes.{HasCause, Rose, one_more};
-ghost use Rattle.hq_outside.specs.Streams.{AppendsPrefix};
+ghost use Rattle.hq_io.specs.Causes.{HasCause, Rose, one_more};
+ghost use Rattle.hq_io.specs.Streams.{AppendsPrefix};
 ghost use Rattle.hq_serve.specs.Lines.{line_of};
 ghost use Rattle.hq_serve.specs.Serving.{Serves, ServesNext, Wrote};
 
 use crate::line::put_line;
 use hq_base::{Bytes, Memory};
 use hq_http::{ConnEnd, Responder, serve_connection};
-use hq_outside::{Door, DoorFailed, Sink, WriteFailed, write_all};
+use hq_io::{Door, DoorFailed, Sink, WriteFailed, write_all};
 use std::alloc::Global;
 use thiserror::Error;
 

@@ -1,6 +1,6 @@
 -- What a header adds to the variables so far, and what those behind it add.
 use Rattle.std.proofs.Common.{◌≡◌, List, [], ◌∷◌, ◌++◌, cond, true, false, refl, append_assoc}
-use Rattle.hq_terms.specs.declared.session.Var.{Var}
+use Rattle.hq_model.specs.declared.session.Var.{Var}
 use Rattle.hq_session.specs.declared.header.Header.{Header}
 use Rattle.hq_session.specs.Sessions.{is_variable, variable_of, has_variable, new_variables}
 

@@ -5,7 +5,7 @@ use Rattle.std.specs.declared.option.Option.TheVariants.{None, Some}
 use Rattle.std.specs.declared.result.Result.TheVariants.{Ok, Err}
 use Rattle.std.specs.Str.{bytes_eq}
 use Rattle.hq_base.specs.declared.memory.Memory.{Memory}
-use Rattle.hq_terms.specs.declared.session.Session.{Session}
+use Rattle.hq_model.specs.declared.session.Session.{Session}
 use Rattle.hq_session.specs.declared.header.Header.{Header}
 use Rattle.hq_session.specs.declared.hook.HookAnswer.{HookAnswer}
 use Rattle.hq_session.specs.declared.hook.HookAnswer.TheVariants as answer

@@ -2,8 +2,8 @@
 use Rattle.std.specs.Prelude.{ℕ, List, [], ◌∷◌, ◌++◌, filter, find, map, Bool, not, cond, ◌&&◌, Option, is_some, option_map, unwrap_or, bytes_eq, codes}
 use Rattle.std.specs.List.{list_any}
 use Rattle.hq_base.specs.Text.{after}
-use Rattle.hq_terms.specs.declared.session.Session.{Session}
-use Rattle.hq_terms.specs.declared.session.Var.{Var}
+use Rattle.hq_model.specs.declared.session.Session.{Session}
+use Rattle.hq_model.specs.declared.session.Var.{Var}
 use Rattle.hq_session.specs.declared.header.Header.{Header}
 
 -- the value of a name: the first one, where it stands more than once

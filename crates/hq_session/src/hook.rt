@@ -2,7 +2,7 @@ ghost use Rattle.std.specs.Prelude.{◌≡◌, List};
 ghost use Rattle.hq_session.specs.Hook.{KeepsRule, Allowed};
 
 use crate::Headers;
-use hq_terms::Session;
+use hq_model::Session;
 
 /// Who the caller is, as a hook answers it.
 #[derive(Drop)]

@@ -5,7 +5,7 @@ ghost use Rattle.hq_session.specs.Secret.{AllowedBySecret, session_by_role, answ
 use crate::session::{first_named, role_variable};
 use crate::{Headers, HookAnswer, HookRule};
 use hq_base::{Memory, Txt};
-use hq_terms::Session;
+use hq_model::Session;
 use std::alloc::Global;
 
 /// The rule of an admin secret, and of a role for callers that give none.

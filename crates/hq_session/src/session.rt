@@ -1,11 +1,11 @@
 ghost use Rattle.std.specs.Prelude.{◌≡◌, ◌++◌, ◌∷◌, [], List as Items, false, IfOk, OnOk, map, filter, cond, option_copied};
 ghost use Rattle.hq_base.specs.Text.{has_zero};
-ghost use Rattle.hq_terms.specs.declared.session.Var.{Var};
+ghost use Rattle.hq_model.specs.declared.session.Var.{Var};
 ghost use Rattle.hq_session.specs.Sessions.{value_of, role_in, role_variable, is_variable, variable_of, has_variable, new_variables, variables_in, session_of};
 
 use crate::{Header, Headers};
 use hq_base::{List, Memory, Txt};
-use hq_terms::{Session, Var, VarList};
+use hq_model::{Session, Var, VarList};
 use std::alloc::Global;
 
 // The name of the role's header.

@@ -7,7 +7,7 @@ use Rattle.hq_base.specs.Cells.{CellTree, null, int, text, bool, json}
 use Rattle.hq_base.specs.Lists.{put, sort}
 use Rattle.hq_base.proofs.Orders.{cell_cmp_total}
 use Rattle.hq_base.proofs.Sorts.{turned}
-use Rattle.hq_terms.specs.Logic.{null_test}
+use Rattle.hq_model.specs.Logic.{null_test}
 use Rattle.hq_sql_cells.specs.declared.cell.Cell.{Cell}
 use Rattle.hq_sql_cells.specs.View.{cell_view}
 use Rattle.hq_sql_cells.specs.Best.{best_cmp, is_better}

@@ -21,7 +21,7 @@ use Rattle.hq_sql_cells.specs.Seen.{seen_of}
 use Rattle.hq_sql_cells.specs.View.{cell_view}
 use Rattle.hq_base.specs.Lists.{firsts}
 use Rattle.hq_base.proofs.Lists.{filter_all, each_all}
-use Rattle.hq_terms.proofs.CellOrders.{then_equal}
+use Rattle.hq_model.proofs.CellOrders.{then_equal}
 use Rattle.hq_sql_cells.proofs.Fresh.{fresh, fresh_step}
 
 -- cells of a set stand in the order of the cells that they were taken from

@@ -6,9 +6,9 @@ use Rattle.std.specs.Str.{chars}
 use Rattle.hq_base.specs.Patterns.{steps_of, meets, like, pattern_of}
 use Rattle.hq_base.specs.declared.pattern.PatternRefusal.{PatternRefusal}
 use Rattle.hq_base.specs.declared.pattern.PatternRefusal.TheVariants.{EndsInEscape}
-use Rattle.hq_terms.specs.Logic.{or3}
-use Rattle.hq_terms.specs.declared.truth.Truth.{Truth}
-use Rattle.hq_terms.specs.declared.truth.Truth.TheVariants.{Yes, No, Unknown}
+use Rattle.hq_model.specs.Logic.{or3}
+use Rattle.hq_model.specs.declared.truth.Truth.{Truth}
+use Rattle.hq_model.specs.declared.truth.Truth.TheVariants.{Yes, No, Unknown}
 
 pub or3_no : (a : Truth) → or3 a No ≡ a
 or3_no Yes = refl

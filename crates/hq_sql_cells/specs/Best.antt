@@ -4,7 +4,7 @@ use Rattle.std.specs.declared.cmp.Ordering.{Ordering}
 use Rattle.std.specs.Ordering.{flip_args, is_gt}
 use Rattle.hq_base.specs.Aggregates.{is_taken}
 use Rattle.hq_base.specs.Cells.{CellTree, cell_cmp}
-use Rattle.hq_terms.specs.Logic.{null_test}
+use Rattle.hq_model.specs.Logic.{null_test}
 
 -- ascending for the least cell, descending for the greatest
 abbrev pub best_cmp : (greatest : Bool) → CellTree → CellTree → Ordering

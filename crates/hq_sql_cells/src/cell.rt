@@ -1,7 +1,7 @@
 ghost use Rattle.std.specs.Prelude.{◌≡◌, IfOk};
 ghost use Rattle.hq_base.specs.Cells.{cell_of, json_of};
 ghost use Rattle.hq_base.specs.Json.{json_view};
-ghost use Rattle.hq_terms.specs.Logic.{null_test};
+ghost use Rattle.hq_model.specs.Logic.{null_test};
 ghost use Rattle.hq_sql_cells.specs.View.{cell_view};
 
 use hq_base::{Json, Memory, Txt, Val};

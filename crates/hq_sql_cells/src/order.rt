@@ -2,7 +2,7 @@
 ghost use Rattle.std.specs.Prelude.{◌≡◌, map, drop};
 ghost use Rattle.hq_base.specs.Cells.{kind_of, cell_cmp, null_rank, key_cmp};
 ghost use Rattle.hq_base.specs.Aggregates.{first_cell};
-ghost use Rattle.hq_terms.specs.Logic.{order_between};
+ghost use Rattle.hq_model.specs.Logic.{order_between};
 ghost use Rattle.hq_sql_cells.specs.View.{cell_view};
 ghost use Rattle.hq_sql_cells.specs.Keys.{keys_cmp};
 
@@ -42,7 +42,7 @@ pub fn order_between(left: &Cell<'_>, right: &Cell<'_>) -> Option<Ordering>
 }
 
 /// The order of cells, by kind and then by value: whole numbers by value, texts by their bytes, false before true.
-#[tactic(auto, using(hq_terms::proofs::CellOrders::cell_cmp_between, hq_terms::proofs::CellOrders::cell_cmp_kinds))]
+#[tactic(auto, using(hq_model::proofs::CellOrders::cell_cmp_between, hq_model::proofs::CellOrders::cell_cmp_kinds))]
 pub fn cell_cmp(left: &Cell<'_>, right: &Cell<'_>) -> Ordering
     ensures { result ≡ cell_cmp (cell_view left.now) (cell_view right.now) }
 {

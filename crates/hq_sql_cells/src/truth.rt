@@ -4,14 +4,14 @@ ghost use Rattle.std.specs.Prelude.{◌≡◌, map, IfOk};
 ghost use Rattle.hq_base.specs.Aggregates.{first_cell};
 ghost use Rattle.hq_base.specs.Cells.{null};
 ghost use Rattle.hq_base.specs.Patterns.{like};
-ghost use Rattle.hq_terms.specs.Logic.{op_test, compared, among, matched};
-ghost use Rattle.hq_terms.specs.Tests.{test_truth};
+ghost use Rattle.hq_model.specs.Logic.{op_test, compared, among, matched};
+ghost use Rattle.hq_model.specs.Tests.{test_truth};
 ghost use Rattle.hq_sql_cells.specs.View.{cell_view};
 
 use crate::Cell;
 use crate::order::order_between;
 use hq_base::{Memory, Pattern, PatternRefusal, Txt};
-use hq_terms::{Op, Test, Truth};
+use hq_model::{Op, Test, Truth};
 use std::alloc::Global;
 use std::cmp::Ordering;
 

@@ -5,9 +5,9 @@ use Rattle.std.specs.List.{list_any}
 use Rattle.std.proofs.lemmas.Bool.{eq-eqb}
 use Rattle.std.proofs.lemmas.List.Concat.{flat_map-cons}
 use Rattle.hq_base.specs.Lists.{Each, sort}
-use Rattle.hq_terms.specs.Database.{Row}
-use Rattle.hq_terms.specs.Logic.{is_true, truth_of, not3, and3, or3}
-use Rattle.hq_terms.specs.declared.table.Table.{Table}
+use Rattle.hq_model.specs.Database.{Row}
+use Rattle.hq_model.specs.Logic.{is_true, truth_of, not3, and3, or3}
+use Rattle.hq_model.specs.declared.table.Table.{Table}
 use Rattle.hq_sql_tree.specs.Meaning.{Scope, World, nothing, value, with_alias, order_cmp, outputs, or_null_row, has_rows, rows_of, scopes_of, joined, kept, truth_at, all_true, any_true, first_value, distinct_on, limited, offset_by}
 use Rattle.hq_sql_tree.specs.Tree as tree
 use Rattle.hq_sql_tree.specs.Tree.{SelectTree, FromTree, JoinTrees, FilterTree, PredTree, PredTrees}

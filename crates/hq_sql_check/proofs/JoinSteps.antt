@@ -1,6 +1,6 @@
 -- One join more in scope.
 use Rattle.std.proofs.Common.{◌≡◌, ◌∙◌, refl, ap, ℕ, List, [], ◌∷◌, ◌++◌, true}
-use Rattle.hq_terms.specs.declared.table.Table.{Table}
+use Rattle.hq_model.specs.declared.table.Table.{Table}
 use Rattle.hq_sql_tree.specs.Tree as tree
 use Rattle.hq_sql_tree.specs.Tree.{SelectTree, JoinTrees}
 use Rattle.hq_sql_tree.specs.WellFormed.{Names, Aliases, select_names, joined_scope, is_typed, are_typed_joins}

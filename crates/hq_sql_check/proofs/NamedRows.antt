@@ -5,8 +5,8 @@ use Rattle.std.specs.List.{position}
 use Rattle.std.proofs.lemmas.Bool.{lt-ltb}
 use Rattle.std.proofs.lemmas.List.Sums.{position_or_len_is}
 use Rattle.hq_base.specs.Lists.{Each}
-use Rattle.hq_terms.specs.Database.{Row}
-use Rattle.hq_terms.specs.declared.table.Table.{Table}
+use Rattle.hq_model.specs.Database.{Row}
+use Rattle.hq_model.specs.declared.table.Table.{Table}
 use Rattle.hq_sql_tree.specs.Meaning.{named_row, first_rows, other_rows, rows_named}
 use Rattle.hq_sql_tree.specs.WellFormed.{is_table}
 use Rattle.hq_sql_check.specs.Scans.{listed, place_named}

@@ -1,7 +1,7 @@
 -- What a statement sees of a database.
 use Rattle.std.specs.Prelude.{◌≡◌, ℕ, List, [], true, slice_index_or}
-use Rattle.hq_terms.specs.Database.{Row}
-use Rattle.hq_terms.specs.declared.table.Table.{Table}
+use Rattle.hq_model.specs.Database.{Row}
+use Rattle.hq_model.specs.declared.table.Table.{Table}
 use Rattle.hq_sql_tree.specs.Meaning.{meaning}
 use Rattle.hq_sql_tree.specs.Tree.{SelectTree}
 use Rattle.hq_sql_check.specs.Scans.{scans}

@@ -7,7 +7,7 @@ ghost use Rattle.hq_sql_check.specs.Scopes.{kind_view, name_view, alias_view};
 
 use crate::scope::{Kind, Name, only_name};
 use hq_base::{Memory, Txt, Ty};
-use hq_terms::Table;
+use hq_model::Table;
 use std::alloc::Global;
 
 // The kind of a column of this type.

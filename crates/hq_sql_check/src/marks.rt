@@ -3,7 +3,7 @@ ghost use Rattle.std.specs.Prelude.{◌≡◌, ◌<◌, ◌==◌, ℕ, false, tr
 ghost use Rattle.std.specs.List.{list_any};
 ghost use Rattle.hq_sql_tree.specs.Tree.{SelectTree};
 ghost use Rattle.hq_sql_tree.specs.View.{select_view};
-ghost use Rattle.hq_terms.specs.declared.table.Table.{Table};
+ghost use Rattle.hq_model.specs.declared.table.Table.{Table};
 ghost use Rattle.hq_sql_check.specs.Agree.{MeansAlike};
 ghost use Rattle.hq_sql_check.specs.Scans.{scans};
 
@@ -40,7 +40,7 @@ fn mark(marks: &mut Vec<bool>, places: &[usize])
 pub fn scanned(
     alloc: Global,
     select: &Select,
-    tables: &[hq_terms::Table],
+    tables: &[hq_model::Table],
 ) -> Result<Vec<bool>, Memory>
     ensures count { IfOk result (λ marks. length marks.items ≡ length tables.now) }
     ensures marks { IfOk result (λ marks. (t : ℕ) → slice_index_or marks.items t false ≡ scans (select_view select.now) tables.now t) }

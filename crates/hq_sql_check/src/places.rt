@@ -8,7 +8,7 @@ ghost use Rattle.hq_sql_check.specs.Scans.{place_named, places, places_of_from, 
 
 use hq_base::{Memory, Txt};
 use hq_sql_tree::{From, JoinList, Pred, PredList, Select};
-use hq_terms::Table;
+use hq_model::Table;
 use std::alloc::Global;
 
 fn position_named(tables: &[Table], schema: &Txt, name: &Txt) -> Option<usize>

@@ -10,7 +10,7 @@ use crate::scope::Scope;
 use crate::values::{is_compared, is_item, is_text, is_value, kind};
 use hq_base::Memory;
 use hq_sql_tree::{Expr, ExprList};
-use hq_terms::Test;
+use hq_model::Test;
 use std::alloc::Global;
 
 // Whether the expression is a pattern whose escapes are whole.

@@ -8,7 +8,7 @@ use crate::scope::Scope;
 use crate::typed::select_names;
 use hq_base::Memory;
 use hq_sql_tree::Select;
-use hq_terms::{Catalog, Table};
+use hq_model::{Catalog, Table};
 use std::alloc::Global;
 
 // How many parentheses a statement opens at most at once.

@@ -3,20 +3,20 @@ use Rattle.std.proofs.Common.{◌≡◌, ℕ, zero, suc, ◌+◌, ◌<◌, ◌�
 use Rattle.std.proofs.Math.Seq.{take-suc}
 use Rattle.std.proofs.lemmas.List.{map-append, take_all}
 use Rattle.std.specs.Borrow.{Bor}
-use Rattle.hq_terms.specs.Logic.{is_true, truth_of}
+use Rattle.hq_model.specs.Logic.{is_true, truth_of}
 use Rattle.hq_sql_tree.specs.declared.select.Pred.{Pred}
 use Rattle.hq_sql_tree.specs.Meaning.{NamedRow, Scope, World, nothing, with_alias, has_rows, rows_of}
 use Rattle.hq_sql_tree.specs.Tree as tree
 use Rattle.hq_sql_tree.specs.Tree.{JoinTrees, FilterTree, FromTree, PredTree, ExprTree, OutTree, OrderTree}
 use Rattle.hq_sql_tree.specs.View.{pred_view}
-use Rattle.hq_sql_closed.specs.Conjuncts.{all_kept, lent_views}
-use Rattle.hq_sql_closed.specs.Split.{IsSplit, kept_one}
-use Rattle.hq_sql_closed.proofs.Conjuncts.{all_alone, all_append}
-use Rattle.hq_sql_rows.specs.Known.{Knows}
+use Rattle.hq_sql_conjuncts.specs.Conjuncts.{all_kept, lent_views}
+use Rattle.hq_sql_conjuncts.specs.Split.{IsSplit, kept_one}
+use Rattle.hq_sql_conjuncts.proofs.Conjuncts.{all_alone, all_append}
+use Rattle.hq_sql_access.specs.Known.{Knows}
 use Rattle.hq_sql_eval.specs.Narrowed.{narrowed, keeps_one}
-use Rattle.hq_sql_rows.specs.Sources.{alias_in, made_rows, rows_given}
-use Rattle.hq_sql_rows.specs.declared.pinned.Known.{Known}
-use Rattle.hq_sql_walk.proofs.Evaluated.{exists_is}
+use Rattle.hq_sql_access.specs.Sources.{alias_in, made_rows, rows_given}
+use Rattle.hq_sql_access.specs.declared.pinned.Known.{Known}
+use Rattle.hq_sql_select.proofs.Evaluated.{exists_is}
 
 at_map : {A B : Type 0} (f : A → B) (xs : List A) (i : ℕ) (d : A) (e : B) → i < length xs → get_or (map f xs) i e ≡ f (get_or xs i d)
 at_map f [] i d e h = absurd (omega arith)

@@ -2,7 +2,7 @@
 use Rattle.std.specs.Prelude.{ℕ, List, [], ◌∷◌, Bool, ◌&&◌, map, filter, flat_map}
 use Rattle.hq_sql_tree.specs.Meaning.{NamedRow, Scope as Names, World, with_alias, joined, kept}
 use Rattle.hq_sql_tree.specs.Tree.{FilterTree, JoinTrees}
-use Rattle.hq_sql_rows.specs.Sources.{has_items}
+use Rattle.hq_sql_access.specs.Sources.{has_items}
 
 -- both true, row by row
 abbrev pub narrowed : List Bool → List Bool → List Bool

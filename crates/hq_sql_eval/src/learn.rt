@@ -1,23 +1,23 @@
 //! What is learned of conditions before a statement is walked.
 ghost use Rattle.std.specs.Prelude.{◌≡◌, ◌+◌, ◌≤◌, ◌&&◌, [], map, length, IfOk, IfSome};
-ghost use Rattle.hq_sql_closed.specs.Conjuncts.{all_kept, lent_views, lent_weight};
-ghost use Rattle.hq_sql_closed.specs.Split.{kept_one};
-ghost use Rattle.hq_sql_closed.specs.Weight.{filter_weight};
+ghost use Rattle.hq_sql_conjuncts.specs.Conjuncts.{all_kept, lent_views, lent_weight};
+ghost use Rattle.hq_sql_conjuncts.specs.Split.{kept_one};
+ghost use Rattle.hq_sql_conjuncts.specs.Weight.{filter_weight};
 ghost use Rattle.hq_sql_tree.specs.Meaning.{has_rows, nothing, rows_of, with_alias};
 ghost use Rattle.hq_sql_tree.specs.Tree.{joins_of};
 ghost use Rattle.hq_sql_tree.specs.View.{filter_view, from_view, join_view, pred_view, select_view};
-ghost use Rattle.hq_sql_rows.specs.Known.{IsKnown, IsRight};
+ghost use Rattle.hq_sql_access.specs.Known.{IsKnown, IsRight};
 ghost use Rattle.hq_sql_eval.specs.Narrowed.{narrowed, keeps_one};
-ghost use Rattle.hq_sql_rows.specs.Sources.{alias_in, rows_given};
-ghost use Rattle.hq_sql_rows.specs.View.{names_of, source_view, world_of};
+ghost use Rattle.hq_sql_access.specs.Sources.{alias_in, rows_given};
+ghost use Rattle.hq_sql_access.specs.View.{names_of, source_view, world_of};
 
 use hq_base::{Memory, Txt};
-use hq_sql_closed::{Names, split};
-use hq_sql_rows::known::known_of;
-use hq_sql_rows::pinned::{Known, Pinned};
-use hq_sql_rows::scope::{Scope, Source, alias_of, count, row_at, source_of};
+use hq_sql_conjuncts::{Names, split};
+use hq_sql_access::known::known_of;
+use hq_sql_access::pinned::{Known, Pinned};
+use hq_sql_access::scope::{Scope, Source, alias_of, count, row_at, source_of};
 use hq_sql_tree::{From, Join, Pred, Select};
-use hq_sql_walk::{any_row, truth};
+use hq_sql_select::{any_row, truth};
 use std::alloc::Global;
 
 // Whether a condition is true too, where others were before.

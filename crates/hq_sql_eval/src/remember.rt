@@ -4,7 +4,7 @@ ghost use Rattle.std.specs.Prelude.{◌≡◌};
 
 use crate::learn::learned;
 use hq_base::Memory;
-use hq_sql_rows::pinned::Pinned;
+use hq_sql_access::pinned::Pinned;
 use hq_sql_tree::{From, JoinList, Pred, PredList, Select};
 use std::alloc::Global;
 

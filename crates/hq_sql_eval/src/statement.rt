@@ -1,25 +1,25 @@
 //! The answer that a statement means.
 ghost use Rattle.std.specs.Prelude.{◌≡◌, ◌<◌, ◌≤◌, ℕ, length, List as Items, [], true, cond, IfOk, slice_index_or};
 ghost use Rattle.hq_answer.specs.Answers.{IsAnswer};
-ghost use Rattle.hq_terms.specs.Database.{Row};
+ghost use Rattle.hq_model.specs.Database.{Row};
 ghost use Rattle.hq_sql_tree.specs.View.{select_view};
 ghost use Rattle.hq_sql_tree.specs.Meaning.{meaning};
 ghost use Rattle.hq_sql_check.specs.Agree.{HasRows};
 ghost use Rattle.hq_sql_check.specs.Scans.{scans};
-ghost use Rattle.hq_sql_rows.specs.Lent.{rows_lent};
-ghost use Rattle.hq_sql_rows.specs.Pins.{world_in};
+ghost use Rattle.hq_sql_access.specs.Lent.{rows_lent};
+ghost use Rattle.hq_sql_access.specs.Pins.{world_in};
 
 use crate::remember::remember;
 use hq_answer::Answer;
 use hq_base::Memory;
 use hq_sql_check::{only_scanned_tables_matter, scanned};
-use hq_sql_rows::pinned::Pinned;
-use hq_sql_rows::stored::Stored;
-use hq_sql_rows::work::Work;
+use hq_sql_access::pinned::Pinned;
+use hq_sql_access::stored::Stored;
+use hq_sql_access::work::Work;
 use hq_sql_tree::Select;
-use hq_sql_write::answer;
-use hq_tables::{Rows, Tables};
-use hq_terms::TableId;
+use hq_sql_output::answer;
+use hq_load_tables::{Rows, Tables};
+use hq_model::TableId;
 use std::alloc::Global;
 
 // The rows of a table, none where the statement takes no rows from it.

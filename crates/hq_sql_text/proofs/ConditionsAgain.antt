@@ -2,8 +2,8 @@
 use Rattle.std.proofs.Common.{◌≡◌, ℕ, zero, suc, ◌<◌, Bool, true, false, ◌||◌, List, [], ◌∷◌, ◌++◌, length, map, Option, Some, refl, ap, ◌∙◌, append_assoc, arith}
 use Rattle.std.specs.Prelude.{codes}
 use Rattle.std.specs.List.{AllByRecursion}
-use Rattle.hq_terms.specs.Tests.{arity}
-use Rattle.hq_terms.specs.declared.test.Test.{Test}
+use Rattle.hq_model.specs.Tests.{arity}
+use Rattle.hq_model.specs.declared.test.Test.{Test}
 use Rattle.hq_sql_tree.specs.declared.word.Word.{Word}
 use Rattle.hq_sql_tree.specs.declared.word.Word.TheVariants as word
 use Rattle.hq_sql_tree.specs.Word.{word_text, test_word, test_close}

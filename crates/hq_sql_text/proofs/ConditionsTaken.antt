@@ -2,7 +2,7 @@
 use Rattle.std.proofs.Common.{◌≡◌, ℕ, suc, Bool, true, false, cond, List, [], ◌∷◌, ◌++◌, map, Option, Some, None, refl, sym, ap, ◌∙◌, append_assoc}
 use Rattle.std.proofs.lemmas.List.{append-nil}
 use Rattle.std.specs.List.{AllByRecursion}
-use Rattle.hq_terms.specs.Tests.{arity}
+use Rattle.hq_model.specs.Tests.{arity}
 use Rattle.hq_sql_tree.specs.declared.word.Word.{Word}
 use Rattle.hq_sql_tree.specs.declared.word.Word.TheVariants as word
 use Rattle.hq_sql_tree.specs.Word.{word_text, test_word, test_close}

@@ -1,9 +1,9 @@
 -- Selects whose spelling opens at most so many parentheses at once, as one relation.
 use Rattle.std.proofs.Common.{◌≡◌, ℕ, zero, suc, true, false, List, [], ◌∷◌}
 use Rattle.std.specs.List.{AllByRecursion}
-use Rattle.hq_terms.specs.Tests.{arity}
-use Rattle.hq_terms.specs.declared.test.Arity.{Arity}
-use Rattle.hq_terms.specs.declared.test.Arity.TheVariants.{Nothing, One, Many}
+use Rattle.hq_model.specs.Tests.{arity}
+use Rattle.hq_model.specs.declared.test.Arity.{Arity}
+use Rattle.hq_model.specs.declared.test.Arity.TheVariants.{Nothing, One, Many}
 use Rattle.hq_sql_tree.specs.Tree as tree
 use Rattle.hq_sql_tree.specs.Tree.{ExprTree, OrderTree, OutTree, SelectTree, FromTree, JoinTrees, FilterTree, PredTree, PredTrees}
 use Rattle.hq_sql_tree.specs.Form.{holds_agg, is_rows, reads_as_fold, is_count}

@@ -3,7 +3,7 @@ use Rattle.std.proofs.Common.{◌≡◌, ℕ, zero, suc, ◌+◌, ◌≤◌, tru
 use Rattle.std.specs.List.{AllByRecursion, list_all}
 use Rattle.std.specs.Prelude.{nat_le}
 use Rattle.std.proofs.lemmas.Bool.{leb-true, le-leb}
-use Rattle.hq_terms.specs.Tests.{takes, is_of_nothing}
+use Rattle.hq_model.specs.Tests.{takes, is_of_nothing}
 use Rattle.hq_sql_tree.specs.Tree as tree
 use Rattle.hq_sql_tree.specs.Tree.{ExprTree, OutTree, SelectTree, FromTree, JoinTrees, FilterTree, PredTree, PredTrees, pred_list}
 use Rattle.hq_sql_tree.specs.Form.{is_text, is_expr, expr_depth, greatest, is_rows, holds_agg, reads_as_fold, is_select, is_from, are_joins, is_filter, is_pred, are_preds, list_parens, distinct_depth, select_depth, from_depth, joins_depth, filter_depth, pred_depth, preds_depth, expr_fits, out_fits, order_fits, is_count, select_fits, from_fits, joins_fit, filter_fits, pred_fits, preds_fit}

@@ -1,9 +1,9 @@
 -- Tests by their operators. Each fact is computed for each test; that of a comparison and that of LIKE are opened by clauses of their
 -- own, so that the last clause goes over all others.
 use Rattle.std.proofs.Common.{◌≡◌, ℕ, true, false, List, ◌++◌, Some, refl}
-use Rattle.hq_terms.specs.declared.test.Test.{Test}
-use Rattle.hq_terms.specs.declared.test.Test.TheVariants as test
-use Rattle.hq_terms.specs.declared.op.Op.TheVariants as op
+use Rattle.hq_model.specs.declared.test.Test.{Test}
+use Rattle.hq_model.specs.declared.test.Test.TheVariants as test
+use Rattle.hq_model.specs.declared.op.Op.TheVariants as op
 use Rattle.hq_sql_tree.specs.Word.{word_text, all_tests, test_word}
 use Rattle.hq_sql_expr.specs.Reading.{after}
 use Rattle.hq_sql_expr.proofs.Again as expressions

@@ -1,9 +1,9 @@
 -- Reading a select from left to right.
 use Rattle.std.specs.Prelude.{ℕ, zero, suc, Bool, false, ◌||◌, List, [], ◌∷◌, length, Option, Some, None, is_some, ◌==◌, if◌then◌else◌}
-use Rattle.hq_terms.specs.Tests.{arity}
-use Rattle.hq_terms.specs.declared.test.Test.{Test}
-use Rattle.hq_terms.specs.declared.test.Arity.{Arity}
-use Rattle.hq_terms.specs.declared.test.Arity.TheVariants.{Nothing, One, Many}
+use Rattle.hq_model.specs.Tests.{arity}
+use Rattle.hq_model.specs.declared.test.Test.{Test}
+use Rattle.hq_model.specs.declared.test.Arity.{Arity}
+use Rattle.hq_model.specs.declared.test.Arity.TheVariants.{Nothing, One, Many}
 use Rattle.hq_sql_tree.specs.declared.word.Word.{Word}
 use Rattle.hq_sql_tree.specs.declared.word.Word.TheVariants as word
 use Rattle.hq_sql_tree.specs.Form.{is_rows, reads_as_fold}

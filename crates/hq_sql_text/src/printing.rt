@@ -13,7 +13,7 @@ use hq_sql_expr::{
 use hq_sql_tree::{
     Expr, ExprList, From, Join, JoinList, OrderList, Out, OutList, Pred, PredList, Select, Word,
 };
-use hq_terms::Test;
+use hq_model::Test;
 use std::alloc::Global;
 
 fn put_distinct(alloc: Global, out: &mut Vec<u8>, exprs: &ExprList) -> Result<(), Memory>

@@ -1,6 +1,6 @@
 //! Reading tests of values.
 ghost use Rattle.std.specs.Prelude.{◌≡◌, List, ℕ, map};
-ghost use Rattle.hq_terms.specs.declared.test.Arity.TheVariants as arities;
+ghost use Rattle.hq_model.specs.declared.test.Arity.TheVariants as arities;
 ghost use Rattle.hq_sql_tree.specs.View.{expr_view, pred_view};
 ghost use Rattle.hq_sql_expr.specs.Reading.{Reads, after};
 ghost use Rattle.hq_sql_text.specs.Reading.{joint_behind, joint_next, member_next, test_at, operands_at, test_with, tested_at};
@@ -8,7 +8,7 @@ ghost use Rattle.hq_sql_text.specs.Reading.{joint_behind, joint_next, member_nex
 use crate::parts::boxed;
 use hq_sql_expr::{ReadRefusal, read_closed_expr, read_closed_exprs, read_expr, skip, starts};
 use hq_sql_tree::{Expr, ExprList, Pred, Word};
-use hq_terms::{Arity, Test};
+use hq_model::{Arity, Test};
 use std::alloc::Global;
 
 // The test whose operator stands here, and what follows it.

@@ -5,10 +5,10 @@ use Rattle.hq_base.specs.Json as json
 use Rattle.hq_base.specs.Json.{JsonTree}
 use Rattle.hq_base.specs.declared.value.Val.TheVariants as val
 use Rattle.hq_base.specs.declared.value.Ty.TheVariants as ty
-use Rattle.hq_terms.specs.Database.{Row}
-use Rattle.hq_terms.specs.declared.op.Op.TheVariants as op
-use Rattle.hq_terms.specs.declared.test.Test.TheVariants as test
-use Rattle.hq_terms.specs.declared.table.Table.{Table}
+use Rattle.hq_model.specs.Database.{Row}
+use Rattle.hq_model.specs.declared.op.Op.TheVariants as op
+use Rattle.hq_model.specs.declared.test.Test.TheVariants as test
+use Rattle.hq_model.specs.declared.table.Table.{Table}
 use Rattle.hq_sql_tree.specs.Tree as tree
 use Rattle.hq_sql_tree.specs.Tree.{ExprTree, SelectTree}
 use Rattle.hq_sql_tree.specs.Meaning.{World, meaning}

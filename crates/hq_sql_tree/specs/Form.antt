@@ -3,10 +3,10 @@ use Rattle.std.specs.Prelude.{ℕ, ◌+◌, ◌^◌, ℤ, pos, negsuc, max, Bool
 use Rattle.std.specs.List.{list_all}
 use Rattle.std.specs.Str.{is_utf8}
 use Rattle.hq_base.specs.Text.{has_zero}
-use Rattle.hq_terms.specs.Tests.{arity, takes, is_of_nothing}
-use Rattle.hq_terms.specs.declared.test.Test.{Test}
-use Rattle.hq_terms.specs.declared.test.Arity.{Arity}
-use Rattle.hq_terms.specs.declared.test.Arity.TheVariants.{Many}
+use Rattle.hq_model.specs.Tests.{arity, takes, is_of_nothing}
+use Rattle.hq_model.specs.declared.test.Test.{Test}
+use Rattle.hq_model.specs.declared.test.Arity.{Arity}
+use Rattle.hq_model.specs.declared.test.Arity.TheVariants.{Many}
 use Rattle.hq_sql_tree.specs.Tree as tree
 use Rattle.hq_sql_tree.specs.Tree.{ExprTree, PairTrees, AggTree, OrderTree, OrderTrees, OutTree, SelectTree, FromTree, JoinTrees, FilterTree, PredTree, PredTrees}
 

@@ -10,13 +10,13 @@ use Rattle.hq_base.specs.Cells as cell
 use Rattle.hq_base.specs.Cells.{CellTree, cell_of, json_of, key_cmp, same_cell}
 use Rattle.hq_base.specs.Lists.{sort, firsts}
 use Rattle.hq_base.specs.Aggregates.{counted, aggregated}
-use Rattle.hq_terms.specs.Database.{Row}
-use Rattle.hq_terms.specs.Logic.{is_true, truth_of, not3, and3, or3}
-use Rattle.hq_terms.specs.Tests.{test_truth}
-use Rattle.hq_terms.specs.declared.truth.Truth.{Truth}
-use Rattle.hq_terms.specs.declared.truth.Truth.TheVariants.{Yes, No}
-use Rattle.hq_terms.specs.declared.table.Column.{Column}
-use Rattle.hq_terms.specs.declared.table.Table.{Table}
+use Rattle.hq_model.specs.Database.{Row}
+use Rattle.hq_model.specs.Logic.{is_true, truth_of, not3, and3, or3}
+use Rattle.hq_model.specs.Tests.{test_truth}
+use Rattle.hq_model.specs.declared.truth.Truth.{Truth}
+use Rattle.hq_model.specs.declared.truth.Truth.TheVariants.{Yes, No}
+use Rattle.hq_model.specs.declared.table.Column.{Column}
+use Rattle.hq_model.specs.declared.table.Table.{Table}
 use Rattle.hq_sql_tree.specs.Tree.{ExprTree, column, int, text, uuid, bool, object, aggregate, PairTrees, no_pair, pair, AggTree, count_all, count, take as taken_by, json_agg, OrderTrees, no_order, order, OrderTree, OutTree, SelectTree, rows, fold, FromTree, table, sub, one, JoinTrees, no_join, join, FilterTree, no_filter, filter, PredTree, always, never, test, negation, all_of, any_of, exists, PredTrees, no_pred, pred}
 
 -- a row of named cells; a name that it lacks gives NULL

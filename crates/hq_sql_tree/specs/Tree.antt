@@ -1,7 +1,7 @@
 -- The trees without where they lie in memory.
 use Rattle.std.specs.Prelude.{ℕ, ℤ, Bool, List, [], ◌∷◌, Option}
 use Rattle.hq_base.specs.declared.aggregate.Aggregate.{Aggregate}
-use Rattle.hq_terms.specs.declared.test.Test.{Test}
+use Rattle.hq_model.specs.declared.test.Test.{Test}
 
 -- expressions: columns of an alias, literals, JSON objects, and aggregates
 mutual

@@ -2,12 +2,12 @@
 use Rattle.std.specs.Prelude.{ℕ, List, [], ◌∷◌, true, false, codes}
 use Rattle.hq_base.specs.declared.aggregate.Aggregate.{Aggregate}
 use Rattle.hq_base.specs.declared.aggregate.Aggregate.TheVariants as aggregate
-use Rattle.hq_terms.specs.Tests.{arity}
-use Rattle.hq_terms.specs.declared.test.Test.{Test}
-use Rattle.hq_terms.specs.declared.test.Test.TheVariants as test
-use Rattle.hq_terms.specs.declared.op.Op.TheVariants as op
-use Rattle.hq_terms.specs.declared.test.Arity.{Arity}
-use Rattle.hq_terms.specs.declared.test.Arity.TheVariants.{Many}
+use Rattle.hq_model.specs.Tests.{arity}
+use Rattle.hq_model.specs.declared.test.Test.{Test}
+use Rattle.hq_model.specs.declared.test.Test.TheVariants as test
+use Rattle.hq_model.specs.declared.op.Op.TheVariants as op
+use Rattle.hq_model.specs.declared.test.Arity.{Arity}
+use Rattle.hq_model.specs.declared.test.Arity.TheVariants.{Many}
 use Rattle.hq_sql_tree.specs.declared.word.Word.{Word}
 use Rattle.hq_sql_tree.specs.declared.word.Word.TheVariants as word
 

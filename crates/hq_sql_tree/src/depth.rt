@@ -7,7 +7,7 @@ ghost use Rattle.hq_sql_tree.specs.Form.{greatest, expr_depth, pairs_depth, agg_
 use crate::{
     Agg, Expr, ExprList, ExprPairList, From, JoinList, OrderList, OutList, Pred, PredList, Select,
 };
-use hq_terms::{Arity, Test};
+use hq_model::{Arity, Test};
 
 // Whether an expression opens at most so many.
 #[cycle(expr_within)]

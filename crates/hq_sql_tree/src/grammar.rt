@@ -1,6 +1,6 @@
 //! Selects of the grammar.
 ghost use Rattle.std.specs.Prelude.{◌≡◌, ◌&&◌, not, map, length, nat_le};
-ghost use Rattle.hq_terms.specs.Tests.{takes, is_of_nothing};
+ghost use Rattle.hq_model.specs.Tests.{takes, is_of_nothing};
 ghost use Rattle.std.specs.List.{list_all};
 ghost use Rattle.hq_sql_tree.specs.Tree.{joins_of, preds_of, pred_list};
 ghost use Rattle.hq_sql_tree.specs.View.{expr_view, out_view, select_view, from_view, join_view, pred_view, filter_view};
@@ -9,7 +9,7 @@ ghost use Rattle.hq_sql_tree.specs.Form.{is_expr, is_select, is_from, are_joins,
 use crate::depth::select_within;
 use crate::exprs::{are_exprs, are_key_exprs, are_out_exprs, is_expr};
 use crate::{ExprList, From, JoinList, OutList, Pred, PredList, Select};
-use hq_terms::{Arity, Test};
+use hq_model::{Arity, Test};
 
 // Whether there is an output, and these are expressions of the grammar.
 fn has_outputs(distinct: &ExprList, outs: &OutList) -> bool

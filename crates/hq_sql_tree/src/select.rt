@@ -1,6 +1,6 @@
 use crate::{Expr, ExprList, OrderList};
 use hq_base::Txt;
-use hq_terms::Test;
+use hq_model::Test;
 
 /// The outputs of a select, in order.
 pub type OutList = Vec<Out>;

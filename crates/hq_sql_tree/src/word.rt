@@ -3,7 +3,7 @@ ghost use Rattle.std.specs.Prelude.{◌≡◌};
 ghost use Rattle.hq_sql_tree.specs.Word.{word_text, aggregate_word, all_tests, test_word, test_close};
 
 use hq_base::Aggregate;
-use hq_terms::{Arity, Op, Test};
+use hq_model::{Arity, Op, Test};
 
 /// A fixed piece of the text of a select: keywords with the spaces and parentheses beside them.
 #[derive(Clone, Copy)]

@@ -3,7 +3,7 @@ ghost use Rattle.std.specs.Prelude.{None, ◌≡◌};
 use crate::handshake::Subprotocol;
 use hq_base::Bytes;
 use hq_messages::{In, LinkRefusal, Messages};
-use hq_outside::count_fault;
+use hq_io::count_fault;
 use std::alloc::Global;
 use std::io::{ErrorKind, Read, Write};
 use std::net::OpenStream;

@@ -4,11 +4,11 @@ ghost use Rattle.std.specs.Io.{ReadsAtMost};
 
 use hq_base::{List, Txt};
 use hq_generator::{Generated, generate};
-use hq_memory::MemDisk;
-use hq_outside::{Disk, DiskFailed, NumList};
-use hq_pages::{PageRefusal, PagedTables};
-use hq_tables::{MemTables, StoreRefusal, Tables};
-use hq_terms::TableId;
+use hq_io_memory::MemDisk;
+use hq_io::{Disk, DiskFailed, NumList};
+use hq_load_pages::{PageRefusal, PagedTables};
+use hq_load_tables::{MemTables, StoreRefusal, Tables};
+use hq_model::TableId;
 use std::alloc::Global;
 use std::num::NonZeroUsize;
 use std::test::Fail;

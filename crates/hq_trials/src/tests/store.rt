@@ -1,7 +1,7 @@
 //! Tables in memory: one author and his articles, as `hq gen` makes them.
 use hq_base::Memory;
 use hq_generator::{Generated, generate};
-use hq_tables::MemTables;
+use hq_load_tables::MemTables;
 use std::alloc::Global;
 
 /// The tables `public.author` and `public.article`.

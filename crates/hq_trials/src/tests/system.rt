@@ -2,8 +2,8 @@
 ghost use Rattle.std.specs.Prelude.{◌≤◌, IfOk};
 
 use hq_base::{Bytes, Txt};
-use hq_outside::{Disk, Door, Files, Link, Sink, Source, read_all, write_all};
-use hq_system::{DirFiles, FileDisk, StdSink, StdSource, TcpDoor};
+use hq_io::{Disk, Door, Files, Link, Sink, Source, read_all, write_all};
+use hq_io_system::{DirFiles, FileDisk, StdSink, StdSource, TcpDoor};
 use std::alloc::Global;
 use std::io::{Read, Write};
 use std::net::{Shutdown, TcpStream};

@@ -1,4 +1,4 @@
-use Rattle.hq_terms.specs.Meta.{meta_view}
+use Rattle.hq_model.specs.Meta.{meta_view}
 use Rattle.hq_app.proofs.Worlds.{told_alike}
 use Rattle.hq_app.proofs.top.answer_one.Goals as goal
 

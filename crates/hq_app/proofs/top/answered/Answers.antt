@@ -1,6 +1,6 @@
 use Rattle.std.proofs.Common.{◌≡◌, ap, Option, Some, None, Ok}
 use Rattle.std.specs.Prelude.{ok_or}
-use Rattle.hq_words.specs.Asked.{command_of}
+use Rattle.hq_cli.specs.Asked.{command_of}
 use Rattle.hq_app.proofs.top.answered.Goals as goal
 
 -- the command that is read is the one that the words ask for

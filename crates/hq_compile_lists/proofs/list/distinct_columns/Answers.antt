@@ -1,6 +1,6 @@
 use Rattle.std.proofs.Common.{refl}
 use Rattle.hq_sql_tree.specs.View.{expr_view}
-use Rattle.hq_compiled.specs.Lists.{distinct_columns}
+use Rattle.hq_translation.specs.Lists.{distinct_columns}
 use Rattle.hq_compile_tables.proofs.Loops.{viewed_rest-more}
 use Rattle.hq_compile_tables.specs.Shown.{look_of}
 use Rattle.hq_compile_lists.proofs.list.distinct_columns.Goals as goal

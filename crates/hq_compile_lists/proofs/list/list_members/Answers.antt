@@ -1,11 +1,11 @@
 use Rattle.std.proofs.Common.{◌∙◌, ◌+◌, [], ap}
 use Rattle.std.proofs.lemmas.Result.{IfOk-weaker}
-use Rattle.hq_terms.specs.Bexp.{bexp_view}
-use Rattle.hq_terms.specs.Schema.{table}
+use Rattle.hq_model.specs.Bexp.{bexp_view}
+use Rattle.hq_model.specs.Schema.{table}
 use Rattle.hq_sql_tree.specs.Tree.{PredTree}
-use Rattle.hq_compiled.specs.Conditions.{with_member}
-use Rattle.hq_compiled.specs.Masks.{filter_numbers, filter_predicate, where_mode}
-use Rattle.hq_compiled.specs.Predicates.{predicate}
+use Rattle.hq_translation.specs.Conditions.{with_member}
+use Rattle.hq_translation.specs.Masks.{filter_numbers, filter_predicate, where_mode}
+use Rattle.hq_translation.specs.Predicates.{predicate}
 use Rattle.hq_compile_context.specs.Contexts.{context_schema, context_rights}
 use Rattle.hq_compile_tables.proofs.Members.{three_members}
 use Rattle.hq_compile_tables.specs.Shown.{look_in}

@@ -1,10 +1,10 @@
 use Rattle.std.proofs.Common.{◌∙◌, ◌∷◌, List, map, ap}
-use Rattle.hq_terms.specs.Selected.{smaller}
-use Rattle.hq_ask_tree.specs.Arguments.{arguments_view}
+use Rattle.hq_model.specs.Selected.{smaller}
+use Rattle.hq_request_tree.specs.Arguments.{arguments_view}
 use Rattle.hq_sql_tree.specs.Tree.{OutTree, object, pairs_of}
 use Rattle.hq_sql_tree.specs.View.{join_view, pair_view, select_view}
-use Rattle.hq_compiled.specs.Lists.{list_outputs}
-use Rattle.hq_compiled.specs.Names.{value_name}
+use Rattle.hq_translation.specs.Lists.{list_outputs}
+use Rattle.hq_translation.specs.Names.{value_name}
 use Rattle.hq_compile_context.specs.Contexts.{context_schema, context_rights}
 use Rattle.hq_compile_lists.specs.Bodies.{rows_of}
 use Rattle.hq_compile_lists.proofs.Selects.{list_of}

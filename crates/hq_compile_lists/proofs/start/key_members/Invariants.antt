@@ -1,6 +1,6 @@
 use Rattle.std.proofs.Common.{◌≡◌, ◌++◌, drop, map}
 use Rattle.hq_sql_tree.specs.View.{pred_view}
-use Rattle.hq_compiled.specs.Fields.{key_members}
+use Rattle.hq_translation.specs.Fields.{key_members}
 use Rattle.hq_compile_tables.specs.Shown.{look_of}
 use Rattle.hq_compile_lists.proofs.start.key_members.Given as goal
 

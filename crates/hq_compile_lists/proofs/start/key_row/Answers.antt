@@ -1,6 +1,6 @@
 use Rattle.std.proofs.Common.{◌≡◌, ◌∙◌, ℕ, ◌+◌, List, ap, refl, arith}
-use Rattle.hq_terms.specs.Schema.{table}
-use Rattle.hq_compiled.specs.Masks.{filter_numbers}
+use Rattle.hq_model.specs.Schema.{table}
+use Rattle.hq_translation.specs.Masks.{filter_numbers}
 use Rattle.hq_compile_context.specs.Contexts.{context_schema, context_rights}
 use Rattle.hq_compile_tables.specs.Shown.{look_in}
 use Rattle.hq_compile_tables.specs.declared.shown.MaskPlace.{MaskPlace}

@@ -1,11 +1,11 @@
 use Rattle.std.proofs.Common.{◌≡◌, ◌∙◌, ℕ, ◌+◌, ◌++◌, List, [], ◌∷◌, map, drop, sym, ap, arith}
 use Rattle.std.proofs.lemmas.List.{append-nil, at_drop_all}
-use Rattle.hq_terms.specs.PermView.{mask_view}
-use Rattle.hq_terms.specs.Permission.{Mask as MaskTree}
-use Rattle.hq_terms.specs.Schema.{table}
-use Rattle.hq_terms.specs.declared.perm.Mask.{Mask}
+use Rattle.hq_model.specs.PermView.{mask_view}
+use Rattle.hq_model.specs.Permission.{Mask as MaskTree}
+use Rattle.hq_model.specs.Schema.{table}
+use Rattle.hq_model.specs.declared.perm.Mask.{Mask}
 use Rattle.hq_sql_tree.specs.View.{join_view}
-use Rattle.hq_compiled.specs.Masks.{mask_numbers, mask_joins, used_masks}
+use Rattle.hq_translation.specs.Masks.{mask_numbers, mask_joins, used_masks}
 use Rattle.hq_compile_context.specs.Contexts.{context_schema, context_rights}
 use Rattle.hq_compile_tables.specs.Shown.{look_in}
 use Rattle.hq_compile_tables.specs.declared.shown.MaskPlace.{MaskPlace}

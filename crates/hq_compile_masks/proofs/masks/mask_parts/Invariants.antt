@@ -1,8 +1,8 @@
 use Rattle.std.proofs.Common.{◌≡◌, ◌+◌, ◌++◌, drop, map}
-use Rattle.hq_terms.specs.PermView.{mask_view}
-use Rattle.hq_terms.specs.Schema.{Schema}
+use Rattle.hq_model.specs.PermView.{mask_view}
+use Rattle.hq_model.specs.Schema.{Schema}
 use Rattle.hq_sql_tree.specs.View.{join_view}
-use Rattle.hq_compiled.specs.Masks.{mask_numbers, mask_joins}
+use Rattle.hq_translation.specs.Masks.{mask_numbers, mask_joins}
 use Rattle.hq_compile_context.specs.Contexts.{context_schema}
 use Rattle.hq_compile_masks.specs.MaskPlaces.{used_of, mask_places}
 use Rattle.hq_compile_masks.proofs.masks.mask_parts.Given as goal

@@ -1,7 +1,7 @@
 use Rattle.std.proofs.Common.{List, map, refl}
-use Rattle.hq_terms.specs.Bexp.{bexp_view, bexps_of}
-use Rattle.hq_terms.specs.declared.bexp.Bexp.{Bexp}
-use Rattle.hq_compiled.specs.Predicates.{columns_in, columns_in_all}
+use Rattle.hq_model.specs.Bexp.{bexp_view, bexps_of}
+use Rattle.hq_model.specs.declared.bexp.Bexp.{Bexp}
+use Rattle.hq_translation.specs.Predicates.{columns_in, columns_in_all}
 use Rattle.hq_compile_tables.proofs.Loops.{rest-more}
 use Rattle.hq_compile_masks.proofs.used.+columns.Goals as goal
 

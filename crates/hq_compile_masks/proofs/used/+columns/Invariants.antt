@@ -1,6 +1,6 @@
 use Rattle.std.proofs.Common.{◌≡◌, ◌++◌, map, drop}
-use Rattle.hq_terms.specs.Bexp.{bexp_view, bexps_of}
-use Rattle.hq_compiled.specs.Predicates.{columns_in_all}
+use Rattle.hq_model.specs.Bexp.{bexp_view, bexps_of}
+use Rattle.hq_translation.specs.Predicates.{columns_in_all}
 use Rattle.hq_compile_masks.proofs.used.+columns.Given as goal
 
 abbrev pub invariant-add_all-loop-bexp : goal.invariant-add_all-loop-bexp

@@ -1,14 +1,14 @@
 use Rattle.std.proofs.Common.{◌≡◌, ◌∙◌, ℕ, ◌+◌, List, [], ◌∷◌, map, drop, refl, rules, sym, ap}
 use Rattle.std.proofs.lemmas.Result.{IfOk-weaker}
-use Rattle.hq_terms.specs.Bexp.{bexp_view, bexps_of}
-use Rattle.hq_terms.specs.Schema.{table}
-use Rattle.hq_terms.specs.declared.bexp.Bexp.{Bexp}
+use Rattle.hq_model.specs.Bexp.{bexp_view, bexps_of}
+use Rattle.hq_model.specs.Schema.{table}
+use Rattle.hq_model.specs.declared.bexp.Bexp.{Bexp}
 use Rattle.hq_sql_tree.specs.Tree.{always}
 use Rattle.hq_sql_tree.specs.View.{pred_view}
 use Rattle.hq_sql_tree.specs.declared.select.Pred.{the_lemmas}
 use Rattle.hq_sql_tree.specs.declared.select.Pred.TheVariants.{True}
-use Rattle.hq_compiled.specs.Looks.{own_look}
-use Rattle.hq_compiled.specs.Predicates.{numbers, numbers_all, predicate, predicates}
+use Rattle.hq_translation.specs.Looks.{own_look}
+use Rattle.hq_translation.specs.Predicates.{numbers, numbers_all, predicate, predicates}
 use Rattle.hq_compile_context.specs.Contexts.{context_schema, context_rights}
 use Rattle.hq_compile_tables.specs.Shown.{look_in}
 use Rattle.hq_compile_tables.specs.declared.shown.MaskPlace.{MaskPlace}

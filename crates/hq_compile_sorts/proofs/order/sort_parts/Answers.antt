@@ -1,8 +1,8 @@
 use Rattle.std.proofs.Common.{◌∙◌, ℕ, ◌+◌, List, [], ◌∷◌, ◌++◌, map, drop, refl, sym, ap}
 use Rattle.std.proofs.lemmas.List.{append-nil, at_drop_all}
-use Rattle.hq_terms.specs.Schema.{table}
+use Rattle.hq_model.specs.Schema.{table}
 use Rattle.hq_sql_tree.specs.View.{join_view, order_view, out_view}
-use Rattle.hq_compiled.specs.Sorts.{sort_numbers, sort_joins, sorts_numbers, sorts_joins, orders, key_outputs}
+use Rattle.hq_translation.specs.Sorts.{sort_numbers, sort_joins, sorts_numbers, sorts_joins, orders, key_outputs}
 use Rattle.hq_compile_context.specs.Contexts.{context_schema, context_rights}
 use Rattle.hq_compile_tables.specs.Shown.{look_in}
 use Rattle.hq_compile_tables.proofs.Loops.{rest-more, count-more}

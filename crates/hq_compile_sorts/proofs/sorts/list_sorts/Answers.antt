@@ -1,9 +1,9 @@
 use Rattle.std.proofs.Common.{◌≡◌, ◌++◌, ◌∙◌, [], map, rules}
-use Rattle.hq_terms.specs.Schema.{table}
-use Rattle.hq_terms.specs.Selected.{entries}
-use Rattle.hq_ask_tree.specs.Arguments.{arguments_view}
-use Rattle.hq_compiled.specs.Lists.{once}
-use Rattle.hq_compiled.specs.Sorts.{shown_sorts, own_sorts}
+use Rattle.hq_model.specs.Schema.{table}
+use Rattle.hq_model.specs.Selected.{entries}
+use Rattle.hq_request_tree.specs.Arguments.{arguments_view}
+use Rattle.hq_translation.specs.Lists.{once}
+use Rattle.hq_translation.specs.Sorts.{shown_sorts, own_sorts}
 use Rattle.hq_compile_context.specs.Contexts.{context_schema}
 use Rattle.hq_compile_sorts.specs.RowSorts.{row_sort_view}
 use Rattle.hq_compile_sorts.proofs.SortLists.{shown_sorts-append}

@@ -1,6 +1,6 @@
 use Rattle.std.proofs.Common.{◌≡◌, ◌++◌, [], drop, map}
-use Rattle.hq_terms.specs.Selected.{ascending}
-use Rattle.hq_compiled.specs.Sorts.{shown_sorts}
+use Rattle.hq_model.specs.Selected.{ascending}
+use Rattle.hq_translation.specs.Sorts.{shown_sorts}
 use Rattle.hq_compile_sorts.specs.RowSorts.{row_sort_view}
 use Rattle.hq_compile_sorts.proofs.sorts.push_distinct.Given as goal
 

@@ -1,7 +1,7 @@
 use Rattle.std.proofs.Common.{List, [], map, refl}
-use Rattle.hq_ask_tree.specs.Arguments.{sort_view}
-use Rattle.hq_ask_tree.specs.declared.arguments.Sort.{Sort}
-use Rattle.hq_compiled.specs.Sorts.{shown_sorts}
+use Rattle.hq_request_tree.specs.Arguments.{sort_view}
+use Rattle.hq_request_tree.specs.declared.arguments.Sort.{Sort}
+use Rattle.hq_translation.specs.Sorts.{shown_sorts}
 use Rattle.hq_compile_tables.proofs.Loops.{viewed_rest-more}
 use Rattle.hq_compile_sorts.specs.RowSorts.{row_sort_view}
 use Rattle.hq_compile_sorts.proofs.sorts.push_entries.Goals as goal

@@ -1,5 +1,5 @@
 use Rattle.std.proofs.Common.{refl}
-use Rattle.hq_compiled.specs.Sorts.{own_sorts}
+use Rattle.hq_translation.specs.Sorts.{own_sorts}
 use Rattle.hq_compile_tables.proofs.Loops.{viewed_rest-more}
 use Rattle.hq_compile_sorts.specs.RowSorts.{row_sort_view}
 use Rattle.hq_compile_sorts.proofs.sorts.push_key.Goals as goal

@@ -1,5 +1,5 @@
 use Rattle.std.proofs.Common.{List, map, refl}
-use Rattle.hq_compiled.specs.Sorts.{used_by, used_sorts}
+use Rattle.hq_translation.specs.Sorts.{used_by, used_sorts}
 use Rattle.hq_compile_tables.proofs.Loops.{rest-more}
 use Rattle.hq_compile_sorts.specs.RowSorts.{row_sort_view}
 use Rattle.hq_compile_sorts.specs.declared.sorts.RowSort.{RowSort}

@@ -1,5 +1,5 @@
 use Rattle.std.proofs.Common.{◌≡◌, ◌++◌, drop, map}
-use Rattle.hq_compiled.specs.Sorts.{used_sorts}
+use Rattle.hq_translation.specs.Sorts.{used_sorts}
 use Rattle.hq_compile_sorts.specs.RowSorts.{row_sort_view}
 use Rattle.hq_compile_sorts.proofs.used.add_used_sorts.Given as goal
 

@@ -1,5 +1,5 @@
 use Rattle.std.proofs.Common.{◌≡◌, drop}
-use Rattle.hq_compiled.specs.Aggregates.{add_columns}
+use Rattle.hq_translation.specs.Aggregates.{add_columns}
 use Rattle.hq_compile_summaries.proofs.needs.add_columns.Given as goal
 
 abbrev pub invariant-loop-keyed : goal.invariant-loop-keyed

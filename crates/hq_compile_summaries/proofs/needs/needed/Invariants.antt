@@ -1,5 +1,5 @@
 use Rattle.std.proofs.Common.{◌≡◌, [], drop}
-use Rattle.hq_compiled.specs.Aggregates.{needed}
+use Rattle.hq_translation.specs.Aggregates.{needed}
 use Rattle.hq_compile_summaries.proofs.needs.needed.Given as goal
 
 abbrev pub invariant-loop-keyed : goal.invariant-loop-keyed

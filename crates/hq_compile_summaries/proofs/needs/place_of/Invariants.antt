@@ -1,5 +1,5 @@
 use Rattle.std.proofs.Common.{◌≡◌, drop}
-use Rattle.hq_compiled.specs.Aggregates.{place_of}
+use Rattle.hq_translation.specs.Aggregates.{place_of}
 use Rattle.hq_compile_summaries.proofs.needs.place_of.Given as goal
 
 abbrev pub invariant-loop-i : goal.invariant-loop-i

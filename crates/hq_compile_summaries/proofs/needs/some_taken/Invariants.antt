@@ -1,5 +1,5 @@
 use Rattle.std.proofs.Common.{◌≡◌, drop}
-use Rattle.hq_compiled.specs.Aggregates.{some_taken}
+use Rattle.hq_translation.specs.Aggregates.{some_taken}
 use Rattle.hq_compile_summaries.proofs.needs.some_taken.Given as goal
 
 abbrev pub invariant-loop-keyed : goal.invariant-loop-keyed

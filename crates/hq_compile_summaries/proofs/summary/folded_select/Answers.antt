@@ -1,9 +1,9 @@
 use Rattle.std.proofs.Common.{◌∙◌, ℕ, List, sym, ap}
-use Rattle.hq_terms.specs.Schema.{table}
-use Rattle.hq_terms.specs.declared.table.Column.{Column}
-use Rattle.hq_ask_tree.specs.Arguments.{arguments_view}
+use Rattle.hq_model.specs.Schema.{table}
+use Rattle.hq_model.specs.declared.table.Column.{Column}
+use Rattle.hq_request_tree.specs.Arguments.{arguments_view}
 use Rattle.hq_sql_tree.specs.View.{select_view}
-use Rattle.hq_compiled.specs.Lists.{list_used, children_from}
+use Rattle.hq_translation.specs.Lists.{list_used, children_from}
 use Rattle.hq_compile_context.specs.Contexts.{context_schema, context_rights}
 use Rattle.hq_compile_lists.specs.Starts.{start_tie}
 use Rattle.hq_compile_summaries.proofs.Selects.{folded_of, output_of}

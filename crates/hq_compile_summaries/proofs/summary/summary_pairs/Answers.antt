@@ -1,6 +1,6 @@
 use Rattle.std.proofs.Common.{refl}
 use Rattle.hq_sql_tree.specs.View.{pair_view}
-use Rattle.hq_compiled.specs.Aggregates.{summary_pairs}
+use Rattle.hq_translation.specs.Aggregates.{summary_pairs}
 use Rattle.hq_compile_tables.proofs.Loops.{viewed_rest-more}
 use Rattle.hq_compile_summaries.proofs.summary.summary_pairs.Goals as goal
 

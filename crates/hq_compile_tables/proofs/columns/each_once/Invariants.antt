@@ -1,5 +1,5 @@
 use Rattle.std.proofs.Common.{◌≡◌, [], drop}
-use Rattle.hq_compiled.specs.Looks.{add_all}
+use Rattle.hq_translation.specs.Looks.{add_all}
 use Rattle.hq_compile_tables.proofs.columns.each_once.Given as goal
 
 abbrev pub invariant-loop-column : goal.invariant-loop-column

@@ -1,6 +1,6 @@
 use Rattle.std.proofs.Common.{map, refl}
 use Rattle.hq_sql_tree.specs.View.{expr_view}
-use Rattle.hq_compiled.specs.Conditions.{operand_literal}
+use Rattle.hq_translation.specs.Conditions.{operand_literal}
 use Rattle.hq_compile_tables.proofs.Loops.{viewed_rest-more}
 use Rattle.hq_compile_tables.proofs.condition.operand_literals.Goals as goal
 

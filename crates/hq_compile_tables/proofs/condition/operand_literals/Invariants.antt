@@ -1,6 +1,6 @@
 use Rattle.std.proofs.Common.{◌≡◌, ◌++◌, drop, map}
 use Rattle.hq_sql_tree.specs.View.{expr_view}
-use Rattle.hq_compiled.specs.Conditions.{operand_literal}
+use Rattle.hq_translation.specs.Conditions.{operand_literal}
 use Rattle.hq_compile_tables.proofs.condition.operand_literals.Given as goal
 
 abbrev pub invariant-loop-operand : goal.invariant-loop-operand

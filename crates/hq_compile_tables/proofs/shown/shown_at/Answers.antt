@@ -2,8 +2,8 @@ use Rattle.std.proofs.Common.{◌∙◌, Option, ap, sym}
 use Rattle.std.specs.Prelude.{option_map, unwrap_or}
 use Rattle.std.proofs.lemmas.Result.{IfOk-weaker}
 use Rattle.hq_sql_tree.specs.Tree as tree
-use Rattle.hq_compiled.specs.Looks.{Place, own_look}
-use Rattle.hq_compiled.specs.Masks.{value_place}
+use Rattle.hq_translation.specs.Looks.{Place, own_look}
+use Rattle.hq_translation.specs.Masks.{value_place}
 use Rattle.hq_compile_tables.specs.declared.shown.MaskPlace.{MaskPlace}
 use Rattle.hq_compile_tables.proofs.Looks.{found_look}
 use Rattle.hq_compile_tables.proofs.shown.shown_at.Goals as goal

@@ -1,6 +1,6 @@
 use Rattle.std.proofs.Common.{◌≡◌, ◌++◌, drop, map}
 use Rattle.hq_sql_tree.specs.View.{pred_view}
-use Rattle.hq_compiled.specs.Predicates.{link_members}
+use Rattle.hq_translation.specs.Predicates.{link_members}
 use Rattle.hq_compile_tables.proofs.table.link_members.Given as goal
 
 abbrev pub invariant-loop-pair : goal.invariant-loop-pair

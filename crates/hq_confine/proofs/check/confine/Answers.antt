@@ -1,12 +1,12 @@
 use Rattle.std.proofs.Common.{◌≡◌, ◌∙◌, map, sym, ap, subst}
 use Rattle.std.specs.Prelude.{option_map}
-use Rattle.hq_terms.specs.Grants.{Grants, grants_of}
-use Rattle.hq_terms.specs.Meta.{meta_view}
-use Rattle.hq_terms.specs.PermView.{permission_view}
-use Rattle.hq_terms.specs.Schema.{Schema, schema_of}
+use Rattle.hq_model.specs.Grants.{Grants, grants_of}
+use Rattle.hq_model.specs.Meta.{meta_view}
+use Rattle.hq_model.specs.PermView.{permission_view}
+use Rattle.hq_model.specs.Schema.{Schema, schema_of}
 use Rattle.hq_sql_tree.specs.View.{select_view}
-use Rattle.hq_confined.specs.Faults.{faults, worst}
-use Rattle.hq_confined_means.specs.Laws.{AreWritten}
+use Rattle.hq_confine_rules.specs.Faults.{faults, worst}
+use Rattle.hq_laws_confine.specs.Laws.{AreWritten}
 use Rattle.hq_confine_uses.specs.Views.{faulted}
 use Rattle.hq_confine.proofs.Yes.{no_fault, shows}
 use Rattle.hq_confine.proofs.check.confine.Goals as goal

@@ -1,15 +1,15 @@
 use Rattle.std.proofs.Common.{◌≡◌, ◌∙◌, ap, List, map, Err, inl, inr, rules}
 use Rattle.std.specs.Prelude.{◌⊎◌}
 use Rattle.std.proofs.lemmas.List.{map-append}
-use Rattle.hq_terms.specs.Binding.{bound_masks}
-use Rattle.hq_terms.specs.PermView.{mask_view}
-use Rattle.hq_terms.specs.Scope.{scope_schema}
-use Rattle.hq_terms.specs.declared.bind.BindRefusal.{BindRefusal}
-use Rattle.hq_terms.specs.declared.bind.BindRefusal.TheVariants.{Memory}
-use Rattle.hq_terms.specs.declared.perm.Mask.{Mask}
-use Rattle.hq_terms.proofs.Steps.{read_more, read_refused}
-use Rattle.hq_bound.specs.Bound.{mask_due}
-use Rattle.hq_bound.proofs.Masks.{masks_read}
+use Rattle.hq_model.specs.Binding.{bound_masks}
+use Rattle.hq_model.specs.PermView.{mask_view}
+use Rattle.hq_model.specs.Scope.{scope_schema}
+use Rattle.hq_model.specs.declared.bind.BindRefusal.{BindRefusal}
+use Rattle.hq_model.specs.declared.bind.BindRefusal.TheVariants.{Memory}
+use Rattle.hq_model.specs.declared.perm.Mask.{Mask}
+use Rattle.hq_model.proofs.Steps.{read_more, read_refused}
+use Rattle.hq_request_bound.specs.Bound.{mask_due}
+use Rattle.hq_request_bound.proofs.Masks.{masks_read}
 use Rattle.hq_confine.proofs.grants.bound_masks.Goals as goal
 
 -- a mask is bound, and the loop goes on behind it

@@ -1,10 +1,10 @@
 use Rattle.std.proofs.Common.{◌≡◌, ◌++◌, drop, map}
 use Rattle.std.specs.Prelude.{option_map}
-use Rattle.hq_terms.specs.Grants.{grant_of, grants_of}
-use Rattle.hq_terms.specs.Meta.{meta_view}
-use Rattle.hq_terms.specs.PermView.{permission_view}
-use Rattle.hq_terms.specs.Schema.{numbered}
-use Rattle.hq_terms.specs.Scope.{scope_schema}
+use Rattle.hq_model.specs.Grants.{grant_of, grants_of}
+use Rattle.hq_model.specs.Meta.{meta_view}
+use Rattle.hq_model.specs.PermView.{permission_view}
+use Rattle.hq_model.specs.Schema.{numbered}
+use Rattle.hq_model.specs.Scope.{scope_schema}
 use Rattle.hq_confine.proofs.grants.views_of_role.Given as goal
 
 -- what is granted of the tables so far, and then of those that are left

@@ -1,7 +1,7 @@
 use Rattle.std.proofs.Common.{◌∙◌, ◌≡◌, ◌<◌, ◌≤◌, ℕ, length, sym, arith}
 use Rattle.std.proofs.lemmas.List.{length-map}
 use Rattle.std.specs.Prelude.{option_map}
-use Rattle.hq_terms.specs.PermView.{permission_view}
+use Rattle.hq_model.specs.PermView.{permission_view}
 use Rattle.hq_confine_uses.specs.Views.{rules_schema, rules_grants}
 use Rattle.hq_confine.proofs.Small.{all_written}
 use Rattle.hq_confine.proofs.numbers.write_grants.Goals as goal

@@ -1,10 +1,10 @@
 use Rattle.std.proofs.Common.{◌∙◌, ◌+◌, ◌<◌, ℕ, ◌≤◌, ◌^◌, List, drop, length, map, ap, sym, subst, arith}
 use Rattle.std.proofs.lemmas.List.{drop_all}
 use Rattle.hq_base.proofs.Loops.{next_item}
-use Rattle.hq_terms.specs.PermView.{mask_view}
-use Rattle.hq_terms.specs.Permission.{Mask}
-use Rattle.hq_terms.specs.Permitted.{mask_of}
-use Rattle.hq_compiled.specs.Predicates.{own_numbers}
+use Rattle.hq_model.specs.PermView.{mask_view}
+use Rattle.hq_model.specs.Permission.{Mask}
+use Rattle.hq_model.specs.Permitted.{mask_of}
+use Rattle.hq_translation.specs.Predicates.{own_numbers}
 use Rattle.hq_confine_uses.specs.Views.{rules_schema}
 use Rattle.hq_confine.proofs.Small.{mask_more, no_masks}
 use Rattle.hq_confine.proofs.numbers.write_masks.Goals as goal

@@ -1,7 +1,7 @@
 use Rattle.std.proofs.Common.{ℕ, ◌+◌, ◌≤◌, ◌^◌, drop, map}
-use Rattle.hq_terms.specs.PermView.{mask_view}
-use Rattle.hq_terms.specs.Permitted.{mask_of}
-use Rattle.hq_compiled.specs.Predicates.{own_numbers}
+use Rattle.hq_model.specs.PermView.{mask_view}
+use Rattle.hq_model.specs.Permitted.{mask_of}
+use Rattle.hq_translation.specs.Predicates.{own_numbers}
 use Rattle.hq_confine_uses.specs.Views.{rules_schema}
 use Rattle.hq_confine.proofs.numbers.write_masks.Given as goal
 

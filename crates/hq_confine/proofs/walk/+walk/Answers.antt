@@ -4,10 +4,10 @@ use Rattle.hq_sql_tree.specs.View.{expr_view, filter_view, from_view, join_view,
 use Rattle.hq_sql_tree.specs.declared.select.Pred.{Pred}
 use Rattle.hq_sql_tree.proofs.Next.{next_join, next_pred}
 use Rattle.hq_sql_tree.proofs.Views.{view_rows, view_fold, view_join}
-use Rattle.hq_confined.specs.Faults.{worse, worst, is_exempt, outputs_of, from_shapes, joined_shapes}
-use Rattle.hq_confined.specs.Faults.{select_faults, joins_faults, where_faults, conjunct_faults, conjuncts_faults, pred_faults, preds_faults}
-use Rattle.hq_confined.specs.Members.{is_mask_join}
-use Rattle.hq_confined.specs.Origins.{Shapes}
+use Rattle.hq_confine_rules.specs.Faults.{worse, worst, is_exempt, outputs_of, from_shapes, joined_shapes}
+use Rattle.hq_confine_rules.specs.Faults.{select_faults, joins_faults, where_faults, conjunct_faults, conjuncts_faults, pred_faults, preds_faults}
+use Rattle.hq_confine_rules.specs.Members.{is_mask_join}
+use Rattle.hq_confine_rules.specs.Origins.{Shapes}
 use Rattle.hq_confine_uses.specs.declared.scope.Alias.{Alias}
 use Rattle.hq_confine.specs.Parts.{scanned_faults}
 use Rattle.hq_confine_members.specs.Views.{preds_view}

@@ -2,7 +2,7 @@ use Rattle.std.proofs.Common.{◌≡◌, List, drop, map}
 use Rattle.hq_sql_tree.specs.Tree.{joins_of, preds_of}
 use Rattle.hq_sql_tree.specs.View.{from_view, join_view, pred_view}
 use Rattle.hq_sql_tree.specs.declared.select.Pred.{Pred}
-use Rattle.hq_confined.specs.Faults.{worse, worst, is_exempt, joined_shapes, joins_faults, conjuncts_faults, preds_faults}
+use Rattle.hq_confine_rules.specs.Faults.{worse, worst, is_exempt, joined_shapes, joins_faults, conjuncts_faults, preds_faults}
 use Rattle.hq_confine_members.specs.Views.{preds_view}
 use Rattle.hq_confine_uses.specs.Views.{alias_view, faulted, shapes_view, stacked, rules_schema, rules_grants}
 use Rattle.hq_confine.proofs.walk.+walk.Given as goal

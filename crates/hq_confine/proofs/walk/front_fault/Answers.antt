@@ -1,6 +1,6 @@
 use Rattle.std.proofs.Common.{◌∙◌, map}
 use Rattle.hq_sql_tree.specs.View.{expr_view, out_view}
-use Rattle.hq_confined.specs.Uses.{exprs_faults, outs_faults}
+use Rattle.hq_confine_rules.specs.Uses.{exprs_faults, outs_faults}
 use Rattle.hq_confine_uses.specs.Views.{faulted, shapes_view, rules_schema, rules_grants}
 use Rattle.hq_confine_uses.proofs.Worst.{worst_of_two}
 use Rattle.hq_confine.proofs.walk.front_fault.Goals as goal

@@ -2,7 +2,7 @@ use Rattle.std.proofs.Common.{◌≡◌, ◌∙◌, ◌<◌, ◌≤◌, List, le
 use Rattle.hq_sql_tree.specs.View.{pred_view}
 use Rattle.hq_sql_tree.specs.declared.select.Pred.{Pred}
 use Rattle.hq_sql_tree.specs.Tree.{preds_of}
-use Rattle.hq_confined.specs.Renamed.{is_alike, are_alike}
+use Rattle.hq_confine_rules.specs.Renamed.{is_alike, are_alike}
 use Rattle.hq_confine_members.specs.Views.{renaming_view}
 use Rattle.hq_confine_uses.proofs.Walks.{lists_differ, both_pass, both_fail, both_end}
 use Rattle.hq_confine_members.proofs.alike.+alike.Goals as goal

@@ -1,7 +1,7 @@
 use Rattle.std.proofs.Common.{◌≡◌, drop, length, map}
 use Rattle.hq_sql_tree.specs.Tree.{preds_of}
 use Rattle.hq_sql_tree.specs.View.{pred_view}
-use Rattle.hq_confined.specs.Renamed.{are_alike}
+use Rattle.hq_confine_rules.specs.Renamed.{are_alike}
 use Rattle.hq_confine_members.specs.Views.{renaming_view}
 use Rattle.hq_confine_members.proofs.alike.+alike.Given as goal
 

@@ -1,7 +1,7 @@
 use Rattle.std.proofs.Common.{◌≡◌, ◌∙◌, ◌<◌, ◌≤◌, List, length, get_or, map, refl, sym, ap, arith, rules}
 use Rattle.hq_sql_tree.specs.View.{expr_view}
 use Rattle.hq_sql_tree.specs.declared.expr.Expr.{Expr}
-use Rattle.hq_confined.specs.Renamed.{is_alike_expr, are_alike_exprs}
+use Rattle.hq_confine_rules.specs.Renamed.{is_alike_expr, are_alike_exprs}
 use Rattle.hq_confine_members.specs.Views.{renaming_view}
 use Rattle.hq_confine_uses.proofs.Walks.{lists_differ, both_pass, both_fail, both_end}
 use Rattle.hq_confine_members.proofs.alike.are_alike_exprs.Goals as goal

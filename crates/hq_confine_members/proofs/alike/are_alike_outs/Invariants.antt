@@ -1,6 +1,6 @@
 use Rattle.std.proofs.Common.{◌≡◌, drop, length, map}
 use Rattle.hq_sql_tree.specs.View.{out_view}
-use Rattle.hq_confined.specs.Renamed.{are_alike_outs}
+use Rattle.hq_confine_rules.specs.Renamed.{are_alike_outs}
 use Rattle.hq_confine_members.specs.Views.{renaming_view}
 use Rattle.hq_confine_members.proofs.alike.are_alike_outs.Given as goal
 

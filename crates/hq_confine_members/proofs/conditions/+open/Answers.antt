@@ -5,7 +5,7 @@ use Rattle.hq_sql_tree.specs.Tree.{preds_of}
 use Rattle.hq_sql_tree.specs.View.{pred_view}
 use Rattle.hq_sql_tree.proofs.Next.{next_pred}
 use Rattle.hq_base.proofs.Loops.{piece_more}
-use Rattle.hq_confined.specs.Conjuncts.{opened, all_opened}
+use Rattle.hq_confine_rules.specs.Conjuncts.{opened, all_opened}
 use Rattle.hq_confine_members.specs.Views.{preds_view}
 use Rattle.hq_confine_members.proofs.conditions.+open.Goals as goal
 

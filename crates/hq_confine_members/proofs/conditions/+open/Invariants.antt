@@ -1,7 +1,7 @@
 use Rattle.std.proofs.Common.{◌≡◌, ◌++◌, drop, map}
 use Rattle.hq_sql_tree.specs.Tree.{preds_of}
 use Rattle.hq_sql_tree.specs.View.{pred_view}
-use Rattle.hq_confined.specs.Conjuncts.{all_opened}
+use Rattle.hq_confine_rules.specs.Conjuncts.{all_opened}
 use Rattle.hq_confine_members.specs.Views.{preds_view}
 use Rattle.hq_confine_members.proofs.conditions.+open.Given as goal
 

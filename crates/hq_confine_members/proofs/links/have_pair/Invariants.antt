@@ -1,7 +1,7 @@
 use Rattle.std.proofs.Common.{◌≡◌, drop}
 use Rattle.std.specs.List.{list_any}
 use Rattle.hq_sql_tree.specs.Tree.{PredTree}
-use Rattle.hq_confined.specs.Members.{equation, is_for_pair}
+use Rattle.hq_confine_rules.specs.Members.{equation, is_for_pair}
 use Rattle.hq_confine_members.specs.Views.{preds_view}
 use Rattle.hq_confine_uses.specs.Views.{rules_schema}
 use Rattle.hq_confine_members.proofs.links.have_pair.Given as goal

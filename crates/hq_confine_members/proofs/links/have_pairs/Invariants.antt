@@ -1,7 +1,7 @@
 use Rattle.std.proofs.Common.{◌≡◌, drop}
 use Rattle.std.specs.List.{list_all, list_any}
-use Rattle.hq_terms.specs.declared.meta.Pair.{Pair}
-use Rattle.hq_confined.specs.Members.{equation, is_for_pair}
+use Rattle.hq_model.specs.declared.meta.Pair.{Pair}
+use Rattle.hq_confine_rules.specs.Members.{equation, is_for_pair}
 use Rattle.hq_confine_members.specs.Views.{preds_view}
 use Rattle.hq_confine_uses.specs.Views.{rules_schema}
 use Rattle.hq_confine_members.proofs.links.have_pairs.Given as goal

@@ -1,7 +1,7 @@
 use Rattle.std.proofs.Common.{◌≡◌, drop}
 use Rattle.std.specs.List.{list_any}
-use Rattle.hq_terms.specs.declared.meta.Pair.{Pair}
-use Rattle.hq_confined.specs.Members.{is_equation_of}
+use Rattle.hq_model.specs.declared.meta.Pair.{Pair}
+use Rattle.hq_confine_rules.specs.Members.{is_equation_of}
 use Rattle.hq_confine_members.specs.Views.{equation_view}
 use Rattle.hq_confine_uses.specs.Views.{rules_schema}
 use Rattle.hq_confine_members.proofs.links.is_of_pairs.Given as goal

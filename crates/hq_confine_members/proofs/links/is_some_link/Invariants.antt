@@ -1,6 +1,6 @@
 use Rattle.std.proofs.Common.{◌≡◌, drop}
 use Rattle.std.specs.List.{list_any}
-use Rattle.hq_confined.specs.Members.{is_whole_link}
+use Rattle.hq_confine_rules.specs.Members.{is_whole_link}
 use Rattle.hq_confine_members.specs.Views.{equation_view, preds_view}
 use Rattle.hq_confine_uses.specs.Views.{rules_schema}
 use Rattle.hq_confine_members.proofs.links.is_some_link.Given as goal

@@ -1,6 +1,6 @@
 use Rattle.std.proofs.Common.{◌≡◌, drop}
 use Rattle.hq_sql_tree.specs.View.{pred_view}
-use Rattle.hq_confined.specs.Members.{is_one_of}
+use Rattle.hq_confine_rules.specs.Members.{is_one_of}
 use Rattle.hq_confine_members.specs.Views.{preds_view}
 use Rattle.hq_confine_members.proofs.members.is_one_of.Given as goal
 

@@ -1,6 +1,6 @@
 use Rattle.std.proofs.Common.{◌∙◌, ℕ, List, [], ◌∷◌, ap₂}
 use Rattle.hq_sql_tree.specs.View.{pred_view}
-use Rattle.hq_confined.specs.Renamed.{is_alike}
+use Rattle.hq_confine_rules.specs.Renamed.{is_alike}
 use Rattle.hq_confine_members.proofs.AliasLemmas.{written_alias}
 use Rattle.hq_confine_members.proofs.members.is_written.Goals as goal
 

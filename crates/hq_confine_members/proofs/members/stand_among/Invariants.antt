@@ -1,5 +1,5 @@
 use Rattle.std.proofs.Common.{◌≡◌, drop}
-use Rattle.hq_confined.specs.Members.{stand_among}
+use Rattle.hq_confine_rules.specs.Members.{stand_among}
 use Rattle.hq_confine_members.specs.Views.{preds_view}
 use Rattle.hq_confine_members.proofs.members.stand_among.Given as goal
 

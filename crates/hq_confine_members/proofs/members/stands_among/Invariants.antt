@@ -1,7 +1,7 @@
 use Rattle.std.proofs.Common.{◌≡◌, drop}
 use Rattle.std.specs.List.{list_any}
 use Rattle.hq_sql_tree.specs.View.{pred_view}
-use Rattle.hq_confined.specs.Members.{is_written}
+use Rattle.hq_confine_rules.specs.Members.{is_written}
 use Rattle.hq_confine_members.specs.Views.{preds_view}
 use Rattle.hq_confine_members.proofs.members.stands_among.Given as goal
 

@@ -1,5 +1,5 @@
 use Rattle.std.proofs.Common.{◌≡◌, drop, map}
-use Rattle.hq_confined.specs.Origins.{output_named}
+use Rattle.hq_confine_rules.specs.Origins.{output_named}
 use Rattle.hq_confine_uses.specs.Views.{output_view}
 use Rattle.hq_confine_uses.proofs.origins.output_behind.Given as goal
 

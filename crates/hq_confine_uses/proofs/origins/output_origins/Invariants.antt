@@ -1,6 +1,6 @@
 use Rattle.std.proofs.Common.{◌≡◌, take, map}
 use Rattle.hq_sql_tree.specs.View.{out_view}
-use Rattle.hq_confined.specs.Origins.{output_origins}
+use Rattle.hq_confine_rules.specs.Origins.{output_origins}
 use Rattle.hq_confine_uses.specs.Views.{output_view, shapes_view, rules_schema}
 use Rattle.hq_confine_uses.proofs.origins.output_origins.Given as goal
 

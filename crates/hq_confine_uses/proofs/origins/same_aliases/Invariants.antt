@@ -1,5 +1,5 @@
 use Rattle.std.proofs.Common.{◌≡◌, drop, length}
-use Rattle.hq_confined.specs.Origins.{same_path}
+use Rattle.hq_confine_rules.specs.Origins.{same_path}
 use Rattle.hq_confine_uses.specs.Views.{texts}
 use Rattle.hq_confine_uses.proofs.origins.same_aliases.Given as goal
 

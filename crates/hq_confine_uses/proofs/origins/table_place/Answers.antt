@@ -1,8 +1,8 @@
 use Rattle.std.proofs.Common.{◌∙◌, ap, sym, List, length}
 use Rattle.std.specs.Prelude.{unwrap_or}
 use Rattle.std.specs.List.{position}
-use Rattle.hq_terms.specs.Meta.{meta_view}
-use Rattle.hq_terms.specs.declared.table.Table.{Table}
+use Rattle.hq_model.specs.Meta.{meta_view}
+use Rattle.hq_model.specs.declared.table.Table.{Table}
 use Rattle.hq_confine_uses.proofs.Places.{has_name, named_place}
 use Rattle.hq_confine_uses.proofs.origins.table_place.Goals as goal
 

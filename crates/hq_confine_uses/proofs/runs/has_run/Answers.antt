@@ -1,9 +1,9 @@
 use Rattle.std.proofs.Common.{◌≡◌, ◌∙◌, ◌+◌, ◌<◌, [], ◌∷◌, drop, length, map, sym, ap₂, arith}
 use Rattle.std.proofs.lemmas.List.{take_rest}
-use Rattle.hq_terms.specs.Schema.{table}
+use Rattle.hq_model.specs.Schema.{table}
 use Rattle.hq_sql_tree.specs.Tree.{orders_of}
 use Rattle.hq_sql_tree.specs.View.{order_view}
-use Rattle.hq_confined.specs.Uses.{is_run}
+use Rattle.hq_confine_rules.specs.Uses.{is_run}
 use Rattle.hq_confine_uses.specs.Views.{shapes_view, rules_schema}
 use Rattle.hq_confine_uses.proofs.Keys.{begin_with, have_run, have_more}
 use Rattle.hq_confine_uses.proofs.Walks.{passed_next}

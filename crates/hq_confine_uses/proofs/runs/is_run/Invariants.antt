@@ -2,7 +2,7 @@ use Rattle.std.proofs.Common.{◌≡◌, ℕ, ◌≤◌, List, drop, length, map
 use Rattle.hq_sql_tree.specs.Tree.{orders_of}
 use Rattle.hq_sql_tree.specs.View.{order_view}
 use Rattle.hq_sql_tree.specs.declared.expr.Order.{Order}
-use Rattle.hq_confined.specs.Uses.{is_run}
+use Rattle.hq_confine_rules.specs.Uses.{is_run}
 use Rattle.hq_confine_uses.specs.Views.{path_view, shapes_view, rules_schema}
 use Rattle.hq_confine_uses.proofs.runs.is_run.Given as goal
 

@@ -1,5 +1,5 @@
 use Rattle.std.proofs.Common.{◌≡◌, ◌∙◌, ap, refl, bytes_eq, true, false, arith, rules}
-use Rattle.hq_confined.specs.Origins.{shape_at}
+use Rattle.hq_confine_rules.specs.Origins.{shape_at}
 use Rattle.hq_confine_uses.proofs.Stacked.{last_front}
 use Rattle.hq_confine_uses.proofs.scope.shape_among.Goals as goal
 

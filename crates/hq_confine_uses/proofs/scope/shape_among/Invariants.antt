@@ -1,5 +1,5 @@
 use Rattle.std.proofs.Common.{◌≡◌, ◌≤◌, map, take, length}
-use Rattle.hq_confined.specs.Origins.{Shapes, shape_at}
+use Rattle.hq_confine_rules.specs.Origins.{Shapes, shape_at}
 use Rattle.hq_confine_uses.specs.Views.{alias_view, stacked}
 use Rattle.hq_confine_uses.proofs.scope.shape_among.Given as goal
 

@@ -3,7 +3,7 @@ use Rattle.hq_sql_tree.specs.Tree.{pairs_of}
 use Rattle.hq_sql_tree.specs.View.{expr_view, pair_view}
 use Rattle.hq_sql_tree.specs.declared.expr.ExprPair.{ExprPair}
 use Rattle.hq_sql_tree.proofs.Next.{next_pair}
-use Rattle.hq_confined.specs.Uses.{shows_order, show_order}
+use Rattle.hq_confine_rules.specs.Uses.{shows_order, show_order}
 use Rattle.hq_confine_uses.proofs.Walks.{found_next, passed_next}
 use Rattle.hq_confine_uses.proofs.uses.+shows.Goals as goal
 

@@ -1,7 +1,7 @@
 use Rattle.std.proofs.Common.{◌≡◌, drop, map}
 use Rattle.hq_sql_tree.specs.Tree.{pairs_of}
 use Rattle.hq_sql_tree.specs.View.{pair_view}
-use Rattle.hq_confined.specs.Uses.{show_order}
+use Rattle.hq_confine_rules.specs.Uses.{show_order}
 use Rattle.hq_confine_uses.proofs.uses.+shows.Given as goal
 
 -- those that are left tell what all do

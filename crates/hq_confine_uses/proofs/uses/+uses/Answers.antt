@@ -5,9 +5,9 @@ use Rattle.hq_sql_tree.specs.View.{agg_view, expr_view, order_view, pair_view}
 use Rattle.hq_sql_tree.specs.declared.expr.ExprPair.{ExprPair}
 use Rattle.hq_sql_tree.proofs.Next.{next_pair}
 use Rattle.hq_sql_tree.proofs.Views.{view_json_agg}
-use Rattle.hq_confined.specs.Faults.{worse, worst}
-use Rattle.hq_confined.specs.Origins.{origin}
-use Rattle.hq_confined.specs.Uses.{agg_faults, expr_faults, orders_faults, pairs_faults, run_from}
+use Rattle.hq_confine_rules.specs.Faults.{worse, worst}
+use Rattle.hq_confine_rules.specs.Origins.{origin}
+use Rattle.hq_confine_rules.specs.Uses.{agg_faults, expr_faults, orders_faults, pairs_faults, run_from}
 use Rattle.hq_confine_uses.specs.Views.{faulted, shapes_view, rules_schema, rules_grants}
 use Rattle.hq_confine_uses.proofs.Sorts.{keys_faults, in_run, run_begins, no_run}
 use Rattle.hq_confine_uses.proofs.Worst.{worse_more, worse_end, worst_of_two}

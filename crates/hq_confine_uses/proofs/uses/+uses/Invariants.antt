@@ -3,8 +3,8 @@ use Rattle.hq_sql_tree.specs.Tree.{orders_of, pairs_of}
 use Rattle.hq_sql_tree.specs.View.{order_view, pair_view}
 use Rattle.hq_sql_tree.specs.declared.expr.ExprPair.{ExprPair}
 use Rattle.hq_sql_tree.specs.declared.expr.Order.{Order}
-use Rattle.hq_confined.specs.Faults.{worse, worst}
-use Rattle.hq_confined.specs.Uses.{orders_faults, pairs_faults}
+use Rattle.hq_confine_rules.specs.Faults.{worse, worst}
+use Rattle.hq_confine_rules.specs.Uses.{orders_faults, pairs_faults}
 use Rattle.hq_confine_uses.specs.Views.{faulted, shapes_view, rules_schema, rules_grants}
 use Rattle.hq_confine_uses.proofs.uses.+uses.Given as goal
 

@@ -1,8 +1,8 @@
 use Rattle.std.proofs.Common.{◌≡◌, List, drop, map}
 use Rattle.hq_sql_tree.specs.View.{expr_view}
 use Rattle.hq_sql_tree.specs.declared.expr.Expr.{Expr}
-use Rattle.hq_confined.specs.Faults.{worse, worst}
-use Rattle.hq_confined.specs.Uses.{exprs_faults}
+use Rattle.hq_confine_rules.specs.Faults.{worse, worst}
+use Rattle.hq_confine_rules.specs.Uses.{exprs_faults}
 use Rattle.hq_confine_uses.specs.Views.{faulted, shapes_view, rules_schema, rules_grants}
 use Rattle.hq_confine_uses.proofs.uses.exprs_fault.Given as goal
 

@@ -1,8 +1,8 @@
 use Rattle.std.proofs.Common.{◌≡◌, List, drop, map}
 use Rattle.hq_sql_tree.specs.View.{out_view}
 use Rattle.hq_sql_tree.specs.declared.select.Out.{Out}
-use Rattle.hq_confined.specs.Faults.{worse, worst}
-use Rattle.hq_confined.specs.Uses.{outs_faults}
+use Rattle.hq_confine_rules.specs.Faults.{worse, worst}
+use Rattle.hq_confine_rules.specs.Uses.{outs_faults}
 use Rattle.hq_confine_uses.specs.Views.{faulted, shapes_view, rules_schema, rules_grants}
 use Rattle.hq_confine_uses.proofs.uses.outs_fault.Given as goal
 

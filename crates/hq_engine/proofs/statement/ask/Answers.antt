@@ -2,13 +2,13 @@ use Rattle.std.proofs.Common.{◌≡◌, ℕ, List, Option, Some, None, Err, ap,
 use Rattle.std.specs.Prelude.{IfSome}
 use Rattle.hq_answer.specs.Answers.{IsAnswer, answer_of}
 use Rattle.hq_answer.specs.declared.answer.Answer.{Answer}
-use Rattle.hq_terms.specs.Database.{Row}
-use Rattle.hq_terms.specs.declared.table.Table.{Table}
+use Rattle.hq_model.specs.Database.{Row}
+use Rattle.hq_model.specs.declared.table.Table.{Table}
 use Rattle.hq_sql_tree.specs.Meaning.{meaning}
 use Rattle.hq_sql_tree.specs.Tree.{SelectTree}
 use Rattle.hq_sql_text.specs.Readable.{Spells}
-use Rattle.hq_link.specs.Answered.{Answered, NotFitting}
-use Rattle.hq_link.specs.Typed.{IsTyped}
+use Rattle.hq_database.specs.Answered.{Answered, NotFitting}
+use Rattle.hq_database.specs.Typed.{IsTyped}
 use Rattle.hq_engine.specs.Statements.{IsMeaning}
 use Rattle.hq_engine.proofs.statement.ask.Goals as goal
 

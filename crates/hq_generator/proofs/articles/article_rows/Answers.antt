@@ -1,5 +1,5 @@
 use Rattle.std.proofs.Common.{◌∙◌, ap₂}
-use Rattle.hq_terms.specs.Database.{are_rows}
+use Rattle.hq_model.specs.Database.{are_rows}
 use Rattle.hq_generator.proofs.Valid.{articles_valid}
 use Rattle.hq_generator.proofs.articles.article_rows.Goals as goal
 

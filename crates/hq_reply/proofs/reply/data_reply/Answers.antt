@@ -1,4 +1,4 @@
-use Rattle.hq_ask_tree.specs.Fields.{fields_of, keyed_field_view}
+use Rattle.hq_request_tree.specs.Fields.{fields_of, keyed_field_view}
 use Rattle.std.proofs.Common.{◌≡◌, ◌∙◌, ap, map, ◌++◌, codes}
 use Rattle.hq_reply.specs.RootTexts.{members_text, texts_of}
 use Rattle.hq_reply.specs.TableObject.{table_members}

@@ -1,5 +1,5 @@
 use Rattle.std.proofs.Common.{◌≡◌, ◌++◌, drop, map}
-use Rattle.hq_ask_tree.specs.Fields.{fields_of, keyed_field_view}
+use Rattle.hq_request_tree.specs.Fields.{fields_of, keyed_field_view}
 use Rattle.hq_schema.specs.Schema.{schema_view}
 use Rattle.hq_reply.specs.RootTexts.{members_text, root_texts, texts_in, texts_of}
 use Rattle.hq_reply.proofs.Texts.{rest_text}

@@ -1,5 +1,5 @@
 use Rattle.std.proofs.Common.{◌≡◌, drop, map}
-use Rattle.hq_ask_tree.specs.Fields.{fields_of, keyed_field_view}
+use Rattle.hq_request_tree.specs.Fields.{fields_of, keyed_field_view}
 use Rattle.hq_reply.specs.RootObject.{has_table_field}
 use Rattle.hq_reply.proofs.tables.has_table_field.Given as goal
 

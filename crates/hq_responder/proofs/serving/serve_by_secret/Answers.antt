@@ -1,5 +1,5 @@
 use Rattle.std.proofs.Common.{ap}
-use Rattle.hq_terms.specs.Meta.{meta_view}
+use Rattle.hq_model.specs.Meta.{meta_view}
 use Rattle.hq_responder.proofs.Replies.{serves_by}
 use Rattle.hq_responder.proofs.serving.serve_by_secret.Goals as goal
 

@@ -1,5 +1,5 @@
 use Rattle.std.proofs.Common.{◌∙◌, ◌++◌, ◌+◌, Bool, List, map, filter, drop, sym, ap}
-use Rattle.hq_terms.specs.declared.session.Var.{Var}
+use Rattle.hq_model.specs.declared.session.Var.{Var}
 use Rattle.hq_session.specs.Sessions.{is_variable, variable_of, new_variables}
 use Rattle.hq_session.specs.declared.header.Header.{Header}
 use Rattle.hq_session.proofs.Passed.{passed_from}

@@ -1,5 +1,5 @@
 use Rattle.std.proofs.Common.{◌≡◌, map, drop}
-use Rattle.hq_terms.specs.Logic.{or3, among}
+use Rattle.hq_model.specs.Logic.{or3, among}
 use Rattle.hq_sql_cells.specs.View.{cell_view}
 use Rattle.hq_sql_cells.proofs.truth.among.Given as goal
 

@@ -1,14 +1,14 @@
 use Rattle.std.proofs.Common.{rules, ◌≡◌, ◌∷◌, [], map, sym, ap, subst, arith}
-use Rattle.hq_sql_closed.specs.Conjuncts.{all_kept, lent_views, lent_weight}
-use Rattle.hq_sql_closed.specs.Split.{IsSplit, kept_one}
-use Rattle.hq_sql_closed.specs.Weight.{pred_weight}
+use Rattle.hq_sql_conjuncts.specs.Conjuncts.{all_kept, lent_views, lent_weight}
+use Rattle.hq_sql_conjuncts.specs.Split.{IsSplit, kept_one}
+use Rattle.hq_sql_conjuncts.specs.Weight.{pred_weight}
 use Rattle.hq_sql_tree.specs.declared.select.From.{the_lemmas as from_lemmas}
 use Rattle.hq_sql_tree.specs.Meaning.{nothing, with_alias}
 use Rattle.hq_sql_tree.specs.Tree as tree
 use Rattle.hq_sql_tree.specs.View.{from_view, pred_view}
-use Rattle.hq_sql_rows.specs.declared.pinned.Known.{Known}
-use Rattle.hq_sql_rows.specs.Sources.{alias_in}
-use Rattle.hq_sql_rows.specs.View.{source_view, world_of}
+use Rattle.hq_sql_access.specs.declared.pinned.Known.{Known}
+use Rattle.hq_sql_access.specs.Sources.{alias_in}
+use Rattle.hq_sql_access.specs.View.{source_view, world_of}
 use Rattle.hq_sql_eval.proofs.Learned.{learned_is, of_table}
 use Rattle.hq_sql_eval.proofs.learn.learned.Goals as goal
 

@@ -5,8 +5,8 @@ use Rattle.hq_sql_tree.specs.Meaning.{NamedRow, has_rows, nothing, rows_of, with
 use Rattle.hq_sql_tree.specs.Tree as tree
 use Rattle.hq_sql_tree.specs.Tree.{joins_of}
 use Rattle.hq_sql_tree.specs.View.{expr_view, filter_view, from_view, join_view, order_view, out_view, select_view}
-use Rattle.hq_sql_rows.specs.Sources.{alias_in, rows_given}
-use Rattle.hq_sql_rows.specs.View.{source_view, world_of}
+use Rattle.hq_sql_access.specs.Sources.{alias_in, rows_given}
+use Rattle.hq_sql_access.specs.View.{source_view, world_of}
 use Rattle.hq_sql_eval.specs.Narrowed.{narrowed, keeps_one}
 use Rattle.hq_sql_eval.proofs.Learned.{map_same, table_has}
 use Rattle.hq_sql_eval.proofs.learn.narrowed_by.Goals as goal

@@ -1,10 +1,10 @@
 use Rattle.std.proofs.Common.{◌≡◌, ◌∙◌, ◌+◌, ◌<◌, ◌&&◌, ◌++◌, ◌∷◌, [], Bool, false, map, take, length, get_or, sym, ap, subst, arith}
-use Rattle.hq_sql_closed.specs.Split.{kept_one}
+use Rattle.hq_sql_conjuncts.specs.Split.{kept_one}
 use Rattle.hq_sql_tree.specs.Meaning.{NamedRow, nothing, with_alias}
 use Rattle.hq_sql_tree.specs.View.{pred_view}
 use Rattle.hq_sql_eval.specs.Narrowed.{narrowed}
-use Rattle.hq_sql_rows.specs.View.{source_view, row_view, world_of}
-use Rattle.hq_sql_rows.proofs.RowsIn.{row_in_is}
+use Rattle.hq_sql_access.specs.View.{source_view, row_view, world_of}
+use Rattle.hq_sql_access.proofs.RowsIn.{row_in_is}
 use Rattle.hq_sql_eval.proofs.Learned.{narrowed_step, narrowed_end}
 use Rattle.hq_sql_eval.proofs.learn.narrowed_each.Goals as goal
 

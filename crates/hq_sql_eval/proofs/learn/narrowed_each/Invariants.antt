@@ -1,9 +1,9 @@
 use Rattle.std.proofs.Common.{◌≡◌, map, take}
-use Rattle.hq_sql_closed.specs.Split.{kept_one}
+use Rattle.hq_sql_conjuncts.specs.Split.{kept_one}
 use Rattle.hq_sql_tree.specs.Meaning.{nothing, with_alias}
 use Rattle.hq_sql_tree.specs.View.{pred_view}
 use Rattle.hq_sql_eval.specs.Narrowed.{narrowed}
-use Rattle.hq_sql_rows.specs.View.{source_view, world_of}
+use Rattle.hq_sql_access.specs.View.{source_view, world_of}
 use Rattle.hq_sql_eval.proofs.learn.narrowed_each.Given as goal
 
 -- the truths at the rows so far

@@ -4,11 +4,11 @@ use Rattle.hq_sql_tree.specs.Meaning.{NamedRow, nothing, with_alias}
 use Rattle.hq_sql_tree.specs.Tree.{joins_of}
 use Rattle.hq_sql_tree.specs.View.{filter_view, from_view, join_view}
 use Rattle.hq_sql_eval.specs.Narrowed.{narrowed, keeps_one}
-use Rattle.hq_sql_rows.specs.Sources.{alias_in, rows_given}
-use Rattle.hq_sql_rows.specs.View.{source_view, row_view, world_of}
-use Rattle.hq_sql_rows.proofs.RowsIn.{row_in_is}
+use Rattle.hq_sql_access.specs.Sources.{alias_in, rows_given}
+use Rattle.hq_sql_access.specs.View.{source_view, row_view, world_of}
+use Rattle.hq_sql_access.proofs.RowsIn.{row_in_is}
 use Rattle.hq_sql_eval.proofs.Learned.{narrowed_step, narrowed_end}
-use Rattle.hq_sql_walk.proofs.Told.{known_at}
+use Rattle.hq_sql_select.proofs.Told.{known_at}
 use Rattle.hq_sql_eval.proofs.learn.narrowed_over.Goals as goal
 
 pub finds-requires-clause-known : goal.finds-requires-clause-known

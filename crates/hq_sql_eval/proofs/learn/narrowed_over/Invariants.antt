@@ -3,8 +3,8 @@ use Rattle.hq_sql_tree.specs.Meaning.{nothing, with_alias}
 use Rattle.hq_sql_tree.specs.Tree.{joins_of}
 use Rattle.hq_sql_tree.specs.View.{filter_view, from_view, join_view}
 use Rattle.hq_sql_eval.specs.Narrowed.{narrowed, keeps_one}
-use Rattle.hq_sql_rows.specs.Sources.{alias_in, rows_given}
-use Rattle.hq_sql_rows.specs.View.{source_view, world_of}
+use Rattle.hq_sql_access.specs.Sources.{alias_in, rows_given}
+use Rattle.hq_sql_access.specs.View.{source_view, world_of}
 use Rattle.hq_sql_eval.proofs.learn.narrowed_over.Given as goal
 
 -- the truths at the rows so far

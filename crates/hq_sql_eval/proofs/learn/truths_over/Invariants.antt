@@ -1,7 +1,7 @@
 use Rattle.std.proofs.Common.{◌≡◌, map, take}
-use Rattle.hq_sql_closed.specs.Conjuncts.{all_kept, lent_views}
+use Rattle.hq_sql_conjuncts.specs.Conjuncts.{all_kept, lent_views}
 use Rattle.hq_sql_tree.specs.Meaning.{nothing, with_alias}
-use Rattle.hq_sql_rows.specs.View.{source_view, world_of}
+use Rattle.hq_sql_access.specs.View.{source_view, world_of}
 use Rattle.hq_sql_eval.proofs.learn.truths_over.Given as goal
 
 -- the truths of the conjuncts so far

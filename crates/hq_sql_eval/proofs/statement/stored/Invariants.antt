@@ -2,7 +2,7 @@ use Rattle.std.proofs.Common.{◌≡◌, ℕ, ◌<◌, [], length, map, take, tr
 use Rattle.std.specs.Prelude.{slice_index_or}
 use Rattle.hq_sql_check.specs.Scans.{scans}
 use Rattle.hq_sql_tree.specs.View.{select_view}
-use Rattle.hq_sql_rows.specs.Lent.{rows_lent}
+use Rattle.hq_sql_access.specs.Lent.{rows_lent}
 use Rattle.hq_sql_eval.proofs.statement.stored.Given as goal
 
 -- the tables so far stand there, those that the statement takes rows from with their rows

@@ -1,6 +1,6 @@
 use Rattle.std.proofs.Common.{◌∙◌, [], Option, map, ap}
 use Rattle.std.specs.Prelude.{option_map, unwrap_or}
-use Rattle.hq_terms.specs.PermView.{mask_view}
+use Rattle.hq_model.specs.PermView.{mask_view}
 use Rattle.hq_compile_context.specs.declared.context.Granted.{Granted}
 use Rattle.hq_compile_context.proofs.context.Context.masks.Goals as goal
 

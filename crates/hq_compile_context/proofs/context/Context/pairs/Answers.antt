@@ -1,6 +1,6 @@
 use Rattle.std.proofs.Common.{ap, sym}
-use Rattle.hq_terms.specs.Schema.{no_rel, table}
-use Rattle.hq_terms.proofs.Places.{absent}
+use Rattle.hq_model.specs.Schema.{no_rel, table}
+use Rattle.hq_model.proofs.Places.{absent}
 use Rattle.hq_compile_context.specs.Contexts.{context_schema}
 use Rattle.hq_compile_context.proofs.context.Context.pairs.Goals as goal
 

@@ -1,7 +1,7 @@
 use Rattle.std.proofs.Common.{◌∙◌, ap, sym}
 use Rattle.std.specs.Prelude.{slice_get}
-use Rattle.hq_terms.specs.Meta.{meta_view}
-use Rattle.hq_terms.proofs.Places.{table_present, table_absent}
+use Rattle.hq_model.specs.Meta.{meta_view}
+use Rattle.hq_model.proofs.Places.{table_present, table_absent}
 use Rattle.hq_confine_uses.proofs.known.Rules.key.Goals as goal
 
 pub returns-in-Some : goal.returns-in-Some

@@ -1,7 +1,7 @@
 use Rattle.std.proofs.Common.{◌≡◌, ◌==◌, drop, map}
 use Rattle.std.specs.List.{list_any}
-use Rattle.hq_terms.specs.PermView.{mask_view}
-use Rattle.hq_terms.specs.Permitted.{mask_of}
+use Rattle.hq_model.specs.PermView.{mask_view}
+use Rattle.hq_model.specs.Permitted.{mask_of}
 use Rattle.hq_confine_uses.proofs.known.Rules.mask.Given as goal
 
 -- the masks that are left tell what all do

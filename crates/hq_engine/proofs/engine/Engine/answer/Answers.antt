@@ -1,6 +1,6 @@
 use Rattle.std.proofs.lemmas.Result.{IfOk-weaker}
-use Rattle.hq_ask_tree.specs.Request.{ask_view}
-use Rattle.hq_terms.specs.Meta.{meta_view}
+use Rattle.hq_request_tree.specs.Request.{ask_view}
+use Rattle.hq_model.specs.Meta.{meta_view}
 use Rattle.hq_engine.proofs.Worlds.{data_alike, each_due}
 use Rattle.hq_engine.proofs.engine.Engine.answer.Goals as goal
 

@@ -1,4 +1,4 @@
-use Rattle.hq_terms.specs.Meta.{meta_view}
+use Rattle.hq_model.specs.Meta.{meta_view}
 use Rattle.hq_engine.proofs.engine.Engine.faults_of_building.Goals as goal
 
 -- the law, at the engine's own catalog and metadata

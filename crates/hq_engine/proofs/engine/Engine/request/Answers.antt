@@ -1,12 +1,12 @@
 use Rattle.std.proofs.Common.{◌≡◌, ap, subst, ◌∙◌}
-use Rattle.hq_ask_tree.specs.Request.{ask_view}
+use Rattle.hq_request_tree.specs.Request.{ask_view}
 use Rattle.hq_base.specs.Due.{Gives}
 use Rattle.hq_request.specs.Request.{request_by}
 use Rattle.hq_request.specs.declared.refusal.RequestRefusal.TheVariants.{Memory}
-use Rattle.hq_role_schema.specs.RoleSchema.{role_schema}
+use Rattle.hq_schema_of_role.specs.RoleSchema.{role_schema}
 use Rattle.hq_schema.specs.Schema.{SchemaTree, schema_view}
-use Rattle.hq_terms.specs.Meta.{meta_view}
-use Rattle.hq_terms.specs.Permission.{role_of}
+use Rattle.hq_model.specs.Meta.{meta_view}
+use Rattle.hq_model.specs.Permission.{role_of}
 use Rattle.hq_engine.proofs.Formed.{formed}
 use Rattle.hq_engine.proofs.engine.Engine.request.Goals as goal
 

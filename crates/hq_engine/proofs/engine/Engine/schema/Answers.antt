@@ -1,7 +1,7 @@
 use Rattle.std.proofs.Common.{ap, ◌∙◌}
 use Rattle.std.proofs.Math.Logic.{∥∥₁_elim}
 use Rattle.hq_schema.specs.Schema.{schema_view}
-use Rattle.hq_roles.proofs.SchemaSets.{schema_set}
+use Rattle.hq_schema_roles.proofs.SchemaSets.{schema_set}
 use Rattle.hq_engine.proofs.engine.Engine.schema.Goals as goal
 
 pub returns : goal.returns

@@ -2,12 +2,12 @@ use Rattle.std.proofs.Common.{ap, map, sym, subst, ◌∙◌}
 use Rattle.std.proofs.lemmas.Result.{IfOk-weaker}
 use Rattle.hq_answer.specs.Answers.{named_text, object}
 use Rattle.hq_answer.specs.declared.answer.Answer.TheVariants.{Object}
-use Rattle.hq_ask_tree.specs.Request.{ask_view}
-use Rattle.hq_compiled.specs.Asked.{asked_statement}
-use Rattle.hq_link.specs.Typed.{IsTyped}
-use Rattle.hq_terms.specs.Grants.{grants_of}
-use Rattle.hq_terms.specs.Meta.{meta_view}
-use Rattle.hq_terms.specs.Schema.{schema_of}
+use Rattle.hq_request_tree.specs.Request.{ask_view}
+use Rattle.hq_translation.specs.Asked.{asked_statement}
+use Rattle.hq_database.specs.Typed.{IsTyped}
+use Rattle.hq_model.specs.Grants.{grants_of}
+use Rattle.hq_model.specs.Meta.{meta_view}
+use Rattle.hq_model.specs.Schema.{schema_of}
 use Rattle.hq_engine.proofs.TextsAsked.{text_there, something_asked, nothing_answered, gives_over}
 use Rattle.hq_engine.proofs.engine.Engine.tables.Goals as goal
 

@@ -1,5 +1,0 @@
-use Rattle.hq_copies_fit.proofs.Answers.{catalog_fits}
-use Rattle.hq_copies_fit.proofs.laws.copied_metadata_fits.Goals as goal
-
-pub returns-clause-fits : goal.returns-clause-fits
-returns-clause-fits c = catalog_fits

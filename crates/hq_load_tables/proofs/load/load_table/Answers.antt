@@ -1,0 +1,20 @@
+use Rattle.std.proofs.Common.{ap, length, subst, arith}
+use Rattle.csv.specs.Reading.{default_config, records, strip_bom}
+use Rattle.hq_base.specs.Due.{Gives}
+use Rattle.hq_load_tables.specs.Load.{file_due}
+use Rattle.hq_load_tables.specs.declared.load.refusal.LoadRefusal.TheVariants as refusal
+use Rattle.hq_load_tables.proofs.Valid.{few_records}
+use Rattle.hq_load_tables.proofs.load.load_table.Goals as goal
+
+-- a file has few records
+pub rows_of-read-requires-clause-few : goal.rows_of-read-requires-clause-few
+rows_of-read-requires-clause-few c =
+    let most = few_records c.args.bytes.now in
+    let many = ap length c.file_reader.ensures.left in
+    omega (arith, most, many, c.requires.small)
+
+-- the records of the reader are those of the file
+pub returns-clause-due : goal.returns-clause-due
+returns-clause-due c =
+    c.closed.ensures.due (file_due c.args.table.now (records default_config (strip_bom c.args.bytes.now)))
+    (subst (λ all. Gives (λ rows. rows) refusal.Memory (file_due c.args.table.now all) c.rows_of-read.result) c.file_reader.ensures.left c.rows_of-read.ensures.due)

@@ -1,0 +1,145 @@
+//! Scans: which rows of FROM and its joins WHERE keeps.
+ghost use Rattle.std.specs.Prelude.{◌≡◌, ◌+◌, ◌<◌, ◌≤◌, false, length, IfOk, IfSome};
+ghost use Rattle.hq_sql_conjuncts.specs.Conjuncts.{lent_weight};
+ghost use Rattle.hq_sql_conjuncts.specs.Weight.{filter_weight};
+ghost use Rattle.hq_sql_tree.specs.Tree.{no_join};
+ghost use Rattle.hq_sql_tree.specs.View.{filter_view};
+ghost use Rattle.hq_sql_access.specs.Known.{IsKnown, Tells};
+ghost use Rattle.hq_sql_access.specs.Pages.{is_enough};
+ghost use Rattle.hq_sql_access.specs.Positions.{positions_of};
+ghost use Rattle.hq_sql_access.specs.Sources.{has_items};
+ghost use Rattle.hq_sql_access.specs.View.{source_view, world_of, names_of};
+ghost use Rattle.hq_sql_select.specs.Gathered.{joins_view, kept_joins};
+ghost use Rattle.hq_sql_select.specs.Selected.{Continues, kept_from};
+
+use crate::joins::gather;
+use crate::truths::all_hold;
+use hq_base::{Memory, Txt};
+use hq_sql_access::pages::has_enough;
+use hq_sql_access::pinned::{Known, Pinned};
+use hq_sql_access::place::{Place, add_places};
+use hq_sql_access::positions::{Positions, looked_at, number_of, position_at};
+use hq_sql_access::scope::{Scope, Source, row_at};
+use hq_sql_access::stages::Stage;
+use hq_sql_tree::{Join, Pred};
+use std::alloc::Global;
+
+/// Places of rows that WHERE keeps, and the number of the next position.
+#[derive(Drop)]
+pub struct Piece<'d> {
+    pub places: Vec<Place<'d>>,
+    pub next: usize,
+}
+
+/// The places of the rows of FROM and the joins that WHERE keeps, among those at the positions from this one on: of all of them, or up
+/// to a position behind which there are enough places.
+#[cycle(eval)]
+pub fn scan_from<'s, 'd>(
+    alloc: Global,
+    source: Source<'s, 'd>,
+    alias: &'d Txt,
+    joins: &'d [Join],
+    stages: &[Stage],
+    filter: &'d Option<Pred>,
+    positions: Positions<'d>,
+    from: usize,
+    enough: Option<usize>,
+    world: &Pinned<'d>,
+    scope: &'s Scope<'s, 'd>,
+) -> Result<Piece<'d>, Memory>
+    requires { from ≤ length (positions_of positions) }
+    ensures places { IfOk result (λ piece. Continues source.entry positions.entry from alias.now joins.now filter.now world.now scope.now piece) }
+    ensures within { IfOk result (λ piece. piece.next ≤ length (positions_of positions.entry)) }
+    ensures forward { IfOk result (λ piece. from < length (positions_of positions.entry) → from < piece.next) }
+    ensures whole { IfOk result (λ piece. is_enough enough (length piece.places.items) ≡ false → piece.next ≡ length (positions_of positions.entry)) }
+{
+    let mut places = Vec::new(alloc);
+    let end = number_of(positions);
+    for turn in from..end {
+        let position = position_at(positions, turn);
+        let at = Scope::Bound {
+            alias,
+            row: row_at(source, position),
+            outer: &*scope,
+        };
+        let lists = gather(alloc, joins, stages, filter, world, &at)?;
+        add_places(&mut places, position, lists)?;
+        if has_enough(enough, places.len()) {
+            let next = turn + 1;
+            return Ok(Piece { places, next });
+        }
+    }
+    Ok(Piece { places, next: end })
+}
+
+// Whether WHERE keeps a row of the joins at a row of FROM, where something may be known of the row of this position.
+#[cycle(eval)]
+fn keeps_some<'d>(
+    alloc: Global,
+    position: usize,
+    joins: &'d [Join],
+    stages: &[Stage],
+    filter: &'d Option<Pred>,
+    known: Option<&Known<'d>>,
+    world: &Pinned<'d>,
+    scope: &Scope<'_, 'd>,
+) -> Result<bool, Memory>
+    requires alone { IfSome known (λ k. joins_view joins.now ≡ no_join) }
+    requires tells { IfSome known (λ k. position < length k.now.truths.items → Tells (filter_view filter.now) (world_of world.now) k.now position (names_of scope.now world.now)) }
+    requires lighter { IfSome known (λ k. 1 + lent_weight k.now.rest.items ≤ filter_weight filter.now) }
+    ensures { IfOk result (λ b. b ≡ has_items (kept_joins (joins_view joins.now) filter.now world.now (names_of scope.now world.now))) }
+{
+    if let Some(known) = known {
+        if let Some(truth) = known.truths.get(position) {
+            if !*truth {
+                return Ok(false);
+            }
+            return all_hold(alloc, &known.rest, world, scope);
+        }
+    }
+    Ok(!gather(alloc, joins, stages, filter, world, scope)?.is_empty())
+}
+
+/// Whether WHERE keeps a row of FROM and the joins, of which something may be known.
+#[cycle(eval)]
+pub fn any_row<'s, 'd>(
+    alloc: Global,
+    source: Source<'s, 'd>,
+    alias: &'d Txt,
+    joins: &'d [Join],
+    stages: &[Stage],
+    filter: &'d Option<Pred>,
+    known: Option<&Known<'d>>,
+    world: &Pinned<'d>,
+    scope: &'s Scope<'s, 'd>,
+) -> Result<bool, Memory>
+    requires known { IfSome known (λ k. IsKnown (world_of world.now) (source_view source) alias.now (joins_view joins.now) (filter_view filter.now) k.now) }
+    requires lighter { IfSome known (λ k. 1 + lent_weight k.now.rest.items ≤ filter_weight filter.now) }
+    ensures { IfOk result (λ b. b ≡ has_items (kept_from (source_view source.entry) alias.now joins.now filter.now world.now scope.now)) }
+{
+    let looked = looked_at(
+        alloc,
+        source,
+        alias,
+        joins,
+        filter,
+        &world.work.looked,
+        &*scope,
+    )?;
+    for turn in 0..number_of(looked) {
+        if !world.work.step() {
+            return Err(Memory);
+        }
+        let position = position_at(looked, turn);
+        let at = Scope::Bound {
+            alias,
+            row: row_at(source, position),
+            outer: &*scope,
+        };
+        let keeps = keeps_some(alloc, position, joins, stages, filter, known, world, &at)?;
+        if keeps {
+            return Ok(true);
+        }
+    }
+    Ok(false)
+}
