@@ -8,12 +8,12 @@ ghost use Rattle.hq_app.specs.Runs.{ReadCause, Runs};
 use crate::top::Ended;
 use crate::{Observed, World};
 use hq_base::Txt;
+use hq_cli::Command;
 use hq_command::Refusal;
 use hq_command_live::live;
-use hq_messages::{Hall, Messages};
 use hq_io::{Disk, Door, Files, Sink, Source};
+use hq_messages::{Hall, Messages};
 use hq_session::SecretRule;
-use hq_cli::Command;
 use std::alloc::Global;
 
 /// Talks with the peers of the hall over a directory.

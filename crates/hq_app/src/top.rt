@@ -11,20 +11,20 @@ use crate::laws::outputs_agree;
 use crate::living::live_over;
 use crate::{Observed, Ran, World};
 use hq_base::Txt;
+use hq_cli::Command;
 use hq_command::{Done, Refusal, check, generate_and_answer, query, reply_to, show, sql, tell};
 use hq_command_confine::confine;
-use hq_sql_database::SqlDb;
-use hq_engine::Engine;
 use hq_command_explain::explain;
-use hq_database::Database;
-use hq_messages::Hall;
-use hq_io::{Disk, Door, Files, Sink, Source};
 use hq_command_paged::{query_on_disk, serve_on_disk};
 use hq_command_serve::serve;
-use hq_session::{Headers, SecretRule};
+use hq_database::Database;
+use hq_engine::Engine;
+use hq_io::{Disk, Door, Files, Sink, Source};
 use hq_load_tables::Tables;
+use hq_messages::Hall;
 use hq_model::Session;
-use hq_cli::Command;
+use hq_session::{Headers, SecretRule};
+use hq_sql_database::SqlDb;
 use std::alloc::Global;
 
 /// What a run did, and the world that it leaves.

@@ -1,5 +1,5 @@
-use hq_messages::{Hall, Messages};
 use hq_io::{Disk, Door, Files, Sink, Source};
+use hq_messages::{Hall, Messages};
 
 /// The outside, as it is handed in: files, a door, a disk, the standard input, where the standard output and standard error go, and a
 /// hall.

@@ -1,8 +1,8 @@
 //! The arguments of lists in words.
 
-use hq_request_tree::{Args, Sort};
 use hq_cases_file::{Words, push_bexp};
 use hq_model::{Bexp, ColId, RelId};
+use hq_request_tree::{Args, Sort};
 
 fn push_through(through: &[RelId], words: &mut Words) {
     for rel in through {

@@ -1,13 +1,13 @@
 //! Typed requests in words: tables are `t` with their place, columns `c`, relationships `r`; names of types stand in quotes.
 
 use crate::arguments::push_args;
+use hq_base::{Txt, Val};
+use hq_cases_file::{Words, push_bexp, push_value};
+use hq_model::{Bexp, ColId, RelId, TableId};
 use hq_request_tree::{
     AggCol, AggField, AggPart, AggParts, Args, Ask, AskField, AskFields, Bound, IntroField,
     IntroFields, KeyedAggCol, KeyedAggField,
 };
-use hq_base::{Txt, Val};
-use hq_cases_file::{Words, push_bexp, push_value};
-use hq_model::{Bexp, ColId, RelId, TableId};
 
 // The key of the field at a place, behind what parts it from the one before.
 fn push_key(at: usize, key: &Txt, words: &mut Words) {

@@ -2,14 +2,14 @@
 
 use hq_base::{Json, Txt};
 use hq_cases_file::{Case, Stop, Words, given_catalog, given_session};
-use hq_request_coerce::{CoerceRefusal, OpRef, choose};
 use hq_gql_lexer::{Tokens, lex};
 use hq_gql_parser::parse;
 use hq_gql_tree::{Document, Fault};
 use hq_load_meta::read_meta;
-use hq_schema_of_role::derive;
-use hq_schema::Schema;
 use hq_model::{Catalog, Meta, Role, Session};
+use hq_request_coerce::{CoerceRefusal, OpRef, choose};
+use hq_schema::Schema;
+use hq_schema_of_role::derive;
 use std::alloc::Global;
 
 fn meta_of(alloc: Global, bytes: &[u8], catalog: &Catalog) -> Result<Meta, Stop> {

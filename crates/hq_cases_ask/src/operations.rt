@@ -3,8 +3,8 @@
 use crate::given::{given_document, given_name, push_fault};
 use hq_base::Txt;
 use hq_cases_file::{Case, Stop, Words};
-use hq_request_coerce::choose;
 use hq_gql_tree::Document;
+use hq_request_coerce::choose;
 use std::alloc::Global;
 
 fn push_choice(document: &Document, name: Option<&Txt>, words: &mut Words) {

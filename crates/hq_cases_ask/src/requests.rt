@@ -4,13 +4,13 @@ use crate::fields::push_ask;
 use crate::given::{
     given_document, given_meta, given_operation, given_variables, push_refusal, schema_of,
 };
-use hq_request_build::build;
-use hq_request_tree::Ask;
 use hq_cases_file::{Case, Stop, Words, given_catalog, given_session};
-use hq_request_coerce::{CoerceRefusal, OpRef, VarValues, coerce_variables};
 use hq_gql_tree::Document;
-use hq_schema::Schema;
 use hq_model::{Catalog, Meta, Session};
+use hq_request_build::build;
+use hq_request_coerce::{CoerceRefusal, OpRef, VarValues, coerce_variables};
+use hq_request_tree::Ask;
+use hq_schema::Schema;
 use std::alloc::Global;
 
 // What documents are asked over.

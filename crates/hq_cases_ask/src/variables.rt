@@ -2,8 +2,8 @@
 
 use crate::given::{given_document, given_operation, given_schema, given_variables, push_refusal};
 use hq_cases_file::{Case, Stop, Words, push_json};
-use hq_request_coerce::{CoerceRefusal, VarValue, VarValues, coerce_variables};
 use hq_gql_tree::Document;
+use hq_request_coerce::{CoerceRefusal, VarValue, VarValues, coerce_variables};
 use hq_schema::Schema;
 use std::alloc::Global;
 

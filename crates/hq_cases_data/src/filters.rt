@@ -2,10 +2,10 @@
 
 use crate::given::{given_meta, given_table};
 use hq_base::{Json, Txt, top_path};
-use hq_model_binding::bind;
 use hq_cases_file::{Case, Stop, Words, given_catalog, given_session, push_bexp};
 use hq_load_filter::{FilterRefusal, read_filter};
 use hq_model::{Bexp, BindRefusal, Catalog, Meta, Session, TableId};
+use hq_model_binding::bind;
 use std::alloc::Global;
 
 fn push_refusal(refusal: &FilterRefusal, words: &mut Words) {

@@ -3,12 +3,12 @@
 use crate::given::{given_meta, given_role};
 use hq_base::Txt;
 use hq_cases_file::{Case, Stop, Words, given_catalog};
-use hq_schema_of_role::derive;
+use hq_model::{Catalog, Meta, Role};
 use hq_schema::{
     ArgDef, ArgDefList, FieldDef, FieldDefList, Kind, Schema, TxtList, TypeDef, TypeDefList,
     TypeId, TypeRef,
 };
-use hq_model::{Catalog, Meta, Role};
+use hq_schema_of_role::derive;
 use std::alloc::Global;
 
 // The schema of a role, in a box: one that lies on the stack is let go field by field, at each end of a function.

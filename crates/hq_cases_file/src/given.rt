@@ -3,8 +3,8 @@
 use crate::{Case, Stop};
 use hq_base::Txt;
 use hq_load_catalog::{CatalogRefusal, read_catalog};
-use hq_session::{Header, Headers, HeadersRefusal};
 use hq_model::{Catalog, Session};
+use hq_session::{Header, Headers, HeadersRefusal};
 use std::alloc::Global;
 
 fn stop_of(refusal: &CatalogRefusal) -> Stop {

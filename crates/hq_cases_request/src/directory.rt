@@ -3,8 +3,8 @@
 
 use hq_base::{Bytes, Json, List, Txt};
 use hq_cases_file::{Case, Stop, input_bytes};
-use hq_io_memory::MemFiles;
 use hq_io::{File, FileList, NumList, names_differ};
+use hq_io_memory::MemFiles;
 use std::alloc::Global;
 use std::fs;
 

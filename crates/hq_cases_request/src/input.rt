@@ -3,12 +3,12 @@
 use crate::statements::database;
 use hq_base::{Bytes, Txt};
 use hq_cases_file::Stop;
-use hq_sql_database::SqlDb;
 use hq_database::{Database, DbRefusal};
-use hq_load::load;
 use hq_io::{Sink, read_all, write_all};
 use hq_io_system::{DirFiles, StdSink, StdSource};
+use hq_load::load;
 use hq_load_tables::MemTables;
+use hq_sql_database::SqlDb;
 use std::alloc::Global;
 
 // The most bytes of a statement.

@@ -3,8 +3,8 @@
 use crate::directory::{failing, numbers};
 use hq_base::{Bytes, Json, List};
 use hq_cases_file::{Case, Stop, Words, input_bytes, push_bytes};
-use hq_io_memory::{MemDoor, MemLink, MemLinkList};
 use hq_io::NumList;
+use hq_io_memory::{MemDoor, MemLink, MemLinkList};
 use std::alloc::Global;
 
 // The most bytes that a link takes.

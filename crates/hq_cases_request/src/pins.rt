@@ -7,13 +7,13 @@ use crate::loaded::loaded;
 use hq_app::answer_one;
 use hq_base::List;
 use hq_cases_file::{Case, Stop, Words, given_session, push_bytes};
-use hq_sql_database::SqlDb;
-use hq_engine::Engine;
 use hq_database::Database;
-use hq_load::Loaded;
+use hq_engine::Engine;
 use hq_io_memory::{MemSink, MemSource};
+use hq_load::Loaded;
 use hq_load_tables::{FlakyTables, MemTables};
 use hq_model::{Catalog, Meta, Session};
+use hq_sql_database::SqlDb;
 use std::alloc::Global;
 
 // A database one of whose pins fails.

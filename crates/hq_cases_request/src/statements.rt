@@ -4,10 +4,10 @@ use crate::loaded::loaded;
 use hq_answer::Answer;
 use hq_base::Bytes;
 use hq_cases_file::{Case, Stop, Words, push_bytes};
-use hq_sql_database::SqlDb;
 use hq_database::{Database, DbRefusal};
 use hq_load::Loaded;
 use hq_load_tables::MemTables;
+use hq_sql_database::SqlDb;
 use std::alloc::Global;
 
 /// The database of what a directory holds.

@@ -4,8 +4,8 @@ use crate::replies::Replies;
 use hq_base::{Json, List};
 use hq_cases_file::{Case, Stop, Words, push_bytes};
 use hq_http::serve_connection;
-use hq_io_memory::MemLink;
 use hq_io::NumList;
+use hq_io_memory::MemLink;
 use std::alloc::Global;
 
 // The most bytes that a link takes.

@@ -2,8 +2,8 @@
 
 use hq_base::Txt;
 use hq_cases_file::{Case, Stop, Words};
-use hq_session::Headers;
 use hq_cli::{Command, Page, WordsRefusal};
+use hq_session::Headers;
 use std::alloc::Global;
 
 /// What words ask, or that they are bad.

@@ -2,8 +2,8 @@
 
 use hq_base::{Aggregate, Json, Memory, Val};
 use hq_cases_file::{Case, Stop, Words, push_json, value};
-use hq_sql_cells::{Cell, aggregated, counted, test_truth};
 use hq_model::{Op, Test, Truth};
+use hq_sql_cells::{Cell, aggregated, counted, test_truth};
 use std::alloc::Global;
 
 /// The values of a list.

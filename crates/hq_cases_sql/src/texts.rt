@@ -1,10 +1,10 @@
 //! Texts of SQL: read and printed again, well-formed or not, and the tables that they scan.
 
 use hq_cases_file::{Case, Stop, Words, given_catalog, push_bytes};
+use hq_model::Table;
 use hq_sql_check::{scanned, well_formed};
 use hq_sql_text::{ReadRefusal, print, read};
 use hq_sql_tree::Select;
-use hq_model::Table;
 use std::alloc::Global;
 
 // The statement that a case writes, if it is one. In a box, which is let go at little cost where a later step fails.

@@ -2,8 +2,8 @@
 
 use hq_base::{Memory, Txt};
 use hq_cases_file::{Case, Stop, Words, given_headers, given_session, push_session};
-use hq_session::{Header, Headers};
 use hq_model::Session;
+use hq_session::{Header, Headers};
 use std::alloc::Global;
 
 /// The name and value of a header, or that it is none.

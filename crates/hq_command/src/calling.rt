@@ -2,8 +2,8 @@ ghost use Rattle.std.specs.Prelude.{◌≡◌, IfOk};
 ghost use Rattle.hq_session.specs.Sessions.{session_of};
 
 use hq_base::Memory;
-use hq_session::{Headers, HookAnswer, SecretRule};
 use hq_model::Session;
+use hq_session::{Headers, HookAnswer, SecretRule};
 use std::alloc::Global;
 
 /// The session of a caller with these headers, where no secret is set.

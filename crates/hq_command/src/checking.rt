@@ -10,11 +10,11 @@ ghost use Rattle.hq_load.specs.Wrote.{Wrote};
 
 use crate::{Done, Refusal};
 use hq_base::{Memory, Txt};
-use hq_load::{Loaded, Part, Phrase, load, write_parts};
 use hq_io::{Files, Sink, WriteFailed};
-use hq_schema_roles::roles_in;
+use hq_load::{Loaded, Part, Phrase, load, write_parts};
 use hq_load_tables::Rows;
 use hq_model::Meta;
+use hq_schema_roles::roles_in;
 use std::alloc::Global;
 
 // How many roles the permissions name.

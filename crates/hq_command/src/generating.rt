@@ -8,13 +8,13 @@ ghost use Rattle.hq_command.specs.Generating.{GenEnds, lines_over, reply_length,
 
 use crate::{Done, Instance, Refusal};
 use hq_base::{Bytes, Memory};
-use hq_sql_database::SqlDb;
+use hq_database::Database;
 use hq_engine::{Engine, EngineRefusal};
 use hq_generator::{Generated, caller, generate, put_reply_line, put_steps_line, requests};
-use hq_database::Database;
 use hq_io::{Sink, write_all};
 use hq_load_tables::Tables;
 use hq_model::Session;
+use hq_sql_database::SqlDb;
 use std::alloc::Global;
 
 // Answers the request of this number, and adds the line of its reply.

@@ -4,11 +4,11 @@ ghost use Rattle.hq_model.specs.Fits.{fits};
 ghost use Rattle.hq_model.specs.Meta.{meta_view};
 
 use hq_base::Memory;
-use hq_sql_database::SqlDb;
-use hq_engine::Engine;
 use hq_database::Database;
+use hq_engine::Engine;
 use hq_load_tables::{MemTables, RowsList, Tables};
 use hq_model::{Catalog, Meta};
+use hq_sql_database::SqlDb;
 use std::alloc::Global;
 
 /// An engine, and a database of its catalog.

@@ -1,12 +1,12 @@
 ghost use Rattle.std.specs.Prelude.{◌≡◌};
 
 use hq_base::{Memory, Txt};
+use hq_cli::WordsRefusal;
 use hq_engine::EngineRefusal;
-use hq_load::{Field, Fields, FileFault, LoadingRefusal, Phrase};
 use hq_io::{InputRefusal, WriteFailed};
+use hq_load::{Field, Fields, FileFault, LoadingRefusal, Phrase};
 use hq_load_pages::PageRefusal;
 use hq_serve::ServeRefusal;
-use hq_cli::WordsRefusal;
 use thiserror::Error;
 
 /// Why the program ends with another status than 0.

@@ -9,13 +9,13 @@ ghost use Rattle.hq_command.specs.Output.{done_by, query_output, request_output}
 use crate::calling::caller;
 use crate::{Done, Instance, Refusal};
 use hq_base::{Reply, Txt};
-use hq_engine::Engine;
 use hq_database::Database;
-use hq_load::{Loaded, load};
+use hq_engine::Engine;
 use hq_io::{Files, Sink, Source, read_all, write_all};
+use hq_load::{Loaded, load};
+use hq_model::Session;
 use hq_reply::tells_fault;
 use hq_session::Headers;
-use hq_model::Session;
 use std::alloc::Global;
 
 /// The most bytes of a request's body.

@@ -5,8 +5,8 @@ ghost use Rattle.hq_command.specs.Ending.{Ends, NotDatabase, Silent};
 ghost use Rattle.hq_command.specs.Showing.{page_output};
 
 use crate::{Done, Refusal};
-use hq_io::{Sink, write_all};
 use hq_cli::Page;
+use hq_io::{Sink, write_all};
 
 /// Writes a page.
 pub fn show<K: Sink>(page: Page, out: &mut K) -> Result<Done, Refusal>

@@ -11,10 +11,10 @@ use crate::reply::INPUT_LIMIT;
 use crate::{Done, Refusal};
 use hq_base::{Reply, Txt};
 use hq_engine::{Engine, Stated};
-use hq_load::{Description, load_description, write_both};
 use hq_io::{Files, Sink, Source, read_all, write_all};
-use hq_session::Headers;
+use hq_load::{Description, load_description, write_both};
 use hq_model::Session;
+use hq_session::Headers;
 use std::alloc::Global;
 
 // Writes a text as a line.

@@ -5,8 +5,8 @@ ghost use Rattle.hq_command.specs.Line.{line_of};
 ghost use Rattle.hq_load.specs.Wrote.{Wrote};
 
 use crate::{Done, Refusal};
-use hq_load::{Part, Phrase, write_parts};
 use hq_io::{Sink, WriteFailed};
+use hq_load::{Part, Phrase, write_parts};
 
 // Writes the line of a refusal, or what goes before a fault.
 fn write_line<E: Sink>(err: &mut E, refusal: &Refusal) -> Result<(), WriteFailed>

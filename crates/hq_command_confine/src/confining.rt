@@ -10,10 +10,10 @@ ghost use Rattle.hq_command_confine.specs.Shown.{InputShows, TextShows};
 use crate::judging::{Said, judge, without_line_end};
 use hq_base::Txt;
 use hq_command::{Done, INPUT_LIMIT, Refusal, caller};
-use hq_load::{Description, load_description};
 use hq_io::{Files, Sink, Source, read_all, write_all};
-use hq_session::Headers;
+use hq_load::{Description, load_description};
 use hq_model::Session;
+use hq_session::Headers;
 use std::alloc::Global;
 
 // Writes a line.

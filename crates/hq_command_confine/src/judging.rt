@@ -12,10 +12,10 @@ ghost use Rattle.hq_confine.specs.Verdicts.{told};
 use hq_base::{Bytes, Memory, Txt};
 use hq_command::Done;
 use hq_confine::{Verdict, confine};
+use hq_model::{Catalog, Meta, Session};
 use hq_sql_check::well_formed;
 use hq_sql_text::{ReadRefusal, read};
 use hq_sql_tree::Select;
-use hq_model::{Catalog, Meta, Session};
 use itoa::Buffer;
 use std::alloc::Global;
 

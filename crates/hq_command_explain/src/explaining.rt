@@ -5,22 +5,22 @@ ghost use Rattle.hq_model.specs.Meta.{meta_view};
 ghost use Rattle.hq_command.specs.Ending.{NotDatabase, Silent};
 ghost use Rattle.hq_command_explain.specs.Explaining.{Explains, SilentButOfFiles, accepted, at_fault, explain_output, input_explained};
 
-use hq_request_tree::Ask;
 use hq_base::{Bytes, Memory, Txt};
 use hq_command::{Done, INPUT_LIMIT, Refusal, caller};
 use hq_engine::{Engine, Stated};
 use hq_explain::{accepted_words, fault_front, fault_words};
 use hq_explain_files::{catalog_words, metadata_words, missing_words, table_words};
 use hq_faults::RequestFault;
+use hq_io::{FileRefusal, Files, Sink, Source, read_all, write_all};
 use hq_load::{
     FileFault, Loaded, LoadingRefusal, load, load_catalog, load_file, table_file_name, write_both,
 };
-use hq_io::{FileRefusal, Files, Sink, Source, read_all, write_all};
-use hq_request::{RequestRefusal, request};
-use hq_schema::Schema;
-use hq_session::Headers;
 use hq_load_tables::LoadRefusal;
 use hq_model::{Catalog, Role, Session};
+use hq_request::{RequestRefusal, request};
+use hq_request_tree::Ask;
+use hq_schema::Schema;
+use hq_session::Headers;
 use std::alloc::Global;
 
 // Tells of an accepted request.

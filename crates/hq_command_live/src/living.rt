@@ -8,19 +8,19 @@ ghost use Rattle.hq_command.specs.Ending.{NotDatabase};
 ghost use Rattle.hq_command_live.specs.Living.{LiveEnds, TalksFrom, TalksOver};
 ghost use Rattle.hq_command_serve.specs.Serving.{OpensOver, answer_of, seen_door};
 
-use hq_live_asker::EngineAsker;
 use hq_base::{Memory, Txt};
 use hq_command::{Done, Instance, Refusal};
-use hq_sql_database::SqlDb;
 use hq_database::Database;
+use hq_io::{Files, Sink};
 use hq_live::{Asker, Live};
+use hq_live_asker::EngineAsker;
 use hq_live_serve::serve_talks;
 use hq_load::{Loaded, load};
+use hq_load_tables::MemTables;
 use hq_messages::{Hall, Messages};
-use hq_io::{Files, Sink};
 use hq_serve::ServeRefusal;
 use hq_session::{Headers, Hook, SecretRule};
-use hq_load_tables::MemTables;
+use hq_sql_database::SqlDb;
 use std::alloc::Global;
 
 /// What comes of a command that files were handed to, and the files.

@@ -8,11 +8,11 @@ ghost use Rattle.hq_command_paged.specs.Disks.{told_rows};
 
 use hq_base::{Memory, Txt};
 use hq_command::{Instance, engine_over};
-use hq_sql_database::SqlDb;
 use hq_database::Database;
-use hq_load::Loaded;
 use hq_io::Disk;
+use hq_load::Loaded;
 use hq_load_pages::{PageRefusal, PagedTables, Unmade};
+use hq_sql_database::SqlDb;
 use std::alloc::Global;
 use std::num::NonZeroUsize;
 

@@ -9,10 +9,10 @@ ghost use Rattle.hq_command.specs.Output.{request_output};
 use crate::instance::{disk_of, on_disk};
 use hq_base::{Memory, Txt};
 use hq_command::{Done, Refusal, caller, reply_to};
-use hq_load::{Loaded, load};
 use hq_io::{Disk, Files, Sink, Source};
-use hq_session::Headers;
+use hq_load::{Loaded, load};
 use hq_model::Session;
+use hq_session::Headers;
 use std::alloc::Global;
 
 /// What comes of a command whose tables are kept on a disk, and the disk.

@@ -11,14 +11,14 @@ use crate::OnDisk;
 use crate::instance::{disk_of, on_disk};
 use hq_base::Txt;
 use hq_command::{Done, Instance, Refusal};
-use hq_sql_database::SqlDb;
 use hq_database::Database;
-use hq_load::load;
 use hq_io::{Disk, Door, Files, Sink};
+use hq_load::load;
 use hq_load_pages::PagedTables;
 use hq_responder::serve_by_secret;
 use hq_serve::ServeRefusal;
 use hq_session::SecretRule;
+use hq_sql_database::SqlDb;
 use std::alloc::Global;
 
 // Opens a door at a port, and serves over tables that are kept on a disk, which is handed back.

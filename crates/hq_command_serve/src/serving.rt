@@ -8,8 +8,8 @@ ghost use Rattle.hq_command_serve.specs.Serving.{OpensOver, ServeEnds, ServesOve
 
 use hq_base::Txt;
 use hq_command::{Done, Instance, Refusal};
-use hq_load::{Loaded, load};
 use hq_io::{Door, Files, Sink};
+use hq_load::{Loaded, load};
 use hq_responder::serve_by_secret;
 use hq_serve::ServeRefusal;
 use hq_session::SecretRule;

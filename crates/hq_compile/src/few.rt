@@ -11,13 +11,13 @@ ghost use Rattle.hq_translation.specs.Lists.{list_sorts};
 ghost use Rattle.hq_compile_context.specs.Contexts.{context_schema};
 ghost use Rattle.hq_compile.specs.Fields.{fields_view, parts_view};
 
-use hq_request_tree::{
-    AggFields, AggPart, AggParts, Args, AskField, AskFields, KeyedAggPart, KeyedAskField,
-};
 use hq_base::Memory;
 use hq_compile_context::Context;
 use hq_compile_summaries::needed;
 use hq_model::{RelId, TableId};
+use hq_request_tree::{
+    AggFields, AggPart, AggParts, Args, AskField, AskFields, KeyedAggPart, KeyedAskField,
+};
 use std::alloc::Global;
 
 // How many entries count at most: with none in `order_by`, the distinct columns.

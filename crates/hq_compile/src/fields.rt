@@ -18,7 +18,6 @@ ghost use Rattle.hq_compile_lists.specs.Starts.{start_origin, start_table};
 ghost use Rattle.hq_compile.specs.Fields.{fields_view, parts_view};
 
 use crate::used::{fields_used, key_used};
-use hq_request_tree::{AggFields, AggPart, AggParts, AskField, AskFields, KeyedAggPart, KeyedAskField};
 use hq_base::{Memory, Txt, Val};
 use hq_compile_context::{Context, take_number};
 use hq_compile_lists::{
@@ -28,8 +27,11 @@ use hq_compile_lists::{
 use hq_compile_masks::{FirstRow, remote_row};
 use hq_compile_summaries::summary_select;
 use hq_compile_tables::{MaskPlace, first_select, one_join, table_column, value_column};
-use hq_sql_tree::{Expr, ExprPair, ExprPairList, Join, JoinList};
 use hq_model::{RelId, TableId};
+use hq_request_tree::{
+    AggFields, AggPart, AggParts, AskField, AskFields, KeyedAggPart, KeyedAskField,
+};
+use hq_sql_tree::{Expr, ExprPair, ExprPairList, Join, JoinList};
 use std::alloc::Global;
 
 // The value of a field at a row of table t at the alias of number p, behind the joins of masks; n is the number of its join.

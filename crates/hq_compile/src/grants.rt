@@ -10,11 +10,11 @@ ghost use Rattle.hq_model_limits.specs.Limits.{rows_of};
 ghost use Rattle.hq_compile.specs.GrantedTrees.{granted_view, granted_with, granted_for, granted_all};
 ghost use Rattle.hq_model.specs.PermView.{mask_view};
 
-use hq_request_tree::{Ask, Bound};
 use hq_base::{List, Memory};
 use hq_compile_context::{Granted, GrantedList};
-use hq_model_limits::{Limit, limit_of};
 use hq_model::{Catalog, Mask, MaskList, Meta, Role};
+use hq_model_limits::{Limit, limit_of};
+use hq_request_tree::{Ask, Bound};
 use std::alloc::Global;
 
 fn copied_mask(alloc: Global, mask: &Mask) -> Result<Mask, Memory>

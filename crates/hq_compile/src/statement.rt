@@ -25,14 +25,14 @@ ghost use Rattle.hq_compile.specs.Fields.{fields_view};
 use crate::few::count_fields;
 use crate::fields::root_row;
 use crate::grants::granted;
-use hq_request_tree::{Ask, AskFields};
 use hq_base::Memory;
 use hq_compile_context::Context;
 use hq_compile_lists::{object, one_row};
-use hq_translation::{requests_are_asked, requests_mean_resolved};
 use hq_laws_confine_own::session_statements_are_confined;
-use hq_sql_tree::Select;
 use hq_model::{Catalog, Meta, Scope, TableId};
+use hq_request_tree::{Ask, AskFields};
+use hq_sql_tree::Select;
+use hq_translation::{requests_are_asked, requests_mean_resolved};
 use std::alloc::Global;
 
 // A number is one of 64 bits.

@@ -5,11 +5,11 @@ ghost use Rattle.hq_translation.specs.Fields.{field_used, fields_used, key_used}
 ghost use Rattle.hq_compile_context.specs.Contexts.{context_schema};
 ghost use Rattle.hq_compile.specs.Fields.{fields_view};
 
-use hq_request_tree::{AskField, AskFields, KeyedAskField};
 use hq_base::{List, Memory};
 use hq_compile_context::Context;
 use hq_compile_lists::add_each;
 use hq_model::{ColList, TableId};
+use hq_request_tree::{AskField, AskFields, KeyedAskField};
 use std::alloc::Global;
 
 // Adds the column that a field uses.

@@ -20,7 +20,6 @@ ghost use Rattle.hq_compile_lists.specs.Starts.{start_tie};
 
 use crate::row::{Row, object};
 use crate::start::{ListStart, list_tie};
-use hq_request_tree::Args;
 use hq_base::{Memory, Txt};
 use hq_compile_context::{Context, RowUse, fold_alias, row_limit, value_name, wide};
 use hq_compile_masks::{mask_parts, where_predicate};
@@ -30,8 +29,9 @@ use hq_compile_tables::{
     MaskPlace, Shown, both_joins, compared_shown, each_once, from_table, table_shown, value_output,
     where_of, with_member,
 };
-use hq_sql_tree::{Agg, Expr, ExprList, JoinList, OrderList, Out, OutList, PredList, Select};
 use hq_model::{ColId, TableId};
+use hq_request_tree::Args;
+use hq_sql_tree::{Agg, Expr, ExprList, JoinList, OrderList, Out, OutList, PredList, Select};
 use std::alloc::Global;
 
 /// What stands in the select of a list's rows beside its outputs and the joins of its children.

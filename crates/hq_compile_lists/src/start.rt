@@ -14,7 +14,6 @@ ghost use Rattle.hq_compile_context.specs.Contexts.{context_schema, context_righ
 ghost use Rattle.hq_compile_tables.specs.Shown.{look_in, look_of};
 ghost use Rattle.hq_compile_lists.specs.Starts.{start_table, start_tie};
 
-use hq_request_tree::Args;
 use hq_base::{Memory, Val};
 use hq_compile_context::{Context, take_number};
 use hq_compile_masks::{FirstRow, mask_parts};
@@ -23,8 +22,9 @@ use hq_compile_tables::{
     MaskPlace, Shown, compared_shown, comparison, joined_by_and, link, literal, table_shown,
     type_in,
 };
-use hq_sql_tree::{Pred, PredList};
 use hq_model::{ColId, Op, RelId, TableId};
+use hq_request_tree::Args;
+use hq_sql_tree::{Pred, PredList};
 use std::alloc::Global;
 
 // A column of a key equals a value.

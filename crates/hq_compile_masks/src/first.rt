@@ -14,8 +14,8 @@ use hq_base::Memory;
 use hq_compile_context::{Context, take_number};
 use hq_compile_predicates::{MaskParts, row_members};
 use hq_compile_tables::link;
-use hq_sql_tree::PredList;
 use hq_model::{ColId, RelId, TableId};
+use hq_sql_tree::PredList;
 use std::alloc::Global;
 
 /// A table whose first row is asked for, its number, the joins of its masks, and what the row meets.

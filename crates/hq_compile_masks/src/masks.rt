@@ -18,8 +18,8 @@ use hq_compile_predicates::{MaskParts, own_predicate};
 use hq_compile_tables::{
     MaskPlace, first_member, is_used, one_join, own_column, value_output, where_of,
 };
-use hq_sql_tree::{Expr, From, Join, PredList, Select};
 use hq_model::{ColId, Mask, TableId};
+use hq_sql_tree::{Expr, From, Join, PredList, Select};
 use std::alloc::Global;
 
 // A value where these members of a WHERE hold.

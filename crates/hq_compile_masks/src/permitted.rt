@@ -15,8 +15,8 @@ use hq_base::Memory;
 use hq_compile_context::Context;
 use hq_compile_predicates::{Counted, MaskParts, filter_predicate, predicate_of};
 use hq_compile_tables::MaskPlace;
-use hq_sql_tree::Pred;
 use hq_model::{Bexp, TableId};
+use hq_sql_tree::Pred;
 use std::alloc::Global;
 
 // The permitted rows, with their shown cells: inside the `where` of a request.

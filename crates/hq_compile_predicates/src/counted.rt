@@ -4,8 +4,8 @@ ghost use Rattle.std.specs.Prelude.{◌≡◌, ◌+◌};
 use hq_base::{List, Memory};
 use hq_compile_context::Context;
 use hq_compile_tables::MaskPlaceList;
-use hq_sql_tree::{JoinList, Pred};
 use hq_model::{Bexp, TableId};
+use hq_sql_tree::{JoinList, Pred};
 use std::alloc::Global;
 
 /// The joins of masks at an alias, and where they show their columns.

@@ -19,8 +19,8 @@ use hq_compile_tables::{
     MaskPlace, column_test, columns_test, exists_where, first_member, joined_by_and, joined_by_or,
     link, negation, table_shown, with_member,
 };
-use hq_sql_tree::{JoinList, Pred, PredList};
 use hq_model::{Bexp, BexpList, RelId, TableId};
+use hq_sql_tree::{JoinList, Pred, PredList};
 use std::alloc::Global;
 
 /// An expression over table t, whose rows stand at the alias of number p and are looked at behind the joins of masks.

@@ -22,8 +22,8 @@ use hq_compile_tables::{
     MaskPlace, both_joins, column_at, first_row, is_text, one_join, table_column, value_at,
     value_output,
 };
-use hq_sql_tree::{Expr, JoinList, Order, OrderList, Out, OutList};
 use hq_model::{ColId, RelId, TableId};
+use hq_sql_tree::{Expr, JoinList, Order, OrderList, Out, OutList};
 use std::alloc::Global;
 
 // The table at the end of relationships.

@@ -7,11 +7,11 @@ ghost use Rattle.hq_translation.specs.Lists.{once, list_sorts};
 ghost use Rattle.hq_compile_context.specs.Contexts.{context_schema};
 ghost use Rattle.hq_compile_sorts.specs.RowSorts.{row_sort_view};
 
-use hq_request_tree::{Args, RelIdList, Sort};
 use hq_base::{List, Memory};
 use hq_compile_context::Context;
 use hq_compile_tables::each_once;
 use hq_model::{ColId, TableId};
+use hq_request_tree::{Args, RelIdList, Sort};
 use std::alloc::Global;
 
 /// A sort key of rows, of their own cells or of those that are shown: a column at the end of object relationships.

@@ -2,10 +2,10 @@
 ghost use Rattle.std.specs.Prelude.{◌≡◌, [], IfOk, OnOk};
 ghost use Rattle.hq_translation.specs.Aggregates.{add_column, add_columns, add_counted, add_field, needed, place_of, is_taken, some_taken, is_aggregate, some_aggregate};
 
-use hq_request_tree::{AggCol, AggField, KeyedAggCol, KeyedAggField};
 use hq_base::{List, Memory};
 use hq_compile_tables::add_new;
 use hq_model::{ColId, ColList};
+use hq_request_tree::{AggCol, AggField, KeyedAggCol, KeyedAggField};
 use std::alloc::Global;
 
 fn add_column(field: &AggCol, columns: &mut ColList) -> Result<(), Memory>

@@ -13,15 +13,15 @@ ghost use Rattle.hq_compile_tables.specs.Shown.{look_in, look_of};
 ghost use Rattle.hq_compile_lists.specs.Starts.{start_tie};
 
 use crate::needs::{needed, place_of, some_aggregate};
-use hq_request_tree::{AggCol, AggField, KeyedAggCol, KeyedAggField};
 use hq_base::{Aggregate, Memory};
 use hq_compile_context::{
     Context, RowUse, fold_alias, needed_name, row_limit, unit_name, value_name,
 };
 use hq_compile_lists::{ListStart, fold, list_body, list_rows, list_used, object, one_row};
 use hq_compile_tables::{MaskPlace, Shown, is_text, shown_column, table_shown};
-use hq_sql_tree::{Agg, Expr, ExprPair, ExprPairList, Out, OutList, Select};
 use hq_model::{ColId, Column, TableId};
+use hq_request_tree::{AggCol, AggField, KeyedAggCol, KeyedAggField};
+use hq_sql_tree::{Agg, Expr, ExprPair, ExprPairList, Out, OutList, Select};
 use std::alloc::Global;
 
 // A needed column at the fold of number n.

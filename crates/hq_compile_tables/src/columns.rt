@@ -7,8 +7,8 @@ ghost use Rattle.hq_translation.specs.Masks.{value_place};
 
 use hq_base::{List, Memory, Txt, Ty};
 use hq_compile_context::{join_alias, table_alias, value_name};
-use hq_sql_tree::Expr;
 use hq_model::{ColId, ColList, Column, Test};
+use hq_sql_tree::Expr;
 use std::alloc::Global;
 
 // The name of a column; empty beyond the table's columns.

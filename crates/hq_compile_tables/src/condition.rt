@@ -12,8 +12,8 @@ ghost use Rattle.hq_compile_tables.specs.Shown.{look_of};
 use crate::columns::type_in;
 use crate::shown::{Shown, compared_shown, tested_shown};
 use hq_base::{Memory, Txt, Ty, Val};
-use hq_sql_tree::{Expr, ExprList, Pred, PredList};
 use hq_model::{Arity, ColId, Op, Operand, Operands, Test};
+use hq_sql_tree::{Expr, ExprList, Pred, PredList};
 use std::alloc::Global;
 
 // The literal of a text: where it is compared with a uuid, one of that type.

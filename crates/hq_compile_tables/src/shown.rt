@@ -10,8 +10,8 @@ ghost use Rattle.hq_compile_tables.specs.Shown.{look_in, look_of};
 use crate::columns::{column_at, compares, is_text, value_at};
 use hq_base::{List, Memory};
 use hq_compile_context::Context;
-use hq_sql_tree::Expr;
 use hq_model::{ColId, Column, TableId, Test};
+use hq_sql_tree::Expr;
 use std::alloc::Global;
 
 /// A masked column, and the number of the join that shows it.

@@ -18,10 +18,10 @@ use crate::columns::compared_column;
 use crate::condition::{comparison, joined_by_and, where_of};
 use hq_base::{Memory, Txt};
 use hq_compile_context::{Context, join_alias, table_alias, unit_name, value_name};
+use hq_model::{ColId, Column, Op, Pair, RelId, TableId};
 use hq_sql_tree::{
     Expr, From, Join, JoinList, Order, OrderList, Out, OutList, Pred, PredList, Select,
 };
-use hq_model::{ColId, Column, Op, Pair, RelId, TableId};
 use std::alloc::Global;
 
 // The rows of a table by its names, under an alias.

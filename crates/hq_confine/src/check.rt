@@ -15,8 +15,8 @@ use crate::walk::walk_select;
 use hq_base::{Memory, Txt};
 use hq_confine_uses::{Fault, Rules, Shapes};
 use hq_laws_confine::confined_statements_mean_the_same;
-use hq_sql_tree::Select;
 use hq_model::{Catalog, Meta, Scope, Session};
+use hq_sql_tree::Select;
 use std::alloc::Global;
 
 /// Whether a statement shows no more than a session's view: else the least rule that it violates, 1 to 6, and the alias of the first

@@ -13,8 +13,8 @@ ghost use Rattle.hq_model.specs.declared.bind.BindRefusal.TheVariants as refusal
 ghost use Rattle.hq_request_bound.specs.Bound.{mask_due};
 
 use hq_base::Memory;
-use hq_model_binding::bind;
 use hq_model::{Bexp, BindRefusal, Mask, MaskList, PermView, Role, Scope, Session, TableId};
+use hq_model_binding::bind;
 use std::alloc::Global;
 
 fn bound_mask(

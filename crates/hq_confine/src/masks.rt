@@ -15,8 +15,8 @@ use crate::written::own_condition;
 use hq_base::{Memory, Txt};
 use hq_confine_members::{alias_of, are_of, conjuncts, is_bare, opened, stand_among};
 use hq_confine_uses::{Alias, Rules, Shape, Shapes, column_place, shape_at};
-use hq_sql_tree::{Expr, From, OutList, Pred, Select};
 use hq_model::Bexp;
+use hq_sql_tree::{Expr, From, OutList, Pred, Select};
 use std::alloc::Global;
 
 // Whether the conjuncts are exactly those of a filter or mask of a table, at an alias.

@@ -11,8 +11,8 @@ use hq_base::{List, Memory};
 use hq_compile_context::Context;
 use hq_compile_predicates::own_predicate;
 use hq_confine_uses::Rules;
-use hq_sql_tree::Pred;
 use hq_model::{Bexp, TableId};
+use hq_sql_tree::Pred;
 use std::alloc::Global;
 
 // A number is one of 64 bits.

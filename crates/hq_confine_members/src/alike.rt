@@ -8,10 +8,10 @@ ghost use Rattle.hq_confine_rules.specs.Renamed.{is_alike_expr, are_alike_exprs,
 ghost use Rattle.hq_confine_members.specs.Views.{renaming_view};
 
 use hq_base::Txt;
+use hq_model::{Op, Test};
 use hq_sql_tree::{
     Expr, ExprList, ExprPairList, From, JoinList, OrderList, Out, OutList, Pred, PredList, Select,
 };
-use hq_model::{Op, Test};
 
 /// Aliases of the one condition with those that stand for them in the other, the innermost first.
 #[derive(Clone, Copy)]

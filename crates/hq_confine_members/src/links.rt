@@ -11,8 +11,8 @@ ghost use Rattle.hq_confine_uses.specs.Views.{rules_schema, shapes_view};
 
 use hq_base::Txt;
 use hq_confine_uses::{Rules, Shape, Shapes, shape_at};
-use hq_sql_tree::{Expr, ExprList, Pred};
 use hq_model::{ColId, Op, Pair, Rel, Test};
+use hq_sql_tree::{Expr, ExprList, Pred};
 
 /// An equation of two columns.
 #[derive(Clone, Copy)]

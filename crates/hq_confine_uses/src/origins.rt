@@ -9,8 +9,8 @@ ghost use Rattle.hq_confine_uses.specs.Views.{texts, path_view, origin_view, pas
 use crate::known::Rules;
 use crate::scope::{Output, Passed, Shape, Shapes, shape_at};
 use hq_base::{Memory, Txt};
-use hq_sql_tree::{Expr, OutList};
 use hq_model::{Column, Table};
+use hq_sql_tree::{Expr, OutList};
 use std::alloc::Global;
 
 /// A path of aliases to a scan: the nearest one, and those behind it.

@@ -11,8 +11,8 @@ use crate::known::Rules;
 use crate::origins::{Cell, Path, is_of, origin};
 use crate::scope::Shapes;
 use hq_base::Txt;
-use hq_sql_tree::Order;
 use hq_model::ColId;
+use hq_sql_tree::Order;
 
 // Whether it is a sort key by this column of the scan at the end of a path, ascending, NULLs last.
 fn is_key_sort(

@@ -6,16 +6,16 @@ ghost use Rattle.hq_schema_roles.specs.Roles.{AreRoleSchemas};
 use crate::statement::{ask, statement_text};
 use crate::{EngineRefusal, Stated, replies_agree};
 use hq_answer::Answer;
-use hq_request_tree::Ask;
 use hq_base::{Memory, Reply};
-use hq_laws_build::valid_faults;
 use hq_database::Database;
+use hq_laws_build::valid_faults;
+use hq_laws_request::requests_are_formed;
+use hq_model::{Catalog, Meta, Role, Session};
 use hq_reply::{data_reply, fault_reply, tables_are_resolved};
 use hq_request::{RequestRefusal, request};
-use hq_laws_request::requests_are_formed;
-use hq_schema_roles::RoleSchemas;
+use hq_request_tree::Ask;
 use hq_schema::Schema;
-use hq_model::{Catalog, Meta, Role, Session};
+use hq_schema_roles::RoleSchemas;
 use std::alloc::Global;
 
 /// Answers requests over a database of this catalog, by this metadata.

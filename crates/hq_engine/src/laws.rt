@@ -6,8 +6,8 @@ ghost use Rattle.hq_model.specs.declared.session.Session.{Session as Caller};
 ghost use Rattle.hq_model.specs.declared.table.Table.{Table as CatalogTable};
 ghost use Rattle.hq_engine.specs.Laws.{RepliesAgree};
 
-use hq_laws_request::requests_are_formed;
 use hq_laws_isolation::worlds_agree;
+use hq_laws_request::requests_are_formed;
 
 /// Over two databases that a session cannot tell apart, the same reply is due: for every catalog, metadata that fits it,
 /// session and body.

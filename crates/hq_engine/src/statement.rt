@@ -16,13 +16,13 @@ ghost use Rattle.hq_engine.specs.Statements.{HasStatement, IsMeaning, IsStatemen
 
 use crate::EngineRefusal;
 use hq_answer::Answer;
-use hq_request_tree::Ask;
 use hq_base::{Bytes, Memory};
-use hq_database::{Database, DbRefusal};
-use hq_reply::has_table_field;
 use hq_compile::compile;
-use hq_sql_text::{one_tree, print};
+use hq_database::{Database, DbRefusal};
 use hq_model::{Catalog, Meta, Session};
+use hq_reply::has_table_field;
+use hq_request_tree::Ask;
+use hq_sql_text::{one_tree, print};
 use std::alloc::Global;
 
 // The text of the statement of a session's request.

@@ -2,10 +2,10 @@
 
 use crate::filter::{Scope, put_filter};
 use crate::layout::put_statement;
-use hq_request_tree::{Ask, Bound};
 use hq_base::{Bytes, Memory};
 use hq_explain_places::Words;
 use hq_model::{Bexp, Catalog, ColId, Mask, Meta, PermView, Role, Tracked};
+use hq_request_tree::{Ask, Bound};
 use std::alloc::Global;
 
 fn put_role(words: &mut Words, role: &Role) {

@@ -3,9 +3,9 @@
 use crate::lists::put_known;
 use crate::subject::{Owner, Sort, Subject};
 use crate::types::put_type;
+use hq_explain_places::Words;
 use hq_gql_nodes::{Node, args_of_directive, args_of_field, is_non_null, is_null};
 use hq_gql_tree::Argument;
-use hq_explain_places::Words;
 use hq_schema::{ArgDef, ArgDefList};
 
 // What the argument at the place is given to.

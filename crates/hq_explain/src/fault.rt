@@ -15,14 +15,14 @@ use crate::text::{bad_syntax, bad_token};
 use crate::values::{lacking_member, repeated_member, unknown_member, wrong_value};
 use crate::variables::{no_input_type, of_variable, undefined, wrong_type, wrong_variable};
 use hq_base::{Bytes, Json, JsonRefusal, Memory};
+use hq_explain_places::{Words, put_excerpt};
 use hq_faults::RequestFault;
 use hq_gql_lexer::lex;
 use hq_gql_nodes::{document_parts, variable_types};
 use hq_gql_parser::parse;
 use hq_gql_tree::{Document, Fault, RuleId};
-use hq_explain_places::{Words, put_excerpt};
-use hq_schema::Schema;
 use hq_model::Session;
+use hq_schema::Schema;
 use std::alloc::Global;
 
 // What a rule of validation is violated by.

@@ -4,9 +4,9 @@ use crate::lists::put_known;
 use crate::subject::{Sort, Subject};
 use crate::types::{put_type, put_type_name};
 use hq_base::Txt;
+use hq_explain_places::{Words, place_of};
 use hq_gql_nodes::{Node, known_field};
 use hq_gql_tree::Field;
-use hq_explain_places::{Words, place_of};
 use hq_schema::TypeId;
 
 // The key under which a field is answered.

@@ -3,9 +3,9 @@
 use crate::lists::put_comma;
 use crate::subject::{Sort, Subject};
 use hq_base::Txt;
+use hq_explain_places::Words;
 use hq_gql_nodes::Node;
 use hq_gql_tree::{Definition, TypeCond};
-use hq_explain_places::Words;
 use hq_schema::{Kind, TypeDef};
 
 // Adds the names of the document's fragments.

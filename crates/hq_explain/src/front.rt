@@ -5,8 +5,8 @@ ghost use Rattle.hq_base.specs.Json.{json_view};
 ghost use Rattle.hq_explain.specs.Fronts.{fault_front, place_front, query_text, rule_front};
 
 use hq_base::{Bytes, Json, JsonRefusal, Memory, Txt};
-use hq_faults::RequestFault;
 use hq_explain_places::place_of;
+use hq_faults::RequestFault;
 use itoa::Buffer;
 use std::alloc::Global;
 

@@ -3,8 +3,8 @@
 use crate::lists::put_comma;
 use crate::subject::Subject;
 use hq_base::Json;
-use hq_gql_tree::{Definition, Document, OpKind};
 use hq_explain_places::Words;
+use hq_gql_tree::{Definition, Document, OpKind};
 
 // Adds the names of the document's operations.
 fn put_operations(words: &mut Words, document: &Document) {

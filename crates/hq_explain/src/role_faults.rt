@@ -1,9 +1,9 @@
 //! Faults of session variables, F33 and F34, and those of a field's arguments, F36 to F41.
 
 use crate::subject::{Sort, Subject};
+use hq_explain_places::Words;
 use hq_gql_nodes::Node;
 use hq_gql_tree::{Fault, RuleId};
-use hq_explain_places::Words;
 use hq_model::{Session, Want};
 
 // Adds the field at the place, and what is wrong with it.

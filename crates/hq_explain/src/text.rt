@@ -1,8 +1,8 @@
 //! Faults of the query's text: F3 and F4.
 
+use hq_explain_places::{Words, piece};
 use hq_gql_lexer::{LexRefusal, lex};
 use hq_gql_parser::{ParseRefusal, parse};
-use hq_explain_places::{Words, piece};
 use std::alloc::Global;
 
 // The bytes of the token, or of what stands in its place, that begins here.

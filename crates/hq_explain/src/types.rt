@@ -1,7 +1,7 @@
 //! Types as GraphQL writes them.
 
-use hq_gql_tree::TypeRefTree;
 use hq_explain_places::Words;
+use hq_gql_tree::TypeRefTree;
 use hq_schema::{Schema, TypeId, TypeRef};
 
 /// Adds the name of a type.

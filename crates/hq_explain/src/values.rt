@@ -3,9 +3,9 @@
 use crate::lists::put_known;
 use crate::subject::{Sort, Subject};
 use crate::types::{put_type, put_type_name};
+use hq_explain_places::{Words, piece};
 use hq_gql_nodes::{Node, is_non_null};
 use hq_gql_tree::Value;
-use hq_explain_places::{Words, piece};
 use hq_schema::{TypeId, TypeRef};
 
 // Adds a value in words.

@@ -4,9 +4,9 @@ use crate::subject::{Sort, Subject};
 use crate::types::{put_type, put_written_type};
 use crate::values::variable_text;
 use hq_base::{Bytes, Json, Memory, Txt};
+use hq_explain_places::Words;
 use hq_gql_nodes::Node;
 use hq_gql_tree::{Definition, VarDef};
-use hq_explain_places::Words;
 use std::alloc::Global;
 
 fn put_variable(words: &mut Words, name: &[u8]) {

@@ -5,8 +5,8 @@ use crate::node::{Node, put_written_table};
 use crate::path::is_element;
 use crate::spot::path_of;
 use hq_base::{Bytes, Json, JsonRefusal, Memory, Txt};
-use hq_load_catalog::CatalogRefusal;
 use hq_explain_places::{Words, put_not_json};
+use hq_load_catalog::CatalogRefusal;
 use std::alloc::Global;
 
 // What an element of a member of this name is to be.

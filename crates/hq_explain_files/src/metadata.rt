@@ -7,8 +7,8 @@ use crate::known::{
 use crate::node::{Node, put_written_table};
 use crate::path::{behind, has, has_connectives_alone, is_element, last_name, parent};
 use hq_base::{Bytes, Json, JsonRefusal, Memory};
-use hq_load_meta_tables::MetaRefusal;
 use hq_explain_places::{Words, put_not_json};
+use hq_load_meta_tables::MetaRefusal;
 use hq_model::{Catalog, Table, table_place};
 use std::alloc::Global;
 

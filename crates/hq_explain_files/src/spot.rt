@@ -1,8 +1,8 @@
 //! The path of what a catalog's refusal tells by its name alone.
 
 use hq_base::{Bytes, Json, Memory, Txt};
-use hq_load_catalog::CatalogRefusal;
 use hq_explain_places::Words;
+use hq_load_catalog::CatalogRefusal;
 use std::alloc::Global;
 
 // A part of a table: a member of it, and what stands in that.

@@ -5,10 +5,10 @@ ghost use Rattle.hq_model.specs.declared.table.Table.{Table as CatalogTable};
 ghost use Rattle.hq_request_tree.specs.Request.{AskTree};
 ghost use Rattle.hq_laws_confine_own.specs.Asks.{AsksAreConfined};
 
-use hq_request_tree::requests_use_permitted;
-use hq_translation::requests_are_asked;
 use hq_confine_rules::statements_are_confined;
 use hq_model::permissions_fit;
+use hq_request_tree::requests_use_permitted;
+use hq_translation::requests_are_asked;
 
 /// The law: the statement of a typed request of a session is confined for that session. So the checker of statements says yes to it.
 pub fn session_statements_are_confined()

@@ -10,8 +10,8 @@ ghost use Rattle.hq_model.specs.declared.role.Role.{Role as Asking};
 ghost use Rattle.hq_model.specs.declared.session.Session.{Session as Caller};
 ghost use Rattle.hq_model.specs.declared.table.Table.{Table as CatalogTable};
 
-use hq_laws_renumbered::copies_answer_alike;
 use hq_laws_isolation::resolves_alike;
+use hq_laws_renumbered::copies_answer_alike;
 
 /// Nested resolvers give over a copy, as its reader, what they give over the database for the session: for each well-formed request
 /// of the session, in the numbers of the copy.

@@ -5,8 +5,8 @@ ghost use Rattle.hq_live.specs.Memory.{due_over, next_over, reply_of, HasFailed,
 
 use crate::{Asked, Asker, Reloaded};
 use hq_base::{Bytes, List, Memory, Txt};
-use hq_io_memory::Calls;
 use hq_io::NumList;
+use hq_io_memory::Calls;
 use hq_model::Session;
 use std::alloc::Global;
 

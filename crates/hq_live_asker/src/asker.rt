@@ -6,14 +6,14 @@ ghost use Rattle.hq_live.specs.Asking.{GaveReply, KeepsFiles, Reloads};
 ghost use Rattle.hq_live_asker.specs.Asker.{due_of, next_of, sum, NeverFails, FailsFor, IsRead, IsUnread};
 
 use hq_base::{Memory, Txt};
-use hq_sql_database::SqlDb;
-use hq_engine::{Engine, EngineRefusal};
 use hq_database::Database;
+use hq_engine::{Engine, EngineRefusal};
+use hq_io::{Files, count_fault};
 use hq_live::{Asked, Asker, Reloaded};
 use hq_load::{LoadingRefusal, load_tables};
-use hq_io::{Files, count_fault};
 use hq_load_tables::{MemTables, RowsList};
 use hq_model::{Catalog, Session};
+use hq_sql_database::SqlDb;
 use std::alloc::Global;
 
 /// Answers requests by the engine over a database in memory, and reads its table files again. `refused` counts the readings that a

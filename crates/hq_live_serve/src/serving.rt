@@ -10,12 +10,12 @@ ghost use Rattle.hq_live_serve.specs.Serving.{HoldsNext, ServesTalks};
 
 use crate::line::put_line;
 use hq_base::Bytes;
-use hq_live::{Asker, Live};
-use hq_messages::{Hall, HallFailed};
 use hq_io::{Sink, write_all};
+use hq_live::{Asker, Live};
+use hq_live_talk::{TalkEnd, talk};
+use hq_messages::{Hall, HallFailed};
 use hq_serve::ServeRefusal;
 use hq_session::{Headers, Hook, HookAnswer, HookRule};
-use hq_live_talk::{TalkEnd, talk};
 use std::alloc::Global;
 
 // Writes the line after the talk of this number.

@@ -16,8 +16,8 @@ use crate::texts::{ACK, PONG, TOO_MANY, error_text};
 use crate::told::{forget, tell_all};
 use hq_base::{Bytes, Memory, Txt};
 use hq_live::{Asker, Body, Event, Live, StepRefusal};
-use hq_session::{Headers, Hook, HookAnswer, HookRule};
 use hq_model::Session;
+use hq_session::{Headers, Hook, HookAnswer, HookRule};
 use std::alloc::Global;
 
 /// What is kept of a talk beside the live queries: the session, and the names of the subscriptions that are answered once and were

@@ -5,9 +5,9 @@ ghost use Rattle.hq_load.specs.Faults.{catalog_fields, catalog_name, meta_fields
 
 use crate::{Field, Fields, LoadingRefusal, Phrase};
 use hq_base::Txt;
+use hq_io::FileRefusal;
 use hq_load_catalog::CatalogRefusal;
 use hq_load_meta::MetaRefusal;
-use hq_io::FileRefusal;
 use hq_load_tables::LoadRefusal;
 use thiserror::Error;
 

@@ -11,9 +11,9 @@ ghost use Rattle.hq_load.specs.Loading.{catalog_file, meta_file, catalog_in, met
 use crate::directory::{load_file, table_file_name};
 use crate::{Description, Loaded, LoadingRefusal};
 use hq_base::{List, Memory, Txt};
+use hq_io::Files;
 use hq_load_catalog::read_catalog;
 use hq_load_meta::read_meta;
-use hq_io::Files;
 use hq_load_tables::{Rows, RowsList, load_table};
 use hq_model::{Catalog, Meta, Table};
 use std::alloc::Global;

@@ -22,7 +22,9 @@ use hq_load_filter::read_filter;
 use hq_load_meta_tables::MetaRefusal;
 use hq_load_meta_tables::field::Field;
 use hq_load_meta_tables::found::{columns_of, listed_columns};
-use hq_load_meta_tables::node::{at, entries_member, member_at, object_at, object_member, text_member};
+use hq_load_meta_tables::node::{
+    at, entries_member, member_at, object_at, object_member, text_member,
+};
 use hq_load_meta_tables::tracking::tables_of;
 use hq_model::{
     Bexp, Catalog, ColId, ColList, Column, Meta, Perm, PermList, Scope, TableId, Tracked,

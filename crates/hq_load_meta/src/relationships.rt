@@ -9,7 +9,9 @@ use crate::linking::link_at;
 use hq_base::{Json, List, Memory, Txt, item_path};
 use hq_load_meta_tables::MetaRefusal;
 use hq_load_meta_tables::field::Field;
-use hq_load_meta_tables::node::{at, entries_member, free_name_at, member_at, object_at, object_member};
+use hq_load_meta_tables::node::{
+    at, entries_member, free_name_at, member_at, object_at, object_member,
+};
 use hq_load_meta_tables::tracking::tables_of;
 use hq_model::{Catalog, Meta, Rel, RelList, Scope, TableId, Tracked};
 use std::alloc::Global;

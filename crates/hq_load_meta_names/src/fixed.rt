@@ -4,8 +4,8 @@ ghost use Rattle.hq_model.specs.SchemaNames.{fixed_types, fixed_inputs};
 
 use crate::texts::{push_text, text};
 use hq_base::{List, Memory};
-use hq_schema::Fixed;
 use hq_model::TxtList;
+use hq_schema::Fixed;
 use std::alloc::Global;
 
 // The names of these types.

@@ -4,8 +4,8 @@ ghost use Rattle.hq_model.specs.SchemaNames.{rel_fields};
 
 use crate::texts::{push_end, push_name, with_end};
 use hq_base::{Aggregate, List, Memory, Txt};
-use hq_schema::Part;
 use hq_model::{Rel, RootNames, TxtList};
+use hq_schema::Part;
 use std::alloc::Global;
 
 // Names, and behind them those of these types.

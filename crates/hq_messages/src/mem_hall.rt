@@ -6,8 +6,8 @@ ghost use Rattle.hq_messages.specs.Messages.{IsNextTalk};
 
 use crate::{Hall, HallFailed, MemMessages};
 use hq_base::List;
-use hq_io_memory::{Calls, LinkRow};
 use hq_io::NumList;
+use hq_io_memory::{Calls, LinkRow};
 use std::alloc::Global;
 
 /// Talks in memory, in order.

@@ -6,8 +6,8 @@ ghost use Rattle.hq_messages.specs.declared.messages.Out.TheVariants as out;
 
 use crate::{In, LinkRefusal, Message, Messages, Out};
 use hq_base::{Bytes, List};
-use hq_io_memory::Calls;
 use hq_io::NumList;
+use hq_io_memory::Calls;
 use std::alloc::Global;
 
 /// Messages, in order.

@@ -10,9 +10,9 @@ ghost use Rattle.hq_schema.specs.Schema.{schema_view};
 use crate::root::put_fields;
 use crate::tables::members_in;
 use hq_answer::Answer;
-use hq_request_tree::AskFields;
 use hq_base::{Bytes, Json, Memory, Reply};
 use hq_faults::{RequestFault, fault_json};
+use hq_request_tree::AskFields;
 use hq_schema::Schema;
 use std::alloc::Global;
 

@@ -9,9 +9,9 @@ ghost use Rattle.hq_reply.specs.RootTexts.{field_text, keyed_text, members_text,
 
 use crate::tables::put_next;
 use hq_answer::AnswerMember;
-use hq_request_tree::{AskField, AskFields, KeyedAskField};
 use hq_base::{Bytes, Memory, Txt, put_comma, put_quoted};
 use hq_request_introspect::put_answer;
+use hq_request_tree::{AskField, AskFields, KeyedAskField};
 use hq_schema::Schema;
 use std::alloc::Global;
 use std::vec::IntoIter;

@@ -13,8 +13,8 @@ ghost use Rattle.hq_reply.specs.RootTexts.{texts_in, texts_left, value_text};
 ghost use Rattle.hq_reply.specs.TableObject.{IsResolved, table_object};
 
 use hq_answer::{Answer, AnswerMember};
-use hq_request_tree::{AskField, AskFields};
 use hq_base::{Bytes, Memory};
+use hq_request_tree::{AskField, AskFields};
 use std::alloc::Global;
 use std::vec::IntoIter;
 

@@ -10,9 +10,9 @@ use crate::operation::operation_ask;
 use crate::reading::{document_due, json_due, query_due};
 use crate::refusal::RequestRefusal;
 use crate::validation::valid_due;
+use hq_model::{Catalog, Meta, Session};
 use hq_request_tree::Ask;
 use hq_schema::Schema;
-use hq_model::{Catalog, Meta, Session};
 use std::alloc::Global;
 
 /// The typed request that a body makes for a session whose role has this schema, or the first fault: of the body (F1, F2), of

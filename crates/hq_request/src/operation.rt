@@ -11,13 +11,13 @@ ghost use Rattle.hq_request.specs.Operation.{operation_name, operation_due, valu
 
 use crate::body::text_of;
 use crate::refusal::RequestRefusal;
-use hq_request_build::build;
-use hq_request_tree::Ask;
 use hq_base::{Json, Txt};
-use hq_request_coerce::{OpRef, VarValues, choose, coerce_variables};
 use hq_gql_tree::Document;
-use hq_schema::Schema;
 use hq_model::{Catalog, Meta, Session};
+use hq_request_build::build;
+use hq_request_coerce::{OpRef, VarValues, choose, coerce_variables};
+use hq_request_tree::Ask;
+use hq_schema::Schema;
 use std::alloc::Global;
 
 // The name of the operation that a request wants.

@@ -1,7 +1,7 @@
 use hq_base::Memory;
-use hq_request_coerce::CoerceRefusal;
 use hq_faults::RequestFault;
 use hq_gql_tree::Fault;
+use hq_request_coerce::CoerceRefusal;
 
 /// Why a body makes no request.
 #[derive(Drop)]

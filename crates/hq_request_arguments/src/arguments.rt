@@ -26,11 +26,11 @@ use crate::plain::{flag, text};
 use crate::reading::{arguments_of, given_named, place_of};
 use crate::sorts::order_by;
 use crate::{ArgRefusal, Context, FieldArgs};
-use hq_request_tree::{Args, Sort, SortList};
-use hq_request_coerce::{CoerceRefusal, fault_of};
 use hq_gql_tree::{Argument, Field};
-use hq_schema::{ArgDefList, FieldDef, FieldOrigin};
 use hq_model::{Bexp, ColId, ColList, TableId};
+use hq_request_coerce::{CoerceRefusal, fault_of};
+use hq_request_tree::{Args, Sort, SortList};
+use hq_schema::{ArgDefList, FieldDef, FieldOrigin};
 use std::alloc::Global;
 
 // The argument `where` of a list of rows of a table, in a box, so that it is let go in one step.

@@ -14,11 +14,11 @@ ghost use Rattle.hq_request_arguments.specs.declared.refusal.ArgRefusal.TheVaria
 
 use crate::reading::{Given, items_in};
 use crate::{ArgRefusal, Context};
-use hq_request_tree::Sort;
 use hq_base::{Json, List, Memory};
 use hq_gql_tree::RuleId;
-use hq_schema::{ArgOrigin, TypeId};
 use hq_model::{ColId, ColList, has_column};
+use hq_request_tree::Sort;
+use hq_schema::{ArgOrigin, TypeId};
 use std::alloc::Global;
 
 // The column that a name of the enum `p` stands for.

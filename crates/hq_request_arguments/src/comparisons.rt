@@ -15,8 +15,8 @@ use crate::reading::{items_in, misfit};
 use crate::{ArgRefusal, Context};
 use hq_base::{Json, List, Member, Txt, Ty};
 use hq_gql_tree::RuleId;
-use hq_schema::{ArgOrigin, TypeId};
 use hq_model::{Arity, Bexp, BexpList, ColId, OperandList, Operands, Operator, Test};
+use hq_schema::{ArgOrigin, TypeId};
 use std::alloc::Global;
 
 // The operands of a list, for a test of a column of a type.

@@ -1,6 +1,6 @@
+use hq_model::Scope;
 use hq_request_coerce::VarValues;
 use hq_schema::Schema;
-use hq_model::Scope;
 
 /// What the arguments of a field are read against: the coerced variables of the operation, the schema of the role, and the tables
 /// behind it.

@@ -1,6 +1,6 @@
-use hq_request_tree::{Args, ValList};
 use hq_base::Txt;
 use hq_model::ColId;
+use hq_request_tree::{Args, ValList};
 
 /// The coerced arguments of a field. Those of a list lie in a box, so that they are let go in one step.
 #[derive(Drop)]

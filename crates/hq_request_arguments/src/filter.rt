@@ -13,8 +13,8 @@ use crate::reading::{Given, misfit};
 use crate::{ArgRefusal, Context};
 use hq_base::{Json, JsonList, Member, Members, Memory};
 use hq_gql_tree::RuleId;
-use hq_schema::{ArgOrigin, TypeId};
 use hq_model::{Bexp, BexpList, RelId, TableId};
+use hq_schema::{ArgOrigin, TypeId};
 use std::alloc::Global;
 
 // A filter at the input object `p` over a table.

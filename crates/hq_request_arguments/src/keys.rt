@@ -14,11 +14,11 @@ ghost use Rattle.hq_request_arguments.specs.declared.refusal.ArgRefusal.TheVaria
 
 use crate::reading::{Given, argument_named, given_of};
 use crate::{ArgRefusal, Context};
-use hq_request_tree::ValList;
 use hq_base::{Json, List, Memory, Ty, Val};
 use hq_gql_tree::{Argument, RuleId};
-use hq_schema::{ArgDef, ArgOrigin};
 use hq_model::{ColId, Scope, TableId, constant_in};
+use hq_request_tree::ValList;
+use hq_schema::{ArgDef, ArgOrigin};
 use std::alloc::Global;
 
 // Whether an argument is for a column.

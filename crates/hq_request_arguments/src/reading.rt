@@ -10,8 +10,8 @@ ghost use Rattle.hq_request_arguments.specs.Reading.{items_in, misfit, given, ar
 
 use crate::{ArgRefusal, Context};
 use hq_base::{Json, Memory};
-use hq_request_coerce::source;
 use hq_gql_tree::{Argument, Field, RuleId};
+use hq_request_coerce::source;
 use hq_schema::{ArgDef, ArgDefList, arg_named};
 use std::alloc::Global;
 use std::slice;

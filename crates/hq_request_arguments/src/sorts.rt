@@ -11,11 +11,11 @@ ghost use Rattle.hq_request_arguments.specs.declared.refusal.ArgRefusal.TheVaria
 
 use crate::reading::{Given, items_in, misfit};
 use crate::{ArgRefusal, Context};
-use hq_request_tree::{RelIdList, Sort, SortList};
 use hq_base::{Json, List, Member, Members, Memory};
 use hq_gql_tree::RuleId;
-use hq_schema::{ArgOrigin, TypeId};
 use hq_model::{ColId, RelId, TableId};
+use hq_request_tree::{RelIdList, Sort, SortList};
+use hq_schema::{ArgOrigin, TypeId};
 use std::alloc::Global;
 
 /// A direction, and where NULL stands.

@@ -12,10 +12,10 @@ ghost use Rattle.hq_request_tree.specs.Touched.{touched};
 ghost use Rattle.hq_request_bound.specs.Bound.{mask_due, of_table, bound_due, bounds_due};
 
 use crate::fields::touched_tables;
-use hq_request_tree::{AskFields, Bound, BoundList};
 use hq_base::List;
-use hq_model_binding::bind;
 use hq_model::{Bexp, BindRefusal, Mask, MaskList, PermView, Role, Scope, Session, TableId};
+use hq_model_binding::bind;
+use hq_request_tree::{AskFields, Bound, BoundList};
 use std::alloc::Global;
 
 fn bound_mask(

@@ -8,9 +8,9 @@ ghost use Rattle.hq_request_tree.specs.Arguments.{sort_view, arguments_view};
 ghost use Rattle.hq_request_tree.specs.Touched.{condition_tables, conditions_tables, path_tables, list_tables};
 ghost use Rattle.hq_request_bound.specs.Joined.{noted, joined, sorts_tables};
 
-use hq_request_tree::{Args, Sort};
 use hq_base::Memory;
 use hq_model::{Bexp, BexpList, RelId, Scope, TableId};
+use hq_request_tree::{Args, Sort};
 use indexmap::IndexSet;
 
 /// Tables by their places in the catalog, each once, in the order of the first touch.

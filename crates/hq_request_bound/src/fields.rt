@@ -9,9 +9,9 @@ ghost use Rattle.hq_request_tree.specs.Touched.{tables_of, field_tables, part_ta
 ghost use Rattle.hq_request_bound.specs.Joined.{joined};
 
 use crate::conditions::{Touched, note, touch_list};
-use hq_request_tree::{AggPart, AggParts, AskField, AskFields, KeyedAggPart, KeyedAskField};
 use hq_base::Memory;
 use hq_model::{RelId, Scope, TableId};
+use hq_request_tree::{AggPart, AggParts, AskField, AskFields, KeyedAggPart, KeyedAskField};
 use indexmap::IndexSet;
 use std::alloc::Global;
 

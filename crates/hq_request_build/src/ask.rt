@@ -20,16 +20,16 @@ use crate::heads::{Head, head_of};
 use crate::known::{Known, known_field_of, refused, type_name_at};
 use crate::looks::{ask_looks, look_of};
 use crate::summaries::ask_summaries;
+use hq_base::Txt;
+use hq_gql_tree::RuleId;
+use hq_model::{RelId, TableId};
 use hq_request_arguments::Context;
+use hq_request_coerce::CoerceRefusal;
+use hq_request_collect::{CollectedField, CollectedList};
 use hq_request_tree::{
     AggPart, AggParts, Args, AskField, AskFields, KeyedAggPart, KeyedAskField, ValList,
 };
-use hq_base::Txt;
-use hq_request_coerce::CoerceRefusal;
-use hq_request_collect::{CollectedField, CollectedList};
-use hq_gql_tree::RuleId;
 use hq_schema::{FieldOrigin, TypeId};
-use hq_model::{RelId, TableId};
 use std::alloc::Global;
 
 fn keyed(key: Txt, field: AskField) -> KeyedAskField

@@ -10,14 +10,14 @@ ghost use Rattle.hq_request_collect.specs.TreeSeen.{parts_seen};
 ghost use Rattle.hq_request_coerce.specs.declared.refusal.CoerceRefusal.TheVariants as refusal;
 
 use crate::known::{Known, key_of, refused, rows_of, type_name_at, type_name_of};
-use hq_request_arguments::Context;
-use hq_request_tree::{Args, AskField, ValList};
 use hq_base::Txt;
+use hq_gql_tree::RuleId;
+use hq_model::{RelId, TableId};
+use hq_request_arguments::Context;
 use hq_request_coerce::CoerceRefusal;
 use hq_request_collect::CollectedField;
-use hq_gql_tree::RuleId;
+use hq_request_tree::{Args, AskField, ValList};
 use hq_schema::{FieldOrigin, TypeId};
-use hq_model::{RelId, TableId};
 use std::alloc::Global;
 
 /// A field before what stands below it. Each table is that of the rows that stand below. Arguments lie in a box, so that they are

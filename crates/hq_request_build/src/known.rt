@@ -14,15 +14,15 @@ ghost use Rattle.hq_request_collect.specs.TreeSeen.{parts_seen};
 ghost use Rattle.hq_gql_tree.specs.Selections.{field_view as field_seen};
 ghost use Rattle.hq_schema.specs.Schema.{field_view, schema_view};
 
-use hq_request_arguments::{Context, FieldArgs, coerce_args};
-use hq_request_tree::{Args, ValList};
 use hq_base::Txt;
-use hq_request_coerce::{CoerceRefusal, fault_of};
-use hq_request_collect::CollectedField;
 use hq_gql_nodes::{known_field, object_at};
 use hq_gql_tree::{Field, RuleId};
-use hq_schema::{FieldDef, Schema, TypeId};
 use hq_model::{ColId, TableId};
+use hq_request_arguments::{Context, FieldArgs, coerce_args};
+use hq_request_coerce::{CoerceRefusal, fault_of};
+use hq_request_collect::CollectedField;
+use hq_request_tree::{Args, ValList};
+use hq_schema::{FieldDef, Schema, TypeId};
 use std::alloc::Global;
 
 /// The definition of a field in a schema, and its coerced arguments, which lie in a box, so that they are let go in one step.

@@ -12,14 +12,14 @@ ghost use Rattle.hq_request_collect.specs.TreeSeen.{collected_view, trees_of, pa
 ghost use Rattle.hq_gql_tree.specs.Selections.{field_view as field_seen};
 
 use crate::known::{Known, deprecated_of, known_field_of, refused};
-use hq_request_arguments::Context;
-use hq_request_tree::{IntroField, IntroFields, KeyedIntroField};
 use hq_base::{Memory, Txt};
+use hq_gql_tree::{Field, RuleId};
+use hq_model::TableId;
+use hq_request_arguments::Context;
 use hq_request_coerce::CoerceRefusal;
 use hq_request_collect::{CollectedField, CollectedList};
-use hq_gql_tree::{Field, RuleId};
+use hq_request_tree::{IntroField, IntroFields, KeyedIntroField};
 use hq_schema::{FieldOrigin, TypeId};
-use hq_model::TableId;
 use std::alloc::Global;
 
 // The name of a field.

@@ -12,14 +12,14 @@ ghost use Rattle.hq_request_coerce.specs.declared.refusal.CoerceRefusal.TheVaria
 ghost use Rattle.hq_request_collect.specs.TreeSeen.{collected_view, trees_of, parts_seen};
 
 use crate::known::{Known, count_of, known_field_of, refused, type_name_at};
-use hq_request_arguments::{Context, FieldArgs};
-use hq_request_tree::{AggCol, AggCols, AggField, AggFields, KeyedAggCol, KeyedAggField};
 use hq_base::{Aggregate, List};
+use hq_gql_tree::RuleId;
+use hq_model::TableId;
+use hq_request_arguments::{Context, FieldArgs};
 use hq_request_coerce::CoerceRefusal;
 use hq_request_collect::{CollectedField, CollectedList};
-use hq_gql_tree::RuleId;
+use hq_request_tree::{AggCol, AggCols, AggField, AggFields, KeyedAggCol, KeyedAggField};
 use hq_schema::{FieldOrigin, TypeId};
-use hq_model::TableId;
 use std::alloc::Global;
 
 // A field of what one aggregate gives, by what it stands for.

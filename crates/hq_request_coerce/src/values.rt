@@ -9,8 +9,8 @@ ghost use Rattle.hq_request_coerce.specs.Coercion.{is_non_null, is_null, null_va
 
 use hq_base::{Json, JsonList, Member, Members, Memory, Txt, Ty, Val};
 use hq_gql_nodes::{element_type, input_at};
-use hq_schema::{ArgDef, Schema, TypeId, TypeOrigin, TypeRef};
 use hq_model::constant_in;
+use hq_schema::{ArgDef, Schema, TypeId, TypeOrigin, TypeRef};
 use std::alloc::Global;
 
 /// Whether a type is without null.

@@ -8,8 +8,8 @@ ghost use Rattle.hq_gql_tree.specs.Selections.{field_view};
 
 use crate::values::without_members;
 use crate::{CollectedField, CollectedList};
-use hq_request_coerce::VarValues;
 use hq_gql_tree::Field;
+use hq_request_coerce::VarValues;
 
 // How many nodes may still come behind the arguments of a field.
 fn without_arguments(vars: &VarValues, field: &Field, left: usize) -> Option<usize>

@@ -7,8 +7,8 @@ ghost use Rattle.hq_request_collect.specs.Included.{is_true_json, variable_holds
 ghost use Rattle.hq_gql_tree.specs.Selections.{selection_view, field_view, inline_view};
 
 use hq_base::{Json, Txt};
-use hq_request_coerce::{VarValue, VarValues};
 use hq_gql_tree::{Argument, Directive, Field, Inline, Selection, Value};
+use hq_request_coerce::{VarValue, VarValues};
 
 fn is_true(json: &Json) -> bool
     ensures { result ≡ is_true_json (json_view json.now) }

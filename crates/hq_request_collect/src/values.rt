@@ -7,8 +7,8 @@ ghost use Rattle.hq_gql_tree.specs.Values.{value_view, placed_view, argument_vie
 
 use crate::json::{without_json, without_one, without_text};
 use hq_base::Txt;
-use hq_request_coerce::VarValues;
 use hq_gql_tree::{Argument, Placed, Value};
+use hq_request_coerce::VarValues;
 
 // How many nodes may still come behind the value of a variable.
 fn without_variable(vars: &VarValues, name: &Txt, left: usize) -> Option<usize>

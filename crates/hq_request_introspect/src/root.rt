@@ -12,8 +12,8 @@ use crate::field_name::FieldName;
 use crate::node::Resolved;
 use crate::select::put_completed;
 use crate::types::{schema_value, type_or_null};
-use hq_request_tree::{IntroField, IntroFields};
 use hq_base::{Bytes, Json, Memory, Txt, put_comma, put_quoted};
+use hq_request_tree::{IntroField, IntroFields};
 use hq_schema::{Schema, TypeDef};
 use std::alloc::Global;
 

@@ -11,8 +11,8 @@ use crate::members::{directive_value, enum_value, field_value, input_value};
 use crate::node::{Node, Resolved};
 use crate::type_kind::TypeKind;
 use crate::types::{type_value, wrapper_value};
-use hq_request_tree::{IntroField, IntroFields};
 use hq_base::{Bytes, Json, Memory, Txt, put_comma, put_quoted};
+use hq_request_tree::{IntroField, IntroFields};
 use hq_schema::Schema;
 use std::alloc::Global;
 

@@ -3,9 +3,9 @@ ghost use Rattle.hq_io.specs.Causes.{Rose};
 ghost use Rattle.hq_http.specs.Connections.{IfBody};
 ghost use Rattle.hq_responder.specs.Due.{is_due_of};
 
+use hq_database::Database;
 use hq_engine::{Engine, EngineRefusal};
 use hq_http::Answer;
-use hq_database::Database;
 use hq_model::Session;
 use std::alloc::Global;
 

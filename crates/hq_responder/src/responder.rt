@@ -1,7 +1,7 @@
 use crate::reply::answer_for;
+use hq_database::Database;
 use hq_engine::Engine;
 use hq_http::{Answer, Responder};
-use hq_database::Database;
 use hq_session::{Headers, Hook, HookAnswer, HookRule};
 use std::alloc::Global;
 

@@ -5,8 +5,8 @@ ghost use Rattle.hq_model.specs.Meta.{meta_view};
 ghost use Rattle.hq_responder.specs.Due.{denies, gives};
 
 use crate::EngineResponder;
-use hq_engine::Engine;
 use hq_database::Database;
+use hq_engine::Engine;
 use hq_io::{Door, Sink};
 use hq_serve::{ServeRefusal, serve};
 use hq_session::{Headers, Hook, SecretRule};

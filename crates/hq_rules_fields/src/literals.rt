@@ -9,8 +9,8 @@ ghost use Rattle.hq_rules_fields.specs.NodeRules.{object_members};
 use hq_base::{Ty, spells_uuid};
 use hq_gql_nodes::{element_type, input_at, is_non_null};
 use hq_gql_tree::{Argument, Value};
-use hq_schema::{Schema, TypeId, TypeOrigin, TypeRef};
 use hq_model::whole_number;
+use hq_schema::{Schema, TypeId, TypeOrigin, TypeRef};
 
 fn spells(ty: Ty, text: &str) -> bool
     ensures { result ≡ is_some (whole_number ty text.now) }

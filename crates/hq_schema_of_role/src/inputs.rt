@@ -8,8 +8,8 @@ use crate::reference::{fixed, part};
 use crate::rows::{Shape, row_args};
 use crate::shown::{Link, LinkList, ShownColumn, ShownColumnList};
 use hq_base::{List, Memory, Txt, Ty};
-use hq_schema::{ArgDef, ArgDefList, ArgOrigin, Fixed, NamedList, Part, TxtList};
 use hq_model::ColList;
+use hq_schema::{ArgDef, ArgDefList, ArgOrigin, Fixed, NamedList, Part, TxtList};
 use std::alloc::Global;
 
 fn connectives(alloc: Global, first: u32) -> Result<Vec<ArgDef>, Memory>

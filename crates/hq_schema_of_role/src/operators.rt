@@ -5,8 +5,8 @@ ghost use Rattle.hq_schema_of_role.specs.Rows.{shaped};
 
 use crate::rows::{Shape, row_arg};
 use hq_base::{Memory, Ty};
-use hq_schema::{ArgDef, ArgOrigin, Fixed};
 use hq_model::{Arity, Operator};
+use hq_schema::{ArgDef, ArgOrigin, Fixed};
 use std::alloc::Global;
 
 // How the type of an operator's value is wrapped, and that type.

@@ -11,8 +11,8 @@ use crate::places::placed;
 use crate::see::shown_tables;
 use crate::shown::{PlacedTable, PlacedTableList};
 use hq_base::Memory;
-use hq_schema::{Fixed, NamedList, Schema, TypeDef, TypeDefList};
 use hq_model::{Catalog, Meta, Role};
+use hq_schema::{Fixed, NamedList, Schema, TypeDef, TypeDefList};
 use std::alloc::Global;
 
 // Adds the types of a table among those that the role may see.

@@ -9,9 +9,9 @@ ghost use Rattle.hq_model.specs.declared.role.Role.TheVariants as role;
 ghost use Rattle.hq_schema_roles.specs.Roles.{AreRoleSchemas, KeepsRoles, keeps_each, new_names, roles_in, schema_for, seeing_roles};
 
 use hq_base::{List, Memory, Txt};
-use hq_schema_of_role::derive;
-use hq_schema::Schema;
 use hq_model::{Catalog, Inherited, Meta, Perm, Role, Tracked};
+use hq_schema::Schema;
+use hq_schema_of_role::derive;
 use std::alloc::Global;
 use std::collections::HashMap;
 

@@ -14,9 +14,9 @@ use crate::row::cell_at;
 use crate::scope::Scope;
 use hq_base::{Memory, Txt};
 use hq_load_index::KeyCell;
+use hq_model::{ColId, Column, Op, Table, Test};
 use hq_sql_cells::Cell;
 use hq_sql_tree::{Expr, ExprList, Join, Pred, PredList};
-use hq_model::{ColId, Column, Op, Table, Test};
 use std::alloc::Global;
 
 /// Whether the alias is that of one of the joins.

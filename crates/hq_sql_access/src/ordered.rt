@@ -17,9 +17,9 @@ use crate::stages::Parts;
 use crate::stored::Stored;
 use hq_base::{Memory, Txt};
 use hq_load_index::Index;
-use hq_sql_tree::{Join, Order};
 use hq_load_tables::Rows;
 use hq_model::{ColId, Table};
+use hq_sql_tree::{Join, Order};
 use std::alloc::Global;
 use std::cell::Cell;
 

@@ -16,8 +16,8 @@ use crate::scope::{Scope, Source, count};
 use crate::stored::Stored;
 use hq_base::{Memory, Txt};
 use hq_load_index::Index;
-use hq_sql_tree::{Join, Pred};
 use hq_load_tables::Rows;
+use hq_sql_tree::{Join, Pred};
 use std::alloc::Global;
 use std::cell::Cell;
 

@@ -6,8 +6,8 @@ ghost use Rattle.hq_sql_access.specs.Sources.{row_of_one};
 ghost use Rattle.hq_sql_access.specs.View.{named_view, made_view, row_view, first_row};
 
 use hq_base::{Memory, Txt, Val};
-use hq_sql_cells::Cell;
 use hq_model::Column;
+use hq_sql_cells::Cell;
 use std::alloc::Global;
 
 /// A cell with its name.

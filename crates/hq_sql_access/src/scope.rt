@@ -10,9 +10,9 @@ use crate::pinned::Pinned;
 use crate::row::{Made, Named, Row};
 use crate::stored::Stored;
 use hq_base::{Txt, Val};
-use hq_sql_tree::{From, Join, Select};
 use hq_load_tables::Rows;
 use hq_model::Table;
+use hq_sql_tree::{From, Join, Select};
 
 /// The aliases in scope, the innermost first, each with its row. The row of a join that is put off is the first one of its
 /// select, which is evaluated where a column of it is asked for. Joins that stand beside one another, of which the last one is

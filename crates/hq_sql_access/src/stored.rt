@@ -7,9 +7,9 @@ ghost use Rattle.hq_sql_access.specs.Lent.{rows_lent};
 use crate::wanted::wanted_columns;
 use hq_base::Memory;
 use hq_load_index::Index;
-use hq_sql_tree::Select;
 use hq_load_tables::Rows;
 use hq_model::{ColId, Table};
+use hq_sql_tree::Select;
 use std::alloc::Global;
 
 /// A table of the catalog with its rows, none where the statement takes none from it, and indexes over them beside their own ones.

@@ -2,9 +2,9 @@
 use crate::equations::equated;
 use crate::scope::is_named;
 use hq_base::{Memory, Txt};
-use hq_sql_tree::{From, Join, JoinList, Pred, PredList, Select};
 use hq_load_tables::Rows;
 use hq_model::{ColId, Table, has_column};
+use hq_sql_tree::{From, Join, JoinList, Pred, PredList, Select};
 use std::alloc::Global;
 
 // The most indexes that are built over one table.

@@ -7,8 +7,8 @@ ghost use Rattle.hq_sql_tree.specs.WellFormed.{is_table};
 ghost use Rattle.hq_sql_check.specs.Scans.{place_named, places, places_of_from, places_of_joins, places_of_filter, places_of_pred, places_of_preds};
 
 use hq_base::{Memory, Txt};
-use hq_sql_tree::{From, JoinList, Pred, PredList, Select};
 use hq_model::Table;
+use hq_sql_tree::{From, JoinList, Pred, PredList, Select};
 use std::alloc::Global;
 
 fn position_named(tables: &[Table], schema: &Txt, name: &Txt) -> Option<usize>

@@ -9,8 +9,8 @@ ghost use Rattle.hq_sql_check.specs.Scopes.{scope_view};
 use crate::scope::Scope;
 use crate::values::{is_compared, is_item, is_text, is_value, kind};
 use hq_base::Memory;
-use hq_sql_tree::{Expr, ExprList};
 use hq_model::Test;
+use hq_sql_tree::{Expr, ExprList};
 use std::alloc::Global;
 
 // Whether the expression is a pattern whose escapes are whole.

@@ -12,8 +12,8 @@ use crate::scope::{Alias, Name, Scope, only_name};
 use crate::tested::is_typed_test;
 use crate::values::kind;
 use hq_base::{Memory, Txt};
-use hq_sql_tree::{From, JoinList, Out, Pred, PredList, Select};
 use hq_model::Table;
+use hq_sql_tree::{From, JoinList, Out, Pred, PredList, Select};
 use std::alloc::Global;
 
 /// The outputs of a select, with their kinds, where its parts have their types in scope.

@@ -7,8 +7,8 @@ use crate::aliases::aliases_differ;
 use crate::scope::Scope;
 use crate::typed::select_names;
 use hq_base::Memory;
-use hq_sql_tree::Select;
 use hq_model::{Catalog, Table};
+use hq_sql_tree::Select;
 use std::alloc::Global;
 
 // How many parentheses a statement opens at most at once.

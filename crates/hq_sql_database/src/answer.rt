@@ -9,11 +9,11 @@ ghost use Rattle.hq_sql_database.specs.Failures.{RoseFor};
 use crate::pinning::pin_tables;
 use hq_answer::Answer;
 use hq_database::DbRefusal;
+use hq_load_tables::Tables;
 use hq_sql_check::{only_scanned_tables_matter, well_formed};
 use hq_sql_eval::eval;
 use hq_sql_text::{ReadRefusal, read};
 use hq_sql_tree::Select;
-use hq_load_tables::Tables;
 use std::alloc::Global;
 
 // The statement that a text spells.

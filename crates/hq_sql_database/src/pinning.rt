@@ -5,10 +5,10 @@ ghost use Rattle.hq_sql_tree.specs.View.{select_view};
 ghost use Rattle.hq_sql_database.specs.Failures.{IsFailure, RoseFor};
 
 use hq_database::DbRefusal;
-use hq_sql_check::scanned;
-use hq_sql_tree::Select;
 use hq_load_tables::{StoreRefusal, Tables};
 use hq_model::TableId;
+use hq_sql_check::scanned;
+use hq_sql_tree::Select;
 use std::alloc::Global;
 
 // Pins a table beside those that are pinned.

@@ -12,12 +12,12 @@ ghost use Rattle.hq_sql_access.specs.Sources.{alias_in, rows_given};
 ghost use Rattle.hq_sql_access.specs.View.{names_of, source_view, world_of};
 
 use hq_base::{Memory, Txt};
-use hq_sql_conjuncts::{Names, split};
 use hq_sql_access::known::known_of;
 use hq_sql_access::pinned::{Known, Pinned};
 use hq_sql_access::scope::{Scope, Source, alias_of, count, row_at, source_of};
-use hq_sql_tree::{From, Join, Pred, Select};
+use hq_sql_conjuncts::{Names, split};
 use hq_sql_select::{any_row, truth};
+use hq_sql_tree::{From, Join, Pred, Select};
 use std::alloc::Global;
 
 // Whether a condition is true too, where others were before.

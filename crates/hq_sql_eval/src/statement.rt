@@ -12,14 +12,14 @@ ghost use Rattle.hq_sql_access.specs.Pins.{world_in};
 use crate::remember::remember;
 use hq_answer::Answer;
 use hq_base::Memory;
-use hq_sql_check::{only_scanned_tables_matter, scanned};
+use hq_load_tables::{Rows, Tables};
+use hq_model::TableId;
 use hq_sql_access::pinned::Pinned;
 use hq_sql_access::stored::Stored;
 use hq_sql_access::work::Work;
-use hq_sql_tree::Select;
+use hq_sql_check::{only_scanned_tables_matter, scanned};
 use hq_sql_output::answer;
-use hq_load_tables::{Rows, Tables};
-use hq_model::TableId;
+use hq_sql_tree::Select;
 use std::alloc::Global;
 
 // The rows of a table, none where the statement takes no rows from it.

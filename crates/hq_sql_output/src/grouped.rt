@@ -11,14 +11,14 @@ use crate::listed::{output_of, rows_in};
 use crate::parts::{put_cell, put_separator};
 use crate::places::{Placed, placed_rows, places_of};
 use hq_base::{Bytes, Memory, Txt, put_quoted};
-use hq_sql_cells::{Cell, aggregated, counted};
 use hq_sql_access::pinned::Pinned;
 use hq_sql_access::place::Place;
 use hq_sql_access::row::cell_at;
 use hq_sql_access::scope::{Group, Scope, alias_of, row_at};
 use hq_sql_access::stages::stages;
-use hq_sql_tree::{Agg, Expr, ExprPairList, Out, Select};
+use hq_sql_cells::{Cell, aggregated, counted};
 use hq_sql_select::{made_of, rows, value};
+use hq_sql_tree::{Agg, Expr, ExprPairList, Out, Select};
 use std::alloc::Global;
 
 /// The rows of a select under an alias, as places.

@@ -17,8 +17,8 @@ use hq_sql_access::positions::Positions;
 use hq_sql_access::row::Made;
 use hq_sql_access::scope::{Scope, Source, alias_of, source_of};
 use hq_sql_access::stages::Stage;
-use hq_sql_tree::{Join, Pred};
 use hq_sql_select::{Piece, page, page_sorted, scan_from};
+use hq_sql_tree::{Join, Pred};
 use std::alloc::Global;
 
 /// The rows of a FROM under its alias, with the joins beside them and when each is evaluated.

@@ -18,8 +18,8 @@ use hq_sql_access::place::Place;
 use hq_sql_access::row::cell_taken;
 use hq_sql_access::scope::Scope;
 use hq_sql_access::stages::{Parts, stages};
-use hq_sql_tree::{ExprPairList, Select};
 use hq_sql_select::{first, made_of};
+use hq_sql_tree::{ExprPairList, Select};
 use std::alloc::Global;
 
 // The name of a statement's output.

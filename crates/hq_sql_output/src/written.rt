@@ -22,8 +22,8 @@ use hq_sql_access::resolved::{Resolved, resolve};
 use hq_sql_access::row::{Made, cell_at};
 use hq_sql_access::scope::{Group, Scope, row_at};
 use hq_sql_access::stages::{Parts, has_due, stages};
-use hq_sql_tree::{Expr, ExprPairList, Join, Pred, Select};
 use hq_sql_select::{made_of, value, with_due};
+use hq_sql_tree::{Expr, ExprPairList, Join, Pred, Select};
 use std::alloc::Global;
 
 /// The JSON of an expression in its scope.

@@ -8,11 +8,11 @@ ghost use Rattle.hq_sql_select.specs.Selected.{names_each};
 
 use crate::values::{keys, value};
 use hq_base::{Json, Memory, Txt};
-use hq_sql_cells::{Cell, Kept, aggregated, counted};
 use hq_sql_access::cells::sorted;
 use hq_sql_access::pinned::Pinned;
 use hq_sql_access::row::{Made, Row};
 use hq_sql_access::scope::{Group, Scope};
+use hq_sql_cells::{Cell, Kept, aggregated, counted};
 use hq_sql_tree::{Agg, Expr, OrderList};
 use std::alloc::Global;
 

@@ -11,7 +11,6 @@ ghost use Rattle.hq_sql_select.specs.Selected.{Arranges, Pages, PagesFront, keye
 use crate::scans::scan_from;
 use crate::values::{keys, values};
 use hq_base::{Memory, Txt};
-use hq_sql_cells::{Kept, paged};
 use hq_sql_access::cells::arranged;
 use hq_sql_access::ordered::{Looked, ordered_at};
 use hq_sql_access::pages::{enough, enough_sorted};
@@ -20,6 +19,7 @@ use hq_sql_access::place::{Place, with_more};
 use hq_sql_access::positions::{Positions, number_of};
 use hq_sql_access::scope::{Scope, Source, row_at};
 use hq_sql_access::stages::{Parts, Stage};
+use hq_sql_cells::{Kept, paged};
 use hq_sql_tree::{ExprList, Join, OrderList, Pred};
 use std::alloc::Global;
 

@@ -13,14 +13,14 @@ use crate::costs::{Conjunct, Cost, conjunct_at};
 use crate::scans::any_row;
 use crate::values::{value, values};
 use hq_base::Memory;
-use hq_sql_cells::test_truth;
+use hq_model::{Test, Truth};
 use hq_sql_access::known::known_of;
 use hq_sql_access::pinned::Pinned;
 use hq_sql_access::scope::{Group, Scope, alias_of, source_of};
 use hq_sql_access::single::is_whole;
 use hq_sql_access::stages::{Parts, stages};
+use hq_sql_cells::test_truth;
 use hq_sql_tree::{Expr, ExprList, Pred, PredList, Select};
-use hq_model::{Test, Truth};
 use std::alloc::Global;
 use std::slice;
 

@@ -10,12 +10,12 @@ ghost use Rattle.hq_sql_access.specs.Keys.{expr_values, key_values, member_at};
 use crate::aggregates::taken;
 use crate::clauses::first;
 use hq_base::{Json, Member, Memory, Txt};
-use hq_sql_cells::Cell;
 use hq_sql_access::cells::over_none;
 use hq_sql_access::pinned::Pinned;
 use hq_sql_access::resolved::{Resolved, resolve};
 use hq_sql_access::row::{cell_at, cell_taken};
 use hq_sql_access::scope::{Group, Scope};
+use hq_sql_cells::Cell;
 use hq_sql_tree::{Expr, ExprList, ExprPairList, OrderList};
 use std::alloc::Global;
 

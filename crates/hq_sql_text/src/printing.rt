@@ -7,13 +7,13 @@ ghost use Rattle.hq_sql_tree.specs.View.{expr_view, order_view, out_view, select
 ghost use Rattle.hq_sql_tree.specs.Spelling.{separated, each_after, name_text, clause_text, order_text, out_text, distinct_text, number_text, select_text, from_text, join_text, join_texts, filter_text, pred_text, pred_texts};
 
 use hq_base::{Bytes, Memory, Txt};
+use hq_model::Test;
 use hq_sql_expr::{
     put_between, put_expr, put_exprs, put_keys, put_name, put_number, put_out, put_outs, put_word,
 };
 use hq_sql_tree::{
     Expr, ExprList, From, Join, JoinList, OrderList, Out, OutList, Pred, PredList, Select, Word,
 };
-use hq_model::Test;
 use std::alloc::Global;
 
 fn put_distinct(alloc: Global, out: &mut Vec<u8>, exprs: &ExprList) -> Result<(), Memory>

@@ -6,9 +6,9 @@ ghost use Rattle.hq_sql_expr.specs.Reading.{Reads, after};
 ghost use Rattle.hq_sql_text.specs.Reading.{joint_behind, joint_next, member_next, test_at, operands_at, test_with, tested_at};
 
 use crate::parts::boxed;
+use hq_model::{Arity, Test};
 use hq_sql_expr::{ReadRefusal, read_closed_expr, read_closed_exprs, read_expr, skip, starts};
 use hq_sql_tree::{Expr, ExprList, Pred, Word};
-use hq_model::{Arity, Test};
 use std::alloc::Global;
 
 // The test whose operator stands here, and what follows it.

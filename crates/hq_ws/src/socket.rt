@@ -2,8 +2,8 @@ ghost use Rattle.std.specs.Prelude.{None, ◌≡◌};
 
 use crate::handshake::Subprotocol;
 use hq_base::Bytes;
-use hq_messages::{In, LinkRefusal, Messages};
 use hq_io::count_fault;
+use hq_messages::{In, LinkRefusal, Messages};
 use std::alloc::Global;
 use std::io::{ErrorKind, Read, Write};
 use std::net::OpenStream;

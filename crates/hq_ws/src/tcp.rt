@@ -1,9 +1,9 @@
 ghost use Rattle.std.specs.Prelude.{◌≡◌, IsNone, None, Some};
 
 use crate::WsMessages;
-use hq_messages::{Hall, HallFailed};
 use hq_io::count_fault;
 use hq_io_system::{SilentPeers, listener_at, set_limits};
+use hq_messages::{Hall, HallFailed};
 use std::alloc::Global;
 use std::io;
 use std::io::ErrorKind;

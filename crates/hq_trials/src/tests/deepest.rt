@@ -2,12 +2,12 @@
 use super::store::store;
 use hq_answer::Answer;
 use hq_base::{Bytes, List, Memory};
-use hq_sql_database::SqlDb;
 use hq_database::{Database, DbRefusal};
+use hq_model::Catalog;
 use hq_sql_check::well_formed;
+use hq_sql_database::SqlDb;
 use hq_sql_text::{ReadRefusal, print, read};
 use hq_sql_tree::Select;
-use hq_model::Catalog;
 use itoa::Buffer;
 use std::alloc::{AllocError, Global};
 use std::test::Fail;

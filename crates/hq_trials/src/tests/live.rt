@@ -1,7 +1,7 @@
 //! Live queries over an asker in memory.
 use hq_base::{Bytes, List, Txt};
-use hq_live::{Body, DueReply, Event, Live, MemAsker, Replies, Sends, Sent, StepRefusal, What};
 use hq_io::NumList;
+use hq_live::{Body, DueReply, Event, Live, MemAsker, Replies, Sends, Sent, StepRefusal, What};
 use hq_model::Session;
 use std::alloc::Global;
 use std::str;

@@ -1,7 +1,7 @@
 //! Objects in memory, through the traits that they meet.
 use hq_base::{Bytes, List};
-use hq_io_memory::{MemDoor, MemLink, SureDoor, SureLink, SureSink, SureSource};
 use hq_io::{Door, Link, NumList, read_all, write_all};
+use hq_io_memory::{MemDoor, MemLink, SureDoor, SureLink, SureSink, SureSource};
 use std::alloc::Global;
 use std::test::Fail;
 

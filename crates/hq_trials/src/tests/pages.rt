@@ -4,8 +4,8 @@ ghost use Rattle.std.specs.Io.{ReadsAtMost};
 
 use hq_base::{List, Txt};
 use hq_generator::{Generated, generate};
-use hq_io_memory::MemDisk;
 use hq_io::{Disk, DiskFailed, NumList};
+use hq_io_memory::MemDisk;
 use hq_load_pages::{PageRefusal, PagedTables};
 use hq_load_tables::{MemTables, StoreRefusal, Tables};
 use hq_model::TableId;

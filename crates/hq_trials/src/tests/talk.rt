@@ -2,11 +2,11 @@
 ghost use Rattle.std.specs.Prelude.{◌≡◌, []};
 
 use hq_base::{Bytes, List, Txt};
-use hq_live::{DueReply, Live, MemAsker, Replies};
-use hq_messages::{MemMessages, Message, MessageList, Out};
 use hq_io::NumList;
-use hq_session::{Headers, Hook, HookAnswer, SecretRule};
+use hq_live::{DueReply, Live, MemAsker, Replies};
 use hq_live_talk::{TalkEnd, talk};
+use hq_messages::{MemMessages, Message, MessageList, Out};
+use hq_session::{Headers, Hook, HookAnswer, SecretRule};
 use std::alloc::Global;
 use std::str;
 use std::test::Fail;
