@@ -22,6 +22,7 @@ fn column_at(alloc: Global, scope: &Scope<'_>, t: TableId, c: ColId) -> Result<C
         None => Ok(Column {
             name: Txt::new(alloc),
             ty: Ty::Text,
+            of: Txt::new(alloc),
             nullable: true,
         }),
     }
@@ -37,10 +38,16 @@ fn copied_column(
 ) -> Result<Column, Memory>
     ensures { IfOk result (λ copied. copied ≡ copied_column (scope_schema scope.now) (permission_view permission.now) t c) }
 {
-    let Column { name, ty, nullable } = column_at(alloc, scope, t, c)?;
+    let Column {
+        name,
+        ty,
+        of,
+        nullable,
+    } = column_at(alloc, scope, t, c)?;
     Ok(Column {
         name,
         ty,
+        of,
         nullable: nullable || has_mask(permission, c),
     })
 }

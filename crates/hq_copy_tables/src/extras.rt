@@ -139,6 +139,7 @@ pub(crate) fn extra_column(alloc: Global, extra: Extra) -> Result<Column, Memory
     Ok(Column {
         name: extra_name(alloc, extra)?,
         ty: Ty::Bigint,
+        of: Txt::new(alloc),
         nullable: is_nullable(extra),
     })
 }
