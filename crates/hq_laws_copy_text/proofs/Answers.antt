@@ -18,7 +18,7 @@ use Rattle.hq_copy_text.specs.declared.refusal.PartRefusal.TheVariants.{TooLarge
 use Rattle.hq_laws_copy.proofs.Refused.{given, neither}
 use Rattle.hq_laws_copy_fits.specs.Laws.{CatalogFits}
 use Rattle.hq_laws_copy_rows.specs.Laws.{RowsFit}
-use Rattle.hq_laws_copy_text.specs.Clean.{is_clean_entry, is_clean_value}
+use Rattle.hq_copy_text.specs.Clean.{is_clean_entry, is_clean_value}
 use Rattle.hq_laws_copy_text.specs.Laws.{PartReadsBack}
 use Rattle.hq_laws_copy_text.proofs.Plain.{metadata_plain}
 use Rattle.hq_laws_copy_text.proofs.Writable.{file_at, other_part, rows_at, text_at, writable}

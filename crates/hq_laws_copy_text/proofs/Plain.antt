@@ -2,15 +2,17 @@
 use Rattle.std.proofs.Common.{◌≡◌, ℕ, suc, ◌+◌, ◌-◌, ◌≤◌, ◌<◌, List, [], ◌∷◌, ◌++◌, map, length, true, false, ◌||◌, ◌==◌, Option, Some, None, inl, inr, refl, sym, ap, ◌∙◌, subst, arith, slice_get}
 use Rattle.std.proofs.lemmas.Bool.{and_parts, cases_lt, false≢true}
 use Rattle.std.specs.List.{list_all, list_any}
+use Rattle.std.specs.Str.{is_utf8, chars}
+use lib.Utf8.{encode}
 use Rattle.std.specs.Prelude.{option_map, slice_index_or}
 use Rattle.hq_base.specs.Lists.{Each}
 use Rattle.hq_copy_definition.specs.Extras.{Extra, extra_column, extra_name, extras_of}
-use Rattle.hq_copy_definition.specs.Metadata.{copied_entry, copied_meta, copied_names, copied_rel, places, reader_permission}
+use Rattle.hq_copy_definition.specs.Metadata.{copied_entry, copied_meta, copied_names, copied_rel, places, reader, reader_permission}
 use Rattle.hq_copy_definition.specs.Sources.{Source, kept_relationships, sources}
 use Rattle.hq_copy_definition.specs.Tables.{copied_column, copied_columns, copied_table, copied_tables}
 use Rattle.hq_copy_definition.proofs.Lists.{got_back, got_map, map_length}
 use Rattle.hq_copy_definition.proofs.Places.{front_places, place_within}
-use Rattle.hq_laws_copy_text.specs.Clean.{is_clean_entry}
+use Rattle.hq_copy_text.specs.Clean.{is_clean_entry}
 use Rattle.hq_laws_written_catalog.specs.Written.{has_clean_names, name_at, name_in}
 use Rattle.hq_laws_written_json.specs.ReadBack.{is_clean}
 use Rattle.hq_laws_written_meta.specs.Plain.{IsPlain, IsPlainPerm, IsPlainRel, IsPlainTable}
@@ -27,6 +29,11 @@ use Rattle.hq_model.specs.declared.role.Role.{Role}
 use Rattle.hq_model.specs.declared.table.Column.{Column}
 use Rattle.hq_model.specs.declared.table.Table.{Table}
 use Rattle.hq_model.proofs.Places.{present}
+
+-- the reader's name
+clean_reader : is_clean reader ≡ true
+unfolding is_utf8 chars encode
+clean_reader = refl
 
 -- an image behind those of another list
 back_at : {A B C : Type 0} (f : A → C) (g : B → C) (xs : List A) (ys : List B) (n : ℕ) → slice_get (map f xs ++ map g ys) (length xs + n) ≡ option_map g (slice_get ys n)
@@ -92,7 +99,7 @@ module _ (role : Role) (m : MetaTree) (s : Schema) where
     unfiltered = refl;
     ordered = ap (chosen (places 0 o.permission.columns)) (columns_at i o at)
         ∙ front_places o.permission.columns (map (copied_column s o.permission o.entry.table) o.permission.columns) (map extra_column (extras_of role m s o)) (map_length _ o.permission.columns);
-    clean = refl;
+    clean = clean_reader;
   }
 
   entry_plain : (i : ℕ) (o : Source) → slice_get os i ≡ Some o → is_clean_entry (copied_entry role m s i o) ≡ true → IsPlainTable ts (copied_entry role m s i o)

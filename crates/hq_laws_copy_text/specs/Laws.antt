@@ -2,7 +2,7 @@
 use Rattle.std.specs.Prelude.{◌≡◌, ℕ, List, true, Some, Ok, slice_get, codes}
 use Rattle.hq_copy_definition.specs.Copied.{Copied, copied}
 use Rattle.hq_copy_text.specs.Parts.{part_due}
-use Rattle.hq_laws_copy_text.specs.Clean.{IsClean}
+use Rattle.hq_copy_text.specs.Clean.{IsClean}
 use Rattle.hq_load_catalog.specs.Reading.{catalog_due}
 use Rattle.hq_load_meta.specs.Reading.{meta_due}
 use Rattle.hq_load_tables.specs.Load.{table_due}
