@@ -1,6 +1,7 @@
 //! The rows of all tables of a copy.
 ghost use Rattle.std.specs.Prelude.{◌≡◌, IfOk, map};
-ghost use Rattle.hq_copy_tables.specs.Views.{meta_in, role_in, schema_in, source_view};
+ghost use Rattle.hq_copy_tables.specs.Originals.{meta_in, role_in, schema_in};
+ghost use Rattle.hq_copy_tables.specs.Views.{source_view};
 ghost use Rattle.hq_copy_filter.specs.Lent.{database_of};
 ghost use Rattle.hq_copy.specs.Direct.{direct_lists, lists_due, permitted_lists, rows_for};
 ghost use Rattle.hq_copy.specs.Lists.{lists_of};

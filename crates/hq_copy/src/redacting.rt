@@ -4,7 +4,7 @@ ghost use Rattle.hq_copy_definition.specs.Metadata.{copied_meta};
 ghost use Rattle.hq_copy_definition.specs.Refusals.{or_else};
 ghost use Rattle.hq_copy_definition.specs.Sources.{links, sources};
 ghost use Rattle.hq_copy_definition.specs.Tables.{copied_tables};
-ghost use Rattle.hq_copy_tables.specs.Views.{meta_in, role_in, schema_in};
+ghost use Rattle.hq_copy_tables.specs.Originals.{meta_in, role_in, schema_in};
 ghost use Rattle.hq_copy_filter.specs.Lent.{database_of};
 ghost use Rattle.hq_copy.specs.Granted.{granted_due};
 ghost use Rattle.hq_copy.specs.Plans.{PlannedFor};

@@ -1,6 +1,7 @@
 //! The rows of a table of a copy.
 ghost use Rattle.std.specs.Prelude.{◌≡◌, ◌++◌, ◌+◌, ◌<◌, ◌^◌, IfOk, OnOk, map};
-ghost use Rattle.hq_copy_tables.specs.Views.{extra_view, meta_in, role_in, schema_in, source_view};
+ghost use Rattle.hq_copy_tables.specs.Originals.{meta_in, role_in, schema_in};
+ghost use Rattle.hq_copy_tables.specs.Views.{extra_view, source_view};
 ghost use Rattle.hq_copy_filter.specs.Lent.{database_of, rows_of};
 ghost use Rattle.hq_copy.specs.Direct.{direct_row, direct_value, rows_for, shown_values};
 ghost use Rattle.hq_copy.specs.Lists.{lists_of};

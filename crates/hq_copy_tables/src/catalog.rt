@@ -2,7 +2,8 @@
 ghost use Rattle.std.specs.Prelude.{◌≡◌, IfOk, map};
 ghost use Rattle.hq_copy_definition.specs.Sources.{place_in};
 ghost use Rattle.hq_copy_definition.specs.Tables.{copied_key, copied_table, copied_tables};
-ghost use Rattle.hq_copy_tables.specs.Views.{meta_in, role_in, schema_in, source_view};
+ghost use Rattle.hq_copy_tables.specs.Originals.{meta_in, role_in, schema_in};
+ghost use Rattle.hq_copy_tables.specs.Views.{source_view};
 ghost use Rattle.hq_model.specs.Schema.{table};
 ghost use Rattle.hq_model.specs.Scope.{scope_schema};
 

@@ -2,8 +2,9 @@
 ghost use Rattle.std.specs.Prelude.{◌≡◌, ◌++◌, IfOk, OnOk, map, string_bytes, false, codes};
 ghost use Rattle.std.specs.Fmt.{decimal};
 ghost use Rattle.hq_base.specs.Text.{has_zero};
-ghost use Rattle.hq_copy_definition.specs.Extras.{ends_at, ends_of, extra_column, extra_name, extras_of, is_nullable};
-ghost use Rattle.hq_copy_tables.specs.Views.{extra_view, link_view, meta_in, role_in, schema_in, source_view};
+ghost use Rattle.hq_copy_definition.specs.Extras.{ends_at, ends_of, extra_column, extra_name, extras_of, from_end, is_nullable, to_end};
+ghost use Rattle.hq_copy_tables.specs.Originals.{meta_in, role_in, schema_in};
+ghost use Rattle.hq_copy_tables.specs.Views.{extra_view, link_view, source_view};
 ghost use Rattle.hq_model.specs.Schema.{table};
 ghost use Rattle.hq_model.specs.Scope.{scope_schema};
 
@@ -21,6 +22,20 @@ pub enum Extra {
     Position,
 }
 
+// The own end of the link of this number.
+fn own_end(number: usize, link: Link) -> Extra
+    ensures { extra_view result ≡ from_end number (link_view link) }
+{
+    Extra::From { number, link }
+}
+
+// Its remote end.
+fn remote_end(number: usize, link: Link) -> Extra
+    ensures { extra_view result ≡ to_end number (link_view link) }
+{
+    Extra::To { number, link }
+}
+
 // The ends of a link in a table, the own end first, behind others.
 fn push_ends(
     scope: &Scope<'_>,
@@ -32,10 +47,10 @@ fn push_ends(
     ensures { OnOk result (map extra_view ends.new.items ≡ map extra_view ends.old.items ++ ends_at (scope_schema scope.now) t number (link_view link)) }
 {
     if link.table.at() == t.at() {
-        ends.push(Extra::From { number, link })?;
+        ends.push(own_end(number, link))?;
     }
     if link_remote(scope, link).at() == t.at() {
-        ends.push(Extra::To { number, link })?;
+        ends.push(remote_end(number, link))?;
     }
     Ok(())
 }

@@ -3,7 +3,8 @@ ghost use Rattle.std.specs.Prelude.{◌≡◌, ◌++◌, ◌∷◌, [], IfOk, On
 ghost use Rattle.hq_copy_definition.specs.Extras.{extra_name};
 ghost use Rattle.hq_copy_definition.specs.Metadata.{copied_entry, copied_meta, copied_names, copied_pair, copied_rel, from_place, places, reader, reader_permission, to_place, width};
 ghost use Rattle.hq_copy_definition.specs.Sources.{kept_relationships, link_remote};
-ghost use Rattle.hq_copy_tables.specs.Views.{extra_view, link_view, meta_in, role_in, schema_in, source_view};
+ghost use Rattle.hq_copy_tables.specs.Originals.{meta_in, role_in, schema_in};
+ghost use Rattle.hq_copy_tables.specs.Views.{extra_view, link_view, source_view};
 ghost use Rattle.hq_model.specs.Meta.{meta_view, perm_view, tracked_view};
 ghost use Rattle.hq_model.specs.PermView.{permission_view};
 ghost use Rattle.hq_model.specs.Schema.{rel};
