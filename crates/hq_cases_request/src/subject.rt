@@ -31,7 +31,7 @@ pub enum About {
 
 impl About {
     /// Each subject, in the order of its line.
-    pub const ALL: [About; 22] = [
+    pub const ALL: [About; 23] = [
         About::Worked,
         About::Blog,
         About::Shop,

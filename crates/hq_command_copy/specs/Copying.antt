@@ -11,6 +11,7 @@ use Rattle.hq_copy_definition.specs.declared.refusal.CopyRefusal.{CopyRefusal}
 use Rattle.hq_copy_definition.specs.declared.refusal.CopyRefusal.TheVariants as copy
 use Rattle.hq_command_copy.specs.Causes.{copy_cause, part_cause}
 use Rattle.hq_copy_text.specs.Parts.{part_due}
+use Rattle.hq_laws_copy_text.specs.Laws.{ReadsBack}
 use Rattle.hq_copy_text.specs.declared.refusal.PartRefusal.{PartRefusal}
 use Rattle.hq_copy_text.specs.declared.refusal.PartRefusal.TheVariants as part
 use Rattle.hq_load.specs.Loading.{Contents}
@@ -38,6 +39,14 @@ text_due session name c = of_copy name (copy_due c.tables c.meta session c.rows)
 abbrev pub copy_output : (dir name : List ℕ) → List Header → List File → Result Output Refusal
 copy_output dir name headers files =
     contents_due dir files >>= λ c. text_due (session_of headers) name c >>= λ text. Ok (record { done = Answered; bytes = Some text })
+
+-- what is read of the text of a part is what the copy holds
+abbrev pub TextReadsBack : Session → (name : List ℕ) → Contents → Type 0
+TextReadsBack session name content =
+    (c : Copied) (text : List ℕ) → copy_due content.tables content.meta session content.rows ≡ Ok c → part_due c name ≡ Ok text → ReadsBack c name text
+
+abbrev pub CopyReadsBack : (dir name : List ℕ) → List Header → List File → Type 0
+CopyReadsBack dir name headers files = (content : Contents) → contents_due dir files ≡ Ok content → TextReadsBack (session_of headers) name content
 
 -- tables in memory do not fail to be read
 abbrev pub NotFailed : CopyRefusal → Type 0

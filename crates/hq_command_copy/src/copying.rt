@@ -1,10 +1,11 @@
 //! Writing a part of a copy.
-ghost use Rattle.std.specs.Prelude.{◌≡◌, ◌≢◌, ◌≤◌, IfErr, IfSome, IsErrOf, Ok, Err, Some};
+ghost use Rattle.std.specs.Prelude.{◌≡◌, ◌≢◌, ◌≤◌, IfErr, IfSome, IsErrOf, OnOk, Ok, Err, Some};
 ghost use Rattle.hq_base.specs.Due.{Gives};
 ghost use Rattle.hq_io.specs.Causes.{Rose};
 ghost use Rattle.hq_command.specs.Ending.{Ends, NotDatabase, Silent};
 ghost use Rattle.hq_command.specs.declared.refusal.Refusal.TheVariants as refusal;
-ghost use Rattle.hq_command_copy.specs.Copying.{NotFailed, OfCopy, OfPart, copy_output, of_part, text_due};
+ghost use Rattle.hq_command_copy.specs.Copying.{CopyReadsBack, NotFailed, OfCopy, OfPart, TextReadsBack, copy_output, of_part, text_due};
+ghost use Rattle.hq_copy_text.specs.Clean.{IsClean};
 ghost use Rattle.hq_copy_text.specs.Parts.{part_due};
 ghost use Rattle.hq_load.specs.Loading.{loaded_view};
 ghost use Rattle.hq_copy.specs.Redacting.{Redacts, copy_due, redacted_view};
@@ -14,8 +15,9 @@ use hq_base::{Bytes, Txt};
 use hq_command::{Done, Refusal, caller};
 use hq_copy::{Redacted, redact};
 use hq_copy_definition::CopyRefusal;
-use hq_copy_text::{PartRefusal, part};
+use hq_copy_text::{PartRefusal, copy_is_clean, part};
 use hq_io::{Files, Sink, write_all};
+use hq_laws_copy_text::parts_are_read_back;
 use hq_load::{Loaded, load};
 use hq_load_tables::MemTables;
 use hq_model::Session;
@@ -57,10 +59,12 @@ fn copy_of(alloc: Global, loaded: Loaded, session: &Session) -> Result<Redacted,
     redact(alloc, &catalog, &meta, session, &mut tables)
 }
 
-// The text of a part of a copy.
+// The text of a part of a copy, whose names and texts are clean.
 fn part_of(alloc: Global, copy: &Redacted, name: &Txt) -> Result<Bytes, Refusal>
-    ensures { Gives (λ text. text) refusal.Memory (of_part (part_due (redacted_view copy.now) name.now)) result }
+    ensures due { Gives (λ text. text) refusal.Memory (of_part (part_due (redacted_view copy.now) name.now)) result }
+    ensures clean { IsClean (redacted_view copy.now) }
 {
+    copy_is_clean(copy);
     match part(alloc, copy, name) {
         Ok(text) => Ok(text),
         Err(refusal) => Err(no_part(alloc, refusal)),
@@ -69,8 +73,10 @@ fn part_of(alloc: Global, copy: &Redacted, name: &Txt) -> Result<Bytes, Refusal>
 
 // The text of a part of the copy of what a directory holds.
 fn text_of(alloc: Global, loaded: Loaded, session: &Session, name: &Txt) -> Result<Bytes, Refusal>
-    ensures { Gives (λ text. text) refusal.Memory (text_due session.now name.now (loaded_view loaded)) result }
+    ensures due { Gives (λ text. text) refusal.Memory (text_due session.now name.now (loaded_view loaded)) result }
+    ensures read_back { OnOk result (TextReadsBack session.now name.now (loaded_view loaded)) }
 {
+    parts_are_read_back();
     match copy_of(alloc, loaded, session) {
         Ok(copy) => part_of(alloc, &copy, name),
         Err(refusal) => Err(not_copied(alloc, &refusal)),
@@ -91,7 +97,7 @@ fn write_text<K: Sink>(out: &mut K, text: &Bytes) -> Result<Done, Refusal>
 }
 
 /// Loads a directory, and writes a part of its redacted copy for the session of the headers: `catalog`, `metadata`, or a table's
-/// schema and name joined by a point.
+/// schema and name joined by a point. What is written is read back as what the copy holds.
 pub fn copy<F: Files, K: Sink>(
     alloc: Global,
     dir: &Txt,
@@ -102,6 +108,7 @@ pub fn copy<F: Files, K: Sink>(
 ) -> Result<Done, Refusal>
     ensures told { IfSome (F.folder files.old) (λ folder.
         Ends (K.written out.old) (K.written out.new) (copy_output dir.now part.now headers.now folder) result) }
+    ensures read_back { IfSome (F.folder files.old) (λ folder. OnOk result (CopyReadsBack dir.now part.now headers.now folder)) }
     ensures fault { result ≢ Ok Done.Faulty }
     ensures silent { Silent (K.written out.old) (K.written out.new) result }
     ensures words { IsErrOf result Refusal.BadWords → ⊥ }

@@ -3,3 +3,6 @@ mod Rows
 pub mod Bridge
 pub mod Causes
 pub mod Made
+pub mod Planned
+mod Unfailed
+pub mod Redacted

@@ -1,6 +1,7 @@
 //! The rows of all tables of a copy.
 ghost use Rattle.std.specs.Prelude.{◌≡◌, IfOk, map};
-ghost use Rattle.hq_copy_tables.specs.Views.{meta_in, role_in, schema_in, source_view};
+ghost use Rattle.hq_copy_tables.specs.Originals.{IsOriginal, meta_in, role_in, schema_in};
+ghost use Rattle.hq_copy_tables.specs.Views.{source_view};
 ghost use Rattle.hq_copy_filter.specs.Lent.{database_of};
 ghost use Rattle.hq_copy.specs.Direct.{direct_lists, lists_due, permitted_lists, rows_for};
 ghost use Rattle.hq_copy.specs.Lists.{lists_of};
@@ -37,6 +38,7 @@ fn permitted<'d>(
 
 // The rows of each table of the copy.
 fn copied(alloc: Global, world: &World<'_>, grants: &[PermView]) -> Result<Vec<RowList>, Memory>
+    requires { IsOriginal world.now.original.now }
     ensures { IfOk result (λ all. all.items ≡ direct_lists (role_in world.now.original.now) (meta_in world.now.original.now) (schema_in world.now.original.now) (database_of world.now.tables.now)
         (rows_for (map source_view world.now.original.now.sources.now) (lists_of world.now.permitted.now)) (map source_view world.now.original.now.sources.now) (map permission_view grants.now) (lists_of world.now.permitted.now)) }
 {
@@ -58,6 +60,7 @@ pub fn all_copied_rows(
     grants: &[PermView],
     tables: &[&Rows],
 ) -> Result<Vec<RowList>, Memory>
+    requires { IsOriginal original.now }
     ensures { IfOk result (λ all. all.items ≡ lists_due (role_in original.now) (meta_in original.now) (schema_in original.now) (database_of tables.now) (map source_view original.now.sources.now) (map permission_view grants.now)) }
 {
     let permitted = permitted(alloc, original, grants, tables)?;

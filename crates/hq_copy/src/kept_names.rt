@@ -2,7 +2,8 @@
 ghost use Rattle.std.specs.Prelude.{◌≡◌, ◌⊎◌, map, slice_index_or, []};
 ghost use Rattle.hq_copy_definition.specs.Refusals.{column_refusal, first_of, is_kept_name, kept_name, own_name_refusal};
 ghost use Rattle.hq_copy_definition.specs.declared.refusal.CopyRefusal.TheVariants as refusal;
-ghost use Rattle.hq_copy_tables.specs.Views.{meta_in, role_in, schema_in, source_view};
+ghost use Rattle.hq_copy_tables.specs.Originals.{meta_in, role_in, schema_in};
+ghost use Rattle.hq_copy_tables.specs.Views.{source_view};
 ghost use Rattle.hq_copy.specs.Refused.{Refuses};
 ghost use Rattle.hq_model.specs.Schema.{column, rel};
 ghost use Rattle.hq_model.specs.Scope.{scope_schema};

@@ -12,6 +12,6 @@ pub struct Redacted {
     pub catalog: Catalog,
     pub meta: Meta,
     pub rows: RowsList,
-    ghost fits: { fits catalog.tables (meta_view meta) ≡ true },
+    ghost meta_fits: { fits catalog.tables (meta_view meta) ≡ true },
     ghost valid: { is_database catalog.tables rows ≡ true },
 }

@@ -4,7 +4,7 @@ ghost use Rattle.hq_copy_definition.specs.Metadata.{copied_meta};
 ghost use Rattle.hq_copy_definition.specs.Refusals.{or_else};
 ghost use Rattle.hq_copy_definition.specs.Sources.{links, sources};
 ghost use Rattle.hq_copy_definition.specs.Tables.{copied_tables};
-ghost use Rattle.hq_copy_tables.specs.Views.{meta_in, role_in, schema_in};
+ghost use Rattle.hq_copy_tables.specs.Originals.{IsOriginal, meta_in, role_in, schema_in};
 ghost use Rattle.hq_copy_filter.specs.Lent.{database_of};
 ghost use Rattle.hq_copy.specs.Granted.{granted_due};
 ghost use Rattle.hq_copy.specs.Plans.{PlannedFor};
@@ -48,6 +48,7 @@ fn check_plan(
     tables: &TableList,
     meta: &Meta,
 ) -> Result<(), CopyRefusal>
+    requires original { IsOriginal original.now }
     requires tables { tables.now ≡ copied_tables (role_in original.now) (meta_in original.now) (schema_in original.now) }
     requires meta { meta_view meta.now ≡ copied_meta (role_in original.now) (meta_in original.now) (schema_in original.now) }
     ensures { Refuses (described_refusal (role_in original.now) (meta_in original.now) (schema_in original.now)) result }
@@ -61,6 +62,7 @@ fn check_plan(
 
 // What a copy is to hold, where neither catalog, metadata nor session refuse it.
 fn planned(alloc: Global, original: &Original<'_>, session: &Session) -> Result<Plan, CopyRefusal>
+    requires { IsOriginal original.now }
     ensures plan { IfOk result (PlannedFor (role_in original.now) (meta_in original.now) (schema_in original.now) session.now.vars) }
     ensures refused { Refuses (or_else (refusal_in (granted_due (schema_in original.now) session.now.vars (sources (role_in original.now) (meta_in original.now)))) (described_refusal (role_in original.now) (meta_in original.now) (schema_in original.now))) result }
 {
@@ -118,6 +120,7 @@ fn made(
     plan: Plan,
     rows: &[&Rows],
 ) -> Result<Redacted, CopyRefusal>
+    requires original { IsOriginal original.now }
     requires role { role_in original.now ≡ role_of session.now.role }
     requires plan { PlannedFor (role_in original.now) (meta_in original.now) (schema_in original.now) session.now.vars plan }
     requires catalog { is_catalog original.now.scope.catalog.now.tables ≡ true }
@@ -146,6 +149,7 @@ fn copied<T: Tables>(
     plan: Plan,
     tables: &T,
 ) -> Result<Redacted, CopyRefusal>
+    requires original { IsOriginal original.now }
     requires role { role_in original.now ≡ role_of session.now.role }
     requires plan { PlannedFor (role_in original.now) (meta_in original.now) (schema_in original.now) session.now.vars plan }
     requires fits { fits original.now.scope.catalog.now.tables (meta_in original.now) ≡ true }
@@ -166,6 +170,7 @@ fn pinned<T: Tables>(
     plan: Plan,
     tables: &mut T,
 ) -> Result<Redacted, CopyRefusal>
+    requires original { IsOriginal original.now }
     requires role { role_in original.now ≡ role_of session.now.role }
     requires plan { PlannedFor (role_in original.now) (meta_in original.now) (schema_in original.now) session.now.vars plan }
     requires fits { fits original.now.scope.catalog.now.tables (meta_in original.now) ≡ true }
@@ -194,6 +199,7 @@ fn copied_for<T: Tables>(
     session: &Session,
     tables: &mut T,
 ) -> Result<Redacted, CopyRefusal>
+    requires original { IsOriginal original.now }
     requires role { role_in original.now ≡ role_of session.now.role }
     requires fits { fits original.now.scope.catalog.now.tables (meta_in original.now) ≡ true }
     requires tables { original.now.scope.catalog.now.tables ≡ T.tables tables.old }

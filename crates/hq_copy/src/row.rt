@@ -1,6 +1,7 @@
 //! The rows of a table of a copy.
 ghost use Rattle.std.specs.Prelude.{◌≡◌, ◌++◌, ◌+◌, ◌<◌, ◌^◌, IfOk, OnOk, map};
-ghost use Rattle.hq_copy_tables.specs.Views.{extra_view, meta_in, role_in, schema_in, source_view};
+ghost use Rattle.hq_copy_tables.specs.Originals.{IsOriginal, meta_in, role_in, schema_in};
+ghost use Rattle.hq_copy_tables.specs.Views.{extra_view, source_view};
 ghost use Rattle.hq_copy_filter.specs.Lent.{database_of, rows_of};
 ghost use Rattle.hq_copy.specs.Direct.{direct_row, direct_value, rows_for, shown_values};
 ghost use Rattle.hq_copy.specs.Lists.{lists_of};
@@ -111,6 +112,7 @@ pub fn copied_rows(
     source: &Source<'_>,
     rows: &[&[Val]],
 ) -> Result<RowList, Memory>
+    requires { IsOriginal world.now.original.now }
     ensures { IfOk result (λ all. all ≡ numbered (direct_row (role_in world.now.original.now) (meta_in world.now.original.now) (schema_in world.now.original.now) (database_of world.now.tables.now) (permission_view permission.now)
         (rows_for (map source_view world.now.original.now.sources.now) (lists_of world.now.permitted.now)) (source_view source.now)) 0 (rows_of rows.now)) }
 {

@@ -1,21 +1,22 @@
 //! Names that stand twice in the schema of a copy for `admin`: two types, or two root fields.
-ghost use Rattle.std.specs.Prelude.{◌≡◌, ◌==◌, ◌++◌, ◌∷◌, [], IfOk, OnOk, false, flat_map, map, filter, bytes_eq};
+ghost use Rattle.std.specs.Prelude.{◌≡◌, ◌==◌, ◌++◌, ◌∷◌, [], IfOk, OnOk, cond, false, flat_map, map, filter, bytes_eq, option_copied};
 ghost use Rattle.std.specs.List.{list_any};
 ghost use Rattle.hq_base.specs.Aggregates.{aggregate_suffix};
 ghost use Rattle.hq_base.specs.Text.{has_zero};
-ghost use Rattle.hq_copy_definition.specs.Refusals.{repeated_after, schema_name_refusal};
+ghost use Rattle.hq_copy_definition.specs.Refusals.{first_of, like_type, repeated_after, scalar_refusal, schema_name_refusal};
 ghost use Rattle.hq_copy.specs.Refused.{Refuses};
 ghost use Rattle.hq_schema.specs.Fixed.{fixed_name};
 ghost use Rattle.hq_schema.specs.Parts.{part_suffix};
 ghost use Rattle.hq_model.specs.Meta.{MetaTree, meta_view, tracked_view};
+ghost use Rattle.hq_model.specs.Names.{is_free_name};
 ghost use Rattle.hq_model.specs.Permission.{named_columns};
 ghost use Rattle.hq_model.specs.Schema.{column, schema_of};
-ghost use Rattle.hq_model.specs.SchemaNames.{fixed_types, has_columns, is_aggregated, key_is_named, roots_of, table_types, types_of};
+ghost use Rattle.hq_model.specs.SchemaNames.{fixed_types, has_columns, is_aggregated, key_is_named, roots_of, scalar_of, table_types, types_of};
 
 use crate::kept_names::name_taken;
 use hq_base::{Aggregate, List, Memory, Txt, Ty};
 use hq_copy_definition::CopyRefusal;
-use hq_model::{ColId, Meta, Table, Tracked, TxtList, is_free_name};
+use hq_model::{ColId, Meta, Table, TableId, Tracked, TxtList, is_free_name};
 use hq_schema::{Fixed, Part};
 use std::alloc::Global;
 
@@ -223,12 +224,88 @@ fn check_repeats(alloc: Global, names: &[Txt]) -> Result<(), CopyRefusal>
     Ok(())
 }
 
-/// Refuses the first name that two types, or two root fields, would have in the schema of these tables for `admin`.
+// Refuses a scalar that is named as one of these types.
+fn check_unlike(alloc: Global, types: &[Txt], scalar: Option<&Txt>) -> Result<(), CopyRefusal>
+    ensures { Refuses (like_type types.now (option_copied scalar.entry)) result }
+{
+    let Some(name) = scalar else {
+        return Ok(());
+    };
+    if types.contains(name) {
+        return Err(name_taken(alloc, name));
+    }
+    Ok(())
+}
+
+// The scalar of a column of a table, where it is opaque.
+fn scalar_at<'a>(tables: &'a [Table], t: TableId, c: usize) -> Option<&'a Txt>
+    ensures { (m : MetaTree) → option_copied result ≡ scalar_of (column (schema_of tables.now m) t c) }
+{
+    match tables.get(t.at()) {
+        Some(table) => match table.columns.get(c) {
+            Some(column) => column.scalar(),
+            None => None,
+        },
+        None => None,
+    }
+}
+
+// Refuses the scalar of a column that has a GraphQL name, where it is named as one of these types.
+fn check_scalar(
+    alloc: Global,
+    tables: &[Table],
+    types: &[Txt],
+    t: TableId,
+    c: usize,
+    name: &Txt,
+) -> Result<(), CopyRefusal>
+    ensures { (m : MetaTree) → Refuses (cond (is_free_name name.now) (like_type types.now (scalar_of (column (schema_of tables.now m) t c))) None) result }
+{
+    if !is_free_name(name) {
+        return Ok(());
+    }
+    check_unlike(alloc, types, scalar_at(tables, t, c))
+}
+
+// Refuses the scalars of a table's columns that have GraphQL names, the first first.
+fn check_table_scalars(
+    alloc: Global,
+    tables: &[Table],
+    types: &[Txt],
+    tracked: &Tracked,
+) -> Result<(), CopyRefusal>
+    ensures { (m : MetaTree) → Refuses (scalar_refusal (schema_of tables.now m) types.now (tracked_view tracked.now)) result }
+{
+    let names = tracked.column_names.as_slice();
+    for (c, name) in names.iter().enumerate() {
+        check_scalar(alloc, tables, types, tracked.table, c, name)?;
+    }
+    Ok(())
+}
+
+// Refuses the first scalar of a column that is named as one of these types.
+fn check_scalars(
+    alloc: Global,
+    tables: &[Table],
+    meta: &Meta,
+    types: &[Txt],
+) -> Result<(), CopyRefusal>
+    ensures { (m : MetaTree) → Refuses (first_of (scalar_refusal (schema_of tables.now m) types.now) (meta_view meta.now).tracked) result }
+{
+    for tracked in meta.tracked.as_slice() {
+        check_table_scalars(alloc, tables, types, tracked)?;
+    }
+    Ok(())
+}
+
+/// Refuses the first name that two types, or two root fields, would have in the schema of these tables for `admin`, and then the
+/// first scalar of a column that has the name of another type.
 pub fn check_schema_names(alloc: Global, tables: &[Table], meta: &Meta) -> Result<(), CopyRefusal>
     ensures { Refuses (schema_name_refusal (schema_of tables.now (meta_view meta.now)) (meta_view meta.now)) result }
 {
     let types = all_types(alloc, tables, meta)?;
     check_repeats(alloc, types.as_slice())?;
     let roots = all_roots(alloc, tables, meta)?;
-    check_repeats(alloc, roots.as_slice())
+    check_repeats(alloc, roots.as_slice())?;
+    check_scalars(alloc, tables, meta, types.as_slice())
 }

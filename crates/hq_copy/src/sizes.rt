@@ -4,7 +4,8 @@ ghost use Rattle.std.specs.List.{list_any};
 ghost use Rattle.hq_copy_definition.specs.Refusals.{first_of, masked_key_refusal, refused_if, told_name};
 ghost use Rattle.hq_copy_definition.specs.Sources.{has_mask, keeps_key};
 ghost use Rattle.hq_copy_definition.specs.declared.refusal.CopyRefusal.TheVariants as refusal;
-ghost use Rattle.hq_copy_tables.specs.Views.{meta_in, role_in, schema_in, source_view};
+ghost use Rattle.hq_copy_tables.specs.Originals.{IsOriginal, meta_in, role_in, schema_in};
+ghost use Rattle.hq_copy_tables.specs.Views.{source_view};
 ghost use Rattle.hq_copy.specs.Refused.{Refuses};
 ghost use Rattle.hq_model.specs.Catalog.{full_name};
 ghost use Rattle.hq_model.specs.PermView.{permission_view};
@@ -36,6 +37,7 @@ fn has_masked_key(permission: &PermView, key: &[ColId]) -> bool
 
 // The name of a table of the copy, as it is told.
 fn told_name(alloc: Global, original: &Original<'_>, source: &Source<'_>) -> Result<Txt, Memory>
+    requires { IsOriginal original.now }
     ensures { IfOk result (λ name. name ≡ told_name (role_in original.now) (meta_in original.now) (schema_in original.now) (source_view source.now)) }
 {
     let table = copied_table(alloc, original, source)?;
@@ -43,6 +45,7 @@ fn told_name(alloc: Global, original: &Original<'_>, source: &Source<'_>) -> Res
 }
 
 fn masked_key(alloc: Global, original: &Original<'_>, source: &Source<'_>) -> CopyRefusal
+    requires { IsOriginal original.now }
     ensures { (result ≡ refusal.Memory) ⊎ (result ≡ refusal.MaskedKey (told_name (role_in original.now) (meta_in original.now) (schema_in original.now) (source_view source.now))) }
 {
     match told_name(alloc, original, source) {
@@ -62,6 +65,7 @@ fn too_wide(alloc: Global, table: &Table) -> CopyRefusal
 
 // Refuses a table whose key is masked.
 fn check_key(alloc: Global, original: &Original<'_>, source: &Source<'_>) -> Result<(), CopyRefusal>
+    requires { IsOriginal original.now }
     ensures { Refuses (masked_key_refusal (role_in original.now) (meta_in original.now) (schema_in original.now) (source_view source.now)) result }
 {
     let key = key_of(&original.scope, source.entry.table);
@@ -73,6 +77,7 @@ fn check_key(alloc: Global, original: &Original<'_>, source: &Source<'_>) -> Res
 
 /// Refuses the first table whose key is masked.
 pub fn check_keys(alloc: Global, original: &Original<'_>) -> Result<(), CopyRefusal>
+    requires { IsOriginal original.now }
     ensures { Refuses (first_of (masked_key_refusal (role_in original.now) (meta_in original.now) (schema_in original.now)) (map source_view original.now.sources.now)) result }
 {
     let sources = original.sources;

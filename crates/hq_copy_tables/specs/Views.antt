@@ -4,13 +4,9 @@ use Rattle.hq_copy_definition.specs.Sources as copy
 use Rattle.hq_copy_tables.specs.declared.extras.Extra.{Extra}
 use Rattle.hq_copy_tables.specs.declared.extras.Extra.TheVariants as extra
 use Rattle.hq_copy_tables.specs.declared.linked.Link.{Link}
-use Rattle.hq_copy_tables.specs.declared.original.Original.{Original}
 use Rattle.hq_copy_tables.specs.declared.seen.Source.{Source}
-use Rattle.hq_model.specs.Meta.{MetaTree, meta_view, tracked_view}
+use Rattle.hq_model.specs.Meta.{tracked_view}
 use Rattle.hq_model.specs.PermView.{permission_view}
-use Rattle.hq_model.specs.Schema.{Schema}
-use Rattle.hq_model.specs.Scope.{scope_schema}
-use Rattle.hq_model.specs.declared.role.Role.{Role}
 
 -- a table of the copy
 abbrev pub source_view : Source → copy.Source
@@ -25,13 +21,3 @@ abbrev pub extra_view : Extra → tree.Extra
 extra_view (extra.From k l) = tree.from_end k (link_view l)
 extra_view (extra.To k l) = tree.to_end k (link_view l)
 extra_view extra.Position = tree.row_position
-
--- the role, the metadata and the schema of what is copied
-abbrev pub role_in : Original → Role
-role_in o = o.role.now
-
-abbrev pub meta_in : Original → MetaTree
-meta_in o = meta_view o.scope.meta.now
-
-abbrev pub schema_in : Original → Schema
-schema_in o = scope_schema o.scope

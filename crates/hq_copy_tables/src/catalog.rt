@@ -2,7 +2,8 @@
 ghost use Rattle.std.specs.Prelude.{◌≡◌, IfOk, map};
 ghost use Rattle.hq_copy_definition.specs.Sources.{place_in};
 ghost use Rattle.hq_copy_definition.specs.Tables.{copied_key, copied_table, copied_tables};
-ghost use Rattle.hq_copy_tables.specs.Views.{meta_in, role_in, schema_in, source_view};
+ghost use Rattle.hq_copy_tables.specs.Originals.{IsOriginal, meta_in, role_in, schema_in};
+ghost use Rattle.hq_copy_tables.specs.Views.{source_view};
 ghost use Rattle.hq_model.specs.Schema.{table};
 ghost use Rattle.hq_model.specs.Scope.{scope_schema};
 
@@ -31,6 +32,7 @@ fn copied_key(
     original: &Original<'_>,
     source: &Source<'_>,
 ) -> Result<ColList, Memory>
+    requires { IsOriginal original.now }
     ensures { IfOk result (λ key. key ≡ copied_key (role_in original.now) (meta_in original.now) (schema_in original.now) (source_view source.now)) }
 {
     let t = source.entry.table;
@@ -61,6 +63,7 @@ pub fn copied_table(
     original: &Original<'_>,
     source: &Source<'_>,
 ) -> Result<Table, Memory>
+    requires { IsOriginal original.now }
     ensures { IfOk result (λ copied. copied ≡ copied_table (role_in original.now) (meta_in original.now) (schema_in original.now) (source_view source.now)) }
 {
     let (schema, name) = names_of(alloc, &original.scope, source.entry.table)?;
@@ -75,6 +78,7 @@ pub fn copied_table(
 
 /// The tables of the copy.
 pub fn copied_tables(alloc: Global, original: &Original<'_>) -> Result<TableList, Memory>
+    requires { IsOriginal original.now }
     ensures { IfOk result (λ tables. tables ≡ copied_tables (role_in original.now) (meta_in original.now) (schema_in original.now)) }
 {
     let sources = original.sources;

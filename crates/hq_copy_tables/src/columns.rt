@@ -2,7 +2,8 @@
 ghost use Rattle.std.specs.Prelude.{◌≡◌, ◌++◌, IfOk, OnOk, map};
 ghost use Rattle.hq_copy_definition.specs.Extras.{extra_column};
 ghost use Rattle.hq_copy_definition.specs.Tables.{copied_column, copied_columns};
-ghost use Rattle.hq_copy_tables.specs.Views.{extra_view, meta_in, role_in, schema_in, source_view};
+ghost use Rattle.hq_copy_tables.specs.Originals.{IsOriginal, meta_in, role_in, schema_in};
+ghost use Rattle.hq_copy_tables.specs.Views.{extra_view, source_view};
 ghost use Rattle.hq_model.specs.PermView.{permission_view};
 ghost use Rattle.hq_model.specs.Schema.{column};
 ghost use Rattle.hq_model.specs.Scope.{scope_schema};
@@ -84,6 +85,7 @@ pub(crate) fn copied_columns(
     original: &Original<'_>,
     source: &Source<'_>,
 ) -> Result<ColumnList, Memory>
+    requires { IsOriginal original.now }
     ensures { IfOk result (λ columns. columns ≡ copied_columns (role_in original.now) (meta_in original.now) (schema_in original.now) (source_view source.now)) }
 {
     let mut columns = permitted_columns(alloc, &original.scope, source)?;

@@ -1,9 +1,11 @@
 //! The columns that a copy adds to a table.
-ghost use Rattle.std.specs.Prelude.{◌≡◌, ◌++◌, IfOk, OnOk, map, string_bytes, false, codes};
+ghost use Rattle.std.specs.Prelude.{◌≡◌, ◌==◌, ◌++◌, ◌∷◌, [], cond, IfOk, OnOk, map, string_bytes, false, codes};
 ghost use Rattle.std.specs.Fmt.{decimal};
 ghost use Rattle.hq_base.specs.Text.{has_zero};
-ghost use Rattle.hq_copy_definition.specs.Extras.{ends_at, ends_of, extra_column, extra_name, extras_of, is_nullable};
-ghost use Rattle.hq_copy_tables.specs.Views.{extra_view, link_view, meta_in, role_in, schema_in, source_view};
+ghost use Rattle.hq_copy_definition.specs.Extras.{ends_at, ends_of, extra_column, extra_name, extras_of, from_end, is_nullable, to_end};
+ghost use Rattle.hq_copy_definition.specs.Sources.{link_remote as remote_of};
+ghost use Rattle.hq_copy_tables.specs.Originals.{IsOriginal, meta_in, role_in, schema_in};
+ghost use Rattle.hq_copy_tables.specs.Views.{extra_view, link_view, source_view};
 ghost use Rattle.hq_model.specs.Schema.{table};
 ghost use Rattle.hq_model.specs.Scope.{scope_schema};
 
@@ -21,23 +23,52 @@ pub enum Extra {
     Position,
 }
 
+// The own end of a link, behind others, where it starts at the table.
+fn push_own(t: TableId, number: usize, link: &Link, ends: &mut Vec<Extra>) -> Result<(), Memory>
+    ensures { OnOk result (map extra_view ends.new.items ≡ map extra_view ends.old.items ++ cond ((link_view link.now).table == t) (from_end number (link_view link.now) ∷ []) []) }
+{
+    if link.table.at() == t.at() {
+        let end = Extra::From {
+            number,
+            link: *link,
+        };
+        ends.push(end)?;
+    }
+    Ok(())
+}
+
+// Its remote end, behind others, where it leads to the table.
+fn push_remote(
+    scope: &Scope<'_>,
+    t: TableId,
+    number: usize,
+    link: &Link,
+    ends: &mut Vec<Extra>,
+) -> Result<(), Memory>
+    ensures { OnOk result (map extra_view ends.new.items ≡ map extra_view ends.old.items ++ cond (remote_of (scope_schema scope.now) (link_view link.now) == t) (to_end number (link_view link.now) ∷ []) []) }
+{
+    if link_remote(scope, *link).at() == t.at() {
+        let end = Extra::To {
+            number,
+            link: *link,
+        };
+        ends.push(end)?;
+    }
+    Ok(())
+}
+
 // The ends of a link in a table, the own end first, behind others.
 fn push_ends(
     scope: &Scope<'_>,
     t: TableId,
     number: usize,
-    link: Link,
+    link: &Link,
     ends: &mut Vec<Extra>,
 ) -> Result<(), Memory>
-    ensures { OnOk result (map extra_view ends.new.items ≡ map extra_view ends.old.items ++ ends_at (scope_schema scope.now) t number (link_view link)) }
+    ensures { OnOk result (map extra_view ends.new.items ≡ map extra_view ends.old.items ++ ends_at (scope_schema scope.now) t number (link_view link.now)) }
 {
-    if link.table.at() == t.at() {
-        ends.push(Extra::From { number, link })?;
-    }
-    if link_remote(scope, link).at() == t.at() {
-        ends.push(Extra::To { number, link })?;
-    }
-    Ok(())
+    push_own(t, number, link, ends)?;
+    push_remote(scope, t, number, link, ends)
 }
 
 /// The ends in a table of all links, which are numbered from 1 on.
@@ -46,12 +77,13 @@ pub(crate) fn ends_of(
     original: &Original<'_>,
     t: TableId,
 ) -> Result<Vec<Extra>, Memory>
+    requires { IsOriginal original.now }
     ensures { IfOk result (λ ends. map extra_view ends.items ≡ ends_of (role_in original.now) (meta_in original.now) (schema_in original.now) t) }
 {
     let links = original.links;
     let mut ends = Vec::new(alloc);
     for (at, link) in links.iter().enumerate() {
-        push_ends(&original.scope, t, at + 1, *link, &mut ends)?;
+        push_ends(&original.scope, t, at + 1, link, &mut ends)?;
     }
     Ok(ends)
 }
@@ -72,6 +104,7 @@ pub fn extras_of(
     original: &Original<'_>,
     source: &Source<'_>,
 ) -> Result<Vec<Extra>, Memory>
+    requires { IsOriginal original.now }
     ensures { IfOk result (λ extras. map extra_view extras.items ≡ extras_of (role_in original.now) (meta_in original.now) (schema_in original.now) (source_view source.now)) }
 {
     let t = source.entry.table;

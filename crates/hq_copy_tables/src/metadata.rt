@@ -3,7 +3,8 @@ ghost use Rattle.std.specs.Prelude.{◌≡◌, ◌++◌, ◌∷◌, [], IfOk, On
 ghost use Rattle.hq_copy_definition.specs.Extras.{extra_name};
 ghost use Rattle.hq_copy_definition.specs.Metadata.{copied_entry, copied_meta, copied_names, copied_pair, copied_rel, from_place, places, reader, reader_permission, to_place, width};
 ghost use Rattle.hq_copy_definition.specs.Sources.{kept_relationships, link_remote};
-ghost use Rattle.hq_copy_tables.specs.Views.{extra_view, link_view, meta_in, role_in, schema_in, source_view};
+ghost use Rattle.hq_copy_tables.specs.Originals.{IsOriginal, meta_in, role_in, schema_in};
+ghost use Rattle.hq_copy_tables.specs.Views.{extra_view, link_view, source_view};
 ghost use Rattle.hq_model.specs.Meta.{meta_view, perm_view, tracked_view};
 ghost use Rattle.hq_model.specs.PermView.{permission_view};
 ghost use Rattle.hq_model.specs.Schema.{rel};
@@ -41,6 +42,7 @@ fn width(alloc: Global, original: &Original<'_>, t: TableId) -> Result<usize, Me
 
 // The place in the copy of the own end of a link, in its table.
 fn from_place(alloc: Global, original: &Original<'_>, link: Link) -> Result<usize, Memory>
+    requires { IsOriginal original.now }
     ensures { IfOk result (λ n. n ≡ from_place (role_in original.now) (meta_in original.now) (schema_in original.now) link.table (link_view link)) }
 {
     let ends = ends_of(alloc, original, link.table)?;
@@ -49,6 +51,7 @@ fn from_place(alloc: Global, original: &Original<'_>, link: Link) -> Result<usiz
 
 // And of its remote end, in the remote table.
 fn to_place(alloc: Global, original: &Original<'_>, link: Link) -> Result<usize, Memory>
+    requires { IsOriginal original.now }
     ensures { IfOk result (λ n. n ≡ to_place (role_in original.now) (meta_in original.now) (schema_in original.now) (link_remote (schema_in original.now) (link_view link)) (link_view link)) }
 {
     let remote = link_remote(&original.scope, link);
@@ -58,6 +61,7 @@ fn to_place(alloc: Global, original: &Original<'_>, link: Link) -> Result<usize,
 
 // The one pair of a relationship: its two ends.
 fn copied_pairs(alloc: Global, original: &Original<'_>, link: Link) -> Result<PairList, Memory>
+    requires { IsOriginal original.now }
     ensures { IfOk result (λ pairs. pairs ≡ copied_pair (role_in original.now) (meta_in original.now) (schema_in original.now) link.table link.relationship ∷ []) }
 {
     let own = ColId::new(from_place(alloc, original, link)?);
@@ -79,6 +83,7 @@ fn name_and_kind(alloc: Global, original: &Original<'_>, link: Link) -> Result<(
 
 // A relationship of a table of the copy.
 fn copied_rel(alloc: Global, original: &Original<'_>, link: Link) -> Result<Rel, Memory>
+    requires { IsOriginal original.now }
     ensures { IfOk result (λ copied. copied ≡ copied_rel (role_in original.now) (meta_in original.now) (schema_in original.now) link.table link.relationship) }
 {
     let (name, many) = name_and_kind(alloc, original, link)?;
@@ -93,6 +98,7 @@ fn copied_rel(alloc: Global, original: &Original<'_>, link: Link) -> Result<Rel,
 
 // The relationships of a table of the copy.
 fn copied_rels(alloc: Global, original: &Original<'_>, table: TableId) -> Result<RelList, Memory>
+    requires { IsOriginal original.now }
     ensures { IfOk result (λ rels. rels ≡ map (copied_rel (role_in original.now) (meta_in original.now) (schema_in original.now) table) (kept_relationships (role_in original.now) (meta_in original.now) (schema_in original.now) table)) }
 {
     let kept = kept_relationships(alloc, &original.scope, original.role, table)?;
@@ -170,6 +176,7 @@ fn copied_names(
     original: &Original<'_>,
     source: &Source<'_>,
 ) -> Result<TxtList, Memory>
+    requires { IsOriginal original.now }
     ensures { IfOk result (λ names. names ≡ copied_names (role_in original.now) (meta_in original.now) (schema_in original.now) (source_view source.now)) }
 {
     let names = source.entry.column_names.as_slice();
@@ -186,6 +193,7 @@ fn copied_entry(
     place: usize,
     source: &Source<'_>,
 ) -> Result<Tracked, Memory>
+    requires { IsOriginal original.now }
     ensures { IfOk result (λ entry. tracked_view entry ≡ copied_entry (role_in original.now) (meta_in original.now) (schema_in original.now) place (source_view source.now)) }
 {
     Ok(Tracked {
@@ -200,6 +208,7 @@ fn copied_entry(
 
 /// The metadata of the copy.
 pub fn copied_meta(alloc: Global, original: &Original<'_>) -> Result<Meta, Memory>
+    requires { IsOriginal original.now }
     ensures { IfOk result (λ meta. meta_view meta ≡ copied_meta (role_in original.now) (meta_in original.now) (schema_in original.now)) }
 {
     let sources = original.sources;

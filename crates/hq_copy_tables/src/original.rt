@@ -1,9 +1,4 @@
 //! What is copied, and for whom.
-ghost use Rattle.std.specs.Prelude.{◌≡◌, map};
-ghost use Rattle.hq_copy_definition.specs.Sources.{links, sources};
-ghost use Rattle.hq_copy_tables.specs.Views.{link_view, source_view};
-ghost use Rattle.hq_model.specs.Meta.{meta_view};
-ghost use Rattle.hq_model.specs.Scope.{scope_schema};
 
 use crate::{Link, Source};
 use hq_model::{Role, Scope};
@@ -15,6 +10,4 @@ pub struct Original<'a> {
     pub role: &'a Role,
     pub sources: &'a [Source<'a>],
     pub links: &'a [Link],
-    ghost seen: { map source_view sources.now ≡ sources role.now (meta_view scope.meta.now) },
-    ghost linked: { map link_view links.now ≡ links role.now (meta_view scope.meta.now) (scope_schema scope) },
 }

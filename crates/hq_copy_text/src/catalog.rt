@@ -1,15 +1,15 @@
 //! A catalog as a JSON value.
-ghost use Rattle.std.specs.Prelude.{◌≡◌, ◌∷◌, [], IfOk, map, slice_get};
-ghost use Rattle.hq_base.specs.Json.{json_view, str};
+ghost use Rattle.std.specs.Prelude.{◌≡◌, ◌++◌, ◌∷◌, [], IfOk, OnOk, map, slice_get};
+ghost use Rattle.hq_base.specs.Json.{json_view, member_view, str};
 ghost use Rattle.hq_base.specs.Types.{catalog_name};
 ghost use Rattle.hq_load_catalog.specs.Field.{field_name};
 ghost use Rattle.hq_load_catalog.specs.declared.field.Field.TheVariants as field;
-ghost use Rattle.hq_laws_written_catalog.specs.Written.{catalog_json, column_json, foreign_json, table_json, table_ref};
+ghost use Rattle.hq_laws_written_catalog.specs.Written.{catalog_json, column_json, foreign_json, has_of, of_members, table_json, table_ref};
 ghost use Rattle.hq_laws_written_json.specs.Building.{list, object};
 
 use crate::building::{array, object, push_member, push_text, single, text};
 use crate::columns::{columns_of, names_json as column_names};
-use hq_base::{Json, Memory, Txt, Ty};
+use hq_base::{Json, Members, Memory, Txt, Ty};
 use hq_model::{Column, ForeignKey, Table, TableId};
 use std::alloc::Global;
 
@@ -20,7 +20,30 @@ fn type_json(alloc: Global, ty: Ty) -> Result<Json, Memory>
     Ok(Json::Str(text(alloc, ty.catalog_name())?))
 }
 
-// A column: its name, its type and whether it may hold NULL.
+// Whether PostgreSQL's name of a column's type is written: that of an opaque column always is.
+fn has_of(column: &Column) -> bool
+    ensures { result ≡ has_of column.now }
+{
+    match column.ty {
+        Ty::Opaque => true,
+        Ty::Integer | Ty::Bigint | Ty::Text | Ty::Boolean | Ty::Uuid => {
+            !column.of.as_bytes().is_empty()
+        }
+    }
+}
+
+// That name, where it is written, behind other members.
+#[tactic(auto, unfolding(hq_load_catalog::specs::Field::field_name))]
+fn push_of(alloc: Global, column: &Column, members: &mut Members) -> Result<(), Memory>
+    ensures { OnOk result (map member_view members.new.items ≡ map member_view members.old.items ++ of_members column.now) }
+{
+    if has_of(column) {
+        push_text(alloc, "of", &column.of, members)?;
+    }
+    Ok(())
+}
+
+// A column: its name, its type, perhaps with PostgreSQL's name of it, and whether it may hold NULL.
 #[tactic(auto, unfolding(hq_load_catalog::specs::Field::field_name))]
 fn column_json(alloc: Global, column: &Column) -> Result<Json, Memory>
     ensures { IfOk result (λ json. json_view json ≡ column_json column.now) }
@@ -28,6 +51,7 @@ fn column_json(alloc: Global, column: &Column) -> Result<Json, Memory>
     let mut members = Vec::new(alloc);
     push_text(alloc, "name", &column.name, &mut members)?;
     push_member(alloc, "type", type_json(alloc, column.ty)?, &mut members)?;
+    push_of(alloc, column, &mut members)?;
     push_member(alloc, "nullable", Json::Bool(column.nullable), &mut members)?;
     Ok(object(members))
 }

@@ -3,6 +3,7 @@
 
 mod building;
 mod catalog;
+mod clean;
 mod columns;
 mod metadata;
 mod parts;
@@ -11,5 +12,6 @@ mod refusal;
 mod relationships;
 mod tables;
 
+pub use clean::copy_is_clean;
 pub use parts::part;
 pub use refusal::PartRefusal;

@@ -1,5 +1,6 @@
 use Rattle.std.proofs.Common.{◌≡◌, ◌++◌, map, drop}
-use Rattle.hq_copy_tables.specs.Views.{meta_in, role_in, schema_in, source_view}
+use Rattle.hq_copy_tables.specs.Originals.{meta_in, role_in, schema_in}
+use Rattle.hq_copy_tables.specs.Views.{source_view}
 use Rattle.hq_copy_filter.specs.Lent.{database_of}
 use Rattle.hq_copy.specs.Direct.{direct_lists, rows_for}
 use Rattle.hq_copy.specs.Lists.{lists_of}

@@ -1,6 +1,7 @@
 use Rattle.std.proofs.Common.{◌≡◌, drop, map}
 use Rattle.hq_copy_definition.specs.Refusals.{first_of, own_name_refusal}
-use Rattle.hq_copy_tables.specs.Views.{meta_in, role_in, schema_in, source_view}
+use Rattle.hq_copy_tables.specs.Originals.{meta_in, role_in, schema_in}
+use Rattle.hq_copy_tables.specs.Views.{source_view}
 use Rattle.hq_copy.proofs.kept_names.check_kept_names.Given as goal
 
 -- none of the tables so far is refused

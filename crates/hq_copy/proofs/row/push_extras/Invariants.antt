@@ -1,5 +1,6 @@
 use Rattle.std.proofs.Common.{◌≡◌, ◌++◌, map, take}
-use Rattle.hq_copy_tables.specs.Views.{extra_view, schema_in, source_view}
+use Rattle.hq_copy_tables.specs.Originals.{schema_in}
+use Rattle.hq_copy_tables.specs.Views.{extra_view, source_view}
 use Rattle.hq_copy.specs.Direct.{direct_value, rows_for}
 use Rattle.hq_copy.specs.Lists.{lists_of}
 use Rattle.hq_copy.proofs.row.push_extras.Given as goal

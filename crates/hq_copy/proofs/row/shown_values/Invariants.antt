@@ -1,6 +1,6 @@
 use Rattle.std.proofs.Common.{◌≡◌, map, take}
 use Rattle.hq_copy_definition.specs.Rows.{value_of}
-use Rattle.hq_copy_tables.specs.Views.{schema_in}
+use Rattle.hq_copy_tables.specs.Originals.{schema_in}
 use Rattle.hq_copy_filter.specs.Lent.{database_of}
 use Rattle.hq_model.specs.Permitted.{shown_under}
 use Rattle.hq_model.specs.PermView.{permission_view}

@@ -1,6 +1,7 @@
 use Rattle.std.proofs.Common.{◌≡◌, map, take}
 use Rattle.hq_copy_definition.specs.Tables.{copied_table}
-use Rattle.hq_copy_tables.specs.Views.{meta_in, role_in, schema_in, source_view}
+use Rattle.hq_copy_tables.specs.Originals.{meta_in, role_in, schema_in}
+use Rattle.hq_copy_tables.specs.Views.{source_view}
 use Rattle.hq_copy_tables.proofs.catalog.copied_tables.Given as goal
 
 -- the tables so far

@@ -1,6 +1,7 @@
 use Rattle.std.proofs.Common.{◌≡◌, ◌++◌, map, drop, suc}
 use Rattle.hq_copy_definition.specs.Extras.{ends_from, ends_of}
-use Rattle.hq_copy_tables.specs.Views.{extra_view, link_view, meta_in, role_in, schema_in}
+use Rattle.hq_copy_tables.specs.Originals.{meta_in, role_in, schema_in}
+use Rattle.hq_copy_tables.specs.Views.{extra_view, link_view}
 use Rattle.hq_copy_tables.proofs.extras.ends_of.Given as goal
 
 -- those so far, and then those of the links that are left

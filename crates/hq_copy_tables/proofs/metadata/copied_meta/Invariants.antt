@@ -1,6 +1,7 @@
 use Rattle.std.proofs.Common.{◌≡◌, ◌++◌, map, drop}
 use Rattle.hq_copy_definition.specs.Metadata.{copied_entry}
-use Rattle.hq_copy_tables.specs.Views.{meta_in, role_in, schema_in, source_view}
+use Rattle.hq_copy_tables.specs.Originals.{meta_in, role_in, schema_in}
+use Rattle.hq_copy_tables.specs.Views.{source_view}
 use Rattle.hq_model.specs.Meta.{tracked_view}
 use Rattle.hq_model.specs.Schema.{numbered}
 use Rattle.hq_copy_tables.proofs.metadata.copied_meta.Given as goal

@@ -1,6 +1,6 @@
 use Rattle.std.proofs.Common.{◌≡◌, map, take}
 use Rattle.hq_copy_definition.specs.Metadata.{copied_rel}
-use Rattle.hq_copy_tables.specs.Views.{meta_in, role_in, schema_in}
+use Rattle.hq_copy_tables.specs.Originals.{meta_in, role_in, schema_in}
 use Rattle.hq_copy_tables.proofs.metadata.copied_rels.Given as goal
 
 -- the relationships so far
