@@ -3,6 +3,8 @@
 `Rules(model, role, variables)` are those of a session over the tables of resolvers.py; `faults(select)` lists what a statement violates in
 text order, each as a rule and an alias, and `verdict(select)` is the first of the least rule, or None where it is confined.
 """
+import uuid
+
 import resolvers
 from sql_subset import Fold, Rows
 
@@ -40,7 +42,7 @@ def same_expression(renaming, e, f):
         return False
     if e[0] == "column":
         return stands_for(renaming, e[1], f[1]) and e[2:] == f[2:]
-    return e[0] in ("int", "text", "bool") and e[1] == f[1]
+    return e[0] in ("int", "text", "uuid", "bool") and e[1] == f[1]
 
 
 def same_condition(renaming, p, q):
@@ -121,6 +123,8 @@ class Rules:
             value = self.variables[value.lower()]
         if kind == "boolean":
             return ["bool", value in ("t", "true", True)]
+        if kind == "uuid":
+            return ["uuid", str(uuid.UUID(value))]
         return ["text", value] if kind == "text" else ["int", int(value)]
 
     def test(self, t, name, op, operand, alias):

@@ -1,6 +1,6 @@
 """The SQL subset of docs/FORMATS.md as trees of lists: `read` takes a text, `write` gives it back.
 
-An expression is ["column", alias, name, collate], ["int", n], ["text", s], ["bool", b], ["object", [[name, expression], ..]], ["count"],
+An expression is ["column", alias, name, collate], ["int", n], ["text", s], ["uuid", s], ["bool", b], ["object", [[name, expression], ..]], ["count"],
 ["count", expression, distinct], ["take", function, expression] or ["json_agg", expression, orders]; an order is [expression, direction]. A
 condition is ["true"], ["false"], ["test", expression, operator, operands], ["not", c], ["and", cs], ["or", cs] or ["exists", select]. What a
 FROM takes its rows from is ["table", schema, name, alias], ["sub", select, alias] or ["one", alias].
@@ -81,6 +81,8 @@ class Reader:
             text = self.quoted("'")
             if self.takes("::bigint"):
                 return ["int", int(text)]
+            if self.takes("::uuid"):
+                return ["uuid", text]
             self.need("::text")
             return ["text", text]
         if self.takes("json_build_object("):
@@ -250,6 +252,8 @@ def expression_text(e):
         return f"'{e[1]}'::bigint"
     if kind == "text":
         return quoted("'", e[1]) + "::text"
+    if kind == "uuid":
+        return quoted("'", e[1]) + "::uuid"
     if kind == "bool":
         return "TRUE" if e[1] else "FALSE"
     if kind == "object":
