@@ -9,5 +9,5 @@ ghost use Rattle.hq_model.specs.declared.table.Table.{Table as CatalogTable};
 
 /// The catalog of a copy is a catalog, and its metadata fits it, where those of the original are such.
 pub fn copied_metadata_fits()
-    ensures fits { (tables : Items CatalogTable) (m : MetaTree) (session : Caller) (v : Seen) (c : Copied) → CatalogFits tables m session v c }
+    ensures { (tables : Items CatalogTable) (m : MetaTree) (session : Caller) (v : Seen) (c : Copied) → CatalogFits tables m session v c }
 {}
