@@ -58,7 +58,7 @@ ties_more alias o os one rest =
     }
 
 own_value : (alias : List ℕ) (e : ExprTree) (m n : Names) → is_own alias e ≡ true → m alias ≡ n alias → value e [] m ≡ value e [] n
-own_value alias (tree.column a name collate) m n is same =
+own_value alias (tree.column a name form) m n is same =
     let e : alias ≡ a = same_name alias a is in
     ap (λ r. cell_named r name) (ap m (sym e) ∙ same ∙ ap n e)
 own_value alias (tree.int i) m n is same = cc

@@ -22,6 +22,7 @@ use Rattle.hq_sql_conjuncts.proofs.Conjuncts.{all_append}
 use Rattle.hq_sql_tree.specs.Tree as tree
 use Rattle.hq_sql_tree.specs.Tree.{ExprTree, PredTree, no_join}
 use Rattle.hq_sql_tree.specs.View.{expr_view, pred_view}
+use Rattle.hq_sql_tree.specs.declared.expr.ColumnForm.{ColumnForm}
 use Rattle.hq_sql_tree.specs.declared.expr.Expr.{Expr}
 use Rattle.hq_sql_tree.specs.declared.select.Pred.{Pred}
 use Rattle.hq_sql_tree.specs.Meaning.{Scope as Names, World, cell_named, named_row, value, truth_at, with_alias}
@@ -77,8 +78,8 @@ equal_swapped a b =
 -- ---- one condition
 
 -- the column of an alias has that name
-pub own_column : (alias a n : List ℕ) (collate : Bool) → bytes_eq alias a ≡ true → is_column alias n (tree.column a n collate) ≡ true
-own_column alias a n collate e = rw (e, same_bytes n) refl
+pub own_column : (alias a n : List ℕ) (form : ColumnForm) → bytes_eq alias a ≡ true → is_column alias n (tree.column a n form) ≡ true
+own_column alias a n form e = rw (e, same_bytes n) refl
 
 pub own_is : (columns : List Column) (at : ℕ) (alias name : List ℕ) (own : ExprTree) → position (λ c. bytes_eq c.name name) columns ≡ Some at → is_column alias name own ≡ true → IsOwn columns alias own at
 own_is columns at alias name own first is = record { cell = λ row m here. column_value alias name own m is ∙ ap (λ r. cell_named r name) here ∙ named_first columns row name at first }

@@ -46,7 +46,7 @@ pub record TiesAt (alias : List ℕ) (os : List OrderTree) : Type 0 where
 
 -- a column of the alias
 abbrev pub is_own : (alias : List ℕ) → ExprTree → Bool
-is_own alias (tree.column a name collate) = bytes_eq alias a
+is_own alias (tree.column a name form) = bytes_eq alias a
 is_own alias _ = false
 
 -- ORDER BY has these rows, where their keys in these columns have no NULL, in the order of these keys, or against it

@@ -1,6 +1,6 @@
 //! LIKE and ILIKE with patterns that are read once a statement.
 ghost use Rattle.std.specs.Prelude.{◌≡◌, ◌∷◌, [], IfSome};
-ghost use Rattle.hq_base.specs.Cells as cell;
+ghost use Rattle.hq_base.specs.Cells.{text as text_cell};
 ghost use Rattle.hq_model.specs.Logic.{matched};
 ghost use Rattle.hq_model.specs.Tests.{test_truth};
 ghost use Rattle.hq_sql_cells.specs.View.{cell_view};
@@ -27,7 +27,7 @@ fn matcher_of<'m>(matchers: &'m [Matcher], pattern: &Txt, fold: bool) -> Option<
 
 // What LIKE says of a cell: Unknown of one that is no text.
 fn like_truth(matcher: &Matcher, cell: &Cell<'_>) -> Truth
-    ensures { result ≡ matched matcher.now.1 (cell_view cell.now) (cell.text matcher.now.0) }
+    ensures { result ≡ matched matcher.now.1 (cell_view cell.now) (text_cell matcher.now.0) }
 {
     match cell {
         Cell::Text(text) => Truth::of(matcher.matches(text)),
