@@ -1,6 +1,6 @@
 """The SQL subset of docs/FORMATS.md as trees of lists: `read` takes a text, `write` gives it back.
 
-An expression is ["column", alias, name, collate], ["int", n], ["text", s], ["uuid", s], ["bool", b], ["object", [[name, expression], ..]], ["count"],
+An expression is ["column", alias, name, form], where the form is one of FORMS, ["int", n], ["text", s], ["uuid", s], ["bool", b], ["object", [[name, expression], ..]], ["count"],
 ["count", expression, distinct], ["take", function, expression] or ["json_agg", expression, orders]; an order is [expression, direction]. A
 condition is ["true"], ["false"], ["test", expression, operator, operands], ["not", c], ["and", cs], ["or", cs] or ["exists", select]. What a
 FROM takes its rows from is ["table", schema, name, alias], ["sub", select, alias] or ["one", alias].
@@ -25,6 +25,7 @@ class Fold:
 DIRECTIONS = ["ASC NULLS FIRST", "ASC NULLS LAST", "DESC NULLS FIRST", "DESC NULLS LAST"]
 OPERATORS = [" = ", " <> ", " <= ", " < ", " >= ", " > ", " LIKE ", " ILIKE "]
 FUNCTIONS = ["sum", "min", "max"]
+FORMS = ["", ' COLLATE "C"', "::text", '::text COLLATE "C"']
 
 
 class NotSql(Exception):
@@ -90,10 +91,20 @@ class Reader:
             self.need(")")
             return ["object", pairs]
         if self.has('"'):
-            alias = self.quoted('"')
-            self.need(".")
-            return ["column", alias, self.quoted('"'), self.takes(' COLLATE "C"')]
+            return ["column", *self.names(), FORMS[self.takes(FORMS[1])]]
+        if self.takes("("):
+            names = self.names()
+            self.need(")")
+            form = FORMS[3] if self.takes(FORMS[3]) else FORMS[2]
+            if form == FORMS[2]:
+                self.need(form)
+            return ["column", *names, form]
         return self.aggregate()
+
+    def names(self):
+        alias = self.quoted('"')
+        self.need(".")
+        return alias, self.quoted('"')
 
     def pair(self):
         name = self.quoted("'")
@@ -247,13 +258,12 @@ def name(text):
 def expression_text(e):
     kind = e[0]
     if kind == "column":
-        return f"{name(e[1])}.{name(e[2])}" + (' COLLATE "C"' if e[3] else "")
+        names = f"{name(e[1])}.{name(e[2])}"
+        return (f"({names})" if e[3] in FORMS[2:] else names) + e[3]
     if kind == "int":
         return f"'{e[1]}'::bigint"
-    if kind == "text":
-        return quoted("'", e[1]) + "::text"
-    if kind == "uuid":
-        return quoted("'", e[1]) + "::uuid"
+    if kind in ("text", "uuid"):
+        return f"{quoted(chr(39), e[1])}::{kind}"
     if kind == "bool":
         return "TRUE" if e[1] else "FALSE"
     if kind == "object":
