@@ -1,5 +1,5 @@
 -- Two grants that are the same on the tables that fields touch give these one statement.
-use Rattle.std.proofs.Common.{◌≡◌, ℕ, ◌+◌, List, [], ◌∷◌, ◌++◌, flat_map, length, cond, Option, None, refl}
+use Rattle.std.proofs.Common.{◌≡◌, ℕ, ◌+◌, List, [], ◌∷◌, ◌++◌, flat_map, length, cond, false, Option, None, refl}
 use Rattle.hq_base.specs.Lists.{Each}
 use Rattle.hq_model.specs.Bexp.{BexpTree, always, and_of, or_of, not_of, test, through, exists_in, two_columns, BexpTrees, no_bexp, bexp}
 use Rattle.hq_model.specs.Grants.{Grants, grant}

@@ -3,6 +3,7 @@ use Rattle.std.proofs.Common.{◌≡◌, ℕ, zero, suc, ◌<◌, eqb, true, fal
 use Rattle.std.specs.Prelude.{codes}
 use Rattle.std.proofs.lemmas.List.{append-nil}
 use Rattle.std.specs.List.{AllByRecursion}
+use Rattle.hq_sql_tree.specs.declared.expr.ColumnForm.TheVariants as form
 use Rattle.hq_sql_tree.specs.declared.word.Word.{Word}
 use Rattle.hq_sql_tree.specs.declared.word.Word.TheVariants as word
 use Rattle.hq_sql_tree.specs.Word.{word_text}
@@ -77,7 +78,10 @@ u_begins (c ∷ n) rest free =
 
 output_not_one : (e : ExprTree) (n rest : List ℕ) → Open rest → strip (codes "TRUE AS \"u\") AS ") (expr_text e ++ (word_text word.As ++ (name_text n ++ rest))) ≡ None
 unfolding word_text quoted
-output_not_one (tree.column a m c) n rest free = refl
+output_not_one (tree.column a m form.Plain) n rest free = refl
+output_not_one (tree.column a m form.Collated) n rest free = refl
+output_not_one (tree.column a m form.AsText) n rest free = refl
+output_not_one (tree.column a m form.AsTextCollated) n rest free = refl
 output_not_one (tree.int m) n rest free = refl
 output_not_one (tree.text t) n rest free = refl
 output_not_one (tree.uuid t) n rest free = refl

@@ -3,6 +3,7 @@ use Rattle.std.proofs.Common.{◌≡◌, ℕ, true, false, List, [], ◌∷◌, 
 use Rattle.std.specs.Prelude.{codes}
 use Rattle.std.specs.List.{AllByRecursion}
 use Rattle.std.specs.Fmt.{decimal}
+use Rattle.hq_sql_tree.specs.declared.expr.ColumnForm.TheVariants as form
 use Rattle.hq_sql_tree.specs.declared.word.Word.{Word}
 use Rattle.hq_sql_tree.specs.declared.word.Word.TheVariants as word
 use Rattle.hq_sql_tree.specs.Word.{word_text}
@@ -137,7 +138,10 @@ keys_clause d (k ∷ keys) limit offset rest good ends =
 -- an expression does not begin with DISTINCT ON
 pub expr_no_distinct : (e : ExprTree) (rest : List ℕ) → Absent word.DistinctOn (expr_text e ++ rest)
 unfolding word_text after quoted
-expr_no_distinct (tree.column a n c) rest = refl
+expr_no_distinct (tree.column a n form.Plain) rest = refl
+expr_no_distinct (tree.column a n form.Collated) rest = refl
+expr_no_distinct (tree.column a n form.AsText) rest = refl
+expr_no_distinct (tree.column a n form.AsTextCollated) rest = refl
 expr_no_distinct (tree.int n) rest = refl
 expr_no_distinct (tree.text t) rest = refl
 expr_no_distinct (tree.uuid t) rest = refl
