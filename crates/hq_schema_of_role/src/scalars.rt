@@ -1,6 +1,6 @@
 //! The scalars of opaque columns: a type for each name of a type of PostgreSQL.
 ghost use Rattle.std.specs.Prelude.{◌≡◌, ◌<◌, ◌++◌, IfOk, OnOk, IfSome, length, map, flat_map, option_and_then, position, bytes_eq};
-ghost use Rattle.std.specs.List.{filter_map, list_any};
+ghost use Rattle.std.specs.List.{filter_map};
 ghost use Rattle.std.specs.Option.{option_to_list};
 ghost use Rattle.hq_base.specs.Lists.{firsts};
 ghost use Rattle.hq_schema.specs.Schema.{type_ref_view, type_view};
@@ -63,18 +63,11 @@ fn all_scalars(alloc: Global, tables: &ShownTableList) -> Result<Vec<Txt>, Memor
     Ok(names)
 }
 
-// Whether a name is among these.
-fn is_among(names: &[Txt], name: &Txt) -> bool
-    ensures { result ≡ list_any (λ n. bytes_eq n name.now) names.now }
-{
-    names.contains(name)
-}
-
 // Adds a name, where it is not among these.
 fn push_different(alloc: Global, names: &mut Vec<Txt>, name: &Txt) -> Result<(), Memory>
     ensures { OnOk result (names.new.items ≡ with_different names.old.items name.now) }
 {
-    if is_among(names.as_slice(), name) {
+    if names.as_slice().contains(name) {
         return Ok(());
     }
     names.push(name.copy(alloc)?)?;
