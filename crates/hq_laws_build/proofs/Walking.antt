@@ -186,7 +186,6 @@ module _ (tables : List Table) (m : MetaTree) (metadata_fits : fits tables m ≡
 
   -- ---- aggregate
 
-  -- what is counted
   -- what is counted is what is read
   counting_is : (t : ℕ) (k : Option ℕ) (distinct : Bool) (x : FieldArguments) → counting c t k distinct ≡ Ok x → count k distinct ≡ x
   counting_is t k distinct x e = by (is_counted c t k distinct) e

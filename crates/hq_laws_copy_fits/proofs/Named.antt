@@ -2,7 +2,7 @@
 use Rattle.std.proofs.Common.{◌≡◌, ℕ, suc, ◌+◌, List, [], ◌∷◌, ◌++◌, map, filter, Bool, true, false, cond, not, ◌&&◌, ◌||◌, ◌==◌, Option, Some, None, inl, refl, sym, ap, ap₂, ◌∙◌, subst, arith, is_some, append_assoc}
 use Rattle.std.proofs.lemmas.Bool.{and_parts, and_from, or_parts, false≢true}
 use Rattle.std.proofs.lemmas.List.Folds.{list_any-append}
-use Rattle.std.specs.List.{list_any}
+use Rattle.std.specs.List.{list_all, list_any}
 use Rattle.std.specs.Prelude.{bytes_eq, codes, flat_map, slice_index_or}
 use Rattle.hq_base.specs.Lists.{Each}
 use Rattle.hq_base.proofs.Lists.{each_weaken, each_all, filter_all}

@@ -1,5 +1,5 @@
 -- The schema of a role stands for what the role may see.
-use Rattle.std.proofs.Common.{◌≡◌, refl, ℕ, List, [], ◌∷◌, Bool, true, false, cond, Option, Some, None}
+use Rattle.std.proofs.Common.{◌≡◌, refl, ℕ, List, [], ◌∷◌, ◌++◌, map, Bool, true, false, cond, Option, Some, None}
 use Rattle.std.specs.Prelude.{flat_map}
 use Rattle.hq_base.specs.Lists.{Each}
 use Rattle.hq_schema.specs.Fixed.{all_fixed, fixed_origin}
@@ -19,6 +19,7 @@ use Rattle.hq_schema_of_role.specs.Introspection.{introspection_fields}
 use Rattle.hq_schema_of_role.specs.Placed.{parts_of, placed, links_from}
 use Rattle.hq_schema_of_role.specs.RoleSchema.{part_type, table_types, role_schema}
 use Rattle.hq_schema_of_role.specs.Root.{key_fields, aggregate_root, root_fields, query_fields}
+use Rattle.hq_schema_of_role.specs.Scalars.{scalars_of, behind_scalars, scalar_type}
 use Rattle.hq_schema_of_role.specs.Shown.{shown_tables}
 use Rattle.hq_schema_of_role.specs.declared.shown.Link.{Link}
 use Rattle.hq_schema_of_role.specs.declared.shown.PlacedTable.{PlacedTable}
@@ -51,21 +52,28 @@ module _ (tables : List Table) (m : MetaTree) (role : Role) where
   abbrev R : SchemaTree
   R = role_schema tables m role
 
+  abbrev scalars : List (List ℕ)
+  scalars = scalars_of (shown_tables tables m role)
+
   abbrev ps : List PlacedTable
   ps = placed (shown_tables tables m role)
 
   abbrev Shown : PlacedTable → Type 0
   Shown p = IsShown tables m role p.shown
 
-  -- what the types that each schema has and those of shown tables have, all types have
-  all_types_have : (P : TypeTree → Type 0) → ((f : Fixed) → P (fixed_type ps f)) → ((p : PlacedTable) (ls : List Link) (q : Part) → Shown p → P (part_type p ls q)) → Each P R.types
+  -- what the types that each schema has, the scalars and the types of shown tables have, all types have
+  all_types_have : (P : TypeTree → Type 0) → ((f : Fixed) → P (fixed_type ps f)) → ((name : List ℕ) → P (scalar_type name))
+      → ((p : PlacedTable) (ls : List Link) (q : Part) → Shown p → P (part_type scalars p ls q)) → Each P R.types
   unfolding role_schema
-  all_types_have P of_fixed of_part =
-      each_append P (fixed_types ps) (flat_map (table_types ps) ps) (each_map P (fixed_type ps) all_fixed (each_all (λ f. P (fixed_type ps f)) of_fixed all_fixed))
-      (each_made P (table_types ps) ps
-      (each_given Shown (λ p. Each P (table_types ps p))
-      (λ p shown. each_map P (part_type p (links_from ps 0 p.shown.rels)) (parts_of p.shown)
-      (each_all (λ q. P (part_type p (links_from ps 0 p.shown.rels) q)) (λ q. of_part p (links_from ps 0 p.shown.rels) q shown) (parts_of p.shown))) ps (all_shown tables m role 20)))
+  all_types_have P of_fixed of_scalar of_part =
+      each_append P (fixed_types ps ++ map scalar_type scalars) (flat_map (table_types scalars ps) ps)
+      (each_append P (fixed_types ps) (map scalar_type scalars) (each_map P (fixed_type ps) all_fixed (each_all (λ f. P (fixed_type ps f)) of_fixed all_fixed))
+      (each_map P scalar_type scalars (each_all (λ name. P (scalar_type name)) of_scalar scalars)))
+      (each_made P (table_types scalars ps) ps
+      (each_given Shown (λ p. Each P (table_types scalars ps p))
+      (λ p shown. each_map P (part_type scalars p (links_from ps 0 p.shown.rels)) (parts_of p.shown)
+      (each_all (λ q. P (part_type scalars p (links_from ps 0 p.shown.rels) q)) (λ q. of_part p (links_from ps 0 p.shown.rels) q shown) (parts_of p.shown))) ps
+      (all_shown tables m role (behind_scalars scalars))))
 
   -- ---- the tables of types are seen
 
@@ -86,8 +94,8 @@ module _ (tables : List Table) (m : MetaTree) (role : Role) where
   part_seen t (part.Aggregated g) seen = seen
 
   types_seen : Each (λ (d : TypeTree). IsOfSeen a d.origin) R.types
-  unfolding fixed_type part_type
-  types_seen = all_types_have (λ d. IsOfSeen a d.origin) fixed_seen (λ p ls q shown. part_seen p.shown.table q shown.seen)
+  unfolding fixed_type scalar_type part_type
+  types_seen = all_types_have (λ d. IsOfSeen a d.origin) fixed_seen (λ name. tt) (λ p ls q shown. part_seen p.shown.table q shown.seen)
 
   -- ---- look-ups by key
 
@@ -113,7 +121,7 @@ module _ (tables : List Table) (m : MetaTree) (role : Role) where
   RootKeyed d = d.origin ≡ type.Query → Each Keyed d.fields
 
   fixed_keyed : (f : Fixed) → fixed_origin f ≡ type.Query → Each Keyed (fixed_fields ps f)
-  fixed_keyed fixed.QueryRoot is = query_keyed ps (all_shown tables m role 20)
+  fixed_keyed fixed.QueryRoot is = query_keyed ps (all_shown tables m role (behind_scalars scalars))
   fixed_keyed (fixed.Scalar t) is = cc
   fixed_keyed fixed.OrderBy is = cc
   fixed_keyed (fixed.Comparison t) is = cc
@@ -129,8 +137,8 @@ module _ (tables : List Table) (m : MetaTree) (role : Role) where
   part_keyed t (part.Aggregated g) fs is = cc
 
   roots_keyed : Each RootKeyed R.types
-  unfolding fixed_type part_type
-  roots_keyed = all_types_have RootKeyed fixed_keyed (λ p ls q shown. part_keyed p.shown.table q (part_type p ls q).fields)
+  unfolding fixed_type scalar_type part_type
+  roots_keyed = all_types_have RootKeyed fixed_keyed (λ name is. tt) (λ p ls q shown. part_keyed p.shown.table q (part_type scalars p ls q).fields)
 
   -- only the root has look-ups
   one_keyed : (types : List TypeTree) (r : TypeRefTree) (owner : TypeOrigin) (o : FieldOrigin) → Reaches types r (field_target a owner o) → (owner ≡ type.Query → LooksUp s a o) → LooksUp s a o
@@ -176,8 +184,8 @@ module _ (tables : List Table) (m : MetaTree) (role : Role) where
   part_plain t (part.Aggregated g) fs = tt
 
   types_plain : Each (λ (d : TypeTree). Introspects R.types d.origin d.fields) R.types
-  unfolding fixed_type part_type
-  types_plain = all_types_have (λ d. Introspects R.types d.origin d.fields) fixed_plain (λ p ls q shown. part_plain p.shown.table q (part_type p ls q).fields)
+  unfolding fixed_type scalar_type part_type
+  types_plain = all_types_have (λ d. Introspects R.types d.origin d.fields) fixed_plain (λ name. tt) (λ p ls q shown. part_plain p.shown.table q (part_type scalars p ls q).fields)
 
   -- ---- all
 

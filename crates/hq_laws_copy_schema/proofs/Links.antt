@@ -8,6 +8,7 @@ use Rattle.hq_base.proofs.Lists.{each_weaken}
 use Rattle.hq_schema_of_role.specs.Placed.{placed, placed_from, part_count, link_to, link_among, links_from}
 use Rattle.hq_schema_of_role.specs.RoleSchema.{types_with, table_types, all_types, schema_over as schema_with, role_schema}
 use Rattle.hq_schema_of_role.specs.FixedTypes.{fixed_types}
+use Rattle.hq_schema_of_role.specs.Scalars.{scalars_of, behind_scalars, scalar_type}
 use Rattle.hq_schema_of_role.specs.Shown.{shown_tables}
 use Rattle.hq_schema_of_role.specs.declared.shown.Link.{Link}
 use Rattle.hq_schema_of_role.specs.declared.shown.PlacedTable.{PlacedTable}
@@ -27,7 +28,7 @@ use Rattle.hq_copy_definition.specs.Tables.{copied_tables}
 use Rattle.hq_laws_copy.proofs.Numbers.{one_to_one}
 use Rattle.hq_laws_schema_origins.specs.SchemaOver.{type_over, schema_over}
 use Rattle.hq_laws_copy_schema.proofs.Shown.{n, rels_over, IsSeen, shown_seen, tables_are}
-use Rattle.hq_laws_copy_schema.proofs.Types.{link_over, placed_over, placed_same, types_over, fixed_types_over}
+use Rattle.hq_laws_copy_schema.proofs.Types.{link_over, table_over, placed_over, placed_same, scalar_types_over, scalars_same, types_over, fixed_types_over}
 use Rattle.hq_laws_copy_fits.proofs.Held.{Held}
 
 -- ---- lists
@@ -161,33 +162,40 @@ module _ (tables : List Table) (m : MetaTree) (role : Role) (fit : fits tables m
   each_placed first [] h = tt
   each_placed first (x ∷ xs) h = (h.0, each_placed (first + part_count x) xs h.1)
 
-  table_over_types : (ps : List PlacedTable) → Each Seen ps → (p : PlacedTable) → Seen p → table_types (map over ps) (over p) ≡ map (type_over (n tables m role fit)) (table_types ps p)
-  table_over_types ps known p h =
+  table_over_types : (scalars : List (List ℕ)) (ps : List PlacedTable) → Each Seen ps → (p : PlacedTable) → Seen p
+      → table_types scalars (map over ps) (over p) ≡ map (type_over (n tables m role fit)) (table_types scalars ps p)
+  table_over_types scalars ps known p h =
       let t : ℕ = p.shown.table in
-      ap (types_with (over p)) (links_over ps known t 0 (table s t).rels [] (λ k. let zeroth : 0 + k ≡ k = omega arith in ap (λ j. slice_index_or (table s t).rels j no_rel) zeroth) refl tt)
-      ∙ types_over (n tables m role fit) (rels_over tables m role fit) p (links_from ps 0 (table s t).rels)
-      ∙ ap (λ rels. map (type_over (n tables m role fit)) (types_with p (links_from ps 0 rels))) (sym h.1)
+      ap (types_with scalars (over p)) (links_over ps known t 0 (table s t).rels [] (λ k. let zeroth : 0 + k ≡ k = omega arith in ap (λ j. slice_index_or (table s t).rels j no_rel) zeroth) refl tt)
+      ∙ types_over (n tables m role fit) (rels_over tables m role fit) scalars p (links_from ps 0 (table s t).rels)
+      ∙ ap (λ rels. map (type_over (n tables m role fit)) (types_with scalars p (links_from ps 0 rels))) (sym h.1)
 
-  all_types_over : (ps : List PlacedTable) → Each Seen ps → all_types (map over ps) ≡ map (type_over (n tables m role fit)) (all_types ps)
-  all_types_over ps known =
-      ap₂ (λ a b. a ++ b) (fixed_types_over (n tables m role fit) (rels_over tables m role fit) ps)
-      (made_on Seen (table_types ps) (table_types (map over ps)) over (type_over (n tables m role fit)) (table_over_types ps known) ps known)
-      ∙ sym (map_joined (type_over (n tables m role fit)) (fixed_types ps) (flat_map (table_types ps) ps))
+  all_types_over : (scalars : List (List ℕ)) (ps : List PlacedTable) → Each Seen ps → all_types scalars (map over ps) ≡ map (type_over (n tables m role fit)) (all_types scalars ps)
+  all_types_over scalars ps known =
+      let renumbered = type_over (n tables m role fit) in
+      ap₂ (λ a b. a ++ b)
+      (ap₂ (λ a b. a ++ b) (fixed_types_over (n tables m role fit) (rels_over tables m role fit) ps) (scalar_types_over (n tables m role fit) (rels_over tables m role fit) scalars)
+      ∙ sym (map_joined renumbered (fixed_types ps) (map scalar_type scalars)))
+      (made_on Seen (table_types scalars ps) (table_types scalars (map over ps)) over renumbered (table_over_types scalars ps known) ps known)
+      ∙ sym (map_joined renumbered (fixed_types ps ++ map scalar_type scalars) (flat_map (table_types scalars ps) ps))
 
   pub schema_is : ((o : Source) → Held tables m role o → keeps_key o.permission (table s o.entry.table).key ≡ true → list_any (has_mask o.permission) (table s o.entry.table).key ≡ false)
       → role_schema (copied_tables role m s) (copied_meta role m s) (Named reader) ≡ schema_over (n tables m role fit) (role_schema tables m role)
   unfolding role_schema
   schema_is unmasked =
       let xs : List ShownTable = shown_tables tables m role in
+      let ys : List ShownTable = map (table_over (n tables m role fit) (rels_over tables m role fit)) xs in
+      let scalars : List (List ℕ) = scalars_of xs in
+      let first : ℕ = behind_scalars scalars in
       let ps : List PlacedTable = placed xs in
-      ap (λ l. schema_with (placed l)) (tables_are tables m role fit unmasked)
-      ∙ ap schema_with (placed_same (n tables m role fit) (rels_over tables m role fit) 20 xs)
+      ap (λ (l : List ShownTable). schema_with (scalars_of l) (placed l)) (tables_are tables m role fit unmasked)
+      ∙ ap (λ (l : List (List ℕ)). schema_with l (placed_from (behind_scalars l) ys)) (scalars_same (n tables m role fit) (rels_over tables m role fit) xs)
+      ∙ ap (schema_with scalars) (placed_same (n tables m role fit) (rels_over tables m role fit) first xs)
       ∙ ap (λ types. record {
         types = types;
-        query = (schema_with ps).query;
-        type_name = (schema_with ps).type_name;
-        introspection = (schema_with ps).introspection;
-        conditions =
-            (schema_with ps).conditions;
+        query = (schema_with scalars ps).query;
+        type_name = (schema_with scalars ps).type_name;
+        introspection = (schema_with scalars ps).introspection;
+        conditions = (schema_with scalars ps).conditions;
       })
-      (all_types_over ps (each_placed 20 xs (shown_seen tables m role fit)))
+      (all_types_over scalars ps (each_placed first xs (shown_seen tables m role fit)))

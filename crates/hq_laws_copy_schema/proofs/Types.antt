@@ -1,8 +1,10 @@
 -- The types that are made of tables whose columns and relationships are renumbered, are the renumbered types.
 use Rattle.std.proofs.Common.{◌≡◌, ℕ, ◌+◌, List, [], ◌∷◌, ◌++◌, map, filter, length, Bool, true, false, cond, not, ◌||◌, Option, Some, None, refl, sym, ap, ap₂, ◌∙◌}
 use Rattle.std.specs.List.{filter_map, cons_option}
-use Rattle.std.specs.Prelude.{flat_map, option_map}
+use Rattle.std.specs.Prelude.{flat_map, option_map, bytes_eq}
 use Rattle.hq_base.specs.Aggregates.{all_aggregates, aggregate_name, given_type}
+use Rattle.hq_base.specs.Lists.{firsts}
+use Rattle.hq_base.specs.Types.{is_ordered}
 use Rattle.hq_base.proofs.Lists.{map_itself}
 use Rattle.hq_base.specs.declared.aggregate.Aggregate.{Aggregate as OneAggregate}
 use Rattle.hq_base.specs.declared.value.Ty.{Ty}
@@ -18,13 +20,14 @@ use Rattle.hq_schema.specs.declared.part.Part.{Part}
 use Rattle.hq_schema.specs.declared.part.Part.TheVariants.{Rows, Filter, Sort, Columns, Aggregate, AggregateFields, Aggregated}
 use Rattle.hq_schema_of_role.specs.Fields.{list_args, list_field, aggregate_field, column_field, column_fields, link_fields, count_args, count_field, aggregated_fields, over_rows, part_fields}
 use Rattle.hq_schema_of_role.specs.FixedTypes.{fixed_values, fixed_type, fixed_types}
-use Rattle.hq_schema_of_role.specs.Inputs.{column_input, is_filter, connectives, link_input, inputs_of, part_inputs, part_values, part_columns}
+use Rattle.hq_schema_of_role.specs.Inputs.{input_type, column_input, is_filter, connectives, link_input, inputs_of, part_inputs, part_values, part_columns}
 use Rattle.hq_schema_of_role.specs.Introspection.{introspection_fields}
 use Rattle.hq_schema_of_role.specs.Operators.{is_operator_of, operator_arg, operator_inputs}
 use Rattle.hq_schema_of_role.specs.Placed.{parts_of, part_count, placed_from}
 use Rattle.hq_schema_of_role.specs.References.{fixed as fixed_ref, arg, part, plain_field}
 use Rattle.hq_schema_of_role.specs.RoleSchema.{part_type, types_with}
 use Rattle.hq_schema_of_role.specs.Root.{key_arg, key_fields, aggregate_root, root_fields, query_fields}
+use Rattle.hq_schema_of_role.specs.Scalars.{table_scalars, scalars_of, scalar_type}
 use Rattle.hq_schema_of_role.specs.Shown.{aggregates_over, has_aggregate, is_over}
 use Rattle.hq_schema_of_role.specs.declared.shown.Link.{Link}
 use Rattle.hq_schema_of_role.specs.declared.shown.PlacedTable.{PlacedTable}
@@ -64,7 +67,7 @@ module _ (n : Renumbering) where
   -- ---- columns and relationships in other numbers
 
   abbrev pub column_over : ℕ → ShownColumn → ShownColumn
-  column_over t c = record { name = c.name; ty = c.ty; nullable = c.nullable; col = n.column t c.col }
+  column_over t c = record { name = c.name; ty = c.ty; scalar = c.scalar; nullable = c.nullable; col = n.column t c.col }
 
   abbrev pub columns_over : ℕ → List ShownColumn → List ShownColumn
   columns_over t cs = map (column_over t) cs
@@ -74,22 +77,22 @@ module _ (n : Renumbering) where
 
   -- ---- fields
 
-  column_field_over : (t : ℕ) (p : Part) (c : ShownColumn) → column_field p (column_over t c) ≡ option_map (field_over n t) (column_field p c)
-  column_field_over t Rows c = refl
-  column_field_over t Filter c = refl
-  column_field_over t Sort c = refl
-  column_field_over t Columns c = refl
-  column_field_over t Aggregate c = refl
-  column_field_over t AggregateFields c = refl
-  column_field_over t (Aggregated a) c =
+  column_field_over : (scalars : List (List ℕ)) (t : ℕ) (p : Part) (c : ShownColumn) → column_field scalars p (column_over t c) ≡ option_map (field_over n t) (column_field scalars p c)
+  column_field_over scalars t Rows c = refl
+  column_field_over scalars t Filter c = refl
+  column_field_over scalars t Sort c = refl
+  column_field_over scalars t Columns c = refl
+  column_field_over scalars t Aggregate c = refl
+  column_field_over scalars t AggregateFields c = refl
+  column_field_over scalars t (Aggregated a) c =
       let r : TypeRefTree = fixed_ref (fixed.Scalar (given_type a c.ty)) in
       let go : (b : Bool) → option_map (λ q. plain_field c.name q (of_field.Column (n.column t c.col))) (cond b (Some r) None)
       ≡ option_map (field_over n t) (option_map (λ q. plain_field c.name q (of_field.Column c.col)) (cond b (Some r) None)) =
       elim [ true ↦ refl | false ↦ refl ] in
       go (has_aggregate a c)
 
-  column_fields_over : (t : ℕ) (p : Part) (cs : List ShownColumn) → column_fields p (columns_over t cs) ≡ map (field_over n t) (column_fields p cs)
-  column_fields_over t p cs = given_over (column_field p) (column_field p) (column_over t) (field_over n t) (column_field_over t p) cs
+  column_fields_over : (scalars : List (List ℕ)) (t : ℕ) (p : Part) (cs : List ShownColumn) → column_fields scalars p (columns_over t cs) ≡ map (field_over n t) (column_fields scalars p cs)
+  column_fields_over scalars t p cs = given_over (column_field scalars p) (column_field scalars p) (column_over t) (field_over n t) (column_field_over scalars t p) cs
 
   link_fields_over : (t : ℕ) (l : Link) → link_fields (link_over t l) ≡ map (field_over n t) (link_fields l)
   unfolding list_args
@@ -119,20 +122,27 @@ module _ (n : Renumbering) where
   unfolding count_args
   over_rows_over t first cs = ap (λ l. count_field first ∷ l) (ap (aggregated_fields (first + 6)) (aggregates_same t cs) ∙ sym (aggregated_over t (first + 6) (aggregates_over cs)))
 
-  part_fields_over : (t first : ℕ) (cs : List ShownColumn) (ls : List Link) (p : Part)
-      → part_fields first (columns_over t cs) (map (link_over t) ls) p ≡ map (field_over n t) (part_fields first cs ls p)
+  part_fields_over : (scalars : List (List ℕ)) (t first : ℕ) (cs : List ShownColumn) (ls : List Link) (p : Part)
+      → part_fields scalars first (columns_over t cs) (map (link_over t) ls) p ≡ map (field_over n t) (part_fields scalars first cs ls p)
   unfolding part_fields
-  part_fields_over t first cs ls Rows =
-      ap₂ (λ a b. a ++ b) (column_fields_over t Rows cs) (made_over link_fields link_fields (link_over t) (field_over n t) (link_fields_over t) ls)
-      ∙ sym (map_joined (field_over n t) (column_fields Rows cs) (flat_map link_fields ls))
-  part_fields_over t first cs ls Filter = column_fields_over t Filter cs
-  part_fields_over t first cs ls Sort = column_fields_over t Sort cs
-  part_fields_over t first cs ls Columns = column_fields_over t Columns cs
-  part_fields_over t first cs ls Aggregate = refl
-  part_fields_over t first cs ls AggregateFields = over_rows_over t first cs
-  part_fields_over t first cs ls (Aggregated a) = column_fields_over t (Aggregated a) cs
+  part_fields_over scalars t first cs ls Rows =
+      ap₂ (λ a b. a ++ b) (column_fields_over scalars t Rows cs) (made_over link_fields link_fields (link_over t) (field_over n t) (link_fields_over t) ls)
+      ∙ sym (map_joined (field_over n t) (column_fields scalars Rows cs) (flat_map link_fields ls))
+  part_fields_over scalars t first cs ls Filter = column_fields_over scalars t Filter cs
+  part_fields_over scalars t first cs ls Sort = column_fields_over scalars t Sort cs
+  part_fields_over scalars t first cs ls Columns = column_fields_over scalars t Columns cs
+  part_fields_over scalars t first cs ls Aggregate = refl
+  part_fields_over scalars t first cs ls AggregateFields = over_rows_over t first cs
+  part_fields_over scalars t first cs ls (Aggregated a) = column_fields_over scalars t (Aggregated a) cs
 
   -- ---- inputs
+
+  column_input_over : (t : ℕ) (p : Part) (c : ShownColumn) → column_input p (column_over t c) ≡ option_map (arg_over n t) (column_input p c)
+  column_input_over t p c =
+      let go : (b : Bool) → cond b (Some (arg c.name (fixed_ref (input_type p c.ty)) (of_arg.Column (n.column t c.col)))) None
+      ≡ option_map (arg_over n t) (cond b (Some (arg c.name (fixed_ref (input_type p c.ty)) (of_arg.Column c.col))) None) =
+      elim [ true ↦ refl | false ↦ refl ] in
+      go (is_filter p || is_ordered c.ty)
 
   link_input_over : (t : ℕ) (p : Part) (l : Link) → link_input p (link_over t l) ≡ option_map (arg_over n t) (link_input p l)
   link_input_over t p l =
@@ -143,9 +153,9 @@ module _ (n : Renumbering) where
 
   inputs_over : (t : ℕ) (p : Part) (cs : List ShownColumn) (ls : List Link) → inputs_of p (columns_over t cs) (map (link_over t) ls) ≡ map (arg_over n t) (inputs_of p cs ls)
   inputs_over t p cs ls =
-      ap₂ (λ a b. a ++ b) (mapped_over (column_input p) (column_input p) (column_over t) (arg_over n t) (λ c. refl) cs)
+      ap₂ (λ a b. a ++ b) (given_over (column_input p) (column_input p) (column_over t) (arg_over n t) (column_input_over t p) cs)
       (given_over (link_input p) (link_input p) (link_over t) (arg_over n t) (link_input_over t p) ls)
-      ∙ sym (map_joined (arg_over n t) (map (column_input p) cs) (filter_map (link_input p) ls))
+      ∙ sym (map_joined (arg_over n t) (filter_map (column_input p) cs) (filter_map (link_input p) ls))
 
   part_inputs_over : (t first : ℕ) (cs : List ShownColumn) (ls : List Link) (p : Part)
       → part_inputs first (columns_over t cs) (map (link_over t) ls) p ≡ map (arg_over n t) (part_inputs first cs ls p)
@@ -226,38 +236,56 @@ module _ (n : Renumbering) where
         ap (λ l. record { shown = table_over x; first = first } ∷ l) (ap (λ c. placed_from (first + c) (map table_over xs)) (part_count_same x) ∙ placed_same (first + part_count x) xs)
 
     -- a type of the table
-    part_type_over : (p : PlacedTable) (ls : List Link) (q : Part) → part_type (placed_over p) (map (link_over p.shown.table) ls) q ≡ type_over n (part_type p ls q)
+    part_type_over : (scalars : List (List ℕ)) (p : PlacedTable) (ls : List Link) (q : Part) → part_type scalars (placed_over p) (map (link_over p.shown.table) ls) q ≡ type_over n (part_type scalars p ls q)
     unfolding part_type
-    part_type_over p ls q =
+    part_type_over scalars p ls q =
         let t : ℕ = p.shown.table in
         let cs : List ShownColumn = p.shown.columns in
         let at : t ≡ type_table (part_origin q t) = sym (table_is t q) in
         let made : List FieldTree → List ArgTree → List (List ℕ) → List ℕ → TypeOrigin → TypeTree =
         λ fields inputs values columns origin. record { name = p.shown.name ++ part_suffix q; kind = part_kind q; fields = fields; inputs = inputs; values = values; columns = columns; origin = origin } in
-        let fs : List FieldTree = part_fields p.first (columns_over t cs) (map (link_over t) ls) q in
+        let fs : List FieldTree = part_fields scalars p.first (columns_over t cs) (map (link_over t) ls) q in
         let is : List ArgTree = part_inputs p.first (columns_over t cs) (map (link_over t) ls) q in
         let vs : List (List ℕ) = part_values (columns_over t cs) q in
         let ds : List ℕ = part_columns (columns_over t cs) q in
-        let fields : fs ≡ map (field_over n (type_table (part_origin q t))) (part_fields p.first cs ls q) =
-        part_fields_over t p.first cs ls q ∙ ap (λ u. map (field_over n u) (part_fields p.first cs ls q)) at in
+        let fields : fs ≡ map (field_over n (type_table (part_origin q t))) (part_fields scalars p.first cs ls q) =
+        part_fields_over scalars t p.first cs ls q ∙ ap (λ u. map (field_over n u) (part_fields scalars p.first cs ls q)) at in
         let inputs : is ≡ map (arg_over n (type_table (part_origin q t))) (part_inputs p.first cs ls q) =
         part_inputs_over t p.first cs ls q ∙ ap (λ u. map (arg_over n u) (part_inputs p.first cs ls q)) at in
         let columns : ds ≡ map (n.column (type_table (part_origin q t))) (part_columns cs q) = part_columns_over t cs q ∙ ap (λ u. map (n.column u) (part_columns cs q)) at in
         ap (λ f. made f is vs ds (part_origin q (n.table t))) fields
-        ∙ ap (λ i. made (map (field_over n (type_table (part_origin q t))) (part_fields p.first cs ls q)) i vs ds (part_origin q (n.table t))) inputs
-        ∙ ap (λ v. made (map (field_over n (type_table (part_origin q t))) (part_fields p.first cs ls q)) (map (arg_over n (type_table (part_origin q t))) (part_inputs p.first cs ls q)) v ds
+        ∙ ap (λ i. made (map (field_over n (type_table (part_origin q t))) (part_fields scalars p.first cs ls q)) i vs ds (part_origin q (n.table t))) inputs
+        ∙ ap (λ v. made (map (field_over n (type_table (part_origin q t))) (part_fields scalars p.first cs ls q)) (map (arg_over n (type_table (part_origin q t))) (part_inputs p.first cs ls q)) v ds
         (part_origin q (n.table t))) (part_values_over t cs q)
-        ∙ ap₂ (made (map (field_over n (type_table (part_origin q t))) (part_fields p.first cs ls q)) (map (arg_over n (type_table (part_origin q t))) (part_inputs p.first cs ls q))
+        ∙ ap₂ (made (map (field_over n (type_table (part_origin q t))) (part_fields scalars p.first cs ls q)) (map (arg_over n (type_table (part_origin q t))) (part_inputs p.first cs ls q))
         (part_values cs q)) columns (origin_is t q)
 
+    -- the scalar of an opaque column stands for no table
+    pub scalar_types_over : (scalars : List (List ℕ)) → map scalar_type scalars ≡ map (type_over n) (map scalar_type scalars)
+    unfolding scalar_type
+    scalar_types_over [] = refl
+    scalar_types_over (name ∷ names) = ap (λ l. scalar_type name ∷ l) (scalar_types_over names)
+
+    -- tables in other numbers have the same scalars
+    own_scalars : (t : ℕ) (cs : List ShownColumn) → filter_map (λ (c : ShownColumn). c.scalar) (columns_over t cs) ≡ filter_map (λ (c : ShownColumn). c.scalar) cs
+    own_scalars t [] = refl
+    own_scalars t (c ∷ cs) = ap (cons_option c.scalar) (own_scalars t cs)
+
+    all_scalars : (xs : List ShownTable) → flat_map table_scalars (map table_over xs) ≡ flat_map table_scalars xs
+    all_scalars [] = refl
+    all_scalars (x ∷ xs) = ap₂ (λ a b. a ++ b) (own_scalars x.table x.columns) (all_scalars xs)
+
+    pub scalars_same : (xs : List ShownTable) → scalars_of (map table_over xs) ≡ scalars_of xs
+    scalars_same xs = ap (firsts bytes_eq) (all_scalars xs)
+
     -- all types of the table
-    pub types_over : (p : PlacedTable) (ls : List Link) → types_with (placed_over p) (map (link_over p.shown.table) ls) ≡ map (type_over n) (types_with p ls)
-    types_over p ls =
-        ap (map (part_type (placed_over p) (map (link_over p.shown.table) ls))) (parts_same p.shown) ∙ each_type (parts_of p.shown)
+    pub types_over : (scalars : List (List ℕ)) (p : PlacedTable) (ls : List Link) → types_with scalars (placed_over p) (map (link_over p.shown.table) ls) ≡ map (type_over n) (types_with scalars p ls)
+    types_over scalars p ls =
+        ap (map (part_type scalars (placed_over p) (map (link_over p.shown.table) ls))) (parts_same p.shown) ∙ each_type (parts_of p.shown)
       where
-        each_type : (qs : List Part) → map (part_type (placed_over p) (map (link_over p.shown.table) ls)) qs ≡ map (type_over n) (map (part_type p ls) qs)
+        each_type : (qs : List Part) → map (part_type scalars (placed_over p) (map (link_over p.shown.table) ls)) qs ≡ map (type_over n) (map (part_type scalars p ls) qs)
         each_type [] = refl
-        each_type (q ∷ qs) = ap₂ (λ a l. a ∷ l) (part_type_over p ls q) (each_type qs)
+        each_type (q ∷ qs) = ap₂ (λ a l. a ∷ l) (part_type_over scalars p ls q) (each_type qs)
 
     -- ---- the root type
 

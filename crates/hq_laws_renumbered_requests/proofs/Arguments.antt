@@ -1,47 +1,49 @@
 -- The arguments of a list and of `count`, in other numbers.
-use Rattle.std.proofs.Common.{◌≡◌, ◌∙◌, refl, ap, ℕ, List, [], ◌∷◌, map, Option, Some, Ok, option_map, codes}
+use Rattle.std.proofs.Common.{◌≡◌, ◌∙◌, refl, ap, ℕ, List, [], ◌∷◌, map, Bool, true, false, cond, not, ◌||◌, Option, Some, None, IfSome, Ok, Err, option_map, codes}
 use Rattle.hq_base.specs.Due.{mapped, ◌>>=◌}
 use Rattle.hq_base.specs.Lists.{Each}
 use Rattle.hq_model.specs.Bexp.{BexpTree}
 use Rattle.hq_model.specs.Schema.{Schema}
 use Rattle.hq_model.specs.Selected.{SortKey, ListArguments}
 use Rattle.hq_gql_tree.specs.Values.{ArgumentTree}
+use Rattle.hq_gql_tree.specs.declared.rule.RuleId.TheVariants.{UnorderedColumn}
 use Rattle.hq_schema.specs.Schema.{ArgTree, TypeTree, SchemaTree}
 use Rattle.hq_schema_roles.specs.Access.{Access}
 use Rattle.hq_schema_roles.specs.Leads.{ArgFits, list_target, count_target}
-use Rattle.hq_request_arguments.specs.Columns.{distinct_due, counted_due}
+use Rattle.hq_request_arguments.specs.Columns.{has_order, distinct_due, counted_due}
 use Rattle.hq_request_arguments.specs.Context.{Context}
-use Rattle.hq_request_arguments.specs.Due.{list_due, count_due, introspection_due}
+use Rattle.hq_request_arguments.specs.Due.{list_due, counting, count_due, introspection_due}
 use Rattle.hq_request_arguments.specs.FieldArguments.{FieldArguments, count, deprecated}
 use Rattle.hq_request_arguments.specs.Page.{rows_due}
 use Rattle.hq_request_arguments.specs.Plain.{flag_due}
 use Rattle.hq_request_arguments.specs.Reading.{Read, Given, given_named}
 use Rattle.hq_request_arguments.specs.Sorts.{order_by_due}
 use Rattle.hq_request_arguments.specs.Where.{where_due}
+use Rattle.hq_request_arguments.specs.declared.refusal.ArgRefusal.TheVariants.{Rule}
 use Rattle.hq_request_coerce.specs.Variables.{VarTree}
 use Rattle.hq_laws_renumbered.specs.Renumbering.{Renumbering, condition_over, sorts_over, arguments_over}
 use Rattle.hq_laws_schema_origins.specs.SchemaOver.{arg_over, schema_over}
 use Rattle.hq_laws_renumbered_requests.specs.Alike.{TablesAlike}
 use Rattle.hq_laws_renumbered_requests.specs.OfRole.{IsOfRole}
-use Rattle.hq_laws_renumbered_requests.proofs.Columns.{distinct_over, counted_over}
+use Rattle.hq_laws_renumbered_requests.proofs.Columns.{order_over, distinct_over, counted_over, counted_permitted}
 use Rattle.hq_laws_renumbered_requests.proofs.Conditions.{where_over}
 use Rattle.hq_laws_renumbered_requests.proofs.Given.{given_over, context, named_given, given_each, flag_over, rows_over}
 use Rattle.hq_laws_renumbered_requests.proofs.Sorting.{PlainPermitted, SortsRead, order_by_read}
 use Rattle.hq_laws_renumbered_requests.proofs.Steps.{then_over, then_same}
 
 -- what stands behind a step
-abbrev after_offset : Context → List ArgTree → List ArgumentTree → BexpTree → List SortKey → (limit offset : Option ℕ) → Read ListArguments
-after_offset c args xs wanted sorts limit offset =
-    distinct_due c sorts (given_named c args xs (codes "distinct_on")) >>= λ distinct. Ok (record { wanted = wanted; sorts = sorts; distinct = distinct; limit = limit; offset = offset })
+abbrev after_offset : Context → List ArgTree → List ArgumentTree → (t : ℕ) → BexpTree → List SortKey → (limit offset : Option ℕ) → Read ListArguments
+after_offset c args xs t wanted sorts limit offset =
+    distinct_due c t sorts (given_named c args xs (codes "distinct_on")) >>= λ distinct. Ok (record { wanted = wanted; sorts = sorts; distinct = distinct; limit = limit; offset = offset })
 
-abbrev after_limit : Context → List ArgTree → List ArgumentTree → BexpTree → List SortKey → Option ℕ → Read ListArguments
-after_limit c args xs wanted sorts limit = rows_due (given_named c args xs (codes "offset")) >>= after_offset c args xs wanted sorts limit
+abbrev after_limit : Context → List ArgTree → List ArgumentTree → (t : ℕ) → BexpTree → List SortKey → Option ℕ → Read ListArguments
+after_limit c args xs t wanted sorts limit = rows_due (given_named c args xs (codes "offset")) >>= after_offset c args xs t wanted sorts limit
 
-abbrev after_sorts : Context → List ArgTree → List ArgumentTree → BexpTree → List SortKey → Read ListArguments
-after_sorts c args xs wanted sorts = rows_due (given_named c args xs (codes "limit")) >>= after_limit c args xs wanted sorts
+abbrev after_sorts : Context → List ArgTree → List ArgumentTree → (t : ℕ) → BexpTree → List SortKey → Read ListArguments
+after_sorts c args xs t wanted sorts = rows_due (given_named c args xs (codes "limit")) >>= after_limit c args xs t wanted sorts
 
 abbrev after_where : Context → List ArgTree → List ArgumentTree → (t : ℕ) → BexpTree → Read ListArguments
-after_where c args xs t wanted = order_by_due c t (given_named c args xs (codes "order_by")) >>= after_sorts c args xs wanted
+after_where c args xs t wanted = order_by_due c t (given_named c args xs (codes "order_by")) >>= after_sorts c args xs t wanted
 
 -- the arguments of a count over rows of table u
 abbrev pub count_over : Renumbering → ℕ → FieldArguments → FieldArguments
@@ -76,29 +78,29 @@ module _ (s z : Schema) (n : Renumbering) (a : Access) (r : SchemaTree) (of_role
     sorts_read = order_by_read s z n a r of_role alike vars u v (given_named c args xs (codes "order_by")) (here (codes "order_by"))
 
     offset_over : (b : BexpTree) (ks : List SortKey) (limit offset : Option ℕ) → Each (PlainPermitted s z n a r of_role alike vars u) ks
-        → after_offset d (map (arg_over n v) args) xs (condition_over b s n u) (sorts_over ks s n u) limit offset ≡ mapped list_over (after_offset c args xs b ks limit offset)
+        → after_offset d (map (arg_over n v) args) xs (n.table u) (condition_over b s n u) (sorts_over ks s n u) limit offset ≡ mapped list_over (after_offset c args xs u b ks limit offset)
     offset_over b ks limit offset p =
         then_over (map (n.column u)) list_over (λ distinct. Ok (record { wanted = b; sorts = ks; distinct = distinct; limit = limit; offset = offset }))
         (λ distinct. Ok (record { wanted = condition_over b s n u; sorts = sorts_over ks s n u; distinct = distinct; limit = limit; offset = offset }))
-        (distinct_due c ks (given_named c args xs (codes "distinct_on"))) (distinct_due d (sorts_over ks s n u) (given_named d (map (arg_over n v) args) xs (codes "distinct_on")))
-        (ap (distinct_due d (sorts_over ks s n u)) (of_name v args xs (codes "distinct_on")) ∙ distinct_over s z n a r of_role alike vars u v (given_named c args xs (codes "distinct_on")) (here (codes "distinct_on")) ks p)
+        (distinct_due c u ks (given_named c args xs (codes "distinct_on"))) (distinct_due d (n.table u) (sorts_over ks s n u) (given_named d (map (arg_over n v) args) xs (codes "distinct_on")))
+        (ap (distinct_due d (n.table u) (sorts_over ks s n u)) (of_name v args xs (codes "distinct_on")) ∙ distinct_over s z n a r of_role alike vars u v (given_named c args xs (codes "distinct_on")) (here (codes "distinct_on")) ks p)
         (λ cs e. refl)
 
     limit_over : (b : BexpTree) (ks : List SortKey) (limit : Option ℕ) → Each (PlainPermitted s z n a r of_role alike vars u) ks
-        → after_limit d (map (arg_over n v) args) xs (condition_over b s n u) (sorts_over ks s n u) limit ≡ mapped list_over (after_limit c args xs b ks limit)
+        → after_limit d (map (arg_over n v) args) xs (n.table u) (condition_over b s n u) (sorts_over ks s n u) limit ≡ mapped list_over (after_limit c args xs u b ks limit)
     limit_over b ks limit p =
-        then_same list_over (after_offset c args xs b ks limit) (after_offset d (map (arg_over n v) args) xs (condition_over b s n u) (sorts_over ks s n u) limit)
+        then_same list_over (after_offset c args xs u b ks limit) (after_offset d (map (arg_over n v) args) xs (n.table u) (condition_over b s n u) (sorts_over ks s n u) limit)
         (rows_due (given_named c args xs (codes "offset"))) (rows_due (given_named d (map (arg_over n v) args) xs (codes "offset"))) (rows_same (codes "offset")) (λ offset e. offset_over b ks limit offset p)
 
     after_sorts_over : (b : BexpTree) (ks : List SortKey) → Each (PlainPermitted s z n a r of_role alike vars u) ks
-        → after_sorts d (map (arg_over n v) args) xs (condition_over b s n u) (sorts_over ks s n u) ≡ mapped list_over (after_sorts c args xs b ks)
+        → after_sorts d (map (arg_over n v) args) xs (n.table u) (condition_over b s n u) (sorts_over ks s n u) ≡ mapped list_over (after_sorts c args xs u b ks)
     after_sorts_over b ks p =
-        then_same list_over (after_limit c args xs b ks) (after_limit d (map (arg_over n v) args) xs (condition_over b s n u) (sorts_over ks s n u))
+        then_same list_over (after_limit c args xs u b ks) (after_limit d (map (arg_over n v) args) xs (n.table u) (condition_over b s n u) (sorts_over ks s n u))
         (rows_due (given_named c args xs (codes "limit"))) (rows_due (given_named d (map (arg_over n v) args) xs (codes "limit"))) (rows_same (codes "limit")) (λ limit e. limit_over b ks limit p)
 
     after_where_over : (b : BexpTree) → after_where d (map (arg_over n v) args) xs (n.table u) (condition_over b s n u) ≡ mapped list_over (after_where c args xs u b)
     after_where_over b =
-        then_over (λ ks. sorts_over ks s n u) list_over (after_sorts c args xs b) (after_sorts d (map (arg_over n v) args) xs (condition_over b s n u))
+        then_over (λ ks. sorts_over ks s n u) list_over (after_sorts c args xs u b) (after_sorts d (map (arg_over n v) args) xs (n.table u) (condition_over b s n u))
         (order_by_due c u (given_named c args xs (codes "order_by"))) (order_by_due d (n.table u) (given_named d (map (arg_over n v) args) xs (codes "order_by")))
         (ap (order_by_due d (n.table u)) (of_name v args xs (codes "order_by")) ∙ sorts_read.over) (λ ks e. after_sorts_over b ks (sorts_read.used ks e))
 
@@ -110,17 +112,29 @@ module _ (s z : Schema) (n : Renumbering) (a : Access) (r : SchemaTree) (of_role
 
   -- ---- count
 
-  pub count_due_over : (u v : ℕ) (args : List ArgTree) (xs : List ArgumentTree) → Each (ArgFits types (count_target u)) args → count_due d (map (arg_over n v) args) xs ≡ mapped (count_over n u) (count_due c args xs)
+  counting_over : (u : ℕ) (col : Option ℕ) (distinct : Bool) → IfSome col (λ k. a.column u k ≡ true)
+      → counting d (n.table u) (option_map (n.column u) col) distinct ≡ mapped (count_over n u) (counting c u col distinct)
+  counting_over u None distinct p = refl
+  counting_over u (Some k) distinct p =
+      ap (λ b. cond (not distinct || b) (Ok (count (Some (n.column u k)) distinct)) (Err (Rule UnorderedColumn))) (order_over s z n a r of_role alike vars u k p) ∙ go (not distinct || has_order c u k)
+    where
+      go : (b : Bool) → cond b (Ok (count (Some (n.column u k)) distinct)) (Err (Rule UnorderedColumn)) ≡ mapped (count_over n u) (cond b (Ok (count (Some k) distinct)) (Err (Rule UnorderedColumn)))
+      go true = refl
+      go false = refl
+
+  pub count_due_over : (u v : ℕ) (args : List ArgTree) (xs : List ArgumentTree) → Each (ArgFits types (count_target u)) args
+      → count_due d (map (arg_over n v) args) xs (n.table u) ≡ mapped (count_over n u) (count_due c args xs u)
   count_due_over u v args xs fit =
       let here : (g : Given) → given_named c args xs (codes "columns") ≡ Some g → ArgFits types (count_target u) g.arg = λ g is. given_each (ArgFits types (count_target u)) c args xs (codes "columns") g fit is in
       let flag : flag_due (given_named d (map (arg_over n v) args) xs (codes "distinct")) ≡ flag_due (given_named c args xs (codes "distinct")) =
       ap flag_due (of_name v args xs (codes "distinct")) ∙ flag_over n v (given_named c args xs (codes "distinct")) in
-      then_over (option_map (n.column u)) (count_over n u) (λ col. flag_due (given_named c args xs (codes "distinct")) >>= λ distinct. Ok (count col distinct))
-      (λ col. flag_due (given_named d (map (arg_over n v) args) xs (codes "distinct")) >>= λ distinct. Ok (count col distinct))
+      then_over (option_map (n.column u)) (count_over n u) (λ col. flag_due (given_named c args xs (codes "distinct")) >>= λ distinct. counting c u col distinct)
+      (λ col. flag_due (given_named d (map (arg_over n v) args) xs (codes "distinct")) >>= λ distinct. counting d (n.table u) col distinct)
       (counted_due c (given_named c args xs (codes "columns"))) (counted_due d (given_named d (map (arg_over n v) args) xs (codes "columns")))
       (ap (counted_due d) (of_name v args xs (codes "columns")) ∙ counted_over s z n a r of_role alike vars u v (given_named c args xs (codes "columns")) here)
-      (λ col e. then_same (count_over n u) (λ distinct. Ok (count col distinct)) (λ distinct. Ok (count (option_map (n.column u) col) distinct)) (flag_due (given_named c args xs (codes "distinct")))
-      (flag_due (given_named d (map (arg_over n v) args) xs (codes "distinct"))) flag (λ distinct g. refl))
+      (λ col e. then_same (count_over n u) (λ distinct. counting c u col distinct) (λ distinct. counting d (n.table u) (option_map (n.column u) col) distinct)
+      (flag_due (given_named c args xs (codes "distinct"))) (flag_due (given_named d (map (arg_over n v) args) xs (codes "distinct"))) flag
+      (λ distinct g. counting_over u col distinct (counted_permitted s z n a r of_role alike vars u (given_named c args xs (codes "columns")) here col e)))
 
   -- ---- introspection
 

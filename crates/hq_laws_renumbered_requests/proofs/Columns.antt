@@ -1,16 +1,17 @@
 -- Columns of a table by the names of its enum, in other numbers: those of `distinct_on`, and the one that is counted.
-use Rattle.std.proofs.Common.{◌≡◌, ◌∙◌, refl, ap, ap₂, subst, ℕ, List, [], ◌∷◌, map, length, take, Bool, true, false, cond, ◌&&◌, ◌||◌, ◌==◌, Option, Some, None, Ok, Err, ok_or, option_map, option_and_then, sym, arith}
+use Rattle.std.proofs.Common.{◌≡◌, ◌∙◌, refl, ap, ap₂, subst, ℕ, List, [], ◌∷◌, map, length, take, Bool, true, false, cond, ◌&&◌, ◌||◌, ◌==◌, Option, Some, None, IfSome, Ok, Err, ok_or, option_map, option_and_then, sym, arith}
 use Rattle.std.specs.Prelude.{nat_le}
 use Rattle.std.specs.List.{list_all, list_any}
 use Rattle.std.proofs.lemmas.Bool.{and_parts, ne_eqb, false≢true}
 use Rattle.std.proofs.lemmas.List.{length-map, take-map}
-use Rattle.hq_base.specs.Due.{mapped}
+use Rattle.hq_base.specs.Due.{and_then, mapped}
 use Rattle.hq_base.specs.Json.{JsonTree}
 use Rattle.hq_base.specs.Lists.{Each, firsts}
 use Rattle.hq_base.specs.Look.{str_in}
+use Rattle.hq_base.specs.Types.{is_ordered}
 use Rattle.hq_model.specs.Schema.{Schema, rel}
 use Rattle.hq_model.specs.Selected.{SortKey}
-use Rattle.hq_gql_tree.specs.declared.rule.RuleId.TheVariants.{CountColumns, DistinctOrder, ValuesOfCorrectType}
+use Rattle.hq_gql_tree.specs.declared.rule.RuleId.TheVariants.{CountColumns, DistinctOrder, UnorderedColumn, ValuesOfCorrectType}
 use Rattle.hq_schema.specs.Look.{enum_column_of}
 use Rattle.hq_schema.specs.Schema.{base, TypeTree, TypeRefTree, SchemaTree}
 use Rattle.hq_schema.specs.declared.origin.ArgOrigin.{ArgOrigin}
@@ -19,7 +20,7 @@ use Rattle.hq_schema.specs.declared.origin.TypeOrigin.TheVariants as type
 use Rattle.hq_schema_roles.specs.Access.{Access}
 use Rattle.hq_schema_roles.specs.Leads.{Reaches, ArgFits, list_target, count_target}
 use Rattle.hq_request_tree.specs.Conditions.{is_plain_sort, are_sorts_of, fits_distinct}
-use Rattle.hq_request_arguments.specs.Columns.{column_due, columns_due, matched, by_distinct, distinct_due, one_column, by_columns, counted_due}
+use Rattle.hq_request_arguments.specs.Columns.{column_due, columns_due, has_order, ordered, matched, by_distinct, distinct_due, one_column, by_columns, counted_due}
 use Rattle.hq_request_arguments.specs.Context.{Context}
 use Rattle.hq_request_arguments.specs.Reading.{items_in, Given}
 use Rattle.hq_request_arguments.specs.declared.refusal.ArgRefusal.TheVariants.{Rule}
@@ -32,7 +33,7 @@ use Rattle.hq_laws_renumbered_requests.proofs.Found.{column_over, column_found}
 use Rattle.hq_laws_renumbered_requests.proofs.Given.{given_over, context}
 use Rattle.hq_laws_renumbered_requests.proofs.Items.{each_take, firsts_map, same_test, any_same, all_same}
 use Rattle.hq_laws_renumbered_requests.proofs.Sorting.{PlainPermitted}
-use Rattle.hq_laws_renumbered_requests.proofs.Steps.{then_over, each_over, each_ok}
+use Rattle.hq_laws_renumbered_requests.proofs.Steps.{then_over, then_ok, each_over, each_ok}
 
 -- a path of some relationships is not empty
 is_long : (x : ℕ) (xs : List ℕ) → (length (x ∷ xs) == 0) ≡ false
@@ -96,6 +97,28 @@ module _ (s z : Schema) (n : Renumbering) (a : Access) (r : SchemaTree) (of_role
 
     apart : (k l : ℕ) → P k → P l → f k ≡ f l → k ≡ l
     apart k l p q same = alike.columns t k l p q same
+
+    -- a permitted column has an order where it has one in the other numbers
+    pub order_over : (k : ℕ) → P k → has_order d (n.table t) (f k) ≡ has_order c t k
+    order_over k p = ap is_ordered (alike.types t k p)
+
+    orders_over : (cs : List ℕ) → Each P cs → list_all (has_order d (n.table t)) (map f cs) ≡ list_all (has_order c t) cs
+    orders_over [] h = refl
+    orders_over (k ∷ cs) h = ap₂ (λ x y. x && y) (order_over k h.0) (orders_over cs h.1)
+
+    ordered_over : (cs : List ℕ) → Each P cs → ordered d (n.table t) (map f cs) ≡ mapped (map f) (ordered c t cs)
+    ordered_over cs h = ap (λ b. cond b (Ok (map f cs)) (Err (Rule UnorderedColumn))) (orders_over cs h) ∙ go (list_all (has_order c t) cs)
+      where
+        go : (b : Bool) → cond b (Ok (map f cs)) (Err (Rule UnorderedColumn)) ≡ mapped (map f) (cond b (Ok cs) (Err (Rule UnorderedColumn)))
+        go true = refl
+        go false = refl
+
+    ordered_permitted : (cs ds : List ℕ) → Each P cs → ordered c t cs ≡ Ok ds → Each P ds
+    ordered_permitted cs ds h e = go (list_all (has_order c t) cs) e
+      where
+        go : (b : Bool) → cond b (Ok cs) (Err (Rule UnorderedColumn)) ≡ Ok ds → Each P ds
+        go true e = let same : cs ≡ ds = cc in subst (Each P) same h
+        go false e = absurd cc
 
     -- a sort that is a plain column, among these
     abbrev is_among : List ℕ → SortKey → Bool
@@ -173,12 +196,16 @@ module _ (s z : Schema) (n : Renumbering) (a : Access) (r : SchemaTree) (of_role
   by_distinct_permitted u j ty o at cs e = let same : [] ≡ cs = cc in subst (Permitted u) same tt
 
   pub distinct_over : (u v : ℕ) (o : Option Given) → ((g : Given) → o ≡ Some g → ArgFits types (list_target (Some u)) g.arg) → (ks : List SortKey)
-      → Each (PlainPermitted s z n a r of_role alike vars u) ks → distinct_due d (sorts_over ks s n u) (option_map (given_over n v) o) ≡ mapped (map (n.column u)) (distinct_due c ks o)
+      → Each (PlainPermitted s z n a r of_role alike vars u) ks → distinct_due d (n.table u) (sorts_over ks s n u) (option_map (given_over n v) o) ≡ mapped (map (n.column u)) (distinct_due c u ks o)
   distinct_over u v None h ks q = matched_over u [] tt ks q
   distinct_over u v (Some g) h ks q =
       let fit = (h g refl).reaches in
-      then_over (map (n.column u)) (map (n.column u)) (matched ks) (matched (sorts_over ks s n u)) (by_distinct c g.value (base g.arg.ty) g.arg.origin) (by_distinct d g.value (base g.arg.ty) (arg_origin_over n v g.arg.origin))
-      (by_distinct_over u v g.value g.arg.ty g.arg.origin fit) (λ cs e. matched_over u cs (by_distinct_permitted u g.value g.arg.ty g.arg.origin fit cs e) ks q)
+      let read = by_distinct c g.value (base g.arg.ty) g.arg.origin in
+      let there = by_distinct d g.value (base g.arg.ty) (arg_origin_over n v g.arg.origin) in
+      let permitted : (cs : List ℕ) → read ≡ Ok cs → Permitted u cs = by_distinct_permitted u g.value g.arg.ty g.arg.origin fit in
+      then_over (map (n.column u)) (map (n.column u)) (matched ks) (matched (sorts_over ks s n u)) (and_then (ordered c u) read) (and_then (ordered d (n.table u)) there)
+      (then_over (map (n.column u)) (map (n.column u)) (ordered c u) (ordered d (n.table u)) read there (by_distinct_over u v g.value g.arg.ty g.arg.origin fit) (λ cs e. ordered_over u cs (permitted cs e)))
+      (λ ds e. let one = then_ok (ordered c u) read ds e in matched_over u ds (ordered_permitted u one.0 ds (permitted one.0 one.1) one.2) ks q)
 
   -- ---- the argument columns
 
@@ -204,3 +231,24 @@ module _ (s z : Schema) (n : Renumbering) (a : Access) (r : SchemaTree) (of_role
       → counted_due d (option_map (given_over n v) o) ≡ mapped (option_map (n.column u)) (counted_due c o)
   counted_over u v None h = refl
   counted_over u v (Some g) h = by_columns_over u v g.value g.arg.ty g.arg.origin (h g refl).reaches
+
+  -- the column that is counted is permitted
+  one_permitted_of : (u : ℕ) (cs : List ℕ) → Permitted u cs → (o : Option ℕ) → one_column cs ≡ Ok o → IfSome o (λ k. a.column u k ≡ true)
+  one_permitted_of u [] h o e = let same : None ≡ o = cc in subst (λ (x : Option ℕ). IfSome x (λ k. a.column u k ≡ true)) same tt
+  one_permitted_of u (k ∷ cs) h o e = go (list_all (λ e. e == k) (k ∷ cs)) e
+    where
+      go : (b : Bool) → cond b (Ok (Some k)) (Err (Rule CountColumns)) ≡ Ok o → IfSome o (λ k. a.column u k ≡ true)
+      go true e = let same : Some k ≡ o = cc in subst (λ (x : Option ℕ). IfSome x (λ k. a.column u k ≡ true)) same h.0
+      go false e = absurd cc
+
+  by_columns_permitted : (u : ℕ) (j : JsonTree) (ty : TypeRefTree) (o : ArgOrigin) → Reaches types ty (count_target u o)
+      → (x : Option ℕ) → by_columns c j (base ty) o ≡ Ok x → IfSome x (λ k. a.column u k ≡ true)
+  by_columns_permitted u j ty stands.Columns at x e =
+      let one = then_ok one_column (columns_due c (base ty) j) x e in
+      one_permitted_of u one.0 (named_permitted (base ty) u at j one.0 one.1) x one.2
+  by_columns_permitted u j ty o at x e = let same : None ≡ x = cc in subst (λ (y : Option ℕ). IfSome y (λ k. a.column u k ≡ true)) same tt
+
+  pub counted_permitted : (u : ℕ) (o : Option Given) → ((g : Given) → o ≡ Some g → ArgFits types (count_target u) g.arg)
+      → (x : Option ℕ) → counted_due c o ≡ Ok x → IfSome x (λ k. a.column u k ≡ true)
+  counted_permitted u None h x e = let same : None ≡ x = cc in subst (λ (y : Option ℕ). IfSome y (λ k. a.column u k ≡ true)) same tt
+  counted_permitted u (Some g) h x e = by_columns_permitted u g.value g.arg.ty g.arg.origin (h g refl).reaches x e

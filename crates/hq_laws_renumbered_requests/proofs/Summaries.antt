@@ -95,7 +95,7 @@ module _ (s z : Schema) (n : Renumbering) (a : Access) (r : SchemaTree) (of_role
 
     own_summed : (f g : FieldTree) (v : ℕ) → g.ty ≡ f.ty → (o : FieldOrigin) → Reaches r.types f.ty (over_target u o) → Each (ArgFits r.types (over_args u o)) f.args → Summed f g f.args (map (arg_over n v) f.args) o (field_origin_over n u o)
     own_summed f g v ty origin.Count at args =
-        argued_by (summary_over n u) h.at (count_over n u) (count_due c f.args h.args) (count_due d (map (arg_over n v) f.args) h.args) (λ x. summary_by c place h (f, x) (taken_due c (base f.ty) u below) origin.Count)
+        argued_by (summary_over n u) h.at (count_over n u) (count_due c f.args h.args u) (count_due d (map (arg_over n v) f.args) h.args (n.table u)) (λ x. summary_by c place h (f, x) (taken_due c (base f.ty) u below) origin.Count)
         (λ x. summary_by d place h (g, x) (taken_due d (base g.ty) (n.table u) below) origin.Count) (count_due_over s z n a r of_role alike vars u v f.args h.args args) (counted f g)
     own_summed f g v ty (origin.Aggregated x) at args =
         ap (λ (w : TypeRefTree). mapped (take.Columns x) (taken_due d (base w) (n.table u) below)) ty

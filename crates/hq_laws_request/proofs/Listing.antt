@@ -133,7 +133,7 @@ module _ (tables : List Table) (m : MetaTree) (metadata_fits : fits tables m ≡
         let w = where_ok (given_named c args xs (codes "where")) (here (codes "where")) one.0 one.1 in
         let k = sorts_ok (given_named c args xs (codes "order_by")) (here (codes "order_by")) two.0 two.1 in
         let matches = matched_ok tables m metadata_fits role schemed vars two.0 six.0 five.0 six.2 in
-        let d : Named five.0 = subst Named (ordered_ok c u seven.0 six.0 seven.2 ∙ matches.0) (distinct_ok (given_named c args xs (codes "distinct_on")) (here (codes "distinct_on")) seven.0 seven.1) in
+        let d : Named five.0 = subst Named (ordered_ok tables m metadata_fits role schemed vars c u seven.0 six.0 seven.2 ∙ matches.0) (distinct_ok (given_named c args xs (codes "distinct_on")) (here (codes "distinct_on")) seven.0 seven.1) in
         let same : made five.0 ≡ la = cc in
         subst (ListFits u) same (record {
           uses = (w.uses, sorts_use tables m metadata_fits role schemed vars u two.0 k.0, columns_use tables m metadata_fits role schemed vars u five.0 d);

@@ -179,7 +179,7 @@ module _ (tables : List Table) (m : MetaTree) (metadata_fits : fits tables m ≡
         let distinct = given_named c args h.args (codes "distinct") in
         let one = then_ok (λ column. flag_due distinct >>= λ d. counting c u column d) (counted_due c column) x due in
         let two = then_ok (λ d. counting c u one.0 d) (flag_due distinct) x one.2 in
-        let same : count one.0 two.0 ≡ x = counting_ok c u one.0 two.0 x two.2 in
+        let same : count one.0 two.0 ≡ x = counting_ok tables m metadata_fits role schemed vars c u one.0 two.0 x two.2 in
         let counted : UsesCounted one.0 ok u = counted_ok column (λ g is. (given_low (ArgFits types (count_target u)) c args h.args (codes "columns") g fit shallow low is).0) one.0 one.1 in
         let e' : mapped (λ (y : Option ℕ × Bool). take.Count y.0 y.1) (count_of h (count one.0 two.0)) ≡ Ok f = subst (λ y. mapped (λ (z : Option ℕ × Bool). take.Count z.0 z.1) (count_of h y) ≡ Ok f) (sym same) e in
         let last : take.Count one.0 two.0 ≡ f = cc in

@@ -72,7 +72,7 @@ absent_back path Opaque h = cc
 
 no_text : (s : List ℕ) → not (length s == 0) ≡ false → s ≡ []
 no_text [] h = refl
-no_text (b ∷ s) h = absurd (true≢false h)
+no_text (b ∷ s) h = let some : (length (b ∷ s) == 0) ≡ false = ne_eqb (length (b ∷ s)) 0 (omega arith) in absurd (true≢false (sym (ap not some) ∙ h))
 
 column_back : (c : Column) (path : List ℕ) → column_at path (in_name_order (column_json c)) ≡ Ok c
 unfolding column_at object_at text_member type_member of_member nullable_member field_name

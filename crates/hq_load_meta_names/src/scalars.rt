@@ -19,10 +19,10 @@ fn is_unlike(types: &[Txt], scalar: Option<&Txt>) -> bool
 }
 
 // The same of that of a column.
-fn column_is_unlike(scope: &Scope, types: &[Txt], t: TableId, column: ColId) -> bool
-    ensures { result ≡ is_unlike types.now (scalar_of (column (scope_schema scope.now) t column)) }
+fn column_is_unlike(scope: &Scope, types: &[Txt], t: TableId, col: ColId) -> bool
+    ensures { result ≡ is_unlike types.now (scalar_of (column (scope_schema scope.now) t col)) }
 {
-    match scope.column(t, column) {
+    match scope.column(t, col) {
         Some(column) => is_unlike(types, column.scalar()),
         None => true,
     }

@@ -1,5 +1,5 @@
 //! The scalars of opaque columns: a type for each name of a type of PostgreSQL.
-ghost use Rattle.std.specs.Prelude.{◌≡◌, ◌++◌, IfOk, OnOk, map, flat_map, position, bytes_eq};
+ghost use Rattle.std.specs.Prelude.{◌≡◌, ◌<◌, ◌++◌, IfOk, OnOk, IfSome, length, map, flat_map, option_and_then, position, bytes_eq};
 ghost use Rattle.std.specs.List.{filter_map};
 ghost use Rattle.std.specs.Option.{option_to_list};
 ghost use Rattle.hq_base.specs.Lists.{firsts};
@@ -118,8 +118,9 @@ pub fn push_types(alloc: Global, types: &mut Vec<TypeDef>, scalars: &[Txt]) -> R
     Ok(())
 }
 
-// The type at a place among them, or else that of a column's type.
-fn scalar_at(ty: Ty, place: Option<usize>) -> TypeRef
+// The type at a place among these, or else that of a column's type.
+fn scalar_at(scalars: &[Txt], ty: Ty, place: Option<usize>) -> TypeRef
+    requires { IfSome place (λ i. i < length scalars.now) }
     ensures { type_ref_view result ≡ scalar_at ty place }
 {
     match place {
@@ -135,12 +136,19 @@ fn place_of(scalars: &[Txt], name: &Txt) -> Option<usize>
     scalars.iter().position(|scalar| *scalar == *name)
 }
 
+// The place of a column's own scalar among these.
+fn scalar_place(scalars: &[Txt], column: &ShownColumn) -> Option<usize>
+    ensures { result ≡ option_and_then (λ name. position (λ s. bytes_eq s name) scalars.now) column.now.scalar }
+{
+    match &column.scalar {
+        Some(name) => place_of(scalars, name),
+        None => None,
+    }
+}
+
 /// The type of a column's values: its own scalar among these, or else that of its type.
 pub fn column_scalar(scalars: &[Txt], column: &ShownColumn) -> TypeRef
     ensures { type_ref_view result ≡ column_scalar scalars.now column.now }
 {
-    match &column.scalar {
-        Some(name) => scalar_at(column.ty, place_of(scalars, name)),
-        None => scalar_at(column.ty, None),
-    }
+    scalar_at(scalars, column.ty, scalar_place(scalars, column))
 }

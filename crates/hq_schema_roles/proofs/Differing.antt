@@ -235,7 +235,7 @@ module _ (scalars : List (List ℕ)) (ps : List PlacedTable) (p : PlacedTable) (
   over_args = (refl, aggregated_args (p.first + 6) (aggregates_over p.shown.columns))
 
   part_differs : (q : Part) → TypeDiffers (part_type scalars p these q)
-  unfolding part_type scalars part_fields part_inputs
+  unfolding part_type part_fields part_inputs
   part_differs Rows = record { fields = d.row scalars; args = each_append ArgsDiffer (column_fields scalars Rows p.shown.columns) (flat_map link_fields these) (column_args scalars Rows p.shown.columns) (links_args these); inputs = refl; values = refl }
   part_differs Filter = record { fields = columns_field_names Filter; args = column_args scalars Filter p.shown.columns; inputs = d.filters p.first; values = refl }
   part_differs Sort = record { fields = columns_field_names Sort; args = column_args scalars Sort p.shown.columns; inputs = d.sorts; values = refl }

@@ -9,9 +9,9 @@ pub returns-in-Some : goal.returns-in-Some
 returns-in-Some c =
     let columns = (table (scope_schema c.args.scope.now) c.args.t).columns in
     c.is_unlike.ensures ∙ ap (is_unlike c.args.types.now) c.scalar.ensures
-    ∙ ap (λ x. is_unlike c.args.types.now (scalar_of x)) (sym (present columns c.args.column no_column c.in-Some.column.now (sym c.column.ensures)))
+    ∙ ap (λ x. is_unlike c.args.types.now (scalar_of x)) (sym (present columns c.args.col no_column c.in-Some.column.now (sym c.in-Some.ensures)))
 
 pub returns-in-None : goal.returns-in-None
 returns-in-None c =
     let columns = (table (scope_schema c.args.scope.now) c.args.t).columns in
-    ap (λ x. is_unlike c.args.types.now (scalar_of x)) (sym (absent columns c.args.column no_column (sym c.column.ensures)))
+    ap (λ x. is_unlike c.args.types.now (scalar_of x)) (sym (absent columns c.args.col no_column (sym c.in-None.ensures)))

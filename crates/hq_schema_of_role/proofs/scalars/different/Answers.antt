@@ -11,7 +11,7 @@ one_name a b e = (bytes_eq-Decides a b).0 e
 
 pub loop-name-init : goal.loop-name-init
 loop-name-init c =
-    seen_none bytes_eq one_name (firsts bytes_eq c.args.names.now) ∙ ap (λ seen. seen ++ filter (is_new bytes_eq one_name seen) (firsts bytes_eq c.args.names.now)) (sym c.new-different.ensures)
+    seen_none bytes_eq one_name (firsts bytes_eq c.args.names.now) ∙ ap (λ seen. seen ++ filter (is_new bytes_eq one_name seen) (firsts bytes_eq c.args.names.now)) (sym c.new-different.ensures.items)
 
 pub loop-name-preserved : goal.loop-name-preserved
 loop-name-preserved c =
