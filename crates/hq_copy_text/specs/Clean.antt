@@ -4,8 +4,8 @@ use Rattle.std.specs.List.{list_all}
 use Rattle.hq_base.specs.declared.value.Val.{Val}
 use Rattle.hq_base.specs.declared.value.Val.TheVariants as val
 use Rattle.hq_copy_definition.specs.Copied.{Copied}
-use Rattle.hq_laws_written_catalog.specs.Written.{has_clean_names}
-use Rattle.hq_laws_written_json.specs.ReadBack.{is_clean}
+use Rattle.hq_laws_written.specs.Catalog.Written.{has_clean_names}
+use Rattle.hq_laws_written.specs.Json.ReadBack.{is_clean}
 use Rattle.hq_model.specs.Meta.{TrackedTree}
 use Rattle.hq_model.specs.declared.meta.RootNames.{RootNames}
 

@@ -5,9 +5,9 @@ use Rattle.hq_copy_definition.specs.Copied.{Copied}
 use Rattle.hq_model.specs.Catalog.{full_name}
 use Rattle.hq_model.specs.Database.{Row}
 use Rattle.hq_model.specs.declared.table.Table.{Table}
-use Rattle.hq_laws_written_catalog.specs.Written.{catalog_json}
-use Rattle.hq_laws_written_meta.specs.Written.{meta_json}
-use Rattle.hq_laws_written_tables.specs.Written.{file_of}
+use Rattle.hq_laws_written.specs.Catalog.Written.{catalog_json}
+use Rattle.hq_laws_written.specs.Metadata.Written.{meta_json}
+use Rattle.hq_laws_written.specs.Tables.Written.{file_of}
 use Rattle.hq_copy_text.specs.declared.refusal.PartRefusal.{PartRefusal}
 use Rattle.hq_copy_text.specs.declared.refusal.PartRefusal.TheVariants.{NoSuchPart, TooLarge}
 

@@ -2,7 +2,7 @@
 ghost use Rattle.std.specs.Prelude.{◌≡◌, ◌++◌, ◌∷◌, [], IfOk, OnOk, false, map};
 ghost use Rattle.hq_base.specs.Json.{json_view, member_view, str};
 ghost use Rattle.hq_base.specs.Text.{has_zero};
-ghost use Rattle.hq_laws_written_json.specs.Building.{list, object};
+ghost use Rattle.hq_laws_written.specs.Json.Building.{list, object};
 
 use hq_base::{Json, JsonList, Member, Members, Memory, Txt};
 use std::alloc::Global;

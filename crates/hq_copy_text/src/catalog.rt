@@ -4,8 +4,8 @@ ghost use Rattle.hq_base.specs.Json.{json_view, member_view, str};
 ghost use Rattle.hq_base.specs.Types.{catalog_name};
 ghost use Rattle.hq_load_catalog.specs.Field.{field_name};
 ghost use Rattle.hq_load_catalog.specs.declared.field.Field.TheVariants as field;
-ghost use Rattle.hq_laws_written_catalog.specs.Written.{catalog_json, column_json, foreign_json, has_of, of_members, table_json, table_ref};
-ghost use Rattle.hq_laws_written_json.specs.Building.{list, object};
+ghost use Rattle.hq_laws_written.specs.Catalog.Written.{catalog_json, column_json, foreign_json, has_of, of_members, table_json, table_ref};
+ghost use Rattle.hq_laws_written.specs.Json.Building.{list, object};
 
 use crate::building::{array, object, push_member, push_text, single, text};
 use crate::columns::{columns_of, names_json as column_names};

@@ -3,8 +3,8 @@ ghost use Rattle.std.specs.Prelude.{◌≡◌, ◌&&◌, map, true};
 ghost use Rattle.std.specs.List.{list_all};
 ghost use Rattle.hq_copy.specs.Redacting.{redacted_view};
 ghost use Rattle.hq_copy_text.specs.Clean.{IsClean, are_clean_roots, is_clean_entry, is_clean_value};
-ghost use Rattle.hq_laws_written_catalog.specs.Written.{has_clean_names, is_clean_column};
-ghost use Rattle.hq_laws_written_json.specs.ReadBack.{is_clean};
+ghost use Rattle.hq_laws_written.specs.Catalog.Written.{has_clean_names, is_clean_column};
+ghost use Rattle.hq_laws_written.specs.Json.ReadBack.{is_clean};
 ghost use Rattle.hq_model.specs.Meta.{tracked_view};
 
 use hq_base::{Txt, Val};

@@ -4,9 +4,9 @@ ghost use Rattle.hq_base.specs.Json.{json_view, str};
 ghost use Rattle.hq_load_meta_tables.specs.Field.{field_name};
 ghost use Rattle.hq_load_meta_tables.specs.Found.{columns_of};
 ghost use Rattle.hq_load_meta_tables.specs.declared.field.Field.TheVariants as field;
-ghost use Rattle.hq_laws_written_catalog.specs.Written.{name_at};
-ghost use Rattle.hq_laws_written_json.specs.Building.{object, texts};
-ghost use Rattle.hq_laws_written_meta.specs.Written.{table_ref};
+ghost use Rattle.hq_laws_written.specs.Catalog.Written.{name_at};
+ghost use Rattle.hq_laws_written.specs.Json.Building.{object, texts};
+ghost use Rattle.hq_laws_written.specs.Metadata.Written.{table_ref};
 
 use crate::building::{array, object, push_text, text_json};
 use hq_base::{Json, Memory, Txt};

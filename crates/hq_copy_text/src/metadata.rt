@@ -7,9 +7,9 @@ ghost use Rattle.hq_load_meta_tables.specs.Field.{field_name};
 ghost use Rattle.hq_load_meta_tables.specs.Found.{columns_of};
 ghost use Rattle.hq_load_meta_tables.specs.declared.field.Field.TheVariants as field;
 ghost use Rattle.hq_model.specs.Meta.{meta_view, tracked_view};
-ghost use Rattle.hq_laws_written_json.specs.Building.{list, object};
-ghost use Rattle.hq_laws_written_json.specs.ReadBack.{by_name};
-ghost use Rattle.hq_laws_written_meta.specs.Written.{column_config, column_configs, configuration_json, is_shown, meta_json, rel_json, roots_json, shown_columns, source_json, tracked_json};
+ghost use Rattle.hq_laws_written.specs.Json.Building.{list, object};
+ghost use Rattle.hq_laws_written.specs.Json.ReadBack.{by_name};
+ghost use Rattle.hq_laws_written.specs.Metadata.Written.{column_config, column_configs, configuration_json, is_shown, meta_json, rel_json, roots_json, shown_columns, source_json, tracked_json};
 
 use crate::building::{array, object, push_member, push_text, single, text, text_json};
 use crate::columns::{columns_of, name_at, table_json};

@@ -7,7 +7,7 @@ ghost use Rattle.hq_copy_text.specs.Parts.{part_due, part_text, table_text};
 ghost use Rattle.hq_copy_text.specs.declared.refusal.PartRefusal.TheVariants as refusal;
 ghost use Rattle.hq_copy.specs.Redacting.{redacted_view};
 ghost use Rattle.hq_model.specs.Catalog.{full_name};
-ghost use Rattle.hq_laws_written_tables.specs.Written.{file_of};
+ghost use Rattle.hq_laws_written.specs.Tables.Written.{file_of};
 
 use crate::PartRefusal;
 use crate::catalog::catalog_json;

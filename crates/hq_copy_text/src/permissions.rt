@@ -2,8 +2,8 @@
 ghost use Rattle.std.specs.Prelude.{◌≡◌, ◌++◌, IfOk, OnOk, map};
 ghost use Rattle.hq_base.specs.Json.{json_view, member_view};
 ghost use Rattle.hq_model.specs.Meta.{perm_view};
-ghost use Rattle.hq_laws_written_json.specs.Building.{list};
-ghost use Rattle.hq_laws_written_meta.specs.Written.{limit_member, perm_json, permission_json};
+ghost use Rattle.hq_laws_written.specs.Json.Building.{list};
+ghost use Rattle.hq_laws_written.specs.Metadata.Written.{limit_member, perm_json, permission_json};
 
 use crate::building::{array, object, push_member, push_text};
 use crate::columns::names_json;

@@ -2,8 +2,8 @@
 ghost use Rattle.std.specs.Prelude.{◌≡◌, IfOk, map};
 ghost use Rattle.hq_base.specs.Json.{json_view, member_view};
 ghost use Rattle.hq_copy_text.specs.Lists.{those};
-ghost use Rattle.hq_laws_written_json.specs.Building.{list, object};
-ghost use Rattle.hq_laws_written_meta.specs.Written.{link_json, pair_json, rel_json};
+ghost use Rattle.hq_laws_written.specs.Json.Building.{list, object};
+ghost use Rattle.hq_laws_written.specs.Metadata.Written.{link_json, pair_json, rel_json};
 
 use crate::building::{array, object, push_member, push_text, single, text_json};
 use crate::columns::{columns_of, name_at, table_json};

@@ -1,7 +1,7 @@
 //! The file of a table (PostgreSQL, COPY TO with FORMAT csv, HEADER and NULL '\N').
 ghost use Rattle.std.specs.Prelude.{◌≡◌, ◌++◌, IfOk, OnOk, map};
 ghost use Rattle.csv.specs.Writing.{default_writer, row_text};
-ghost use Rattle.hq_laws_written_tables.specs.Written.{field_of, file_of};
+ghost use Rattle.hq_laws_written.specs.Tables.Written.{field_of, file_of};
 
 use csv::{Error, WriterBuilder};
 use hq_base::{Bytes, Memory, Val};

@@ -22,10 +22,10 @@ use Rattle.hq_copy_text.specs.Clean.{is_clean_entry, is_clean_value}
 use Rattle.hq_laws_copy_text.specs.Laws.{PartReadsBack}
 use Rattle.hq_laws_copy_text.proofs.Plain.{metadata_plain}
 use Rattle.hq_laws_copy_text.proofs.Writable.{file_at, other_part, rows_at, text_at, writable}
-use Rattle.hq_laws_written_catalog.specs.Written.{catalog_json, has_clean_names}
-use Rattle.hq_laws_written_meta.specs.Plain.{IsPlain}
-use Rattle.hq_laws_written_meta.specs.Written.{meta_json}
-use Rattle.hq_laws_written_tables.specs.Written.{IsWritable, file_of}
+use Rattle.hq_laws_written.specs.Catalog.Written.{catalog_json, has_clean_names}
+use Rattle.hq_laws_written.specs.Metadata.Plain.{IsPlain}
+use Rattle.hq_laws_written.specs.Metadata.Written.{meta_json}
+use Rattle.hq_laws_written.specs.Tables.Written.{IsWritable, file_of}
 use Rattle.hq_load_catalog.specs.Reading.{catalog_due}
 use Rattle.hq_load_meta.specs.Reading.{meta_due}
 use Rattle.hq_load_tables.specs.Load.{table_due}

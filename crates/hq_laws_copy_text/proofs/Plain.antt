@@ -13,11 +13,11 @@ use Rattle.hq_copy_definition.specs.Tables.{copied_column, copied_columns, copie
 use Rattle.hq_copy_definition.proofs.Lists.{got_back, got_map, map_length}
 use Rattle.hq_copy_definition.proofs.Places.{front_places, place_within}
 use Rattle.hq_copy_text.specs.Clean.{is_clean_entry}
-use Rattle.hq_laws_written_catalog.specs.Written.{has_clean_names, name_at, name_in}
-use Rattle.hq_laws_written_json.specs.ReadBack.{is_clean}
-use Rattle.hq_laws_written_meta.specs.Plain.{IsPlain, IsPlainPerm, IsPlainRel, IsPlainTable}
-use Rattle.hq_laws_written_meta.specs.Written.{is_shown}
-use Rattle.hq_laws_written_meta.proofs.Lists.{numbered_each}
+use Rattle.hq_laws_written.specs.Catalog.Written.{has_clean_names, name_at, name_in}
+use Rattle.hq_laws_written.specs.Json.ReadBack.{is_clean}
+use Rattle.hq_laws_written.specs.Metadata.Plain.{IsPlain, IsPlainPerm, IsPlainRel, IsPlainTable}
+use Rattle.hq_laws_written.specs.Metadata.Written.{is_shown}
+use Rattle.hq_laws_written.proofs.Metadata.Lists.{numbered_each}
 use Rattle.hq_load_meta.specs.Permitted.{all_columns, chosen}
 use Rattle.hq_load_meta_tables.specs.Found.{columns_in, columns_of}
 use Rattle.hq_model.specs.Catalog.{is_catalog}

@@ -9,9 +9,9 @@ ghost use Rattle.hq_model.specs.declared.table.Table.{Table as CatalogTable};
 
 use hq_laws_copy_fits::copied_metadata_fits;
 use hq_laws_copy_rows::copied_rows_fit;
-use hq_laws_written_catalog::written_catalog_is_read_back;
-use hq_laws_written_meta::written_metadata_is_read_back;
-use hq_laws_written_tables::written_table_is_read_back;
+use hq_laws_written::written_catalog_is_read_back;
+use hq_laws_written::written_metadata_is_read_back;
+use hq_laws_written::written_table_is_read_back;
 
 /// What is read of each part of a copy is what the copy holds: its tables of the catalog, its metadata over these tables, and its
 /// rows of the file of a table. The copy is one of a valid database, and its names and texts are UTF-8 without a zero byte.

@@ -1,6 +1,6 @@
 use Rattle.std.proofs.Common.{◌≡◌, map, take}
 use Rattle.hq_base.specs.Json.{json_view}
-use Rattle.hq_laws_written_catalog.specs.Written.{column_json}
+use Rattle.hq_laws_written.specs.Catalog.Written.{column_json}
 use Rattle.hq_copy_text.proofs.catalog.columns_json.Given as goal
 
 -- the columns so far

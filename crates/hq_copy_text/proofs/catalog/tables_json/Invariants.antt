@@ -1,6 +1,6 @@
 use Rattle.std.proofs.Common.{◌≡◌, map, take}
 use Rattle.hq_base.specs.Json.{json_view}
-use Rattle.hq_laws_written_catalog.specs.Written.{table_json}
+use Rattle.hq_laws_written.specs.Catalog.Written.{table_json}
 use Rattle.hq_copy_text.proofs.catalog.tables_json.Given as goal
 
 -- the tables so far

@@ -1,6 +1,6 @@
 use Rattle.std.proofs.Common.{◌≡◌, drop}
 use Rattle.std.specs.List.{list_all}
-use Rattle.hq_laws_written_json.specs.ReadBack.{is_clean}
+use Rattle.hq_laws_written.specs.Json.ReadBack.{is_clean}
 use Rattle.hq_copy_text.proofs.clean.rels_are_clean.Given as goal
 
 -- those that are left are clean, if all are

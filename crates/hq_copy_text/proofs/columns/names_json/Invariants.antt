@@ -1,6 +1,6 @@
 use Rattle.std.proofs.Common.{◌≡◌, map, take}
 use Rattle.hq_base.specs.Json.{json_view, str}
-use Rattle.hq_laws_written_catalog.specs.Written.{name_at}
+use Rattle.hq_laws_written.specs.Catalog.Written.{name_at}
 use Rattle.hq_copy_text.proofs.columns.names_json.Given as goal
 
 -- the names so far

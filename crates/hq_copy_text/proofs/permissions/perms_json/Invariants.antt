@@ -1,7 +1,7 @@
 use Rattle.std.proofs.Common.{◌≡◌, map, take}
 use Rattle.hq_base.specs.Json.{json_view}
 use Rattle.hq_model.specs.Meta.{perm_view}
-use Rattle.hq_laws_written_meta.specs.Written.{perm_json}
+use Rattle.hq_laws_written.specs.Metadata.Written.{perm_json}
 use Rattle.hq_copy_text.proofs.permissions.perms_json.Given as goal
 
 -- the permissions so far

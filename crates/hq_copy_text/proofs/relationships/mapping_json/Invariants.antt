@@ -1,6 +1,6 @@
 use Rattle.std.proofs.Common.{◌≡◌, map, take}
 use Rattle.hq_base.specs.Json.{member_view}
-use Rattle.hq_laws_written_meta.specs.Written.{pair_json}
+use Rattle.hq_laws_written.specs.Metadata.Written.{pair_json}
 use Rattle.hq_copy_text.proofs.relationships.mapping_json.Given as goal
 
 -- the pairs so far

@@ -1,5 +1,5 @@
 use Rattle.std.proofs.Common.{◌≡◌, map, take}
-use Rattle.hq_laws_written_tables.specs.Written.{field_of}
+use Rattle.hq_laws_written.specs.Tables.Written.{field_of}
 use Rattle.hq_copy_text.proofs.tables.fields_of.Given as goal
 
 -- the fields so far

@@ -1,6 +1,6 @@
 use Rattle.std.proofs.Common.{◌≡◌, ◌++◌, map, drop, flat_map}
 use Rattle.csv.specs.Writing.{default_writer, row_text}
-use Rattle.hq_laws_written_tables.specs.Written.{field_of, file_of}
+use Rattle.hq_laws_written.specs.Tables.Written.{field_of, file_of}
 use Rattle.hq_copy_text.proofs.tables.file_of.Given as goal
 
 -- the rows so far, and then those that are left

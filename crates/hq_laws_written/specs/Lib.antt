@@ -1,0 +1,4 @@
+pub mod Json
+pub mod Tables
+pub mod Catalog
+pub mod Metadata
