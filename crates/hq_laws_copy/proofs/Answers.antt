@@ -14,8 +14,8 @@ use Rattle.hq_request_tree.specs.Resolve.{resolved}
 use Rattle.hq_request_tree.specs.Standing.{AllStand}
 use Rattle.hq_request_tree.specs.Uses.{UsesAll}
 use Rattle.hq_copy_definition.specs.Copied.{Copied, copy_of}
-use Rattle.hq_laws_renumbered.specs.Copies.{AnsweredAlike}
-use Rattle.hq_laws_renumbered.specs.Renumbering.{fields_over}
+use Rattle.hq_laws_renumbered.specs.Resolving.Copies.{AnsweredAlike}
+use Rattle.hq_laws_renumbered.specs.Resolving.Renumbering.{fields_over}
 use Rattle.hq_laws_isolation.specs.Laws.{ViewsDecide}
 use Rattle.hq_laws_copy.specs.Laws.{numbers, reader_grants, CopyAnswers}
 use Rattle.hq_laws_copy.proofs.Copy.{is_copy, limits_are}

@@ -36,8 +36,8 @@ use Rattle.hq_copy_definition.proofs.BySource.{IsSource, by_source}
 use Rattle.hq_copy_definition.proofs.Found.{copied_schema, table_at, rels_at}
 use Rattle.hq_copy_definition.proofs.Places.{place_holds}
 use Rattle.hq_copy_definition.proofs.Reader.{reads, reader_sees}
-use Rattle.hq_laws_renumbered.specs.Copies.{StandsAt, IsCopy, LimitsAlike}
-use Rattle.hq_laws_renumbered.specs.Renumbering.{Renumbering, columns_over}
+use Rattle.hq_laws_renumbered.specs.Resolving.Copies.{StandsAt, IsCopy, LimitsAlike}
+use Rattle.hq_laws_renumbered.specs.Resolving.Renumbering.{Renumbering, columns_over}
 use Rattle.hq_laws_copy.specs.Laws.{numbers, reader_session, reader_grants}
 use Rattle.hq_laws_copy.proofs.Cells.{permitted_cell, position_cell, shown_value, numbers_as_cells}
 use Rattle.hq_laws_copy.proofs.Granted.{granted_there, KeptBound, kept_bound}

@@ -12,7 +12,7 @@ use Rattle.hq_copy_definition.specs.Sources.{Source, sources, table_place, place
 use Rattle.hq_copy_definition.proofs.BySource.{something}
 use Rattle.hq_copy_definition.proofs.Found.{StandsFor, stands_for}
 use Rattle.hq_copy_definition.proofs.Places.{place_holds, kept_there}
-use Rattle.hq_laws_renumbered.specs.Renumbering.{IsOneToOne}
+use Rattle.hq_laws_renumbered.specs.Resolving.Renumbering.{IsOneToOne}
 use Rattle.hq_laws_copy.specs.Laws.{numbers}
 
 -- numbers of a list have different places

@@ -10,7 +10,7 @@ use Rattle.hq_request_tree.specs.Resolve.{resolved}
 use Rattle.hq_request_tree.proofs.Blog.{tables, meta, schema, database, user_2, given, session_of, plain, only, ids}
 use Rattle.hq_request_tree.proofs.Worked.{by, by_ann, home, listed}
 use Rattle.hq_copy_definition.specs.Copied.{Copied, copy_of}
-use Rattle.hq_laws_renumbered.specs.Renumbering.{fields_over}
+use Rattle.hq_laws_renumbered.specs.Resolving.Renumbering.{fields_over}
 use Rattle.hq_laws_copy.specs.Laws.{numbers, reader_grants}
 
 abbrev copy : Copied

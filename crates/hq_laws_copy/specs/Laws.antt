@@ -17,7 +17,7 @@ use Rattle.hq_request_tree.specs.WellFormed.{IsRequest}
 use Rattle.hq_copy_definition.specs.Copied.{Copied, copied}
 use Rattle.hq_copy_definition.specs.Metadata.{reader}
 use Rattle.hq_copy_definition.specs.Sources.{sources, table_place, place_in, kept_relationships}
-use Rattle.hq_laws_renumbered.specs.Renumbering.{IsOneToOne, Renumbering, fields_over}
+use Rattle.hq_laws_renumbered.specs.Resolving.Renumbering.{IsOneToOne, Renumbering, fields_over}
 
 -- the numbers of the copy for a role
 abbrev pub numbers : Role → MetaTree → Schema → Renumbering

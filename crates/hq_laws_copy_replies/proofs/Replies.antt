@@ -14,7 +14,7 @@ use Rattle.hq_laws_copy.specs.Laws.{numbers, reader_session, reader_grants, Copy
 use Rattle.hq_engine.specs.Replies.{due_object, reply_to}
 use Rattle.hq_faults.specs.FaultTexts.{fault_text}
 use Rattle.hq_request_introspect.specs.Answers.{answered}
-use Rattle.hq_laws_renumbered.specs.Renumbering.{Renumbering, fields_over, field_over}
+use Rattle.hq_laws_renumbered.specs.Resolving.Renumbering.{Renumbering, fields_over, field_over}
 use Rattle.hq_reply.specs.DataTexts.{data_text}
 use Rattle.hq_reply.specs.RootObject.{root_value, root_members, of_database, root_object}
 use Rattle.hq_request.specs.Request.{request_due}
@@ -23,8 +23,8 @@ use Rattle.hq_request.specs.declared.refusal.RequestRefusal.TheVariants.{Fault, 
 use Rattle.hq_laws_request.specs.Formed.{MakesFormed}
 use Rattle.hq_schema_of_role.specs.RoleSchema.{role_schema}
 use Rattle.hq_schema.specs.Schema.{SchemaTree}
-use Rattle.hq_laws_schema_origins.specs.Blank.{blank}
-use Rattle.hq_laws_schema_origins.specs.SchemaOver.{schema_over}
+use Rattle.hq_laws_renumbered.specs.Schemas.Blank.{blank}
+use Rattle.hq_laws_renumbered.specs.Schemas.SchemaOver.{schema_over}
 use Rattle.hq_model.specs.Database.{Row}
 use Rattle.hq_model.specs.Grants.{Grants, grants_of, limits}
 use Rattle.hq_model.specs.Meta.{MetaTree}

@@ -32,8 +32,8 @@ use Rattle.hq_laws_copy.proofs.Numbers.{one_to_one}
 use Rattle.hq_laws_copy.proofs.Refused.{NotRefused}
 use Rattle.hq_laws_copy_fits.proofs.Entries.{rels_are}
 use Rattle.hq_laws_copy_fits.proofs.Held.{Held, all_held}
-use Rattle.hq_laws_renumbered.specs.Renumbering.{Renumbering}
-use Rattle.hq_laws_renumbered_requests.specs.Alike.{TablesAlike}
+use Rattle.hq_laws_renumbered.specs.Resolving.Renumbering.{Renumbering}
+use Rattle.hq_laws_renumbered.specs.Requests.Alike.{TablesAlike}
 use Rattle.hq_laws_copy_requests.specs.Laws.{session_view}
 
 module _ (tables : List Table) (m : MetaTree) (session : Session) (d : List (List Row)) (fit : fits tables m ≡ true)

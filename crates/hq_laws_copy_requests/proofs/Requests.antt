@@ -28,8 +28,8 @@ use Rattle.hq_rules_fields.specs.First.{first_field_fault}
 use Rattle.hq_base.specs.Look.{member_in}
 use Rattle.std.specs.Prelude.{Option, codes}
 use Rattle.hq_schema.specs.Schema.{SchemaTree}
-use Rattle.hq_laws_schema_origins.specs.Blank.{blank}
-use Rattle.hq_laws_schema_origins.specs.SchemaOver.{schema_over}
+use Rattle.hq_laws_renumbered.specs.Schemas.Blank.{blank}
+use Rattle.hq_laws_renumbered.specs.Schemas.SchemaOver.{schema_over}
 use Rattle.hq_model.specs.Database.{Row}
 use Rattle.hq_model.specs.Meta.{MetaTree}
 use Rattle.hq_model.specs.Permission.{role_of}
@@ -44,9 +44,9 @@ use Rattle.hq_copy_definition.specs.Metadata.{reader}
 use Rattle.hq_laws_copy_schema.specs.Laws.{SchemaRenumbered}
 use Rattle.hq_laws_copy.specs.Laws.{numbers, reader_session}
 use Rattle.hq_laws_copy.proofs.Refused.{given, causes_absent}
-use Rattle.hq_laws_renumbered.specs.Renumbering.{Renumbering, fields_over}
-use Rattle.hq_laws_renumbered_requests.specs.Alike.{TablesAlike}
-use Rattle.hq_laws_renumbered_requests.specs.Laws.{FieldsRenumbered}
+use Rattle.hq_laws_renumbered.specs.Resolving.Renumbering.{Renumbering, fields_over}
+use Rattle.hq_laws_renumbered.specs.Requests.Alike.{TablesAlike}
+use Rattle.hq_laws_renumbered.specs.Requests.Laws.{FieldsRenumbered}
 use Rattle.hq_laws_copy_requests.specs.Laws.{session_view, RequestsRenumbered}
 use Rattle.hq_laws_copy_requests.proofs.Alike.{alike}
 use Rattle.hq_laws_copy_requests.proofs.Bound.{all_bind, session_binds, reader_binds}

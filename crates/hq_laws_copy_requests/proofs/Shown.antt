@@ -16,7 +16,7 @@ use Rattle.hq_model.specs.declared.role.Role.{Role}
 use Rattle.hq_model.specs.declared.table.Table.{Table}
 use Rattle.hq_model.proofs.Places.{table_present}
 use Rattle.hq_copy_definition.proofs.Lists.{each_of}
-use Rattle.hq_laws_renumbered_requests.specs.OfRole.{IsKeyed}
+use Rattle.hq_laws_renumbered.specs.Requests.OfRole.{IsKeyed}
 
 module _ (tables : List Table) (m : MetaTree) (role : Role) where
   abbrev s : Schema

@@ -26,7 +26,7 @@ use Rattle.hq_copy_definition.specs.Metadata.{reader, copied_rel, copied_meta}
 use Rattle.hq_copy_definition.specs.Sources.{sources, table_place, place_in, kept_relationships, keeps_key, has_mask, Source}
 use Rattle.hq_copy_definition.specs.Tables.{copied_tables}
 use Rattle.hq_laws_copy.proofs.Numbers.{one_to_one}
-use Rattle.hq_laws_schema_origins.specs.SchemaOver.{type_over, schema_over}
+use Rattle.hq_laws_renumbered.specs.Schemas.SchemaOver.{type_over, schema_over}
 use Rattle.hq_laws_copy_schema.proofs.Shown.{n, rels_over, IsSeen, shown_seen, tables_are}
 use Rattle.hq_laws_copy_schema.proofs.Types.{link_over, table_over, placed_over, placed_same, scalar_types_over, scalars_same, types_over, fixed_types_over}
 use Rattle.hq_laws_copy_fits.proofs.Held.{Held}

@@ -28,7 +28,7 @@ use Rattle.hq_copy_definition.proofs.Apart.{Apart}
 use Rattle.hq_copy_definition.proofs.Lists.{all_each, each_at, each_both, each_map, each_none, each_of, got_front, got_map, got_within}
 use Rattle.hq_copy_definition.proofs.Places.{place_beyond, place_holds, place_within}
 use Rattle.hq_copy_definition.proofs.Reader.{reader_sees}
-use Rattle.hq_laws_renumbered.specs.Renumbering.{Renumbering}
+use Rattle.hq_laws_renumbered.specs.Resolving.Renumbering.{Renumbering}
 use Rattle.hq_laws_copy.specs.Laws.{numbers}
 use Rattle.hq_laws_copy_fits.proofs.Columns.{column_there}
 use Rattle.hq_laws_copy_fits.proofs.Entries.{rels_are}

@@ -36,8 +36,8 @@ use Rattle.hq_schema_of_role.specs.declared.shown.ShownTable.{ShownTable}
 use Rattle.hq_model.specs.Operators.{all_operators}
 use Rattle.hq_model.specs.declared.meta.Rel.{Rel}
 use Rattle.hq_model.specs.declared.operator.Operator.{Operator}
-use Rattle.hq_laws_renumbered.specs.Renumbering.{Renumbering}
-use Rattle.hq_laws_schema_origins.specs.SchemaOver.{arg_over, field_over, type_table, type_origin_over, type_over}
+use Rattle.hq_laws_renumbered.specs.Resolving.Renumbering.{Renumbering}
+use Rattle.hq_laws_renumbered.specs.Schemas.SchemaOver.{arg_over, field_over, type_table, type_origin_over, type_over}
 
 -- ---- lists
 

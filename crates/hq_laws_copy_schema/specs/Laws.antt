@@ -11,7 +11,7 @@ use Rattle.hq_model.specs.declared.session.Session.{Session}
 use Rattle.hq_model.specs.declared.table.Table.{Table}
 use Rattle.hq_copy_definition.specs.Copied.{Copied, copied}
 use Rattle.hq_copy_definition.specs.Metadata.{reader}
-use Rattle.hq_laws_schema_origins.specs.SchemaOver.{schema_over}
+use Rattle.hq_laws_renumbered.specs.Schemas.SchemaOver.{schema_over}
 use Rattle.hq_laws_copy.specs.Laws.{numbers}
 
 -- names, kinds, types, arguments and their order are the same; what they stand for is renumbered

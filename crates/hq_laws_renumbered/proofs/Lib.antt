@@ -1,2 +1,4 @@
-mod Alike
-mod Answers
+pub mod Resolving
+pub mod Schemas
+pub mod Rules
+pub mod Requests

@@ -1,2 +1,3 @@
-pub mod Renumbering
-pub mod Copies
+pub mod Resolving
+pub mod Schemas
+pub mod Requests

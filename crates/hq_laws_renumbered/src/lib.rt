@@ -1,6 +1,12 @@
-//! Requests in the numbers of another schema, and that they give the same over a view and over a copy of it.
+//! The laws of other numbers: what is asked and answered under a schema whose tables and columns have other numbers.
 #![tactic(auto)]
 
-mod laws;
+mod resolving;
+mod schemas;
+mod rules;
+mod requests;
 
-pub use laws::copies_answer_alike;
+pub use resolving::copies_answer_alike;
+pub use schemas::numbers_change_origins_alone;
+pub use rules::{origins_change_no_fault, origins_change_no_introspection, origins_change_no_variable};
+pub use requests::fields_are_renumbered;
