@@ -12,8 +12,8 @@ use Rattle.hq_copy_definition.specs.declared.refusal.CopyRefusal.{CopyRefusal}
 use Rattle.hq_copy_definition.proofs.BySource.{IsSource}
 use Rattle.hq_copy_definition.proofs.Found.{stands_for}
 use Rattle.hq_copy_definition.proofs.Lists.{each_at, found_passes}
-use Rattle.hq_laws_copy.proofs.Granted.{granted_there, kept_bound}
-use Rattle.hq_laws_copy_fits.proofs.Held.{Held, all_held}
+use Rattle.hq_laws_copy.proofs.Views.Granted.{granted_there, kept_bound}
+use Rattle.hq_laws_copy.proofs.Fits.Held.{Held, all_held}
 use Rattle.hq_model.specs.Binding.{bound_permission}
 use Rattle.hq_model.specs.Database.{Row}
 use Rattle.hq_model.specs.Fits.{fits}

@@ -10,7 +10,7 @@ use Rattle.hq_copy_definition.specs.Rows.{value_of, number_value, extra_value, c
 use Rattle.hq_copy_definition.specs.Sources.{Source, keeps_key, Link, links, link_remote}
 use Rattle.hq_copy_definition.proofs.Lists.{each_append, each_member}
 use Rattle.hq_copy_definition.proofs.Numbers.{first_from_is}
-use Rattle.hq_laws_copy.proofs.Viewed.{seen_cell, seen_link, seen_positions}
+use Rattle.hq_laws_copy.proofs.Views.Viewed.{seen_cell, seen_link, seen_positions}
 use Rattle.hq_model.specs.Database.{Row}
 use Rattle.hq_model.specs.Grants.{Grants, grant}
 use Rattle.hq_model.specs.Meta.{MetaTree}

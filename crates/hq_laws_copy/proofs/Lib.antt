@@ -1,9 +1,4 @@
-pub mod Viewed
-pub mod Granted
-pub mod Refused
-pub mod Cells
-pub mod Numbers
-pub mod Order
-pub mod Copy
-mod Answers
-mod Worked
+pub mod Views
+pub mod Fits
+pub mod Rows
+pub mod Schemas

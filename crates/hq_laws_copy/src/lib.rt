@@ -1,6 +1,12 @@
-//! A redacted copy answers each request of a session as the database does.
+//! The laws of a redacted copy: it fits its catalog, its rows are valid, and its reader has the schema of the session's role.
 #![tactic(auto)]
 
-mod laws;
+mod views;
+mod fits;
+mod rows;
+mod schemas;
 
-pub use laws::{copies_agree, copies_answer, numbers_differ};
+pub use views::{copies_agree, copies_answer, numbers_differ};
+pub use fits::copied_metadata_fits;
+pub use rows::copied_rows_fit;
+pub use schemas::copied_schema_is_renumbered;

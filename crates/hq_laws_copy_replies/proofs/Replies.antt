@@ -9,8 +9,8 @@ use Rattle.hq_base.specs.Json.{JsonTree, obj, member}
 use Rattle.hq_copy_definition.specs.Copied.{Copied}
 use Rattle.hq_copy_definition.specs.Metadata.{reader}
 use Rattle.hq_copy_definition.proofs.Found.{schema_long}
-use Rattle.hq_laws_copy_schema.specs.Laws.{SchemaRenumbered}
-use Rattle.hq_laws_copy.specs.Laws.{numbers, reader_session, reader_grants, CopyAnswers}
+use Rattle.hq_laws_copy.specs.Schemas.Laws.{SchemaRenumbered}
+use Rattle.hq_laws_copy.specs.Views.Laws.{numbers, reader_session, reader_grants, CopyAnswers}
 use Rattle.hq_engine.specs.Replies.{due_object, reply_to}
 use Rattle.hq_faults.specs.FaultTexts.{fault_text}
 use Rattle.hq_request_introspect.specs.Answers.{answered}

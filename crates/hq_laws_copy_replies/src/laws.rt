@@ -10,7 +10,7 @@ ghost use Rattle.hq_model.specs.declared.table.Table.{Table as CatalogTable};
 use hq_laws_renumbered::origins_change_no_introspection;
 use hq_laws_copy::copies_answer;
 use hq_laws_copy_requests::copied_requests_are_renumbered;
-use hq_laws_copy_schema::copied_schema_is_renumbered;
+use hq_laws_copy::copied_schema_is_renumbered;
 use hq_laws_request::requests_are_formed;
 use hq_laws_renumbered::numbers_change_origins_alone;
 

@@ -26,12 +26,12 @@ use Rattle.hq_copy_definition.proofs.BySource.{IsSource, by_source}
 use Rattle.hq_copy_definition.proofs.Found.{copied_schema, table_at}
 use Rattle.hq_copy_definition.proofs.Lists.{each_at, got_front, got_map}
 use Rattle.hq_copy_definition.proofs.Places.{place_holds}
-use Rattle.hq_laws_copy.specs.Laws.{numbers}
-use Rattle.hq_laws_copy.proofs.Copy.{is_copy}
-use Rattle.hq_laws_copy.proofs.Numbers.{one_to_one}
-use Rattle.hq_laws_copy.proofs.Refused.{NotRefused}
-use Rattle.hq_laws_copy_fits.proofs.Entries.{rels_are}
-use Rattle.hq_laws_copy_fits.proofs.Held.{Held, all_held}
+use Rattle.hq_laws_copy.specs.Views.Laws.{numbers}
+use Rattle.hq_laws_copy.proofs.Views.Copy.{is_copy}
+use Rattle.hq_laws_copy.proofs.Views.Numbers.{one_to_one}
+use Rattle.hq_laws_copy.proofs.Views.Refused.{NotRefused}
+use Rattle.hq_laws_copy.proofs.Fits.Entries.{rels_are}
+use Rattle.hq_laws_copy.proofs.Fits.Held.{Held, all_held}
 use Rattle.hq_laws_renumbered.specs.Resolving.Renumbering.{Renumbering}
 use Rattle.hq_laws_renumbered.specs.Requests.Alike.{TablesAlike}
 use Rattle.hq_laws_copy_requests.specs.Laws.{session_view}

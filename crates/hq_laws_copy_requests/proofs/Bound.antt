@@ -22,8 +22,8 @@ use Rattle.hq_copy_definition.proofs.BySource.{IsSource, by_source}
 use Rattle.hq_copy_definition.proofs.Found.{copied_schema}
 use Rattle.hq_copy_definition.proofs.Lists.{each_at}
 use Rattle.hq_copy_definition.proofs.Reader.{reader_sees}
-use Rattle.hq_laws_copy.proofs.Refused.{binds}
-use Rattle.hq_laws_copy_fits.proofs.Held.{Held, all_held}
+use Rattle.hq_laws_copy.proofs.Views.Refused.{binds}
+use Rattle.hq_laws_copy.proofs.Fits.Held.{Held, all_held}
 
 -- the table binds
 abbrev pub Binds : Role → MetaTree → Schema → List Var → ℕ → Type 0

@@ -41,9 +41,9 @@ use Rattle.hq_model.specs.declared.session.Session.{Session}
 use Rattle.hq_model.specs.declared.table.Table.{Table}
 use Rattle.hq_copy_definition.specs.Copied.{Copied, copy_of}
 use Rattle.hq_copy_definition.specs.Metadata.{reader}
-use Rattle.hq_laws_copy_schema.specs.Laws.{SchemaRenumbered}
-use Rattle.hq_laws_copy.specs.Laws.{numbers, reader_session}
-use Rattle.hq_laws_copy.proofs.Refused.{given, causes_absent}
+use Rattle.hq_laws_copy.specs.Schemas.Laws.{SchemaRenumbered}
+use Rattle.hq_laws_copy.specs.Views.Laws.{numbers, reader_session}
+use Rattle.hq_laws_copy.proofs.Views.Refused.{given, causes_absent}
 use Rattle.hq_laws_renumbered.specs.Resolving.Renumbering.{Renumbering, fields_over}
 use Rattle.hq_laws_renumbered.specs.Requests.Alike.{TablesAlike}
 use Rattle.hq_laws_renumbered.specs.Requests.Laws.{FieldsRenumbered}

@@ -13,7 +13,7 @@ use Rattle.hq_model.specs.View.{View, view}
 use Rattle.hq_model.specs.declared.session.Session.{Session}
 use Rattle.hq_model.specs.declared.table.Table.{Table}
 use Rattle.hq_copy_definition.specs.Copied.{Copied, copied}
-use Rattle.hq_laws_copy.specs.Laws.{numbers, reader_session}
+use Rattle.hq_laws_copy.specs.Views.Laws.{numbers, reader_session}
 use Rattle.hq_laws_renumbered.specs.Resolving.Renumbering.{fields_over}
 
 -- the view that a session has of a database

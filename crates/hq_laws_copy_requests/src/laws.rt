@@ -8,7 +8,7 @@ ghost use Rattle.hq_model.specs.declared.session.Session.{Session as Caller};
 ghost use Rattle.hq_model.specs.declared.table.Table.{Table as CatalogTable};
 
 use hq_laws_renumbered::{origins_change_no_fault, origins_change_no_variable};
-use hq_laws_copy_schema::copied_schema_is_renumbered;
+use hq_laws_copy::copied_schema_is_renumbered;
 use hq_laws_renumbered::fields_are_renumbered;
 use hq_laws_renumbered::numbers_change_origins_alone;
 use hq_schema_roles::leads_where_permitted;

@@ -15,9 +15,9 @@ use Rattle.hq_copy_definition.proofs.Apart.{differ_apart}
 use Rattle.hq_copy_definition.proofs.Lists.{each_at, each_of}
 use Rattle.hq_copy_text.specs.Parts.{largest_part, part_text, small_enough, table_text}
 use Rattle.hq_copy_text.specs.declared.refusal.PartRefusal.TheVariants.{TooLarge}
-use Rattle.hq_laws_copy.proofs.Refused.{given, neither}
-use Rattle.hq_laws_copy_fits.specs.Laws.{CatalogFits}
-use Rattle.hq_laws_copy_rows.specs.Laws.{RowsFit}
+use Rattle.hq_laws_copy.proofs.Views.Refused.{given, neither}
+use Rattle.hq_laws_copy.specs.Fits.Laws.{CatalogFits}
+use Rattle.hq_laws_copy.specs.Rows.Laws.{RowsFit}
 use Rattle.hq_copy_text.specs.Clean.{is_clean_entry, is_clean_value}
 use Rattle.hq_laws_copy_text.specs.Laws.{PartReadsBack}
 use Rattle.hq_laws_copy_text.proofs.Plain.{metadata_plain}

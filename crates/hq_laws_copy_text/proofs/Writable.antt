@@ -13,8 +13,8 @@ use Rattle.hq_copy_definition.specs.Refusals.{begins_with, begins_with_mark, byt
 use Rattle.hq_copy_definition.proofs.Apart.{Apart}
 use Rattle.hq_copy_definition.proofs.Lists.{each_at}
 use Rattle.hq_copy_text.specs.Parts.{table_text}
-use Rattle.hq_laws_copy.proofs.Refused.{neither, not_refused}
-use Rattle.hq_laws_copy_fits.proofs.Texts.{texts_differ}
+use Rattle.hq_laws_copy.proofs.Views.Refused.{neither, not_refused}
+use Rattle.hq_laws_copy.proofs.Fits.Texts.{texts_differ}
 use Rattle.hq_copy_text.specs.Clean.{is_clean_value}
 use Rattle.hq_laws_written.specs.Tables.Written.{IsWritable, first_name, is_plain, begins_with_mark as is_marked, file_of as written}
 use Rattle.hq_model.specs.Catalog.{full_name, is_table}

@@ -7,8 +7,8 @@ ghost use Rattle.hq_model.specs.Meta.{MetaTree};
 ghost use Rattle.hq_model.specs.declared.session.Session.{Session as Caller};
 ghost use Rattle.hq_model.specs.declared.table.Table.{Table as CatalogTable};
 
-use hq_laws_copy_fits::copied_metadata_fits;
-use hq_laws_copy_rows::copied_rows_fit;
+use hq_laws_copy::copied_metadata_fits;
+use hq_laws_copy::copied_rows_fit;
 use hq_laws_written::written_catalog_is_read_back;
 use hq_laws_written::written_metadata_is_read_back;
 use hq_laws_written::written_table_is_read_back;

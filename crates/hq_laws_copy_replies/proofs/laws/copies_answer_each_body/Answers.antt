@@ -1,6 +1,6 @@
 use Rattle.hq_laws_copy_requests.specs.Laws.{session_view}
 use Rattle.hq_laws_copy_replies.proofs.Replies.{replies_alike}
-use Rattle.hq_laws_copy.specs.Laws.{numbers}
+use Rattle.hq_laws_copy.specs.Views.Laws.{numbers}
 use Rattle.hq_model.specs.Permission.{role_of}
 use Rattle.hq_model.specs.Schema.{schema_of}
 use Rattle.hq_laws_copy_replies.proofs.laws.copies_answer_each_body.Goals as goal
