@@ -1,1 +1,2 @@
-mod Replies
+pub mod Requests
+pub mod Replies

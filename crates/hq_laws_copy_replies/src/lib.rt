@@ -1,6 +1,8 @@
-//! A redacted copy replies to every body as the database does.
+//! The laws of a redacted copy's replies: its reader is answered as the session is.
 #![tactic(auto)]
 
-mod laws;
+mod requests;
+mod replies;
 
-pub use laws::copies_answer_each_body;
+pub use requests::copied_requests_are_renumbered;
+pub use replies::copies_answer_each_body;

@@ -1,9 +1,9 @@
-use Rattle.hq_laws_copy_requests.specs.Laws.{session_view}
-use Rattle.hq_laws_copy_replies.proofs.Replies.{replies_alike}
+use Rattle.hq_laws_copy_replies.specs.Replies.Requests.Laws.{session_view}
+use Rattle.hq_laws_copy_replies.proofs.Replies.Replies.{replies_alike}
 use Rattle.hq_laws_copy.specs.Views.Laws.{numbers}
 use Rattle.hq_model.specs.Permission.{role_of}
 use Rattle.hq_model.specs.Schema.{schema_of}
-use Rattle.hq_laws_copy_replies.proofs.laws.copies_answer_each_body.Goals as goal
+use Rattle.hq_laws_copy_replies.proofs.replies.copies_answer_each_body.Goals as goal
 
 pub returns : goal.returns
 returns c = λ tables m session d k body.

@@ -1,7 +1,7 @@
 //! The law, the contract of a function that does nothing.
 ghost use Rattle.std.specs.Prelude.{ℕ, List as Items};
 ghost use Rattle.hq_copy_definition.specs.Copied.{Copied};
-ghost use Rattle.hq_laws_copy_replies.specs.Laws.{RepliesAlike};
+ghost use Rattle.hq_laws_copy_replies.specs.Replies.Laws.{RepliesAlike};
 ghost use Rattle.hq_model.specs.Database.{Row};
 ghost use Rattle.hq_model.specs.Meta.{MetaTree};
 ghost use Rattle.hq_model.specs.declared.session.Session.{Session as Caller};
@@ -9,7 +9,7 @@ ghost use Rattle.hq_model.specs.declared.table.Table.{Table as CatalogTable};
 
 use hq_laws_renumbered::origins_change_no_introspection;
 use hq_laws_copy::copies_answer;
-use hq_laws_copy_requests::copied_requests_are_renumbered;
+use crate::copied_requests_are_renumbered;
 use hq_laws_copy::copied_schema_is_renumbered;
 use hq_laws_request::requests_are_formed;
 use hq_laws_renumbered::numbers_change_origins_alone;
