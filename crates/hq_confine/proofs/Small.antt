@@ -10,7 +10,7 @@ use Rattle.hq_model.specs.Permission.{Mask, Permission}
 use Rattle.hq_model.specs.Permitted.{mask_of}
 use Rattle.hq_model.specs.Schema.{Schema}
 use Rattle.hq_translation.specs.Predicates.{own_numbers}
-use Rattle.hq_laws_confine.specs.Laws.{AreWritten}
+use Rattle.hq_laws_confine.specs.Meaning.Laws.{AreWritten}
 use Rattle.hq_confine.specs.Written.{IsWritten}
 
 module _ (s : Schema) (t : ℕ) where

@@ -4,7 +4,7 @@ ghost use Rattle.hq_model.specs.Bexp.{bexp_view};
 ghost use Rattle.hq_model.specs.PermView.{mask_view};
 ghost use Rattle.hq_model.specs.Permitted.{mask_of};
 ghost use Rattle.hq_translation.specs.Predicates.{own_numbers};
-ghost use Rattle.hq_laws_confine.specs.Laws.{AreWritten};
+ghost use Rattle.hq_laws_confine.specs.Meaning.Laws.{AreWritten};
 ghost use Rattle.hq_confine.specs.Written.{IsWritten};
 ghost use Rattle.hq_confine_uses.specs.Views.{rules_schema, rules_grants};
 

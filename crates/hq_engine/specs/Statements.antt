@@ -6,7 +6,7 @@ use Rattle.hq_request_tree.specs.Request.{AskTree}
 use Rattle.hq_request_tree.specs.Resolve.{resolved}
 use Rattle.hq_request_tree.specs.Root.{table_fields}
 use Rattle.hq_translation.specs.Asked.{asked_statement}
-use Rattle.hq_laws_confine_own.specs.Asks.{IsAskedConfined}
+use Rattle.hq_laws_confine.specs.Own.Asks.{IsAskedConfined}
 use Rattle.hq_database.specs.Typed.{IsTyped}
 use Rattle.hq_reply.specs.RootObject.{has_table_field}
 use Rattle.hq_request.specs.declared.refusal.RequestRefusal.{RequestRefusal}

@@ -1,6 +1,8 @@
-//! The law of the checker of statements from other hands: one without faults means the same over all databases that agree.
+//! The laws of confined statements: what they are good for, and that hq's own are.
 #![tactic(auto)]
 
-mod laws;
+mod meaning;
+mod own;
 
-pub use laws::confined_statements_mean_the_same;
+pub use meaning::confined_statements_mean_the_same;
+pub use own::session_statements_are_confined;

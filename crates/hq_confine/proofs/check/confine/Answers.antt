@@ -6,7 +6,7 @@ use Rattle.hq_model.specs.PermView.{permission_view}
 use Rattle.hq_model.specs.Schema.{Schema, schema_of}
 use Rattle.hq_sql_tree.specs.View.{select_view}
 use Rattle.hq_confine_rules.specs.Faults.{faults, worst}
-use Rattle.hq_laws_confine.specs.Laws.{AreWritten}
+use Rattle.hq_laws_confine.specs.Meaning.Laws.{AreWritten}
 use Rattle.hq_confine_uses.specs.Views.{faulted}
 use Rattle.hq_confine.proofs.Yes.{no_fault, shows}
 use Rattle.hq_confine.proofs.check.confine.Goals as goal

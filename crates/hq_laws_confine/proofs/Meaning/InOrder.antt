@@ -32,17 +32,17 @@ use Rattle.hq_confine_rules.specs.Origins.{Origin, made, of, Shape, scan, output
 use Rattle.hq_confine_rules.specs.Uses.{Fault, is_run, has_run, shows_order, show_order, agg_shows_order, expr_faults, exprs_faults, outs_faults, orders_faults}
 use Rattle.hq_confine_rules.proofs.Alike.{is_so, kept_conjuncts, nil_is, none_is}
 use Rattle.hq_confine_rules.proofs.Clean.{left_none, right_none}
-use Rattle.hq_laws_confine.proofs.Formed.{Fresh, Formed, FormedJoins, FormedFilter, FormedPred, FormedPreds}
-use Rattle.hq_laws_confine.proofs.Gather.{Shuffled, length_shuffled, counted_shuffled, taken_shuffled, sorted_shuffled}
-use Rattle.hq_laws_confine.proofs.Keys.{columns_total, Keyed}
-use Rattle.hq_laws_confine.proofs.Links.{equation_means}
-use Rattle.hq_laws_confine.proofs.Lists.{each_append, filter_flat}
-use Rattle.hq_laws_confine.proofs.Masks.{MaskForm, mask_form}
-use Rattle.hq_laws_confine.proofs.Means.{joins_keep, fresh_shape, six, scan_parts}
-use Rattle.hq_laws_confine.proofs.Orders.{Diff, none_total, then_left, then_right, flat_sort}
-use Rattle.hq_laws_confine.proofs.Related.{order_same, run_cmp}
-use Rattle.hq_laws_confine.proofs.Tables.{cell_in, cell_at_place, file_world, key_world}
-use Rattle.hq_laws_confine.proofs.Written.{Base, one_keyed}
+use Rattle.hq_laws_confine.proofs.Meaning.Formed.{Fresh, Formed, FormedJoins, FormedFilter, FormedPred, FormedPreds}
+use Rattle.hq_laws_confine.proofs.Meaning.Gather.{Shuffled, length_shuffled, counted_shuffled, taken_shuffled, sorted_shuffled}
+use Rattle.hq_laws_confine.proofs.Meaning.Keys.{columns_total, Keyed}
+use Rattle.hq_laws_confine.proofs.Meaning.Links.{equation_means}
+use Rattle.hq_laws_confine.proofs.Meaning.Lists.{each_append, filter_flat}
+use Rattle.hq_laws_confine.proofs.Meaning.Masks.{MaskForm, mask_form}
+use Rattle.hq_laws_confine.proofs.Meaning.Means.{joins_keep, fresh_shape, six, scan_parts}
+use Rattle.hq_laws_confine.proofs.Meaning.Orders.{Diff, none_total, then_left, then_right, flat_sort}
+use Rattle.hq_laws_confine.proofs.Meaning.Related.{order_same, run_cmp}
+use Rattle.hq_laws_confine.proofs.Meaning.Tables.{cell_in, cell_at_place, file_world, key_world}
+use Rattle.hq_laws_confine.proofs.Meaning.Written.{Base, one_keyed}
 
 funext : {A B : Type 0} {f g : A → B} → ((x : A) → f x ≡ g x) → f ≡ g
 funext h = λ i x. h x i

@@ -30,7 +30,7 @@ use Rattle.hq_translation.specs.Sorts.{last_used, used_sorts, shown_sorts, own_s
 use Rattle.hq_translation.proofs.Once.{each_once}
 use Rattle.hq_confine_rules.specs.Members.{is_permitted}
 use Rattle.hq_confine_rules.specs.Ready.{Ready, Permits, Leads, Allowed, AllAllowed, AllowedChain, AllowedSort, AllowedList, AllowedOrigin, AllowedFields, AllowedField, AllowedParts, AllowedPart}
-use Rattle.hq_laws_confine_own.proofs.Same.{first_each, second_each}
+use Rattle.hq_laws_confine.proofs.Own.Same.{first_each, second_each}
 
 -- what holds of each item of two lists holds of both, one after the other
 each_both : {A : Type 0} (P : A → Type 0) (xs ys : List A) → Each P xs → Each P ys → Each P (xs ++ ys)

@@ -19,10 +19,10 @@ use Rattle.hq_model.specs.Truth.{keeps}
 use Rattle.hq_model.specs.View.{cut, cut_rows, view_table, view_links, Agree}
 use Rattle.hq_model.specs.declared.meta.Rel.{Rel}
 use Rattle.hq_confine_rules.specs.Members.{has_mask, is_permitted}
-use Rattle.hq_laws_confine.proofs.Keys.{columns_total, Keyed, Full, same_order}
-use Rattle.hq_laws_confine.proofs.Lists.{images_at, images_each}
-use Rattle.hq_laws_confine.proofs.Orders.{Rising, rising_sort, rising_filter}
-use Rattle.hq_laws_confine.proofs.Pairs.{pairs_alike}
+use Rattle.hq_laws_confine.proofs.Meaning.Keys.{columns_total, Keyed, Full, same_order}
+use Rattle.hq_laws_confine.proofs.Meaning.Lists.{images_at, images_each}
+use Rattle.hq_laws_confine.proofs.Meaning.Orders.{Rising, rising_sort, rising_filter}
+use Rattle.hq_laws_confine.proofs.Meaning.Pairs.{pairs_alike}
 
 -- the permitted row at a place; where there is none, the row of no cell
 abbrev pub row_at : Schema → Grants → List (List Row) → (t : ℕ) → Option ℕ → Row

@@ -28,8 +28,8 @@ use Rattle.hq_confine_rules.specs.Origins.{table_place}
 use Rattle.hq_confine_rules.specs.Renamed.{Renaming, is_bare, same_table, beside, are_alike_outs, is_alike, are_alike, is_alike_select, is_alike_filter}
 use Rattle.hq_confine_rules.proofs.Alike.{Related, truth_alike, is_so, true_opened, kept_conjuncts, bare_rows, bare_select, any_alike}
 use Rattle.hq_confine_rules.proofs.Permitted.{related}
-use Rattle.hq_laws_confine.proofs.Lists.{bool_same, all_each, each_all_true, found_each}
-use Rattle.hq_laws_confine.proofs.Tables.{keyed, file_world, key_world}
+use Rattle.hq_laws_confine.proofs.Meaning.Lists.{bool_same, all_each, each_all_true, found_each}
+use Rattle.hq_laws_confine.proofs.Meaning.Tables.{keyed, file_world, key_world}
 
 -- what is used of a database of a catalog
 pub record Base (s : Schema) (tables : List Table) (d : List (List Row)) : Type 0 where

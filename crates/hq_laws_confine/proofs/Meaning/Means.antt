@@ -38,14 +38,14 @@ use Rattle.hq_confine_rules.specs.Renamed.{alias_of}
 use Rattle.hq_confine_rules.specs.Uses.{Fault, needs, has_run, shows_order, expr_faults, exprs_faults, outs_faults, orders_faults}
 use Rattle.hq_confine_rules.proofs.Alike.{is_so, kept_conjuncts, nil_is, none_is, no_join_is}
 use Rattle.hq_confine_rules.proofs.Clean.{left_none, right_none}
-use Rattle.hq_laws_confine.proofs.Agreement.{row_at, Alike, each_permitted}
-use Rattle.hq_laws_confine.proofs.Formed.{Fresh, Formed, FormedFrom, FormedJoins, FormedFilter, FormedPred, FormedPreds}
-use Rattle.hq_laws_confine.proofs.Links.{linked_so, so_linked, row_names}
-use Rattle.hq_laws_confine.proofs.Lists.{bool_same, not_true, each_append, each_at, all_each, each_all_true, found_each, each_two, each_map, each_flat_map, only_some, zip_flat, zip_limited, zip_offset}
-use Rattle.hq_laws_confine.proofs.Masks.{MaskForm, mask_form}
-use Rattle.hq_laws_confine.proofs.Related.{Path, needed, RowRel, RowOk, ScopeOk, ScopeRel, bound_ok, null_ok, scans_ok, plain_alike, values_alike, outs_alike, distinct_alike, order_same, orders_alike, fold_alike}
-use Rattle.hq_laws_confine.proofs.Tables.{cell_in, cell_at_place, key_world}
-use Rattle.hq_laws_confine.proofs.Written.{Base, kept_one, all_keep, exactly}
+use Rattle.hq_laws_confine.proofs.Meaning.Agreement.{row_at, Alike, each_permitted}
+use Rattle.hq_laws_confine.proofs.Meaning.Formed.{Fresh, Formed, FormedFrom, FormedJoins, FormedFilter, FormedPred, FormedPreds}
+use Rattle.hq_laws_confine.proofs.Meaning.Links.{linked_so, so_linked, row_names}
+use Rattle.hq_laws_confine.proofs.Meaning.Lists.{bool_same, not_true, each_append, each_at, all_each, each_all_true, found_each, each_two, each_map, each_flat_map, only_some, zip_flat, zip_limited, zip_offset}
+use Rattle.hq_laws_confine.proofs.Meaning.Masks.{MaskForm, mask_form}
+use Rattle.hq_laws_confine.proofs.Meaning.Related.{Path, needed, RowRel, RowOk, ScopeOk, ScopeRel, bound_ok, null_ok, scans_ok, plain_alike, values_alike, outs_alike, distinct_alike, order_same, orders_alike, fold_alike}
+use Rattle.hq_laws_confine.proofs.Meaning.Tables.{cell_in, cell_at_place, key_world}
+use Rattle.hq_laws_confine.proofs.Meaning.Written.{Base, kept_one, all_keep, exactly}
 
 -- ---- joins keep the alias of their scan
 

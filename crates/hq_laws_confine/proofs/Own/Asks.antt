@@ -33,12 +33,12 @@ use Rattle.hq_confine_rules.specs.Faults.{faults}
 use Rattle.hq_confine_rules.specs.Laws.{AsksConfined}
 use Rattle.hq_confine_rules.specs.Members.{is_permitted}
 use Rattle.hq_confine_rules.specs.Ready.{Ready, AllowedFields}
-use Rattle.hq_laws_confine_own.specs.Asks.{AsksAreConfined}
-use Rattle.hq_laws_confine_own.proofs.Granted as granting
-use Rattle.hq_laws_confine_own.proofs.Granted.{Touches, IsGranted, all_touched, same_grant, is_granted, column_granted}
-use Rattle.hq_laws_confine_own.proofs.Places.{numbered_length}
-use Rattle.hq_laws_confine_own.proofs.Same.{fields_numbers_same, statement_same}
-use Rattle.hq_laws_confine_own.proofs.Using.{fields_allowed}
+use Rattle.hq_laws_confine.specs.Own.Asks.{AsksAreConfined}
+use Rattle.hq_laws_confine.proofs.Own.Granted as granting
+use Rattle.hq_laws_confine.proofs.Own.Granted.{Touches, IsGranted, all_touched, same_grant, is_granted, column_granted}
+use Rattle.hq_laws_confine.proofs.Own.Places.{numbered_length}
+use Rattle.hq_laws_confine.proofs.Own.Same.{fields_numbers_same, statement_same}
+use Rattle.hq_laws_confine.proofs.Own.Using.{fields_allowed}
 
 module _ (tables : List Table) (m : MetaTree) (session : Session) (a : AskTree) (catalog : is_catalog tables ≡ true) (fitting : fits tables m ≡ true)
     (fit : (t : ℕ) → PermissionsFit tables m (role_of session.role) t) (role : a.role ≡ role_of session.role) where

@@ -12,7 +12,7 @@ use Rattle.hq_base.specs.Lists.{put, sort, firsts}
 use Rattle.hq_base.specs.declared.aggregate.Aggregate.{Aggregate}
 use Rattle.hq_base.specs.declared.aggregate.Aggregate.TheVariants.{Max, Min, Sum}
 use Rattle.hq_base.proofs.Orders.{cell_cmp_total}
-use Rattle.hq_laws_confine.proofs.Orders.{then_first, then_second, swap}
+use Rattle.hq_laws_confine.proofs.Meaning.Orders.{then_first, then_second, swap}
 
 -- what a list gives, item by item from its end
 abbrev pub gather : {A S : Type 0} → (A → S → S) → S → List A → S

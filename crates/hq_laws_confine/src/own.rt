@@ -1,9 +1,10 @@
+//! The law of the statements that hq writes: each is confined for the session whose request it answers.
 ghost use Rattle.std.specs.Prelude.{List as Items};
 ghost use Rattle.hq_model.specs.Meta.{MetaTree};
 ghost use Rattle.hq_model.specs.declared.session.Session.{Session as Caller};
 ghost use Rattle.hq_model.specs.declared.table.Table.{Table as CatalogTable};
 ghost use Rattle.hq_request_tree.specs.Request.{AskTree};
-ghost use Rattle.hq_laws_confine_own.specs.Asks.{AsksAreConfined};
+ghost use Rattle.hq_laws_confine.specs.Own.Asks.{AsksAreConfined};
 
 use hq_confine_rules::statements_are_confined;
 use hq_model::permissions_fit;

@@ -17,15 +17,15 @@ use Rattle.hq_sql_tree.specs.WellFormed.{is_typed, is_well_typed, is_well_formed
 use Rattle.hq_translation.proofs.Sound.{both, sound_of}
 use Rattle.hq_confine_rules.specs.Faults.{outputs_of}
 use Rattle.hq_confine_rules.specs.Origins.{Origin, made, Shape, outputs as shows, Shapes, output_named, origin, output_origins, table_place}
-use Rattle.hq_laws_confine.specs.Laws.{MeansTheSame}
-use Rattle.hq_laws_confine.proofs.Agreement.{Alike, alike_of}
-use Rattle.hq_laws_confine.proofs.Formed.{Formed, formed_of}
-use Rattle.hq_laws_confine.proofs.InOrder.{rows_same}
-use Rattle.hq_laws_confine.proofs.Keys.{keyed_of}
-use Rattle.hq_laws_confine.proofs.Means.{rows_alike}
-use Rattle.hq_laws_confine.proofs.Related.{CellRel, RowOk}
-use Rattle.hq_laws_confine.proofs.Tables.{rows_at, keyed, keyed_rows, keyed_length, within_catalog, file_world, key_world}
-use Rattle.hq_laws_confine.proofs.Written.{Base}
+use Rattle.hq_laws_confine.specs.Meaning.Laws.{MeansTheSame}
+use Rattle.hq_laws_confine.proofs.Meaning.Agreement.{Alike, alike_of}
+use Rattle.hq_laws_confine.proofs.Meaning.Formed.{Formed, formed_of}
+use Rattle.hq_laws_confine.proofs.Meaning.InOrder.{rows_same}
+use Rattle.hq_laws_confine.proofs.Meaning.Keys.{keyed_of}
+use Rattle.hq_laws_confine.proofs.Meaning.Means.{rows_alike}
+use Rattle.hq_laws_confine.proofs.Meaning.Related.{CellRel, RowOk}
+use Rattle.hq_laws_confine.proofs.Meaning.Tables.{rows_at, keyed, keyed_rows, keyed_length, within_catalog, file_world, key_world}
+use Rattle.hq_laws_confine.proofs.Meaning.Written.{Base}
 
 base_of : (tables : List Table) (meta : MetaTree) (d : List (List Row)) → is_catalog tables ≡ true → is_database tables d ≡ true → Base (schema_of tables meta) tables d
 base_of tables meta d c k =

@@ -26,8 +26,8 @@ use Rattle.hq_request_tree.specs.Sessions.{IsFor, session_grant}
 use Rattle.hq_translation.specs.Fine.{Has}
 use Rattle.hq_confine_rules.specs.Members.{is_permitted}
 use Rattle.hq_confine_rules.specs.Ready.{IsMask, Ready}
-use Rattle.hq_laws_confine_own.proofs.Masked.{AreMasks, columns_of, among_itself, permission_masks, bound_keeps, own_of_each}
-use Rattle.hq_laws_confine_own.proofs.Places.{stands}
+use Rattle.hq_laws_confine.proofs.Own.Masked.{AreMasks, columns_of, among_itself, permission_masks, bound_keeps, own_of_each}
+use Rattle.hq_laws_confine.proofs.Own.Places.{stands}
 
 -- ---- lists
 

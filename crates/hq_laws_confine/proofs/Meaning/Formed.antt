@@ -9,7 +9,7 @@ use Rattle.hq_sql_tree.specs.Tree as tree
 use Rattle.hq_sql_tree.specs.Tree.{ExprTree, PairTrees, SelectTree, FromTree, JoinTrees, FilterTree, PredTree, PredTrees}
 use Rattle.hq_sql_tree.specs.WellFormed.{Aliases, pair_names, is_folded, are_folded, are_parts, select_names, from_scope, joined_scope, is_typed, is_typed_from, are_typed_joins, is_typed_filter, is_typed_pred, are_typed_preds, is_typed_test, aliases_in, aliases_in_from, aliases_in_joins, aliases_in_filter, aliases_in_pred, aliases_in_preds}
 use Rattle.hq_translation.proofs.Sound.{both, negated}
-use Rattle.hq_laws_confine.proofs.Lists.{bool_same}
+use Rattle.hq_laws_confine.proofs.Meaning.Lists.{bool_same}
 
 -- no join takes the alias
 abbrev pub Fresh : List ℕ → JoinTrees → Type 0

@@ -23,11 +23,11 @@ use Rattle.hq_confine_rules.specs.Origins.{Origin, made, of, Shape, scan, output
 use Rattle.hq_confine_rules.specs.Uses.{Fault, needs, is_plain, may_pass, rule_of, is_key_sort, is_run, run_from, less_one, expr_faults, pairs_faults, agg_faults, orders_faults, exprs_faults, out_faults, outs_faults}
 use Rattle.hq_confine_rules.proofs.Clean.{left_none, right_none}
 use Rattle.hq_confine_rules.proofs.Runs.{of_is, suc_not}
-use Rattle.hq_laws_confine.proofs.Agreement.{row_at, Alike}
-use Rattle.hq_laws_confine.proofs.Formed.{Folded, AllFolded}
-use Rattle.hq_laws_confine.proofs.Lists.{zip_places}
-use Rattle.hq_laws_confine.proofs.Orders.{then_assoc}
-use Rattle.hq_laws_confine.proofs.Tables.{cell_in, cell_at_place}
+use Rattle.hq_laws_confine.proofs.Meaning.Agreement.{row_at, Alike}
+use Rattle.hq_laws_confine.proofs.Meaning.Formed.{Folded, AllFolded}
+use Rattle.hq_laws_confine.proofs.Meaning.Lists.{zip_places}
+use Rattle.hq_laws_confine.proofs.Meaning.Orders.{then_assoc}
+use Rattle.hq_laws_confine.proofs.Meaning.Tables.{cell_in, cell_at_place}
 
 abbrev pub Path : Type 0
 Path = List (List ℕ)

@@ -21,7 +21,7 @@ use Rattle.hq_model.specs.Seen.{row_cell, table_rows}
 use Rattle.hq_model.specs.declared.table.Column.{Column}
 use Rattle.hq_model.specs.declared.table.Table.{Table}
 use Rattle.hq_translation.proofs.Sound.{both, negated}
-use Rattle.hq_laws_confine.proofs.Orders.{Diff, Apart, Rising, none_total, self_equal}
+use Rattle.hq_laws_confine.proofs.Meaning.Orders.{Diff, Apart, Rising, none_total, self_equal}
 
 pub columns_total : (cs : List ℕ) → IsTotalOrder (columns_cmp cs)
 columns_total [] = none_total
