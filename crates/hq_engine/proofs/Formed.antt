@@ -6,7 +6,7 @@ use Rattle.hq_base.specs.Due.{Gives}
 use Rattle.hq_request.specs.Request.{request_due}
 use Rattle.hq_request.specs.declared.refusal.RequestRefusal.{RequestRefusal}
 use Rattle.hq_request.specs.declared.refusal.RequestRefusal.TheVariants.{Memory}
-use Rattle.hq_laws_request.specs.Formed.{IsOfSession, MakesFormed}
+use Rattle.hq_laws_request.specs.Formed.Formed.{IsOfSession, MakesFormed}
 use Rattle.hq_model.specs.Catalog.{is_catalog}
 use Rattle.hq_model.specs.Fits.{fits}
 use Rattle.hq_model.specs.Meta.{MetaTree}

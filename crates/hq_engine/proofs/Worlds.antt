@@ -13,7 +13,7 @@ use Rattle.hq_reply.specs.RootObject.{own_value, root_members, of_database, root
 use Rattle.hq_request.specs.Request.{request_due}
 use Rattle.hq_request.specs.declared.refusal.RequestRefusal.{RequestRefusal}
 use Rattle.hq_request.specs.declared.refusal.RequestRefusal.TheVariants.{Fault, Memory}
-use Rattle.hq_laws_request.specs.Formed.{IsOfSession, MakesFormed}
+use Rattle.hq_laws_request.specs.Formed.Formed.{IsOfSession, MakesFormed}
 use Rattle.hq_schema_of_role.specs.RoleSchema.{role_schema}
 use Rattle.hq_schema.specs.Schema.{SchemaTree}
 use Rattle.hq_model.specs.Catalog.{is_catalog}

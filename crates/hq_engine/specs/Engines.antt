@@ -11,8 +11,8 @@ use Rattle.hq_engine.specs.Asking.{asked_text}
 use Rattle.hq_engine.specs.Replies.{due_reply}
 use Rattle.hq_request.specs.Request.{request_due, first_fault}
 use Rattle.hq_engine.specs.declared.engine.Engine.{Engine}
-use Rattle.hq_laws_build.specs.Faults.{IsValid}
-use Rattle.hq_laws_build.specs.Refusing.{is_of_building}
+use Rattle.hq_laws_request.specs.Built.Faults.{IsValid}
+use Rattle.hq_laws_request.specs.Built.Refusing.{is_of_building}
 use Rattle.hq_faults.specs.Faults.{rule_of}
 use Rattle.hq_faults.specs.declared.faults.RequestFault.{RequestFault}
 use Rattle.hq_request.specs.declared.refusal.RequestRefusal.{RequestRefusal}

@@ -9,7 +9,7 @@ use crate::{EngineRefusal, Stated, replies_agree};
 use hq_answer::Answer;
 use hq_base::{Memory, Reply};
 use hq_database::Database;
-use hq_laws_build::valid_faults;
+use hq_laws_request::valid_faults;
 use hq_laws_request::requests_are_formed;
 use hq_model::{Catalog, Meta, Role, Session};
 use hq_reply::{data_reply, fault_reply, tables_are_resolved};
@@ -40,7 +40,7 @@ impl Engine {
     ghost use Rattle.hq_reply.specs.TableObject.{AnswersNone, table_object};
     ghost use Rattle.hq_request.specs.Request.{is_answered};
     ghost use Rattle.hq_request.specs.declared.refusal.RequestRefusal.TheVariants as request;
-    ghost use Rattle.hq_laws_request.specs.Formed.{IsOfSession};
+    ghost use Rattle.hq_laws_request.specs.Formed.Formed.{IsOfSession};
     ghost use Rattle.hq_schema_of_role.specs.RoleSchema.{role_schema};
     ghost use Rattle.hq_schema.specs.Schema.{schema_view};
     ghost use Rattle.hq_model.specs.Database.{Row};

@@ -4,7 +4,7 @@ ghost use Rattle.hq_request_tree.specs.Request.{ask_view};
 ghost use Rattle.hq_translation.specs.Asked.{asked_statement};
 ghost use Rattle.hq_database.specs.Asked.{Asked, NotAsked};
 ghost use Rattle.hq_database.specs.Typed.{IsTyped};
-ghost use Rattle.hq_laws_request.specs.Formed.{IsOfSession};
+ghost use Rattle.hq_laws_request.specs.Formed.Formed.{IsOfSession};
 ghost use Rattle.hq_sql_text.specs.Readable.{Spells};
 ghost use Rattle.hq_sql_tree.specs.Spelling.{select_text};
 ghost use Rattle.hq_sql_tree.specs.Tree.{SelectTree};

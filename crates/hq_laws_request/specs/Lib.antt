@@ -1,3 +1,2 @@
-pub mod ObjectsNest
-pub mod Built
 pub mod Formed
+pub mod Built

@@ -1,8 +1,10 @@
-//! Laws of typed requests: what is built of a checked document, and so what a body makes, is a typed request of its session.
+//! The laws of requests: what a body makes is well-formed, and what is valid is built.
 #![tactic(auto)]
 
+mod formed;
 mod built;
-mod laws;
 
-pub use built::requests_are_built;
-pub use laws::requests_are_formed;
+pub use formed::requests_are_built;
+pub use formed::requests_are_formed;
+pub use built::valid_builds;
+pub use built::valid_faults;

@@ -20,7 +20,7 @@ use Rattle.hq_reply.specs.RootObject.{root_value, root_members, of_database, roo
 use Rattle.hq_request.specs.Request.{request_due}
 use Rattle.hq_request.specs.declared.refusal.RequestRefusal.{RequestRefusal}
 use Rattle.hq_request.specs.declared.refusal.RequestRefusal.TheVariants.{Fault, Memory}
-use Rattle.hq_laws_request.specs.Formed.{MakesFormed}
+use Rattle.hq_laws_request.specs.Formed.Formed.{MakesFormed}
 use Rattle.hq_schema_of_role.specs.RoleSchema.{role_schema}
 use Rattle.hq_schema.specs.Schema.{SchemaTree}
 use Rattle.hq_laws_renumbered.specs.Schemas.Blank.{blank}
