@@ -7,7 +7,7 @@ use Rattle.hq_model.specs.Permission.{Mask, Permission, option_list, permission}
 use Rattle.hq_model.specs.declared.role.Role.{Role}
 use Rattle.hq_model.specs.declared.table.Table.{Table}
 use Rattle.hq_request_tree.specs.Request.{BoundTree}
-use Rattle.hq_compile_context.specs.declared.context.Granted.{Granted}
+use Rattle.hq_compile_tables.specs.declared.context.Granted.{Granted}
 
 -- a table with its bound filter, the most rows of a list, and the bound masks
 pub record GrantedTree : Type 0 where

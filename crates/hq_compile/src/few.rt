@@ -8,11 +8,11 @@ ghost use Rattle.hq_request_tree.specs.Resolve.{origin_table};
 ghost use Rattle.hq_translation.specs.Aggregates.{needed};
 ghost use Rattle.hq_translation.specs.Correct.{AreFew, IsFew, AreFewParts, IsFewPart};
 ghost use Rattle.hq_translation.specs.Lists.{list_sorts};
-ghost use Rattle.hq_compile_context.specs.Contexts.{context_schema};
+ghost use Rattle.hq_compile_tables.specs.Contexts.{context_schema};
 ghost use Rattle.hq_compile.specs.Fields.{fields_view, parts_view};
 
 use hq_base::Memory;
-use hq_compile_context::Context;
+use hq_compile_tables::Context;
 use hq_compile_summaries::needed;
 use hq_model::{RelId, TableId};
 use hq_request_tree::{

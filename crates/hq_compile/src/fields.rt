@@ -11,7 +11,7 @@ ghost use Rattle.hq_translation.specs.Fields.{fields_numbers, field_numbers, par
 ghost use Rattle.hq_translation.specs.Looks.{own_look};
 ghost use Rattle.hq_translation.specs.Masks.{value_output};
 ghost use Rattle.hq_translation.specs.Names.{join_alias};
-ghost use Rattle.hq_compile_context.specs.Contexts.{context_schema, context_rights};
+ghost use Rattle.hq_compile_tables.specs.Contexts.{context_schema, context_rights};
 ghost use Rattle.hq_compile_tables.specs.Selects.{first_row};
 ghost use Rattle.hq_compile_tables.specs.Shown.{look_in};
 ghost use Rattle.hq_compile_lists.specs.Starts.{start_origin, start_table};
@@ -19,7 +19,7 @@ ghost use Rattle.hq_compile.specs.Fields.{fields_view, parts_view};
 
 use crate::used::{fields_used, key_used};
 use hq_base::{Memory, Txt, Val};
-use hq_compile_context::{Context, take_number};
+use hq_compile_tables::{Context, take_number};
 use hq_compile_lists::{
     ListStart, Row, empty_row, key_row, list_body, list_select, list_table, list_used, no_row,
     object, one_row,

@@ -5,13 +5,13 @@ ghost use Rattle.hq_model.specs.Schema.{schema_of};
 ghost use Rattle.hq_model.specs.Permission.{option_list};
 ghost use Rattle.hq_request_tree.specs.Request.{ask_view, bound_view, grants_in};
 ghost use Rattle.hq_translation.specs.Rights.{rights_of};
-ghost use Rattle.hq_compile_context.specs.Contexts.{rights_in};
+ghost use Rattle.hq_compile_tables.specs.Contexts.{rights_in};
 ghost use Rattle.hq_model_limits.specs.Limits.{rows_of};
 ghost use Rattle.hq_compile.specs.GrantedTrees.{granted_view, granted_with, granted_for, granted_all};
 ghost use Rattle.hq_model.specs.PermView.{mask_view};
 
 use hq_base::{List, Memory};
-use hq_compile_context::{Granted, GrantedList};
+use hq_compile_tables::{Granted, GrantedList};
 use hq_model::{Catalog, Mask, MaskList, Meta, Role};
 use hq_model_limits::{Limit, limit_of};
 use hq_request_tree::{Ask, Bound};

@@ -19,14 +19,14 @@ ghost use Rattle.hq_translation.specs.Fields.{fields_numbers};
 ghost use Rattle.hq_translation.specs.Statement.{statement};
 ghost use Rattle.hq_translation.specs.Asked.{asked_statement, IsHeld};
 ghost use Rattle.hq_laws_confine.specs.Own.Asks.{IsAskedConfined};
-ghost use Rattle.hq_compile_context.specs.Contexts.{context_schema, context_rights};
+ghost use Rattle.hq_compile_tables.specs.Contexts.{context_schema, context_rights};
 ghost use Rattle.hq_compile.specs.Fields.{fields_view};
 
 use crate::few::count_fields;
 use crate::fields::root_row;
 use crate::grants::granted;
 use hq_base::Memory;
-use hq_compile_context::Context;
+use hq_compile_tables::Context;
 use hq_compile_lists::{object, one_row};
 use hq_laws_confine::session_statements_are_confined;
 use hq_model::{Catalog, Meta, Scope, TableId};

@@ -2,11 +2,11 @@
 ghost use Rattle.std.specs.Prelude.{◌≡◌, ◌++◌, IfOk, OnOk};
 ghost use Rattle.hq_request_tree.specs.Fields.{field_view, keyed_field_view};
 ghost use Rattle.hq_translation.specs.Fields.{field_used, fields_used, key_used};
-ghost use Rattle.hq_compile_context.specs.Contexts.{context_schema};
+ghost use Rattle.hq_compile_tables.specs.Contexts.{context_schema};
 ghost use Rattle.hq_compile.specs.Fields.{fields_view};
 
 use hq_base::{List, Memory};
-use hq_compile_context::Context;
+use hq_compile_tables::Context;
 use hq_compile_lists::add_each;
 use hq_model::{ColList, TableId};
 use hq_request_tree::{AskField, AskFields, KeyedAskField};

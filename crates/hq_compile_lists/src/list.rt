@@ -13,7 +13,7 @@ ghost use Rattle.hq_translation.specs.Masks.{filter_numbers, filter_predicate, w
 ghost use Rattle.hq_translation.specs.Names.{fold_alias, value_name};
 ghost use Rattle.hq_translation.specs.Predicates.{predicate};
 ghost use Rattle.hq_translation.specs.Sorts.{sorts_numbers, sorts_joins, orders, key_outputs, output_orders};
-ghost use Rattle.hq_compile_context.specs.Contexts.{context_schema, context_rights};
+ghost use Rattle.hq_compile_tables.specs.Contexts.{context_schema, context_rights};
 ghost use Rattle.hq_compile_tables.specs.Shown.{look_in, look_of};
 ghost use Rattle.hq_compile_lists.specs.Bodies.{IsBody, rows_of};
 ghost use Rattle.hq_compile_lists.specs.Starts.{start_tie};
@@ -21,7 +21,7 @@ ghost use Rattle.hq_compile_lists.specs.Starts.{start_tie};
 use crate::row::{Row, object};
 use crate::start::{ListStart, list_tie};
 use hq_base::{Memory, Txt};
-use hq_compile_context::{Context, RowUse, fold_alias, row_limit, value_name, wide};
+use hq_compile_tables::{Context, RowUse, fold_alias, row_limit, value_name, wide};
 use hq_compile_masks::{mask_parts, where_predicate};
 use hq_compile_predicates::{MaskParts, row_members};
 use hq_compile_sorts::{SortParts, list_sorts, output_orders, sort_parts};

@@ -10,12 +10,12 @@ ghost use Rattle.hq_translation.specs.Fields.{key_members};
 ghost use Rattle.hq_translation.specs.Looks.{compared_at, type_in};
 ghost use Rattle.hq_translation.specs.Masks.{masks, shown_look, filter_numbers, filter_predicate};
 ghost use Rattle.hq_translation.specs.Selects.{filter_from, behind_filter};
-ghost use Rattle.hq_compile_context.specs.Contexts.{context_schema, context_rights};
+ghost use Rattle.hq_compile_tables.specs.Contexts.{context_schema, context_rights};
 ghost use Rattle.hq_compile_tables.specs.Shown.{look_in, look_of};
 ghost use Rattle.hq_compile_lists.specs.Starts.{start_table, start_tie};
 
 use hq_base::{Memory, Val};
-use hq_compile_context::{Context, take_number};
+use hq_compile_tables::{Context, take_number};
 use hq_compile_masks::{FirstRow, mask_parts};
 use hq_compile_predicates::row_members;
 use hq_compile_tables::{

@@ -3,10 +3,10 @@ ghost use Rattle.std.specs.Prelude.{◌≡◌, ◌++◌, IfOk, OnOk};
 ghost use Rattle.hq_request_tree.specs.Arguments.{arguments_view};
 ghost use Rattle.hq_translation.specs.Lists.{list_sorts, list_used, once};
 ghost use Rattle.hq_translation.specs.Sorts.{used_sorts};
-ghost use Rattle.hq_compile_context.specs.Contexts.{context_schema};
+ghost use Rattle.hq_compile_tables.specs.Contexts.{context_schema};
 
 use hq_base::{List, Memory};
-use hq_compile_context::Context;
+use hq_compile_tables::Context;
 use hq_compile_masks::add_columns;
 use hq_compile_sorts::{add_used_sorts, list_sorts};
 use hq_compile_tables::each_once;

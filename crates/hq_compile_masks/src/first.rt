@@ -6,12 +6,12 @@ ghost use Rattle.hq_translation.specs.Conditions.{with_member};
 ghost use Rattle.hq_translation.specs.Masks.{masks, shown_look, filter_numbers, filter_predicate};
 ghost use Rattle.hq_translation.specs.Predicates.{link};
 ghost use Rattle.hq_translation.specs.Selects.{filter_from, behind_filter};
-ghost use Rattle.hq_compile_context.specs.Contexts.{context_schema, context_rights};
+ghost use Rattle.hq_compile_tables.specs.Contexts.{context_schema, context_rights};
 ghost use Rattle.hq_compile_tables.specs.Shown.{look_in};
 
 use crate::masks::mask_parts;
 use hq_base::Memory;
-use hq_compile_context::{Context, take_number};
+use hq_compile_tables::{Context, take_number};
 use hq_compile_predicates::{MaskParts, row_members};
 use hq_compile_tables::link;
 use hq_model::{ColId, RelId, TableId};

@@ -8,12 +8,12 @@ ghost use Rattle.hq_translation.specs.Conditions.{where_of, with_member};
 ghost use Rattle.hq_translation.specs.Masks.{value_output, mask_numbers, mask_select, mask_joins, extra, masks, shown_look};
 ghost use Rattle.hq_translation.specs.Names.{table_alias, join_alias};
 ghost use Rattle.hq_translation.specs.Predicates.{own_numbers, own_predicate};
-ghost use Rattle.hq_compile_context.specs.Contexts.{context_schema, context_rights};
+ghost use Rattle.hq_compile_tables.specs.Contexts.{context_schema, context_rights};
 ghost use Rattle.hq_compile_tables.specs.Shown.{look_in};
 ghost use Rattle.hq_compile_masks.specs.MaskPlaces.{used_of, mask_places};
 
 use hq_base::{List, Memory};
-use hq_compile_context::{Context, table_alias, take_number};
+use hq_compile_tables::{Context, table_alias, take_number};
 use hq_compile_predicates::{MaskParts, own_predicate};
 use hq_compile_tables::{
     MaskPlace, first_member, is_used, one_join, own_column, value_output, where_of,

@@ -6,13 +6,13 @@ ghost use Rattle.hq_sql_tree.specs.View.{pred_view};
 ghost use Rattle.hq_translation.specs.Lists.{where_numbers};
 ghost use Rattle.hq_translation.specs.Masks.{where_mode};
 ghost use Rattle.hq_translation.specs.Predicates.{predicate};
-ghost use Rattle.hq_compile_context.specs.Contexts.{context_schema, context_rights};
+ghost use Rattle.hq_compile_tables.specs.Contexts.{context_schema, context_rights};
 ghost use Rattle.hq_compile_tables.specs.Shown.{look_in};
 
 use crate::masks::mask_parts;
 use crate::used::columns_in;
 use hq_base::Memory;
-use hq_compile_context::Context;
+use hq_compile_tables::Context;
 use hq_compile_predicates::{Counted, MaskParts, filter_predicate, predicate_of};
 use hq_compile_tables::MaskPlace;
 use hq_model::{Bexp, TableId};

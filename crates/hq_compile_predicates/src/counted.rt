@@ -2,7 +2,7 @@
 ghost use Rattle.std.specs.Prelude.{◌≡◌, ◌+◌};
 
 use hq_base::{List, Memory};
-use hq_compile_context::Context;
+use hq_compile_tables::Context;
 use hq_compile_tables::MaskPlaceList;
 use hq_model::{Bexp, TableId};
 use hq_sql_tree::{JoinList, Pred};
@@ -24,7 +24,7 @@ pub trait Counted {
     ghost use Rattle.hq_sql_tree.specs.View.{join_view, pred_view};
     ghost use Rattle.hq_translation.specs.Predicates.{Mode, columns_in};
     ghost use Rattle.hq_translation.specs.Rights.{Rights};
-    ghost use Rattle.hq_compile_context.specs.Contexts.{context_schema, context_rights};
+    ghost use Rattle.hq_compile_tables.specs.Contexts.{context_schema, context_rights};
     ghost use Rattle.hq_compile_tables.specs.Shown.{look_in};
 
     /// What a remote alias has beside its link.

@@ -8,13 +8,13 @@ ghost use Rattle.hq_translation.specs.Conditions.{with_member, where_of};
 ghost use Rattle.hq_translation.specs.Looks.{own_look};
 ghost use Rattle.hq_translation.specs.Predicates.{columns_in, numbers, numbers_all, counted_rows, inner_from, predicate, predicates, own_predicate, own_numbers};
 ghost use Rattle.hq_translation.specs.Masks.{filter_numbers, filter_predicate};
-ghost use Rattle.hq_compile_context.specs.Contexts.{context_schema, context_rights};
+ghost use Rattle.hq_compile_tables.specs.Contexts.{context_schema, context_rights};
 ghost use Rattle.hq_compile_tables.specs.Selects.{exists_where};
 ghost use Rattle.hq_compile_tables.specs.Shown.{look_in};
 
 use crate::counted::{AllRows, Counted};
 use hq_base::Memory;
-use hq_compile_context::{Context, take_number};
+use hq_compile_tables::{Context, take_number};
 use hq_compile_tables::{
     MaskPlace, column_test, columns_test, exists_where, first_member, joined_by_and, joined_by_or,
     link, negation, table_shown, with_member,

@@ -8,7 +8,7 @@ ghost use Rattle.hq_translation.specs.Looks.{type_in, compared_form, cell_at};
 ghost use Rattle.hq_translation.specs.Masks.{value_output};
 ghost use Rattle.hq_translation.specs.Names.{fold_alias, join_alias, key_name};
 ghost use Rattle.hq_translation.specs.Sorts.{end_of, sort_form, sort_place, sort_numbers, sort_joins, sorts_numbers, sorts_joins, orders, key_outputs, output_orders};
-ghost use Rattle.hq_compile_context.specs.Contexts.{context_schema, context_rights};
+ghost use Rattle.hq_compile_tables.specs.Contexts.{context_schema, context_rights};
 ghost use Rattle.hq_compile_tables.specs.Selects.{first_row};
 ghost use Rattle.hq_compile_tables.specs.Shown.{look_in};
 ghost use Rattle.hq_compile_sorts.specs.RowSorts.{row_sort_view};
@@ -16,7 +16,7 @@ ghost use Rattle.hq_compile_sorts.specs.RowSorts.{row_sort_view};
 use crate::sorts::RowSort;
 use crate::used::last_used;
 use hq_base::Memory;
-use hq_compile_context::{Context, fold_alias, key_name};
+use hq_compile_tables::{Context, fold_alias, key_name};
 use hq_compile_masks::{FirstRow, remote_row};
 use hq_compile_tables::{
     MaskPlace, both_joins, column_at, compared_form, first_row, one_join, table_column, type_in,

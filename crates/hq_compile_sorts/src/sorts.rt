@@ -4,11 +4,11 @@ ghost use Rattle.hq_model.specs.Selected.{ascending, entries, sorts_or};
 ghost use Rattle.hq_request_tree.specs.Arguments.{arguments_view, sort_view};
 ghost use Rattle.hq_translation.specs.Sorts.{shown_sorts, own_sorts};
 ghost use Rattle.hq_translation.specs.Lists.{once, list_sorts};
-ghost use Rattle.hq_compile_context.specs.Contexts.{context_schema};
+ghost use Rattle.hq_compile_tables.specs.Contexts.{context_schema};
 ghost use Rattle.hq_compile_sorts.specs.RowSorts.{row_sort_view};
 
 use hq_base::{List, Memory};
-use hq_compile_context::Context;
+use hq_compile_tables::Context;
 use hq_compile_tables::each_once;
 use hq_model::{ColId, TableId};
 use hq_request_tree::{Args, RelIdList, Sort};

@@ -8,13 +8,13 @@ ghost use Rattle.hq_translation.specs.Names.{fold_alias, value_name, needed_name
 ghost use Rattle.hq_translation.specs.Aggregates.{needed, needed_cell, counted_form, taken_value, taken_pairs, count_value, summary_value, summary_pairs, needed_columns, needed_outputs, summary_used, summary_numbers, folded_select, plain_select, summary_select};
 ghost use Rattle.hq_translation.specs.Lists.{list_used, list_rows, children_from};
 ghost use Rattle.hq_translation.specs.Masks.{shown_look};
-ghost use Rattle.hq_compile_context.specs.Contexts.{context_schema, context_rights};
+ghost use Rattle.hq_compile_tables.specs.Contexts.{context_schema, context_rights};
 ghost use Rattle.hq_compile_tables.specs.Shown.{look_in, look_of};
 ghost use Rattle.hq_compile_lists.specs.Starts.{start_tie};
 
 use crate::needs::{needed, place_of, some_aggregate};
 use hq_base::{Aggregate, Memory, Ty};
-use hq_compile_context::{
+use hq_compile_tables::{
     Context, RowUse, fold_alias, needed_name, row_limit, unit_name, value_name,
 };
 use hq_compile_lists::{ListStart, fold, list_body, list_rows, list_used, object, one_row};

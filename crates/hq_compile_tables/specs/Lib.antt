@@ -1,2 +1,4 @@
+pub mod Contexts
+pub mod Limits
 pub mod Selects
 pub mod Shown

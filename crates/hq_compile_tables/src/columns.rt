@@ -6,7 +6,7 @@ ghost use Rattle.hq_translation.specs.Looks.{name_of, shown_form, compared_form,
 ghost use Rattle.hq_translation.specs.Masks.{value_place};
 
 use hq_base::{List, Memory, Txt, Ty};
-use hq_compile_context::{join_alias, table_alias, value_name};
+use crate::{join_alias, table_alias, value_name};
 use hq_model::{ColId, ColList, Column, Test};
 use hq_sql_tree::{ColumnForm, Expr};
 use std::alloc::Global;

@@ -3,6 +3,9 @@
 
 mod columns;
 mod condition;
+mod context;
+mod limit;
+mod names;
 mod shown;
 mod table;
 
@@ -21,4 +24,9 @@ pub use shown::{
 pub use table::{
     both_joins, exists_where, first_row, first_select, from_table, key_orders, link, one_join,
     value_output,
+};
+pub use context::{Context, Granted, GrantedList};
+pub use limit::{RowUse, row_limit, wide};
+pub use names::{
+    fold_alias, join_alias, key_name, needed_name, table_alias, take_number, unit_name, value_name,
 };

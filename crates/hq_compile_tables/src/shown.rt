@@ -4,12 +4,12 @@ ghost use Rattle.hq_model.specs.Schema.{table};
 ghost use Rattle.hq_sql_tree.specs.Tree as tree;
 ghost use Rattle.hq_sql_tree.specs.View.{expr_view};
 ghost use Rattle.hq_translation.specs.Looks.{cell_at, compared_at, tested_at, shown_at};
-ghost use Rattle.hq_compile_context.specs.Contexts.{context_schema};
+ghost use Rattle.hq_compile_tables.specs.Contexts.{context_schema};
 ghost use Rattle.hq_compile_tables.specs.Shown.{look_in, look_of};
 
 use crate::columns::{column_at, compared_form, shown_form, tested_form, type_in, value_at};
 use hq_base::{List, Memory};
-use hq_compile_context::Context;
+use crate::Context;
 use hq_model::{ColId, Column, TableId, Test};
 use hq_sql_tree::{ColumnForm, Expr};
 use std::alloc::Global;

@@ -3,7 +3,7 @@ use Rattle.std.proofs.lemmas.List.{drop_more}
 use Rattle.hq_request_tree.specs.declared.field.KeyedAggPart.{KeyedAggPart}
 use Rattle.hq_request_tree.specs.declared.field.KeyedAskField.{KeyedAskField}
 use Rattle.hq_translation.specs.Correct.{AreFew, AreFewParts}
-use Rattle.hq_compile_context.specs.Contexts.{context_schema}
+use Rattle.hq_compile_tables.specs.Contexts.{context_schema}
 use Rattle.hq_compile.specs.Fields.{fields_view, parts_view}
 use Rattle.hq_compile.proofs.few.+few.Goals as goal
 

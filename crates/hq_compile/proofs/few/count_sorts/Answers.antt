@@ -2,7 +2,7 @@ use Rattle.std.proofs.Common.{◌≤◌, ◌+◌, ap, length, arith}
 use Rattle.std.proofs.lemmas.Result.{on_ok_weaker}
 use Rattle.hq_request_tree.specs.Arguments.{arguments_view}
 use Rattle.hq_translation.specs.Lists.{list_sorts}
-use Rattle.hq_compile_context.specs.Contexts.{context_schema}
+use Rattle.hq_compile_tables.specs.Contexts.{context_schema}
 use Rattle.hq_compile.proofs.SortCounts.{list_sorts-length}
 use Rattle.hq_compile.proofs.few.count_sorts.Goals as goal
 

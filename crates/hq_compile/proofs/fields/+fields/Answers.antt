@@ -10,7 +10,7 @@ use Rattle.hq_sql_tree.specs.View.{pair_view, join_view}
 use Rattle.hq_sql_tree.specs.declared.expr.ExprPair.{ExprPair}
 use Rattle.hq_sql_tree.specs.declared.select.Join.{Join}
 use Rattle.hq_translation.specs.Fields.{field_value, field_numbers, fields_numbers, field_joins, fields_values, fields_joins, part_value, part_numbers, parts_numbers, parts_values, part_joins, parts_joins}
-use Rattle.hq_compile_context.specs.Contexts.{context_schema, context_rights}
+use Rattle.hq_compile_tables.specs.Contexts.{context_schema, context_rights}
 use Rattle.hq_compile_tables.specs.Shown.{look_in}
 use Rattle.hq_compile_tables.specs.declared.shown.MaskPlace.{MaskPlace}
 use Rattle.hq_compile_lists.specs.Starts.{start_origin, start_table, start_tie}

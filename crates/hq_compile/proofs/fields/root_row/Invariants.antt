@@ -5,7 +5,7 @@ use Rattle.hq_sql_tree.specs.View.{pair_view, join_view}
 use Rattle.hq_translation.specs.Fields.{fields_numbers, fields_values, fields_joins}
 use Rattle.hq_translation.specs.Looks.{own_look}
 use Rattle.hq_translation.specs.Rights.{Rights}
-use Rattle.hq_compile_context.specs.Contexts.{context_schema, context_rights}
+use Rattle.hq_compile_tables.specs.Contexts.{context_schema, context_rights}
 use Rattle.hq_compile.specs.Fields.{fields_view}
 use Rattle.hq_compile.proofs.fields.root_row.Given as goal
 

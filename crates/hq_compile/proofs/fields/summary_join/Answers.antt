@@ -2,7 +2,7 @@ use Rattle.std.proofs.Common.{refl}
 use Rattle.std.proofs.lemmas.Result.{IfOk-weaker}
 use Rattle.hq_request_tree.specs.Arguments.{arguments_view}
 use Rattle.hq_sql_tree.specs.View.{join_view}
-use Rattle.hq_compile_context.specs.Contexts.{context_schema, context_rights}
+use Rattle.hq_compile_tables.specs.Contexts.{context_schema, context_rights}
 use Rattle.hq_compile_lists.specs.Starts.{start_origin}
 use Rattle.hq_compile.proofs.Joins.{summary_of}
 use Rattle.hq_compile.proofs.fields.summary_join.Goals as goal

@@ -6,7 +6,7 @@ use Rattle.hq_request_tree.specs.Root.{table_fields}
 use Rattle.hq_translation.specs.Correct.{AreFew}
 use Rattle.hq_translation.specs.Fields.{fields_numbers}
 use Rattle.hq_translation.specs.Rights.{Rights}
-use Rattle.hq_compile_context.specs.Contexts.{rights_in}
+use Rattle.hq_compile_tables.specs.Contexts.{rights_in}
 use Rattle.hq_compile.proofs.Requests.{few_tables, numbered_long}
 use Rattle.hq_compile.specs.Fields.{fields_view}
 use Rattle.hq_compile.proofs.statement.asked.Goals as goal

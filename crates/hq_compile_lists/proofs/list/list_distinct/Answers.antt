@@ -3,7 +3,7 @@ use Rattle.std.proofs.lemmas.Result.{IfOk-weaker}
 use Rattle.hq_model.specs.Schema.{table}
 use Rattle.hq_translation.specs.Lists.{distinct_columns}
 use Rattle.hq_translation.specs.Looks.{add_all}
-use Rattle.hq_compile_context.specs.Contexts.{context_schema}
+use Rattle.hq_compile_tables.specs.Contexts.{context_schema}
 use Rattle.hq_compile_tables.specs.Shown.{look_in}
 use Rattle.hq_compile_lists.proofs.Selects.{distinct_as}
 use Rattle.hq_compile_lists.proofs.list.list_distinct.Goals as goal

@@ -6,7 +6,7 @@ use Rattle.hq_sql_tree.specs.Tree.{PredTree}
 use Rattle.hq_translation.specs.Conditions.{with_member}
 use Rattle.hq_translation.specs.Masks.{filter_numbers, filter_predicate, where_mode}
 use Rattle.hq_translation.specs.Predicates.{predicate}
-use Rattle.hq_compile_context.specs.Contexts.{context_schema, context_rights}
+use Rattle.hq_compile_tables.specs.Contexts.{context_schema, context_rights}
 use Rattle.hq_compile_tables.proofs.Members.{three_members}
 use Rattle.hq_compile_tables.specs.Shown.{look_in}
 use Rattle.hq_compile_lists.specs.Starts.{start_tie}

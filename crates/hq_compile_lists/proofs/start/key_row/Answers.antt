@@ -1,7 +1,7 @@
 use Rattle.std.proofs.Common.{◌≡◌, ◌∙◌, ℕ, ◌+◌, List, ap, refl, arith}
 use Rattle.hq_model.specs.Schema.{table}
 use Rattle.hq_translation.specs.Masks.{filter_numbers}
-use Rattle.hq_compile_context.specs.Contexts.{context_schema, context_rights}
+use Rattle.hq_compile_tables.specs.Contexts.{context_schema, context_rights}
 use Rattle.hq_compile_tables.specs.Shown.{look_in}
 use Rattle.hq_compile_tables.specs.declared.shown.MaskPlace.{MaskPlace}
 use Rattle.hq_compile_masks.proofs.Firsts.{joins_at, looks_at, filter_at}

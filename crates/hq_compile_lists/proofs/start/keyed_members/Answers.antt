@@ -4,7 +4,7 @@ use Rattle.hq_model.specs.Schema.{table}
 use Rattle.hq_sql_tree.specs.Tree.{PredTree}
 use Rattle.hq_translation.specs.Conditions.{joined_by_and, with_member}
 use Rattle.hq_translation.specs.Masks.{filter_predicate}
-use Rattle.hq_compile_context.specs.Contexts.{context_schema, context_rights}
+use Rattle.hq_compile_tables.specs.Contexts.{context_schema, context_rights}
 use Rattle.hq_compile_lists.proofs.Keys.{key_members_as}
 use Rattle.hq_compile_lists.proofs.start.keyed_members.Goals as goal
 

@@ -1,7 +1,7 @@
 use Rattle.std.proofs.Common.{◌≡◌, ◌∙◌, ℕ, ◌+◌, ap, arith}
 use Rattle.hq_model.specs.Schema.{rel}
 use Rattle.hq_translation.specs.Masks.{filter_numbers}
-use Rattle.hq_compile_context.specs.Contexts.{context_schema, context_rights}
+use Rattle.hq_compile_tables.specs.Contexts.{context_schema, context_rights}
 use Rattle.hq_compile_masks.proofs.Firsts.{joins_at, looks_at, filter_at, linked_at}
 use Rattle.hq_compile_masks.proofs.first.remote_row.Goals as goal
 

@@ -6,7 +6,7 @@ use Rattle.hq_model.specs.Schema.{table}
 use Rattle.hq_model.specs.declared.perm.Mask.{Mask}
 use Rattle.hq_sql_tree.specs.View.{join_view}
 use Rattle.hq_translation.specs.Masks.{mask_numbers, mask_joins, used_masks}
-use Rattle.hq_compile_context.specs.Contexts.{context_schema, context_rights}
+use Rattle.hq_compile_tables.specs.Contexts.{context_schema, context_rights}
 use Rattle.hq_compile_tables.specs.Shown.{look_in}
 use Rattle.hq_compile_tables.specs.declared.shown.MaskPlace.{MaskPlace}
 use Rattle.hq_compile_tables.proofs.Loops.{rest-more, count-more}

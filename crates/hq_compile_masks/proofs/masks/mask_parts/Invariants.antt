@@ -3,7 +3,7 @@ use Rattle.hq_model.specs.PermView.{mask_view}
 use Rattle.hq_model.specs.Schema.{Schema}
 use Rattle.hq_sql_tree.specs.View.{join_view}
 use Rattle.hq_translation.specs.Masks.{mask_numbers, mask_joins}
-use Rattle.hq_compile_context.specs.Contexts.{context_schema}
+use Rattle.hq_compile_tables.specs.Contexts.{context_schema}
 use Rattle.hq_compile_masks.specs.MaskPlaces.{used_of, mask_places}
 use Rattle.hq_compile_masks.proofs.masks.mask_parts.Given as goal
 

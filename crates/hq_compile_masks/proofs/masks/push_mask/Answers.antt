@@ -2,7 +2,7 @@ use Rattle.std.proofs.Common.{◌∙◌, map, sym}
 use Rattle.std.proofs.lemmas.Result.{on_ok_weaker}
 use Rattle.hq_model.specs.PermView.{mask_view}
 use Rattle.hq_sql_tree.specs.View.{join_view}
-use Rattle.hq_compile_context.specs.Contexts.{context_schema}
+use Rattle.hq_compile_tables.specs.Contexts.{context_schema}
 use Rattle.hq_compile_masks.proofs.Places.{joins_if, places_if, numbers_if, no_joins, no_places, no_numbers}
 use Rattle.hq_compile_masks.proofs.masks.push_mask.Goals as goal
 

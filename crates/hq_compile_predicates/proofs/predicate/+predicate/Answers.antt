@@ -9,7 +9,7 @@ use Rattle.hq_sql_tree.specs.declared.select.Pred.{the_lemmas}
 use Rattle.hq_sql_tree.specs.declared.select.Pred.TheVariants.{True}
 use Rattle.hq_translation.specs.Looks.{own_look}
 use Rattle.hq_translation.specs.Predicates.{numbers, numbers_all, predicate, predicates}
-use Rattle.hq_compile_context.specs.Contexts.{context_schema, context_rights}
+use Rattle.hq_compile_tables.specs.Contexts.{context_schema, context_rights}
 use Rattle.hq_compile_tables.specs.Shown.{look_in}
 use Rattle.hq_compile_tables.specs.declared.shown.MaskPlace.{MaskPlace}
 use Rattle.hq_compile_tables.proofs.Loops.{viewed_rest-more, count-more}

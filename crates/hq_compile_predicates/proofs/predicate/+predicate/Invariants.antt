@@ -3,7 +3,7 @@ use Rattle.hq_model.specs.Bexp.{bexp_view, bexps_of}
 use Rattle.hq_model.specs.Schema.{Schema, table}
 use Rattle.hq_sql_tree.specs.View.{pred_view}
 use Rattle.hq_translation.specs.Predicates.{Mode, numbers_all, predicates}
-use Rattle.hq_compile_context.specs.Contexts.{context_schema, context_rights}
+use Rattle.hq_compile_tables.specs.Contexts.{context_schema, context_rights}
 use Rattle.hq_compile_tables.specs.Shown.{look_in}
 use Rattle.hq_compile_predicates.proofs.predicate.+predicate.Given as goal
 

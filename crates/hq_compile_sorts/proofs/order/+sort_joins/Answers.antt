@@ -2,7 +2,7 @@ use Rattle.std.proofs.Common.{◌∙◌, ℕ, List, map, ap}
 use Rattle.std.proofs.lemmas.Result.{IfOk-weaker}
 use Rattle.hq_sql_tree.specs.View.{join_view}
 use Rattle.hq_translation.specs.Sorts.{sort_joins}
-use Rattle.hq_compile_context.specs.Contexts.{context_schema, context_rights}
+use Rattle.hq_compile_tables.specs.Contexts.{context_schema, context_rights}
 use Rattle.hq_compile_sorts.proofs.Steps.{first_and_rest, step_of}
 use Rattle.hq_compile_sorts.proofs.order.+sort_joins.Goals as goal
 

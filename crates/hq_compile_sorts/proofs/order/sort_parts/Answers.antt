@@ -3,7 +3,7 @@ use Rattle.std.proofs.lemmas.List.{append-nil, at_drop_all}
 use Rattle.hq_model.specs.Schema.{table}
 use Rattle.hq_sql_tree.specs.View.{join_view, order_view, out_view}
 use Rattle.hq_translation.specs.Sorts.{sort_numbers, sort_joins, sorts_numbers, sorts_joins, orders, key_outputs}
-use Rattle.hq_compile_context.specs.Contexts.{context_schema, context_rights}
+use Rattle.hq_compile_tables.specs.Contexts.{context_schema, context_rights}
 use Rattle.hq_compile_tables.specs.Shown.{look_in}
 use Rattle.hq_compile_tables.proofs.Loops.{rest-more, count-more}
 use Rattle.hq_compile_sorts.specs.declared.sorts.RowSort.{RowSort}

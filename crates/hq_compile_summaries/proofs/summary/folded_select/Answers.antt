@@ -4,7 +4,7 @@ use Rattle.hq_model.specs.declared.table.Column.{Column}
 use Rattle.hq_request_tree.specs.Arguments.{arguments_view}
 use Rattle.hq_sql_tree.specs.View.{select_view}
 use Rattle.hq_translation.specs.Lists.{list_used, children_from}
-use Rattle.hq_compile_context.specs.Contexts.{context_schema, context_rights}
+use Rattle.hq_compile_tables.specs.Contexts.{context_schema, context_rights}
 use Rattle.hq_compile_lists.specs.Starts.{start_tie}
 use Rattle.hq_compile_summaries.proofs.Selects.{folded_of, output_of}
 use Rattle.hq_compile_summaries.proofs.summary.folded_select.Goals as goal

@@ -3,7 +3,7 @@ use Rattle.std.proofs.lemmas.Result.{IfOk-weaker}
 use Rattle.hq_model.specs.Schema.{table}
 use Rattle.hq_translation.specs.Aggregates.{needed_outputs}
 use Rattle.hq_translation.specs.Looks.{Look}
-use Rattle.hq_compile_context.specs.Contexts.{context_schema}
+use Rattle.hq_compile_tables.specs.Contexts.{context_schema}
 use Rattle.hq_compile_tables.proofs.Looks.{shown_as}
 use Rattle.hq_compile_summaries.proofs.summary.row_outputs.Goals as goal
 

@@ -1,8 +1,8 @@
 use Rattle.std.proofs.Common.{◌∙◌, [], Option, map, ap}
 use Rattle.std.specs.Prelude.{option_map, unwrap_or}
 use Rattle.hq_model.specs.PermView.{mask_view}
-use Rattle.hq_compile_context.specs.declared.context.Granted.{Granted}
-use Rattle.hq_compile_context.proofs.context.Context.masks.Goals as goal
+use Rattle.hq_compile_tables.specs.declared.context.Granted.{Granted}
+use Rattle.hq_compile_tables.proofs.context.Context.masks.Goals as goal
 
 -- the masks are those of what is granted of the table
 pub returns-in-Some : goal.returns-in-Some

@@ -28,7 +28,7 @@ impl<'a> Context<'a> {
     ghost use Rattle.std.specs.Prelude.{◌≡◌, ◌==◌, find, map, option_copied};
     ghost use Rattle.hq_model.specs.PermView.{mask_view};
     ghost use Rattle.hq_model.specs.Schema.{table, rel};
-    ghost use Rattle.hq_compile_context.specs.Contexts.{context_schema, context_rights};
+    ghost use Rattle.hq_compile_tables.specs.Contexts.{context_schema, context_rights};
 
     /// The columns of a table; none beyond the catalog.
     pub fn columns(&self, t: TableId) -> &'a [Column]

@@ -5,8 +5,8 @@ use Rattle.hq_model.specs.PermView.{mask_view}
 use Rattle.hq_model.specs.Schema.{Schema}
 use Rattle.hq_model.specs.Scope.{scope_schema}
 use Rattle.hq_translation.specs.Rights.{Rights}
-use Rattle.hq_compile_context.specs.declared.context.Granted.{Granted}
-use Rattle.hq_compile_context.specs.declared.context.Context.{Context}
+use Rattle.hq_compile_tables.specs.declared.context.Granted.{Granted}
+use Rattle.hq_compile_tables.specs.declared.context.Context.{Context}
 
 -- what these entries grant: nothing of a table without one
 abbrev pub rights_in : List Granted → Rights
