@@ -10,7 +10,7 @@ ghost use Rattle.hq_model.specs.PermView.{mask_view, permission_view};
 ghost use Rattle.hq_model.specs.Schema.{no_table};
 ghost use Rattle.hq_model.specs.Scope.{scope_schema};
 ghost use Rattle.hq_model.specs.declared.bind.BindRefusal.TheVariants as refusal;
-ghost use Rattle.hq_request_bound.specs.Bound.{mask_due};
+ghost use Rattle.hq_request_build.specs.Bound.{mask_due};
 
 use hq_base::Memory;
 use hq_model::{Bexp, BindRefusal, Mask, MaskList, PermView, Role, Scope, Session, TableId};

@@ -1,7 +1,7 @@
 //! What a session is granted of the tables that are copied: their permissions with filter and masks bound.
 ghost use Rattle.std.specs.Prelude.{◌≡◌, map};
 ghost use Rattle.hq_base.specs.Due.{Gives};
-ghost use Rattle.hq_request_bound.specs.Bound.{mask_due};
+ghost use Rattle.hq_request_build.specs.Bound.{mask_due};
 ghost use Rattle.hq_copy_definition.specs.Refusals.{not_bound};
 ghost use Rattle.hq_copy_definition.specs.declared.refusal.CopyRefusal.TheVariants as refusal;
 ghost use Rattle.hq_copy_tables.specs.Views.{source_view};

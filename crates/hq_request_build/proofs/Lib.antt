@@ -1,3 +1,7 @@
+pub mod Joined
+pub mod Views
+pub mod Sessions
+pub mod Masks
 pub mod Walks
 pub mod Ends
 pub mod Steps

@@ -26,7 +26,7 @@ use hq_base::Memory;
 use hq_gql_tree::{Document, Fault, Operation, RuleId};
 use hq_model::{BindRefusal, Catalog, Meta, Role, Scope, Session, TableId};
 use hq_request_arguments::Context;
-use hq_request_bound::bound_tables;
+use crate::bound_tables;
 use hq_request_coerce::{CoerceRefusal, OpRef, VarValues, fault_of, operation_at};
 use hq_request_collect::{
     CollectedList, Fragments, Request, collected_tree, is_bounded, is_narrow, is_small,

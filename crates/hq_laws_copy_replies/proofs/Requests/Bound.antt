@@ -4,7 +4,7 @@ use Rattle.std.proofs.lemmas.Bool.{eqb-true}
 use Rattle.hq_base.specs.Due.{mapped, and_then}
 use Rattle.hq_base.specs.Lists.{Each}
 use Rattle.hq_request_tree.specs.Request.{BoundTree}
-use Rattle.hq_request_bound.specs.Bound.{of_table, bound_of, bound_due, bounds_due}
+use Rattle.hq_request_build.specs.Bound.{of_table, bound_of, bound_due, bounds_due}
 use Rattle.hq_model.specs.Bexp.{always, or_of, no_bexp}
 use Rattle.hq_model.specs.Binding.{bound_permission}
 use Rattle.hq_model.specs.Fits.{fits}

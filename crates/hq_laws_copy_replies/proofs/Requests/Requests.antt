@@ -8,8 +8,8 @@ use Rattle.hq_request_build.specs.Known.{Due}
 use Rattle.hq_request_tree.specs.Fields.{FieldTrees}
 use Rattle.hq_request_tree.specs.Request.{BoundTree, AskTree}
 use Rattle.hq_request_tree.specs.Touched.{touched}
-use Rattle.hq_request_bound.specs.Bound.{bounds_due}
-use Rattle.hq_request_bound.specs.Laws.{request_of}
+use Rattle.hq_request_build.specs.Bound.{bounds_due}
+use Rattle.hq_request_build.specs.Laws.{request_of}
 use Rattle.hq_request_coerce.specs.Choice.{operation_at}
 use Rattle.hq_request_coerce.specs.Due.{variables_due}
 use Rattle.hq_request_coerce.specs.Variables.{VarTree}

@@ -21,7 +21,7 @@ use Rattle.hq_model.specs.declared.session.Var.{Var}
 use Rattle.hq_model.specs.declared.test.Test.{Test}
 use Rattle.hq_model.specs.declared.want.Want.{Want}
 use Rattle.hq_request_tree.specs.Request.{BoundTree}
-use Rattle.hq_request_bound.specs.Bound.{of_table, bound_of, bound_due, bounds_due}
+use Rattle.hq_request_build.specs.Bound.{of_table, bound_of, bound_due, bounds_due}
 
 -- a value, or the fault of a variable
 abbrev pub OfVariables : {A : Type 0} → Result A BindRefusal → Type 0

@@ -56,8 +56,8 @@ use Rattle.hq_request_collect.specs.Tree.{CollectedTrees}
 use Rattle.hq_request_tree.specs.Fields.{FieldTrees}
 use Rattle.hq_request_tree.specs.Request.{BoundTree, AskTree}
 use Rattle.hq_request_tree.specs.Touched.{touched}
-use Rattle.hq_request_bound.specs.Bound.{bounds_due}
-use Rattle.hq_request_bound.specs.Laws.{request_of}
+use Rattle.hq_request_build.specs.Bound.{bounds_due}
+use Rattle.hq_request_build.specs.Laws.{request_of}
 use Rattle.hq_request_build.specs.Due.{operation_of, within_limits, collected_fields, collected_due, root_due, with_fault, bound_in, build_due}
 use Rattle.hq_request_build.specs.Known.{Due}
 use Rattle.hq_laws_request.specs.Built.Builds.{is_constant, has_constant}

@@ -39,8 +39,8 @@ use Rattle.hq_request_tree.specs.TypeNames.{RootNamed, FieldNamed, PartNamed}
 use Rattle.hq_request_tree.specs.Uses.{UsesHere, UsesPart}
 use Rattle.hq_request_tree.specs.WellFormed.{IsRequest}
 use Rattle.hq_request_arguments.specs.Context.{Context}
-use Rattle.hq_request_bound.specs.Bound.{bounds_due}
-use Rattle.hq_request_bound.specs.Laws.{request_of, IsBound, BoundForSession}
+use Rattle.hq_request_build.specs.Bound.{bounds_due}
+use Rattle.hq_request_build.specs.Laws.{request_of, IsBound, BoundForSession}
 use Rattle.hq_request_build.specs.Asked.{fields_due}
 use Rattle.hq_request_build.specs.Due.{operation_of, collected_due, with_fault, bound_in, build_due}
 use Rattle.hq_request_build.specs.Known.{Due}

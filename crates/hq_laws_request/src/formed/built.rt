@@ -7,7 +7,7 @@ ghost use Rattle.hq_gql_tree.specs.Documents.{DocumentTree};
 ghost use Rattle.hq_request_coerce.specs.Variables.{VarTree};
 ghost use Rattle.hq_laws_request.specs.Formed.Built.{Builds};
 
-use hq_request_bound::bound_for_sessions;
+use hq_request_build::bound_for_sessions;
 use hq_request_collect::collected_apart;
 use hq_schema_roles::leads_where_permitted;
 

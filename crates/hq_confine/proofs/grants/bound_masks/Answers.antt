@@ -8,8 +8,8 @@ use Rattle.hq_model.specs.declared.bind.BindRefusal.{BindRefusal}
 use Rattle.hq_model.specs.declared.bind.BindRefusal.TheVariants.{Memory}
 use Rattle.hq_model.specs.declared.perm.Mask.{Mask}
 use Rattle.hq_model.proofs.Steps.{read_more, read_refused}
-use Rattle.hq_request_bound.specs.Bound.{mask_due}
-use Rattle.hq_request_bound.proofs.Masks.{masks_read}
+use Rattle.hq_request_build.specs.Bound.{mask_due}
+use Rattle.hq_request_build.proofs.Masks.{masks_read}
 use Rattle.hq_confine.proofs.grants.bound_masks.Goals as goal
 
 -- a mask is bound, and the loop goes on behind it

@@ -3,7 +3,7 @@ use Rattle.hq_request_build.proofs.Steps.{first_stops, second_stops, third_stops
 use Rattle.hq_request_build.specs.Due.{operation_of, collected_due, root_due, bound_in, build_due}
 use Rattle.hq_request_tree.specs.Fields.{FieldTrees, fields_of, keyed_field_view}
 use Rattle.hq_request_tree.specs.Request.{BoundTree, bound_view, ask_view}
-use Rattle.hq_request_bound.specs.Laws.{request_of}
+use Rattle.hq_request_build.specs.Laws.{request_of}
 use Rattle.hq_base.proofs.Refusals.{passed_up}
 use Rattle.hq_request_coerce.specs.Choice.{operation_at}
 use Rattle.hq_request_coerce.specs.Variables.{VarTree, var_view}
