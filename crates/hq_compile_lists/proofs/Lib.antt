@@ -1,2 +1,4 @@
+pub mod SortLists
+mod Steps
 mod Keys
 mod Selects

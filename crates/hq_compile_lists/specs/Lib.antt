@@ -1,2 +1,3 @@
+pub mod RowSorts
 pub mod Bodies
 pub mod Starts

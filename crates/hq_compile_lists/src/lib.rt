@@ -2,7 +2,10 @@
 #![tactic(auto)]
 
 mod list;
+mod order;
 mod row;
+mod sorts;
+mod sorts_used;
 mod start;
 mod used;
 
@@ -10,3 +13,6 @@ pub use list::{ListBody, fold, list_body, list_rows, list_select};
 pub use row::{Row, empty_row, no_row, object, one_row};
 pub use start::{ListStart, key_row, list_table, list_tie};
 pub use used::{add_each, list_used};
+pub use order::{SortParts, output_orders, sort_parts};
+pub use sorts::{RowSort, RowSortList, list_sorts};
+pub use sorts_used::add_used_sorts;

@@ -24,7 +24,7 @@ use hq_base::{Memory, Txt};
 use hq_compile_tables::{Context, RowUse, fold_alias, row_limit, value_name, wide};
 use hq_compile_masks::{mask_parts, where_predicate};
 use hq_compile_predicates::{MaskParts, row_members};
-use hq_compile_sorts::{SortParts, list_sorts, output_orders, sort_parts};
+use crate::{SortParts, list_sorts, output_orders, sort_parts};
 use hq_compile_tables::{
     MaskPlace, Shown, both_joins, compared_shown, each_once, from_table, table_shown, value_output,
     where_of, with_member,

@@ -8,7 +8,7 @@ ghost use Rattle.hq_compile_tables.specs.Contexts.{context_schema};
 use hq_base::{List, Memory};
 use hq_compile_tables::Context;
 use hq_compile_masks::add_columns;
-use hq_compile_sorts::{add_used_sorts, list_sorts};
+use crate::{add_used_sorts, list_sorts};
 use hq_compile_tables::each_once;
 use hq_model::{ColId, ColList, TableId};
 use hq_request_tree::Args;
