@@ -25,7 +25,7 @@ use hq_compile_lists::{
     object, one_row,
 };
 use hq_compile_masks::{FirstRow, remote_row};
-use hq_compile_summaries::summary_select;
+use hq_compile_lists::summary_select;
 use hq_compile_tables::{MaskPlace, first_select, one_join, table_shown_column, value_column};
 use hq_model::{RelId, TableId};
 use hq_request_tree::{

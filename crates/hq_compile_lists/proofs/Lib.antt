@@ -1,3 +1,4 @@
+mod SummarySelects
 pub mod SortLists
 mod Steps
 mod Keys

@@ -2,11 +2,13 @@
 #![tactic(auto)]
 
 mod list;
+mod needs;
 mod order;
 mod row;
 mod sorts;
 mod sorts_used;
 mod start;
+mod summary;
 mod used;
 
 pub use list::{ListBody, fold, list_body, list_rows, list_select};
@@ -16,3 +18,5 @@ pub use used::{add_each, list_used};
 pub use order::{SortParts, output_orders, sort_parts};
 pub use sorts::{RowSort, RowSortList, list_sorts};
 pub use sorts_used::add_used_sorts;
+pub use needs::needed;
+pub use summary::summary_select;

@@ -3,8 +3,8 @@ use Rattle.std.proofs.lemmas.Result.{IfOk-weaker}
 use Rattle.hq_request_tree.specs.Arguments.{arguments_view}
 use Rattle.hq_compile_tables.specs.Contexts.{context_schema, context_rights}
 use Rattle.hq_compile_lists.specs.Starts.{start_tie}
-use Rattle.hq_compile_summaries.proofs.Selects.{summary_folded, summary_plain}
-use Rattle.hq_compile_summaries.proofs.summary.summary_select.Goals as goal
+use Rattle.hq_compile_lists.proofs.SummarySelects.{summary_folded, summary_plain}
+use Rattle.hq_compile_lists.proofs.summary.summary_select.Goals as goal
 
 pub returns-then-some_aggregate-clause-select : goal.returns-then-some_aggregate-clause-select
 returns-then-some_aggregate-clause-select c =

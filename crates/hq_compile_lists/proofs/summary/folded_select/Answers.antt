@@ -6,8 +6,8 @@ use Rattle.hq_sql_tree.specs.View.{select_view}
 use Rattle.hq_translation.specs.Lists.{list_used, children_from}
 use Rattle.hq_compile_tables.specs.Contexts.{context_schema, context_rights}
 use Rattle.hq_compile_lists.specs.Starts.{start_tie}
-use Rattle.hq_compile_summaries.proofs.Selects.{folded_of, output_of}
-use Rattle.hq_compile_summaries.proofs.summary.folded_select.Goals as goal
+use Rattle.hq_compile_lists.proofs.SummarySelects.{folded_of, output_of}
+use Rattle.hq_compile_lists.proofs.summary.folded_select.Goals as goal
 
 pub returns-clause-select : goal.returns-clause-select
 returns-clause-select c =

@@ -2,7 +2,7 @@ use Rattle.std.proofs.Common.{◌≡◌, ◌++◌, drop, map}
 use Rattle.hq_sql_tree.specs.View.{out_view}
 use Rattle.hq_translation.specs.Aggregates.{needed_columns}
 use Rattle.hq_compile_tables.specs.Shown.{look_of}
-use Rattle.hq_compile_summaries.proofs.summary.needed_columns.Given as goal
+use Rattle.hq_compile_lists.proofs.summary.needed_columns.Given as goal
 
 abbrev pub invariant-loop-i : goal.invariant-loop-i
 invariant-loop-i l =

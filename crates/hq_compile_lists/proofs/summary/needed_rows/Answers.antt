@@ -7,8 +7,8 @@ use Rattle.hq_compile_tables.specs.Contexts.{context_schema, context_rights}
 use Rattle.hq_compile_tables.specs.Shown.{look_in}
 use Rattle.hq_compile_tables.specs.declared.shown.MaskPlace.{MaskPlace}
 use Rattle.hq_compile_lists.specs.Starts.{start_tie}
-use Rattle.hq_compile_summaries.proofs.Selects.{needed_rows_of}
-use Rattle.hq_compile_summaries.proofs.summary.needed_rows.Goals as goal
+use Rattle.hq_compile_lists.proofs.SummarySelects.{needed_rows_of}
+use Rattle.hq_compile_lists.proofs.summary.needed_rows.Goals as goal
 
 -- the rows without the permission's limit
 pub returns-clause-select : goal.returns-clause-select

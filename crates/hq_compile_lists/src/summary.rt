@@ -17,7 +17,7 @@ use hq_base::{Aggregate, Memory, Ty};
 use hq_compile_tables::{
     Context, RowUse, fold_alias, needed_name, row_limit, unit_name, value_name,
 };
-use hq_compile_lists::{ListStart, fold, list_body, list_rows, list_used, object, one_row};
+use crate::{ListStart, fold, list_body, list_rows, list_used, object, one_row};
 use hq_compile_tables::{MaskPlace, Shown, compared_form, shown_column, table_shown, type_in};
 use hq_model::{ColId, Column, TableId};
 use hq_request_tree::{AggCol, AggField, KeyedAggCol, KeyedAggField};

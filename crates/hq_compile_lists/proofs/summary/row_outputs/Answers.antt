@@ -5,7 +5,7 @@ use Rattle.hq_translation.specs.Aggregates.{needed_outputs}
 use Rattle.hq_translation.specs.Looks.{Look}
 use Rattle.hq_compile_tables.specs.Contexts.{context_schema}
 use Rattle.hq_compile_tables.proofs.Looks.{shown_as}
-use Rattle.hq_compile_summaries.proofs.summary.row_outputs.Goals as goal
+use Rattle.hq_compile_lists.proofs.summary.row_outputs.Goals as goal
 
 pub returns : goal.returns
 returns c =

@@ -1,7 +1,7 @@
 use Rattle.std.proofs.Common.{◌≡◌, ◌++◌, drop, map}
 use Rattle.hq_sql_tree.specs.View.{pair_view}
 use Rattle.hq_translation.specs.Aggregates.{taken_pairs}
-use Rattle.hq_compile_summaries.proofs.summary.taken_pairs.Given as goal
+use Rattle.hq_compile_lists.proofs.summary.taken_pairs.Given as goal
 
 abbrev pub invariant-loop-keyed : goal.invariant-loop-keyed
 invariant-loop-keyed l =

@@ -2,7 +2,7 @@ use Rattle.std.proofs.Common.{refl}
 use Rattle.hq_sql_tree.specs.View.{pair_view}
 use Rattle.hq_translation.specs.Aggregates.{taken_pairs}
 use Rattle.hq_compile_tables.proofs.Loops.{viewed_rest-more}
-use Rattle.hq_compile_summaries.proofs.summary.taken_pairs.Goals as goal
+use Rattle.hq_compile_lists.proofs.summary.taken_pairs.Goals as goal
 
 pub loop-keyed-preserved : goal.loop-keyed-preserved
 loop-keyed-preserved c =
