@@ -12,8 +12,8 @@ ghost use Rattle.hq_compile_tables.specs.Contexts.{context_schema};
 ghost use Rattle.hq_compile.specs.Fields.{fields_view, parts_view};
 
 use hq_base::Memory;
-use hq_compile_tables::Context;
 use hq_compile_lists::needed;
+use hq_compile_tables::Context;
 use hq_model::{RelId, TableId};
 use hq_request_tree::{
     AggFields, AggPart, AggParts, Args, AskField, AskFields, KeyedAggPart, KeyedAskField,

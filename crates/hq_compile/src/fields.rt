@@ -19,14 +19,14 @@ ghost use Rattle.hq_compile.specs.Fields.{fields_view, parts_view};
 
 use crate::used::{fields_used, key_used};
 use hq_base::{Memory, Txt, Val};
-use hq_compile_tables::{Context, take_number};
 use hq_compile_lists::{
     ListStart, Row, empty_row, key_row, list_body, list_select, list_table, list_used, no_row,
-    object, one_row,
+    object, one_row, summary_select,
 };
 use hq_compile_masks::{FirstRow, remote_row};
-use hq_compile_lists::summary_select;
-use hq_compile_tables::{MaskPlace, first_select, one_join, table_shown_column, value_column};
+use hq_compile_tables::{
+    Context, MaskPlace, first_select, one_join, table_shown_column, take_number, value_column,
+};
 use hq_model::{RelId, TableId};
 use hq_request_tree::{
     AggFields, AggPart, AggParts, AskField, AskFields, KeyedAggPart, KeyedAskField,

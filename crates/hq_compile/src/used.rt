@@ -6,8 +6,8 @@ ghost use Rattle.hq_compile_tables.specs.Contexts.{context_schema};
 ghost use Rattle.hq_compile.specs.Fields.{fields_view};
 
 use hq_base::{List, Memory};
-use hq_compile_tables::Context;
 use hq_compile_lists::add_each;
+use hq_compile_tables::Context;
 use hq_model::{ColList, TableId};
 use hq_request_tree::{AskField, AskFields, KeyedAskField};
 use std::alloc::Global;

@@ -20,14 +20,13 @@ ghost use Rattle.hq_compile_lists.specs.Starts.{start_tie};
 
 use crate::row::{Row, object};
 use crate::start::{ListStart, list_tie};
+use crate::{SortParts, list_sorts, output_orders, sort_parts};
 use hq_base::{Memory, Txt};
-use hq_compile_tables::{Context, RowUse, fold_alias, row_limit, value_name, wide};
 use hq_compile_masks::{mask_parts, where_predicate};
 use hq_compile_predicates::{MaskParts, row_members};
-use crate::{SortParts, list_sorts, output_orders, sort_parts};
 use hq_compile_tables::{
-    MaskPlace, Shown, both_joins, compared_shown, each_once, from_table, table_shown, value_output,
-    where_of, with_member,
+    Context, MaskPlace, RowUse, Shown, both_joins, compared_shown, each_once, fold_alias,
+    from_table, row_limit, table_shown, value_name, value_output, where_of, wide, with_member,
 };
 use hq_model::{ColId, TableId};
 use hq_request_tree::Args;

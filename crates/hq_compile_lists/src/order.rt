@@ -16,11 +16,10 @@ ghost use Rattle.hq_compile_lists.specs.RowSorts.{row_sort_view};
 use crate::sorts::RowSort;
 use crate::sorts_used::last_used;
 use hq_base::Memory;
-use hq_compile_tables::{Context, fold_alias, key_name};
 use hq_compile_masks::{FirstRow, remote_row};
 use hq_compile_tables::{
-    MaskPlace, both_joins, column_at, compared_form, first_row, one_join, table_column, type_in,
-    value_at, value_output,
+    Context, MaskPlace, both_joins, column_at, compared_form, first_row, fold_alias, key_name,
+    one_join, table_column, type_in, value_at, value_output,
 };
 use hq_model::{ColId, RelId, TableId};
 use hq_sql_tree::{ColumnForm, Expr, JoinList, Order, OrderList, Out, OutList};

@@ -8,8 +8,7 @@ ghost use Rattle.hq_compile_tables.specs.Contexts.{context_schema};
 ghost use Rattle.hq_compile_lists.specs.RowSorts.{row_sort_view};
 
 use hq_base::{List, Memory};
-use hq_compile_tables::Context;
-use hq_compile_tables::each_once;
+use hq_compile_tables::{Context, each_once};
 use hq_model::{ColId, TableId};
 use hq_request_tree::{Args, RelIdList, Sort};
 use std::alloc::Global;

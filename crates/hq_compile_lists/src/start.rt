@@ -15,12 +15,11 @@ ghost use Rattle.hq_compile_tables.specs.Shown.{look_in, look_of};
 ghost use Rattle.hq_compile_lists.specs.Starts.{start_table, start_tie};
 
 use hq_base::{Memory, Val};
-use hq_compile_tables::{Context, take_number};
 use hq_compile_masks::{FirstRow, mask_parts};
 use hq_compile_predicates::row_members;
 use hq_compile_tables::{
-    MaskPlace, Shown, compared_shown, comparison, joined_by_and, link, literal, table_shown,
-    type_in,
+    Context, MaskPlace, Shown, compared_shown, comparison, joined_by_and, link, literal,
+    table_shown, take_number, type_in,
 };
 use hq_model::{ColId, Op, RelId, TableId};
 use hq_request_tree::Args;

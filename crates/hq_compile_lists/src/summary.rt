@@ -13,12 +13,12 @@ ghost use Rattle.hq_compile_tables.specs.Shown.{look_in, look_of};
 ghost use Rattle.hq_compile_lists.specs.Starts.{start_tie};
 
 use crate::needs::{needed, place_of, some_aggregate};
+use crate::{ListStart, fold, list_body, list_rows, list_used, object, one_row};
 use hq_base::{Aggregate, Memory, Ty};
 use hq_compile_tables::{
-    Context, RowUse, fold_alias, needed_name, row_limit, unit_name, value_name,
+    Context, MaskPlace, RowUse, Shown, compared_form, fold_alias, needed_name, row_limit,
+    shown_column, table_shown, type_in, unit_name, value_name,
 };
-use crate::{ListStart, fold, list_body, list_rows, list_used, object, one_row};
-use hq_compile_tables::{MaskPlace, Shown, compared_form, shown_column, table_shown, type_in};
 use hq_model::{ColId, Column, TableId};
 use hq_request_tree::{AggCol, AggField, KeyedAggCol, KeyedAggField};
 use hq_sql_tree::{Agg, ColumnForm, Expr, ExprPair, ExprPairList, Out, OutList, Select};

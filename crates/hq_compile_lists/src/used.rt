@@ -5,11 +5,10 @@ ghost use Rattle.hq_translation.specs.Lists.{list_sorts, list_used, once};
 ghost use Rattle.hq_translation.specs.Sorts.{used_sorts};
 ghost use Rattle.hq_compile_tables.specs.Contexts.{context_schema};
 
-use hq_base::{List, Memory};
-use hq_compile_tables::Context;
-use hq_compile_masks::add_columns;
 use crate::{add_used_sorts, list_sorts};
-use hq_compile_tables::each_once;
+use hq_base::{List, Memory};
+use hq_compile_masks::add_columns;
+use hq_compile_tables::{Context, each_once};
 use hq_model::{ColId, ColList, TableId};
 use hq_request_tree::Args;
 use std::alloc::Global;

@@ -11,9 +11,8 @@ ghost use Rattle.hq_compile_tables.specs.Shown.{look_in};
 
 use crate::masks::mask_parts;
 use hq_base::Memory;
-use hq_compile_tables::{Context, take_number};
 use hq_compile_predicates::{MaskParts, row_members};
-use hq_compile_tables::link;
+use hq_compile_tables::{Context, link, take_number};
 use hq_model::{ColId, RelId, TableId};
 use hq_sql_tree::PredList;
 use std::alloc::Global;

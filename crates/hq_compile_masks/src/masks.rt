@@ -13,10 +13,10 @@ ghost use Rattle.hq_compile_tables.specs.Shown.{look_in};
 ghost use Rattle.hq_compile_masks.specs.MaskPlaces.{used_of, mask_places};
 
 use hq_base::{List, Memory};
-use hq_compile_tables::{Context, table_alias, take_number};
 use hq_compile_predicates::{MaskParts, own_predicate};
 use hq_compile_tables::{
-    MaskPlace, first_member, is_used, one_join, own_column, value_output, where_of,
+    Context, MaskPlace, first_member, is_used, one_join, own_column, table_alias, take_number,
+    value_output, where_of,
 };
 use hq_model::{ColId, Mask, TableId};
 use hq_sql_tree::{Expr, From, Join, PredList, Select};

@@ -2,8 +2,7 @@
 ghost use Rattle.std.specs.Prelude.{◌≡◌, ◌+◌};
 
 use hq_base::{List, Memory};
-use hq_compile_tables::Context;
-use hq_compile_tables::MaskPlaceList;
+use hq_compile_tables::{Context, MaskPlaceList};
 use hq_model::{Bexp, TableId};
 use hq_sql_tree::{JoinList, Pred};
 use std::alloc::Global;

@@ -14,10 +14,9 @@ ghost use Rattle.hq_compile_tables.specs.Shown.{look_in};
 
 use crate::counted::{AllRows, Counted};
 use hq_base::Memory;
-use hq_compile_tables::{Context, take_number};
 use hq_compile_tables::{
-    MaskPlace, column_test, columns_test, exists_where, first_member, joined_by_and, joined_by_or,
-    link, negation, table_shown, with_member,
+    Context, MaskPlace, column_test, columns_test, exists_where, first_member, joined_by_and,
+    joined_by_or, link, negation, table_shown, take_number, with_member,
 };
 use hq_model::{Bexp, BexpList, RelId, TableId};
 use hq_sql_tree::{JoinList, Pred, PredList};

@@ -5,8 +5,8 @@ ghost use Rattle.hq_sql_tree.specs.View.{expr_view};
 ghost use Rattle.hq_translation.specs.Looks.{name_of, shown_form, compared_form, tested_form, own_look, cell_at, compared_at, is_used, add_new, add_all, type_in};
 ghost use Rattle.hq_translation.specs.Masks.{value_place};
 
-use hq_base::{List, Memory, Txt, Ty};
 use crate::{join_alias, table_alias, value_name};
+use hq_base::{List, Memory, Txt, Ty};
 use hq_model::{ColId, ColList, Column, Test};
 use hq_sql_tree::{ColumnForm, Expr};
 use std::alloc::Global;

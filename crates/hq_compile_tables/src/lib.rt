@@ -17,6 +17,11 @@ pub use condition::{
     column_test, columns_test, comparison, first_member, joined_by_and, joined_by_or, literal,
     negation, where_of, with_member,
 };
+pub use context::{Context, Granted, GrantedList};
+pub use limit::{RowUse, row_limit, wide};
+pub use names::{
+    fold_alias, join_alias, key_name, needed_name, table_alias, take_number, unit_name, value_name,
+};
 pub use shown::{
     MaskPlace, MaskPlaceList, Shown, compared_shown, shown_column, shown_in, table_column,
     table_shown, table_shown_column,
@@ -24,9 +29,4 @@ pub use shown::{
 pub use table::{
     both_joins, exists_where, first_row, first_select, from_table, key_orders, link, one_join,
     value_output,
-};
-pub use context::{Context, Granted, GrantedList};
-pub use limit::{RowUse, row_limit, wide};
-pub use names::{
-    fold_alias, join_alias, key_name, needed_name, table_alias, take_number, unit_name, value_name,
 };

@@ -7,9 +7,9 @@ ghost use Rattle.hq_translation.specs.Looks.{cell_at, compared_at, tested_at, sh
 ghost use Rattle.hq_compile_tables.specs.Contexts.{context_schema};
 ghost use Rattle.hq_compile_tables.specs.Shown.{look_in, look_of};
 
+use crate::Context;
 use crate::columns::{column_at, compared_form, shown_form, tested_form, type_in, value_at};
 use hq_base::{List, Memory};
-use crate::Context;
 use hq_model::{ColId, Column, TableId, Test};
 use hq_sql_tree::{ColumnForm, Expr};
 use std::alloc::Global;

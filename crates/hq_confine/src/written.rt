@@ -8,8 +8,8 @@ ghost use Rattle.hq_translation.specs.Rights.{rights_of};
 ghost use Rattle.hq_confine_uses.specs.Views.{rules_schema, rules_grants};
 
 use hq_base::{List, Memory};
-use hq_compile_tables::Context;
 use hq_compile_predicates::own_predicate;
+use hq_compile_tables::Context;
 use hq_confine_uses::Rules;
 use hq_model::{Bexp, TableId};
 use hq_sql_tree::Pred;

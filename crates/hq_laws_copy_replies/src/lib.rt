@@ -1,8 +1,8 @@
 //! The laws of a redacted copy's replies: its reader is answered as the session is.
 #![tactic(auto)]
 
-mod requests;
 mod replies;
+mod requests;
 
-pub use requests::copied_requests_are_renumbered;
 pub use replies::copies_answer_each_body;
+pub use requests::copied_requests_are_renumbered;

@@ -7,12 +7,10 @@ ghost use Rattle.hq_model.specs.Meta.{MetaTree};
 ghost use Rattle.hq_model.specs.declared.session.Session.{Session as Caller};
 ghost use Rattle.hq_model.specs.declared.table.Table.{Table as CatalogTable};
 
-use hq_laws_renumbered::origins_change_no_introspection;
-use hq_laws_copy::copies_answer;
 use crate::copied_requests_are_renumbered;
-use hq_laws_copy::copied_schema_is_renumbered;
+use hq_laws_copy::{copied_schema_is_renumbered, copies_answer};
+use hq_laws_renumbered::{numbers_change_origins_alone, origins_change_no_introspection};
 use hq_laws_request::requests_are_formed;
-use hq_laws_renumbered::numbers_change_origins_alone;
 
 /// The law of a copy: for each catalog, metadata that fits it, database and session of which a copy is made, and for every body, the
 /// reply that is due to the copy's reader is the one that is due to the session.

@@ -7,10 +7,11 @@ ghost use Rattle.hq_model.specs.Meta.{MetaTree};
 ghost use Rattle.hq_model.specs.declared.session.Session.{Session as Caller};
 ghost use Rattle.hq_model.specs.declared.table.Table.{Table as CatalogTable};
 
-use hq_laws_renumbered::{origins_change_no_fault, origins_change_no_variable};
 use hq_laws_copy::copied_schema_is_renumbered;
-use hq_laws_renumbered::fields_are_renumbered;
-use hq_laws_renumbered::numbers_change_origins_alone;
+use hq_laws_renumbered::{
+    fields_are_renumbered, numbers_change_origins_alone, origins_change_no_fault,
+    origins_change_no_variable,
+};
 use hq_schema_roles::leads_where_permitted;
 
 /// A body asks a copy for what it asks the database for, in the numbers of the copy, or it has the same first fault.

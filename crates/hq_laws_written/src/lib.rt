@@ -1,12 +1,12 @@
 //! The laws of written texts: what is written of a copy is read back.
 #![tactic(auto)]
 
-mod json;
-mod tables;
 mod catalog;
+mod json;
 mod metadata;
+mod tables;
 
-pub use json::compact_text_is_read_back;
-pub use tables::written_table_is_read_back;
 pub use catalog::written_catalog_is_read_back;
+pub use json::compact_text_is_read_back;
 pub use metadata::written_metadata_is_read_back;
+pub use tables::written_table_is_read_back;

@@ -22,11 +22,11 @@ ghost use Rattle.hq_model.specs.Meta.{meta_view};
 ghost use Rattle.hq_model.specs.Scope.{scope_schema};
 
 use crate::ask::ask_fields;
+use crate::bound_tables;
 use hq_base::Memory;
 use hq_gql_tree::{Document, Fault, Operation, RuleId};
 use hq_model::{BindRefusal, Catalog, Meta, Role, Scope, Session, TableId};
 use hq_request_arguments::Context;
-use crate::bound_tables;
 use hq_request_coerce::{CoerceRefusal, OpRef, VarValues, fault_of, operation_at};
 use hq_request_collect::{
     CollectedList, Fragments, Request, collected_tree, is_bounded, is_narrow, is_small,
